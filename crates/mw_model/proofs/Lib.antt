@@ -1,0 +1,17 @@
+pub mod Names
+pub mod Order
+pub mod Formed
+pub mod Values
+pub mod Depth
+pub mod AxiomsRead
+pub mod BuiltInRead
+pub mod Closed
+pub mod Unchanged
+pub mod Collects
+pub mod SameTerms
+pub mod ReadBack
+pub mod Read
+pub mod Follows
+pub mod Judging
+pub mod Older
+pub mod Evaluates

@@ -1,0 +1,2 @@
+pub mod Ordinals
+pub mod Descents

@@ -1,0 +1,2 @@
+// Ordinals below epsilon-zero: laws of their order and of descent.
+#![tactic(auto)]

@@ -1,0 +1,2 @@
+// The reference checker: laws that it says yes exactly where the written rules hold.
+#![tactic(auto)]

@@ -1,0 +1,3 @@
+pub mod Having
+pub mod BlockTotal
+pub mod AxiomsTrue

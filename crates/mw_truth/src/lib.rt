@@ -1,0 +1,2 @@
+// Truth in the standard model: laws that each step of a theory keeps it.
+#![tactic(auto)]
