@@ -15,3 +15,8 @@ pub mod Follows
 pub mod Judging
 pub mod Older
 pub mod Evaluates
+pub mod BuiltInValue
+pub mod BuiltInFalls
+pub mod BuiltInCalls
+pub mod BuiltInBodies
+pub mod BuiltInAnswers
