@@ -20,3 +20,7 @@ pub mod BuiltInFalls
 pub mod BuiltInCalls
 pub mod BuiltInBodies
 pub mod BuiltInAnswers
+pub mod SomeValue
+pub mod Begins
+pub mod Defined
+pub mod BuiltInTotal
