@@ -10,6 +10,7 @@ pub mod Unchanged
 pub mod Collects
 pub mod SameTerms
 pub mod ReadBack
+pub mod Readable
 pub mod Read
 pub mod Follows
 pub mod Judging
