@@ -12,7 +12,10 @@ pub mod SameTerms
 pub mod ReadBack
 pub mod Readable
 pub mod Read
+pub mod SubstituteObject
+pub mod EqualityExact
 pub mod Follows
 pub mod Judging
+pub mod RulesExact
 pub mod Older
 pub mod Evaluates
