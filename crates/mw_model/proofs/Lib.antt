@@ -17,5 +17,6 @@ pub mod EqualityExact
 pub mod Follows
 pub mod Judging
 pub mod RulesExact
+pub mod BaseEvalExact
 pub mod Older
 pub mod Evaluates
