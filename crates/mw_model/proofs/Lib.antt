@@ -18,5 +18,7 @@ pub mod Follows
 pub mod Judging
 pub mod RulesExact
 pub mod BaseEvalExact
+pub mod PremisesObject
+pub mod InductionExact
 pub mod Older
 pub mod Evaluates
