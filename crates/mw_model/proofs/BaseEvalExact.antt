@@ -1,5 +1,5 @@
 -- Base evaluation: the test on objects of formulas is the test on formulas, in each profile.
-use Rattle.std.proofs.Common.{◌≡◌, Bool, true, false, ◌&&◌, cond, List, [], ◌∷◌, Option, Some, None, refl, sym, ap, ap₂, ◌∙◌}
+use Rattle.std.proofs.Common.{◌≡◌, Bool, true, false, ◌&&◌, cond, List, ◌∷◌, Option, Some, None, refl, sym, ap, ap₂, ◌∙◌}
 use Rattle.mw_model.specs.Object.{Name, Object, Pair, named, same_name, same_object, second_of, NIL}
 use Rattle.mw_model.specs.Term.{Term, Terms, Variable, Constant, If, Call, Lambda, NoTerms, More, Formula, Equal, Not, Or, term_object, terms_object, formula_object}
 use Rattle.mw_model.specs.Primitive.{Profile, Primitive, primitive_named, choose, first_value, second_value}

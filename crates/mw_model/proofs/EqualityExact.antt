@@ -41,6 +41,7 @@ module _ (A : ArityTable) (F : Formula) (i : ReadableFormula F) where
     where
       same_counts : same_name f g ≡ true → eqb (count ts) (count us) ≡ true
       same_counts h = let e = same_name-eq f g h in eq-eqb (count ts) (count us) (cc (j.1, k.1, ap (arity_of A) e))
+
       go : (a b c d : Bool) → (b ≡ true → c ≡ true) → ((a && b) && d) ≡ (a && (b && (c && d)))
       go false b c d h = refl
       go true false c d h = refl
@@ -93,4 +94,3 @@ module _ (A : ArityTable) (F : Formula) (i : ReadableFormula F) where
 
 pub object_is_functional_equality-exact : (A : ArityTable) (F : Formula) → IsFormula A F → object_is_functional_equality (formula_object F) ≡ is_functional_equality F (last_disjunct F)
 object_is_functional_equality-exact A F i = ap (object_ends_with_equality (formula_object F)) (last_disjunct_object-is F) ∙ formula_ends A F (formula_readable A F i) F i
-

@@ -1,15 +1,14 @@
 -- The premises of an induction on objects are those on formulas, and are read back.
 use Rattle.std.proofs.Common.{◌≡◌, List, [], ◌∷◌, ◌++◌, map, refl, ap, ap₂, ◌∙◌}
-use Rattle.std.proofs.lemmas.Bool.{and_parts}
-use Rattle.mw_model.specs.Object.{Object, Pair, symbol, list2, list3}
-use Rattle.mw_model.specs.Term.{Term, Formula, Not, Or, term_object, formula_object}
-use Rattle.mw_model.specs.Substitution.{Substitution, substitute_formula, substitution_object}
+use Rattle.mw_model.specs.Object.{Object, Pair, symbol, list3}
+use Rattle.mw_model.specs.Term.{Term, Formula, Not, term_object, formula_object}
+use Rattle.mw_model.specs.Substitution.{Substitution, substitute_formula}
 use Rattle.mw_model.specs.Truth.{Each}
 use Rattle.mw_model.specs.Obligation.{ordinal_formula}
 use Rattle.mw_model.specs.Induction.{Case, disjunction, step_premise, fall_premise, fall_premises, premises, conditions_object, substitutions_object, cases_object}
 use Rattle.mw_model.specs.Rules.{or_object, not_object}
 use Rattle.mw_model.specs.RulesInduction.{formulas_object, disjunction_object, hypotheses_object, steps_object, true_object, ordinal_object, falls_object, all_falls_object, premises_object}
-use Rattle.mw_model.proofs.Readable.{Readable, ReadableFormula, ReadableSubstitution, readable_formula, formula_object-one, substitute-readable, substitute_formula-readable}
+use Rattle.mw_model.proofs.Readable.{Readable, ReadableFormula, ReadableSubstitution, formula_object-one, substitute-readable, substitute_formula-readable}
 use Rattle.mw_model.proofs.SubstituteObject.{substitute_object-is, substitute_formula_object-is}
 
 pub disjunction_object-is : (F : Formula) (Gs : List Formula) → disjunction_object (formulas_object (F ∷ Gs)) ≡ formula_object (disjunction F Gs)

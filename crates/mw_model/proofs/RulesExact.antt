@@ -89,6 +89,7 @@ module _ (A : ArityTable) where
       none true true = refl
       none true false = refl
       none false b = refl
+
       go : (o : Option Term) (p : Option Substitution) → (is_variable x && (holds (is_term A) o && holds (is_substitution A) p)) ≡ holds (is_substitution A) (and_more (pair_for x o) p)
       go None p = none (is_variable x) true
       go (Some u) None = none (is_variable x) (is_term A u)

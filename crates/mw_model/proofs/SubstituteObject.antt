@@ -1,6 +1,6 @@
 -- Substitution on objects is substitution.
-use Rattle.std.proofs.Common.{◌≡◌, Bool, true, false, cond, List, [], ◌∷◌, refl, sym, ap, ap₂, ◌∙◌}
-use Rattle.mw_model.specs.Object.{Name, Object, Symbol, Pair, named, symbol, same_name, NIL, list2, list3}
+use Rattle.std.proofs.Common.{◌≡◌, Bool, true, false, cond, List, [], ◌∷◌, refl, ap, ap₂}
+use Rattle.mw_model.specs.Object.{Name, Symbol, Pair, symbol, same_name, NIL, list2, list3}
 use Rattle.mw_model.specs.Term.{Term, Terms, Variable, Constant, If, Call, Lambda, NoTerms, More, Formula, Equal, Not, Or, term_object, terms_object, formula_object, names_object}
 use Rattle.mw_model.specs.Substitution.{Substitution, substitute, substitute_each, substitute_formula, image, actuals_for, substitution_object}
 use Rattle.mw_model.specs.Rules.{image_object, substitute_object, substitute_each_object, substitute_formula_object, actuals_object}

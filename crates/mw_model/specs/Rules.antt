@@ -1,5 +1,5 @@
 -- The rules of the table of methods as tests on objects, but for induction. On objects of formulas each holds exactly where its rule does.
-use Rattle.std.specs.Prelude.{Bool, true, false, ◌&&◌, cond, List, [], ◌∷◌, Option, Some, None}
+use Rattle.std.specs.Prelude.{Bool, false, ◌&&◌, cond, List, [], ◌∷◌, Option, Some, None}
 use Rattle.mw_model.specs.Object.{Name, Object, Natural, Symbol, Pair, named, symbol, same_name, same_object, nil_name, NIL, car, cdr, second_of, third_of, list2, list3}
 use Rattle.mw_model.specs.Term.{ArityTable, is_function_name, is_variable}
 use Rattle.mw_model.specs.Reading.{term_under, formula_under}
