@@ -21,4 +21,5 @@ pub mod BaseEvalExact
 pub mod PremisesObject
 pub mod InductionExact
 pub mod Older
+pub mod FunctionNames
 pub mod Evaluates
