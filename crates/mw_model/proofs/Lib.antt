@@ -23,3 +23,8 @@ pub mod InductionExact
 pub mod Older
 pub mod FunctionNames
 pub mod Evaluates
+pub mod BuiltInValue
+pub mod BuiltInFalls
+pub mod BuiltInCalls
+pub mod BuiltInBodies
+pub mod BuiltInAnswers
