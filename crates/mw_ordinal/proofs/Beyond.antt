@@ -34,14 +34,14 @@ plus_powers-rest : (g c t f : Object) → Below f g → (k : ℕ) → plus_power
 plus_powers-rest g c t f l zero = refl
 plus_powers-rest g c t f l (suc k) = ap (λ z. plus_power z f) (plus_powers-rest g c t f l k) ∙ plus_power-less g c (plus_powers t f k) f l
 
--- x is past b, but below b + omega^f + .. + omega^f, where f is as small as it must be
+-- x is past b, but below b + omega^f + .. + omega^f, where f is below each a with x below b + omega^a
 pub record Beyond (b x : Object) : Type 0 where
-  pub f : Object
-  pub k : ℕ
-  pub ord : Ordinal f
-  pub reach : Below x (plus_powers b f k)
-  pub small : (E : Object) → Ordinal E → E ≢ Natural 0 → leads_below x E ≡ true → Below f E
-  pub last : (a : Object) → Ordinal a → Below x (plus_power b a) → Below f a
+  pub exponent : Object
+  pub times : ℕ
+  pub ordinal : Ordinal exponent
+  pub reach : Below x (plus_powers b exponent times)
+  pub small : (a : Object) → Ordinal a → a ≢ Natural 0 → leads_below x a ≡ true → Below exponent a
+  pub least : (a : Object) → Ordinal a → Below x (plus_power b a) → Below exponent a
 
 abbrev pub Where : Object → Object → Type 0
 Where b x = Below x b ⊎ ((x ≡ b) ⊎ Beyond b x)
@@ -61,24 +61,24 @@ coefficient_grows e d s j l = Below-pairs (Pair e d) s (Pair e (Natural j)) (Nat
 
 beyond_naturals : (n m : ℕ) → n < m → Beyond (Natural n) (Natural m)
 beyond_naturals n m l = record {
-  f = Natural 0;
-  k = suc m;
-  ord = refl;
+  exponent = Natural 0;
+  times = suc m;
+  ordinal = refl;
   reach = rw (plus_powers-natural n (suc m)) (lt-ltb m (suc m + n) (omega arith));
-  small = λ E oE ne h. zero_below E oE ne;
-  last = λ a oa h. zero_below a oa (λ q. absurd (let h' = subst (λ z. Below (Natural m) (plus_power (Natural n) z)) q h in let j = ltb-true m (suc n) h' in omega arith));
+  small = λ a oa ne h. zero_below a oa ne;
+  least = λ a oa h. zero_below a oa (λ q. absurd (let h' = subst (λ z. Below (Natural m) (plus_power (Natural n) z)) q h in let j = ltb-true m (suc n) h' in omega arith));
 }
 
 natural_beyond : (n : ℕ) (e d s : Object) → IsNormal e d s → Beyond (Natural n) (Pair (Pair e d) s)
 natural_beyond n e d s p =
     let h : plus_power (Natural n) e ≡ Pair (Pair e (Natural 1)) (Natural 0) = cond-false (same_object e (Natural 0)) (Natural (suc n)) (omega_to e) (same_object-differ e (Natural 0) p.not_zero) ∙ omega_to-not_zero e p.not_zero in
     record {
-      f = e;
-      k = suc (number d);
-      ord = p.exponent;
+      exponent = e;
+      times = suc (number d);
+      ordinal = p.exponent;
       reach = rw (plus_powers-more (Natural n) e 0 h (number d)) (coefficient_grows e d s (suc (number d + 0)) (omega arith));
-      small = λ E oE ne l. l;
-      last = λ a oa l. go a (same_object a (Natural 0)) refl l;
+      small = λ a oa ne l. l;
+      least = λ a oa l. go a (same_object a (Natural 0)) refl l;
     }
   where
     go : (a : Object) (b : Bool) → same_object a (Natural 0) ≡ b → Below (Pair (Pair e d) s) (cond b (Natural (suc n)) (cond b (Natural 1) (Pair (Pair a (Natural 1)) (Natural 0)))) → Below e a
@@ -99,12 +99,12 @@ module _ (g c t e d s : Object) (pb : IsNormal g c t) (px : IsNormal e d s) wher
   -- a greater exponent
   beyond_exponent : Below g e → Beyond (Pair (Pair g c) t) (Pair (Pair e d) s)
   beyond_exponent l = record {
-    f = e;
-    k = suc (number d);
-    ord = px.exponent;
+    exponent = e;
+    times = suc (number d);
+    ordinal = px.exponent;
     reach = rw (plus_powers-more (Pair (Pair g c) t) e 0 (plus_power-greater g c t e l) (number d)) (coefficient_grows e d s (suc (number d + 0)) (omega arith));
-    small = λ E oE ne h. h;
-    last = λ a oa h. go a (total g a pb.exponent oa) h;
+    small = λ a oa ne h. h;
+    least = λ a oa h. go a (total g a pb.exponent oa) h;
   }
     where
       out : (u v : Object) → Below (Pair (Pair e d) s) (Pair (Pair g u) v) → ⊥
@@ -118,12 +118,12 @@ module _ (g c t e d s : Object) (pb : IsNormal g c t) (px : IsNormal e d s) wher
   -- the same exponent, a greater coefficient
   beyond_coefficient : e ≡ g → number c < number d → Beyond (Pair (Pair g c) t) (Pair (Pair e d) s)
   beyond_coefficient q l = record {
-    f = e;
-    k = suc (number d);
-    ord = px.exponent;
+    exponent = e;
+    times = suc (number d);
+    ordinal = px.exponent;
     reach = rw (plus_powers-more (Pair (Pair g c) t) e (number c) (plus_power-equal g c t e (sym q) ∙ ap (λ z. Pair (Pair z (Natural (suc (number c)))) (Natural 0)) (sym q)) (number d)) (coefficient_grows e d s (suc (number d + number c)) (omega arith));
-    small = λ E oE ne h. h;
-    last = λ a oa h. go a (total g a pb.exponent oa) h;
+    small = λ a oa ne h. h;
+    least = λ a oa h. go a (total g a pb.exponent oa) h;
   }
     where
       go : (a : Object) → (g ≡ a) ⊎ (Below g a ⊎ Below a g) → Below (Pair (Pair e d) s) (plus_power (Pair (Pair g c) t) a) → Below e a
@@ -137,25 +137,25 @@ module _ (g c t e d s : Object) (pb : IsNormal g c t) (px : IsNormal e d s) wher
   beyond_rest : e ≡ g → d ≡ c → Beyond t s → Beyond (Pair (Pair g c) t) (Pair (Pair e d) s)
   beyond_rest q r b =
       let fe = b.small e px.exponent px.not_zero (leads_below-from s e px.falls) in
-      let fg = subst (Below b.f) q fe in
+      let fg = subst (Below b.exponent) q fe in
       record {
-        f = b.f;
-        k = b.k;
-        ord = b.ord;
-        reach = rw (plus_powers-rest g c t b.f fg b.k) (Below-pairs (Pair e d) s (Pair g c) (plus_powers t b.f b.k) (by_rest q r b.reach));
-        small = λ E oE ne h. transitive b.f e E fe h;
-        last = λ a oa h. go a oa fg (total g a pb.exponent oa) h;
+        exponent = b.exponent;
+        times = b.times;
+        ordinal = b.ordinal;
+        reach = rw (plus_powers-rest g c t b.exponent fg b.times) (Below-pairs (Pair e d) s (Pair g c) (plus_powers t b.exponent b.times) (by_rest q r b.reach));
+        small = λ a oa ne h. transitive b.exponent e a fe h;
+        least = λ a oa h. go a oa fg (total g a pb.exponent oa) h;
       }
     where
-      go : (a : Object) → Ordinal a → Below b.f g → (g ≡ a) ⊎ (Below g a ⊎ Below a g) → Below (Pair (Pair e d) s) (plus_power (Pair (Pair g c) t) a) → Below b.f a
-      go a oa fg (inl x) h = subst (Below b.f) x fg
-      go a oa fg (inr (inl k)) h = transitive b.f g a fg k
+      go : (a : Object) → Ordinal a → Below b.exponent g → (g ≡ a) ⊎ (Below g a ⊎ Below a g) → Below (Pair (Pair e d) s) (plus_power (Pair (Pair g c) t) a) → Below b.exponent a
+      go a oa fg (inl x) h = subst (Below b.exponent) x fg
+      go a oa fg (inr (inl k)) h = transitive b.exponent g a fg k
       go a oa fg (inr (inr k)) h = rest (PairBelow-from (Pair e d) s (Pair g c) (plus_power t a) (subst (Below (Pair (Pair e d) s)) (plus_power-less g c t a k) h))
         where
-          rest : PairBelow (Pair e d) s (Pair g c) (plus_power t a) → Below b.f a
+          rest : PairBelow (Pair e d) s (Pair g c) (plus_power t a) → Below b.exponent a
           rest (by_exponent n l) = absurd (below_differ e g l q)
           rest (by_coefficient x n l) = absurd (n r)
-          rest (by_rest x y l) = b.last a oa l
+          rest (by_rest x y l) = b.least a oa l
 
 compare_pairs : (g c t e d s : Object) → IsNormal g c t → IsNormal e d s → Where t s → Where (Pair (Pair g c) t) (Pair (Pair e d) s)
 compare_pairs g c t e d s pb px w = at_exponents (total e g px.exponent pb.exponent)

@@ -25,7 +25,7 @@ jump_passes G p a oa ih b ob h x ox l = go (compare b x ob ox)
     go : Where b x → G x
     go (inl k) = h x ox k
     go (inr (inl q)) = p x ox (λ y oy k. h y oy (subst (Below y) q k))
-    go (inr (inr s)) = (jump_powers G s.f s.ord (ih s.f s.ord (s.last a oa l)) b ob h s.k).1 x ox s.reach
+    go (inr (inr s)) = (jump_powers G s.exponent s.ordinal (ih s.exponent s.ordinal (s.least a oa l)) b ob h s.times).1 x ox s.reach
 
 -- the n-th jump of a goal, and its passing
 pub up_passes : (q : Question) → Passes (goal q) → (n : ℕ) → Passes (up n q)

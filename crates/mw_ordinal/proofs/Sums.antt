@@ -1,6 +1,6 @@
 -- The sum b + omega^a by the place of a among the exponents of b, and it is an ordinal.
-use Rattle.std.proofs.Common.{◌≡◌, ◌≢◌, ◌⊎◌, inl, inr, ℕ, suc, ◌<◌, Bool, true, false, cond, refl, sym, ap, ◌∙◌, subst, arith, ltb-true, lt-ltb}
-use Rattle.std.proofs.lemmas.Bool.{true≢false, cond-true, cond-false, false_from_ne_true}
+use Rattle.std.proofs.Common.{◌≡◌, ◌≢◌, ◌⊎◌, inl, inr, ℕ, suc, ◌<◌, Bool, true, false, cond, refl, sym, ap, ap₂, ◌∙◌, subst, arith, ltb-true, lt-ltb}
+use Rattle.std.proofs.lemmas.Bool.{true≢false, cond-false, false_from_ne_true}
 use Rattle.mw_model.specs.Object.{Object, Natural, Symbol, Pair, same_object}
 use Rattle.mw_model.specs.Primitive.{number}
 use Rattle.mw_model.specs.Ordinal.{is_below, leads_below}
@@ -29,17 +29,18 @@ not_both x y h k = irreflexive x (transitive x y x h k)
 pub omega_to-not_zero : (a : Object) → a ≢ Natural 0 → omega_to a ≡ Pair (Pair a (Natural 1)) (Natural 0)
 omega_to-not_zero a ne = cond-false (same_object a (Natural 0)) (Natural 1) (Pair (Pair a (Natural 1)) (Natural 0)) (same_object-differ a (Natural 0) ne)
 
-pub plus_power-greater : (e c r a : Object) → Below e a → plus_power (Pair (Pair e c) r) a ≡ Pair (Pair a (Natural 1)) (Natural 0)
-plus_power-greater e c r a l =
-    cond-true (is_below e a) (omega_to a) (cond (same_object e a) (Pair (Pair e (Natural (suc (number c)))) (Natural 0)) (Pair (Pair e c) (plus_power r a))) l ∙ omega_to-not_zero a (λ q. not_below_zero e (subst (Below e) q l))
+module _ (e c r a : Object) where
+  abbrev sum : Bool → Bool → Object
+  sum below same = cond below (omega_to a) (cond same (Pair (Pair e (Natural (suc (number c)))) (Natural 0)) (Pair (Pair e c) (plus_power r a)))
 
-pub plus_power-equal : (e c r a : Object) → e ≡ a → plus_power (Pair (Pair e c) r) a ≡ Pair (Pair e (Natural (suc (number c)))) (Natural 0)
-plus_power-equal e c r a q =
-    cond-false (is_below e a) (omega_to a) (cond (same_object e a) (Pair (Pair e (Natural (suc (number c)))) (Natural 0)) (Pair (Pair e c) (plus_power r a))) (false_from_ne_true (is_below e a) (λ h. below_differ e a h q)) ∙ cond-true (same_object e a) (Pair (Pair e (Natural (suc (number c)))) (Natural 0)) (Pair (Pair e c) (plus_power r a)) (same_object-from e a q)
+  pub plus_power-greater : Below e a → plus_power (Pair (Pair e c) r) a ≡ Pair (Pair a (Natural 1)) (Natural 0)
+  plus_power-greater l = ap (λ below. sum below (same_object e a)) l ∙ omega_to-not_zero a (λ q. not_below_zero e (subst (Below e) q l))
 
-pub plus_power-less : (e c r a : Object) → Below a e → plus_power (Pair (Pair e c) r) a ≡ Pair (Pair e c) (plus_power r a)
-plus_power-less e c r a l =
-    cond-false (is_below e a) (omega_to a) (cond (same_object e a) (Pair (Pair e (Natural (suc (number c)))) (Natural 0)) (Pair (Pair e c) (plus_power r a))) (false_from_ne_true (is_below e a) (not_both a e l)) ∙ cond-false (same_object e a) (Pair (Pair e (Natural (suc (number c)))) (Natural 0)) (Pair (Pair e c) (plus_power r a)) (same_object-differ e a (λ q. below_differ a e l (sym q)))
+  pub plus_power-equal : e ≡ a → plus_power (Pair (Pair e c) r) a ≡ Pair (Pair e (Natural (suc (number c)))) (Natural 0)
+  plus_power-equal q = ap₂ sum (false_from_ne_true (is_below e a) (λ h. below_differ e a h q)) (same_object-from e a q)
+
+  pub plus_power-less : Below a e → plus_power (Pair (Pair e c) r) a ≡ Pair (Pair e c) (plus_power r a)
+  plus_power-less l = ap₂ sum (false_from_ne_true (is_below e a) (not_both a e l)) (same_object-differ e a (λ q. below_differ a e l (sym q)))
 
 -- it is an ordinal
 one_term : (e : Object) (k : ℕ) → Ordinal e → e ≢ Natural 0 → 0 < k → Ordinal (Pair (Pair e (Natural k)) (Natural 0))
