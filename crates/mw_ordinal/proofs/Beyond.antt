@@ -23,7 +23,7 @@ plus_powers-natural n (suc k) =
     let q : suc (k + n) ≡ suc k + n = omega arith in
     ap (λ z. plus_power z (Natural 0)) (plus_powers-natural n k) ∙ ap Natural q
 
--- from a first pair on, its coefficient grows
+-- once omega^e is the last term, its coefficient grows
 plus_powers-more : (b e : Object) (m : ℕ) → plus_power b e ≡ Pair (Pair e (Natural (suc m))) (Natural 0) → (k : ℕ) → plus_powers b e (suc k) ≡ Pair (Pair e (Natural (suc (k + m)))) (Natural 0)
 plus_powers-more b e m h zero = let q : suc m ≡ suc (0 + m) = omega arith in h ∙ ap (λ z. Pair (Pair e (Natural z)) (Natural 0)) q
 plus_powers-more b e m h (suc k) =
@@ -34,13 +34,15 @@ plus_powers-rest : (g c t f : Object) → Below f g → (k : ℕ) → plus_power
 plus_powers-rest g c t f l zero = refl
 plus_powers-rest g c t f l (suc k) = ap (λ z. plus_power z f) (plus_powers-rest g c t f l k) ∙ plus_power-less g c (plus_powers t f k) f l
 
--- x is past b, but below b + omega^f + .. + omega^f, where f is below each a with x below b + omega^a
+-- x is past b, but below b with a power of omega added some times, and the exponent is as small as it must be
 pub record Beyond (b x : Object) : Type 0 where
   pub exponent : Object
   pub times : ℕ
   pub ordinal : Ordinal exponent
   pub reach : Below x (plus_powers b exponent times)
+  -- below each exponent that can stand before x
   pub small : (a : Object) → Ordinal a → a ≢ Natural 0 → leads_below x a ≡ true → Below exponent a
+  -- below each a where x is below b + omega^a
   pub least : (a : Object) → Ordinal a → Below x (plus_power b a) → Below exponent a
 
 abbrev pub Where : Object → Object → Type 0
@@ -69,8 +71,8 @@ beyond_naturals n m l = record {
   least = λ a oa h. zero_below a oa (λ q. absurd (let h' = subst (λ z. Below (Natural m) (plus_power (Natural n) z)) q h in let j = ltb-true m (suc n) h' in omega arith));
 }
 
-natural_beyond : (n : ℕ) (e d s : Object) → IsNormal e d s → Beyond (Natural n) (Pair (Pair e d) s)
-natural_beyond n e d s p =
+beyond_natural : (n : ℕ) (e d s : Object) → IsNormal e d s → Beyond (Natural n) (Pair (Pair e d) s)
+beyond_natural n e d s p =
     let h : plus_power (Natural n) e ≡ Pair (Pair e (Natural 1)) (Natural 0) = cond-false (same_object e (Natural 0)) (Natural (suc n)) (omega_to e) (same_object-differ e (Natural 0) p.not_zero) ∙ omega_to-not_zero e p.not_zero in
     record {
       exponent = e;
@@ -185,7 +187,7 @@ compare (Natural n) (Natural m) ob ox = go (cases_order m n)
     go (inl q) = inr (inl (ap Natural q))
     go (inr (inl l)) = inl (lt-ltb m n l)
     go (inr (inr l)) = inr (inr (beyond_naturals n m l))
-compare (Natural n) (Pair (Pair e d) s) ob ox = inr (inr (natural_beyond n e d s (normal e d s ox)))
+compare (Natural n) (Pair (Pair e d) s) ob ox = inr (inr (beyond_natural n e d s (normal e d s ox)))
 compare (Pair (Pair g c) t) (Natural m) ob ox = inl refl
 compare (Pair (Pair g c) t) (Pair (Pair e d) s) ob ox =
     compare_pairs g c t e d s (normal g c t ob) (normal e d s ox) (compare t s (normal g c t ob).rest (normal e d s ox).rest)

@@ -5,3 +5,4 @@ pub mod Descents
 mod Sums
 mod Beyond
 pub mod Jumps
+pub mod Computed

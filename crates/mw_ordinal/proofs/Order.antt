@@ -39,7 +39,6 @@ irreflexive_pair p r f (by_exponent n l) = n refl
 irreflexive_pair p r f (by_coefficient e n l) = n refl
 irreflexive_pair p r f (by_rest e g l) = f l
 
--- irreflexive
 pub irreflexive : (x : Object) → Below x x → ⊥
 irreflexive (Natural n) h = omega (arith, ltb-true n n h)
 irreflexive (Symbol x) h = omega (arith, ltb-true 0 0 h)
@@ -48,7 +47,6 @@ irreflexive (Pair p r) h = irreflexive_pair p r (irreflexive r) (PairBelow-from 
 pub below_differ : (x y : Object) → Below x y → x ≢ y
 below_differ x y h e = irreflexive y (subst (λ z. Below z y) e h)
 
--- transitive
 transitive_atom : (n : ℕ) (y z : Object) → is_atom_below n y ≡ true → Below y z → is_atom_below n z ≡ true
 transitive_atom n y (Pair u t) h k = refl
 transitive_atom n (Natural a) (Natural b) h k = lt-ltb n b (omega (arith, ltb-true n a h, ltb-true a b k))

@@ -1,10 +1,14 @@
-// Ordinals below epsilon-zero: laws of their order and of descent.
+// Ordinals below epsilon-zero: laws of their order, of descent, and of the built-in functions that compute them.
 #![tactic(auto)]
 
-ghost use Rattle.std.specs.Prelude.{ℕ, suc, ◌≡◌, ◌≢◌, ◌⊎◌, ◌↔◌, true, false, ltb};
-ghost use Rattle.mw_model.specs.Object.{Object, Name, Natural, Symbol, Pair, car, cdr};
-ghost use Rattle.mw_model.specs.Primitive.{number, is_pair};
+ghost use Rattle.std.specs.Prelude.{ℕ, suc, ◌≡◌, ◌≢◌, ◌⊎◌, ◌↔◌, true, false, ltb, List, [], ◌∷◌};
+ghost use Rattle.mw_model.specs.Object.{Object, Name, Natural, Symbol, Pair, car, cdr, named, truth_of};
+ghost use Rattle.mw_model.specs.Primitive.{Profile, number, is_pair};
 ghost use Rattle.mw_model.specs.Ordinal.{is_ordinal, is_below};
+ghost use Rattle.mw_model.specs.Definition.{Block, are_blocks};
+ghost use Rattle.mw_model.specs.Value.{block_calls};
+ghost use Rattle.mw_model.specs.BuiltIn.{built_in};
+ghost use Rattle.mw_model.specs.Theory.{BeginsWith};
 ghost use Rattle.mw_model.specs.Descent.{Question, goal, up};
 ghost use Rattle.mw_ordinal.specs.Shape.{IsNormal};
 ghost use Rattle.mw_ordinal.specs.Descending.{Passes, Ends};
@@ -39,4 +43,11 @@ pub fn descent()
     ensures stops { (f : ℕ → Object) → ((n : ℕ) → is_ordinal (f n) ≡ true) → (n : ℕ) × (is_below (f (suc n)) (f n) ≡ false) }
     ensures jumps { (q : Question) → Passes (goal q) → (n : ℕ) → Passes (up n q) }
     ensures goals { (q : Question) → Passes (goal q) → (a : Object) → is_ordinal a ≡ true → goal q a }
+{}
+
+/// The built-in ORD< and ORDP have the values of the order and of the test for ordinals, and no others, whatever
+/// definitions stand on the built-in ones.
+pub fn ordinal_functions()
+    ensures ord_less { (P : Profile) (D : List Block) → are_blocks P D ≡ true → BeginsWith (built_in P) D → (x y v : Object) → block_calls P D (named "ORD<") (x ∷ y ∷ []) v ↔ (v ≡ truth_of (is_below x y)) }
+    ensures ordp { (P : Profile) (D : List Block) → are_blocks P D ≡ true → BeginsWith (built_in P) D → (x v : Object) → block_calls P D (named "ORDP") (x ∷ []) v ↔ (v ≡ truth_of (is_ordinal x)) }
 {}
