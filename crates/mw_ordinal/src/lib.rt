@@ -31,9 +31,9 @@ pub fn order_of_ordinals()
     ensures exponents { (p r q s : Object) → car p ≢ car q → is_below (Pair p r) (Pair q s) ≡ is_below (car p) (car q) }
     ensures coefficients { (p r q s : Object) → car p ≡ car q → cdr p ≢ cdr q → is_below (Pair p r) (Pair q s) ≡ ltb (number (cdr p)) (number (cdr q)) }
     ensures rests { (p r q s : Object) → car p ≡ car q → cdr p ≡ cdr q → is_below (Pair p r) (Pair q s) ≡ is_below r s }
-    ensures below_pairs { (x q s : Object) → is_pair x ≡ false → is_below x (Pair q s) ≡ true }
-    ensures pairs_below { (p r y : Object) → is_pair y ≡ false → is_below (Pair p r) y ≡ false }
-    ensures others { (x y : Object) → is_pair x ≡ false → is_pair y ≡ false → is_below x y ≡ ltb (number x) (number y) }
+    ensures below_each_pair { (x q s : Object) → is_pair x ≡ false → is_below x (Pair q s) ≡ true }
+    ensures below_no_other { (p r y : Object) → is_pair y ≡ false → is_below (Pair p r) y ≡ false }
+    ensures no_pairs { (x y : Object) → is_pair x ≡ false → is_pair y ≡ false → is_below x y ≡ ltb (number x) (number y) }
 {}
 
 /// Each way down through ordinals ends, so no endless sequence of ordinals goes down at each step. Where a goal passes

@@ -22,11 +22,11 @@ returns-clause-coefficients c = coefficients_compare
 pub returns-clause-rests : goal.returns-clause-rests
 returns-clause-rests c = rests_compare
 
-pub returns-clause-below_pairs : goal.returns-clause-below_pairs
-returns-clause-below_pairs c = atom_below_pair
+pub returns-clause-below_each_pair : goal.returns-clause-below_each_pair
+returns-clause-below_each_pair c = atom_below_pair
 
-pub returns-clause-pairs_below : goal.returns-clause-pairs_below
-returns-clause-pairs_below c = pair_below_atom
+pub returns-clause-below_no_other : goal.returns-clause-below_no_other
+returns-clause-below_no_other c = pair_below_atom
 
-pub returns-clause-others : goal.returns-clause-others
-returns-clause-others c = atoms_compare
+pub returns-clause-no_pairs : goal.returns-clause-no_pairs
+returns-clause-no_pairs c = atoms_compare
