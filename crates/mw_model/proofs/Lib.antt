@@ -24,3 +24,4 @@ pub mod SomeValue
 pub mod Begins
 pub mod Defined
 pub mod BuiltInTotal
+pub mod BytesOrder
