@@ -1,14 +1,16 @@
 -- The axioms of the primitives are formulas under the arity table of all well-made definitions.
-use Rattle.std.proofs.Common.{◌≡◌, ℕ, Bool, true, ◌&&◌, List, [], ◌∷◌, Some, refl}
+use Rattle.std.proofs.Common.{◌≡◌, ℕ, Bool, true, ◌&&◌, List, [], ◌∷◌, Some, refl, sym}
 use Rattle.std.proofs.lemmas.Bool.{and_parts, and_from}
+use Rattle.std.proofs.lemmas.List.{append-nil}
 use Rattle.mw_model.specs.Object.{Name}
 use Rattle.mw_model.specs.Term.{Formula, Equal, Not, Or, ArityTable, arity_of, is_term, is_formula, IsFormula}
 use Rattle.mw_model.specs.Primitive.{Profile, One, Two, primitive_arities}
-use Rattle.mw_model.specs.Definition.{Block, Definitions, arities, arity_table, is_block, are_blocks, IsWellMade}
+use Rattle.mw_model.specs.Definition.{Block, Definitions, arities, arity_table, are_blocks, IsWellMade}
 use Rattle.mw_model.specs.Truth.{Each}
 use Rattle.mw_model.specs.Axioms.{primitive_axioms}
 use Rattle.mw_model.proofs.Formed.{formed, is_term-from}
-use Rattle.mw_model.proofs.Older.{formed_more, arity_stays}
+use Rattle.mw_model.proofs.Older.{formed_more}
+use Rattle.mw_model.proofs.Begins.{begins_arity}
 
 abbrev are_formulas : ArityTable → List Formula → Bool
 are_formulas A [] = true
@@ -20,8 +22,7 @@ are_formulas-at_first Two = refl
 
 -- the primitives keep their arities
 arity_kept : (P : Profile) (D : List Block) → are_blocks P D ≡ true → (f : Name) (n : ℕ) → arity_of (primitive_arities P) f ≡ Some n → arity_of (arities P D) f ≡ Some n
-arity_kept P [] w f n k = k
-arity_kept P (B ∷ D) w f n k = arity_stays P B D w f n (arity_kept P D (and_parts (is_block (arities P D) B) (are_blocks P D) w).1 f n k)
+arity_kept P D w = begins_arity P [] D w (D, sym (append-nil D))
 
 module _ (A A' : ArityTable) (more : (f : Name) (n : ℕ) → arity_of A f ≡ Some n → arity_of A' f ≡ Some n) where
   formula_more : (F : Formula) → IsFormula A F → IsFormula A' F
