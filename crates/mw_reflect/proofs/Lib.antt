@@ -4,3 +4,4 @@ pub mod ClosedAnswers
 pub mod TermAnswers
 pub mod FormulaAnswers
 pub mod SubstitutionAnswers
+pub mod CheckerReads
