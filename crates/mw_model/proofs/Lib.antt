@@ -38,3 +38,6 @@ mod ExamplesText
 mod ExamplesSyntax
 mod ExamplesTrial
 mod ExamplesLong
+pub mod Numerals
+pub mod Lexing
+pub mod TextReadBack
