@@ -41,3 +41,5 @@ mod ExamplesLong
 pub mod Numerals
 pub mod Lexing
 pub mod TextReadBack
+pub mod Acyclic
+pub mod Finite
