@@ -43,3 +43,4 @@ pub mod Lexing
 pub mod TextReadBack
 pub mod Acyclic
 pub mod Finite
+pub mod CallDepth
