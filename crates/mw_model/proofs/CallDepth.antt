@@ -1,10 +1,10 @@
 -- The value of a call, by its depth: what the calls of the last block and of an earlier one come to.
-use Rattle.std.proofs.Common.{◌≡◌, ℕ, zero, suc, Bool, true, false, List, [], ◌∷◌, Option, Some, None, refl, sym, ap, ap₂, ◌∙◌, subst}
-use Rattle.mw_model.specs.Object.{Name, Object, same_name}
-use Rattle.mw_model.specs.Term.{Term, Terms, Call}
+use Rattle.std.proofs.Common.{◌≡◌, ℕ, zero, suc, false, List, [], ◌∷◌, Option, Some, None, refl, sym, ap₂, ◌∙◌, subst}
+use Rattle.mw_model.specs.Object.{Name, Object}
+use Rattle.mw_model.specs.Term.{Terms, Call}
 use Rattle.mw_model.specs.Primitive.{Profile, Primitive, primitive_named}
-use Rattle.mw_model.specs.Definition.{Function, Block, Functions, Choice, Definitions, definitions, function_named, is_present}
-use Rattle.mw_model.specs.Value.{Environment, bind, Calls, BlockCalls, OnCall, HasValue, HaveValues, OnFunction, CallWithin, IsWitness, pick, block_calls, block_calls_within, IsValue, IsValueWithin}
+use Rattle.mw_model.specs.Definition.{Function, Block, Functions, Choice, definitions, function_named, is_present}
+use Rattle.mw_model.specs.Value.{Environment, bind, Calls, BlockCalls, OnCall, HaveValues, OnFunction, CallWithin, IsWitness, pick, block_calls, block_calls_within, IsValue, IsValueWithin}
 use Rattle.mw_model.specs.Proof.{constants}
 use Rattle.mw_model.specs.CallDepth.{AreValuesWithin, is_name_of, CallOfFunction, CallOfWitness, CallOfEarlier}
 use Rattle.mw_model.proofs.Names.{same_name-refl}
@@ -31,9 +31,6 @@ of_function C R o f h vs v e c = subst (λ o. OnFunction C R o f vs v) e c
 pub call_of_function : CallOfFunction
 call_of_function P B D f h n i k e ts v = (there, back)
   where
-    L : Definitions
-    L = definitions P (Functions B ∷ D)
-
     there : IsValueWithin (definitions P (Functions B ∷ D)) k e (Call f ts) v → (j : ℕ) × (vs : List Object) × (k ≡ suc j) × AreValuesWithin (definitions P (Functions B ∷ D)) k e ts vs × IsValueWithin (definitions P (Functions B ∷ D)) j (bind h.formals vs) h.body v
     there (vs, a, c) =
         let d = no_primitive (block_calls_within P (Functions B ∷ D) k) (primitive_named P f) f vs v n c in
@@ -99,3 +96,6 @@ call_of_earlier P L D f n i k e ts v = (there, back)
         let d = no_primitive (block_calls P D) (primitive_named P f) f u.0 v n u.2 in
         let d2 = subst (λ ws. block_calls P D f ws v) (constants_are P (block_calls P D) [] vs u.0 u.1) d in
         (vs, a, on_no_primitive (block_calls_within P (L ∷ D) k) (primitive_named P f) f vs v n (before_block P L D k f vs v i d2))
+
+pub call_of_none : (P : Profile) (f : Name) → primitive_named P f ≡ None → (k : ℕ) (e : Environment) (ts : Terms) (v : Object) → IsValueWithin (definitions P []) k e (Call f ts) v → ⊥
+call_of_none P f n k e ts v h = no_primitive (block_calls_within P [] k) (primitive_named P f) f h.0 v n h.2

@@ -1,9 +1,9 @@
 -- Each object has finitely many before it: all objects up to a weight can be listed.
-use Rattle.std.proofs.Common.{◌≡◌, ℕ, zero, suc, ◌+◌, ◌≤◌, ◌<◌, Bool, true, false, ◌&&◌, ◌||◌, ◌⊎◌, inl, inr, List, [], ◌∷◌, ◌++◌, map, refl, sym, ap, subst, arith, ltb-true}
+use Rattle.std.proofs.Common.{◌≡◌, ℕ, zero, suc, ◌≤◌, ◌<◌, Bool, true, false, ◌&&◌, ◌||◌, ◌⊎◌, inl, inr, List, [], ◌∷◌, ◌++◌, map, sym, subst, arith, ltb-true}
 use Rattle.std.specs.List.{Contains}
 use Rattle.std.proofs.lemmas.List.Elements.{Contains-append_left, Contains-append_right, Contains-append_cases, Contains-push, Contains-push_cases}
 use Rattle.std.proofs.lemmas.Bool.{cases_order}
-use Rattle.mw_model.specs.Object.{Name, Object, Natural, Symbol, Pair, name_of_bytes, bytes_weight, weight, is_before_bytes, is_before, by_weight, same_object}
+use Rattle.mw_model.specs.Object.{Object, Natural, Symbol, Pair, name_of_bytes, bytes_weight, weight, is_before_bytes, is_before, by_weight, same_object}
 use Rattle.mw_model.proofs.Order.{lex_cases}
 use Rattle.mw_model.proofs.Lexing.{name_of_bytes-bytes}
 

@@ -1,9 +1,9 @@
 -- A token, or a name in bars, with a delimiter or the end behind it is one lexeme.
-use Rattle.std.proofs.Common.{◌≡◌, ℕ, zero, suc, ◌+◌, Bool, true, false, ◌||◌, ◌&&◌, not, List, [], ◌∷◌, ◌++◌, length, refl, sym, ap, ap₂, ◌∙◌, if◌then◌else◌, arith, append_assoc, length-append}
+use Rattle.std.proofs.Common.{◌≡◌, ℕ, suc, ◌+◌, Bool, true, false, ◌||◌, ◌&&◌, List, [], ◌∷◌, ◌++◌, length, refl, sym, ap, ap₂, ◌∙◌, if◌then◌else◌, arith, append_assoc, length-append}
 use Rattle.std.proofs.lemmas.Bool.{and_parts, both_ways}
 use mathlib.Core.Bool.{Bool-set}
 use Rattle.mw_model.specs.Object.{Object, Symbol, Name, is_name, is_name_byte, are_name_bytes, name_of_bytes, name_if}
-use Rattle.mw_model.specs.Lexemes.{Lexeme, Atom, Stray, fault, TOKEN, Ending, Ends, Goes, lexemes_from, class, class_else, Constituent, piece, extent, token, atom, barred, glued, glued_bar, all_are, run_of, after_run, is_constituent, TokenForm, Whole, token_form}
+use Rattle.mw_model.specs.Lexemes.{Atom, Stray, fault, TOKEN, Ending, Ends, Goes, lexemes_from, class_else, Constituent, piece, extent, token, atom, barred, glued, glued_bar, all_are, run_of, after_run, is_constituent, Whole, token_form}
 
 -- nothing, or a byte that is not of the class
 abbrev pub StopsRun : (ℕ → Bool) → List ℕ → Type 0

@@ -2,8 +2,8 @@
 use Rattle.std.proofs.Common.{◌≡◌, ℕ, zero, suc, ◌+◌, ◌≤◌, ◌<◌, Bool, true, false, ◌&&◌, ◌||◌, not, List, [], ◌∷◌, ◌++◌, length, Option, None, refl, sym, ap, ◌∙◌, subst, if◌then◌else◌, arith, append_assoc, append-nil, le-leb, length-append, take}
 use Rattle.std.proofs.lemmas.Bool.{and_parts, and_from, or_left, both_ways}
 use Rattle.mw_model.specs.Object.{Object, Natural, Symbol, Pair, Name, NIL, nil_name, is_name, same_name}
-use Rattle.mw_model.specs.Lexemes.{Lexeme, Atom, Open, Close, Dot, Quote, Mark, Ref, Wrong, Stray, End, Fault, unfinished, Ending, Ends, Goes, lexemes_from, all_are, is_digit, is_constituent, is_small, is_capital, is_mark, token_form_else, TokenForm, Whole, Point, Bad, token_form, decimal_value}
-use Rattle.mw_model.specs.Grammar.{Labels, Unused, Got, and_then, and_tail, closing, Datum, First, Tail, Last, read, book, pairing, and_data, and_events, enough, data_of, reading, trees, limit, cut_short}
+use Rattle.mw_model.specs.Lexemes.{Lexeme, Atom, Open, Close, Dot, End, Fault, unfinished, Ending, Ends, Goes, lexemes_from, all_are, is_digit, is_constituent, is_small, is_capital, is_mark, token_form_else, TokenForm, Whole, Point, Bad, token_form, decimal_value}
+use Rattle.mw_model.specs.Grammar.{Labels, Unused, Got, and_then, and_tail, Datum, First, Tail, read, book, pairing, and_data, and_events, enough, data_of, reading, trees, limit, cut_short}
 use Rattle.mw_model.specs.Printing.{text_of, tail_text, numeral, is_bare, name_text, end_text, is_read_as, text_lines}
 use Rattle.mw_model.proofs.Names.{same_object-eq, same_name-eq}
 use Rattle.mw_model.proofs.Numerals.{IsNumeral, numeral_is}
