@@ -1,8 +1,8 @@
 -- Obligations, and recursive definitions where the obligations are theorems already.
 use Rattle.std.proofs.Common.{◌≡◌, List, [], ◌∷◌, refl, map, codes}
 use Prim.Native.String.{String}
-use Rattle.mw_model.specs.Object.{Object, Pair, named, NIL}
-use Rattle.mw_model.specs.Term.{If, formula_object}
+use Rattle.mw_model.specs.Object.{Object, Pair, named, NIL, T}
+use Rattle.mw_model.specs.Term.{Constant, If, formula_object}
 use Rattle.mw_model.specs.Primitive.{One}
 use Rattle.mw_model.specs.Definition.{Function}
 use Rattle.mw_model.specs.Obligation.{obligations}
@@ -29,6 +29,16 @@ twice = record { name = named "F"; formals = named "X" ∷ []; body = If (var "X
 
 equal_obligations_are_owed_once_and_equal_tests_stay : map formula_object (obligations (twice ∷ []) ((named "F", call "RANK" (var "X" ∷ [])) ∷ [])) ≡ data_in "(pequal* (ordp (rank x)) 't) (por* (pequal* x 'nil) (por* (pequal* x 'nil) (pequal* (ord< (rank (cdr x)) (rank x)) 't)))"
 equal_obligations_are_owed_once_and_equal_tests_stay = refl
+
+abbrev even : Function
+even = record { name = named "EV"; formals = named "X" ∷ []; body = If (call "CONSP" (var "X" ∷ [])) (call "OD" (call "CDR" (var "X" ∷ []) ∷ [])) (Constant T) }
+
+abbrev odd : Function
+odd = record { name = named "OD"; formals = named "X" ∷ []; body = If (call "CONSP" (var "X" ∷ [])) (call "EV" (call "CDR" (var "X" ∷ []) ∷ [])) (Constant NIL) }
+
+-- of the four that the two bodies owe, two are repeated
+block_owes_equal_obligations_once : map formula_object (obligations (even ∷ odd ∷ []) ((named "EV", call "RANK" (var "X" ∷ [])) ∷ (named "OD", call "RANK" (var "X" ∷ [])) ∷ [])) ≡ data_in "(pequal* (ordp (rank x)) 't) (por* (pequal* (consp x) 'nil) (pequal* (ord< (rank (cdr x)) (rank x)) 't))"
+block_owes_equal_obligations_once = refl
 
 abbrev listed : List Object → Object
 listed [] = NIL

@@ -59,3 +59,17 @@ labelled_atom_is_one_datum = refl
 datum_may_have_two_labels : check "#1=#2=a" ≡ says ("1 - - refused EVENT" ∷ "events 1 accepted 0 refused 1 level 1" ∷ []) SomeRefused
 unfolding need must unless
 datum_may_have_two_labels = refl
+
+-- Seven labels, each four times the one within: a text of 87,381 bytes.
+text_past_65536_bytes_is_refused : check "(print (#7=(#6=(#5=(#4=(#3=(#2=(#1=(a a a a) #1# #1# #1#) #2# #2# #2#) #3# #3# #3#) #4# #4# #4#) #5# #5# #5#) #6# #6# #6#) #7#))" ≡ says ("1 PRINT - refused LONG" ∷ "events 1 accepted 0 refused 1 level 1" ∷ []) SomeRefused
+unfolding need must unless
+text_past_65536_bytes_is_refused = refl
+
+-- The bound itself: 65,536 bytes are shown, one more is refused.
+longest_text_is_printed : (check "(print (#7=(#6=(#5=(#4=(#3=(#2=(#1=(a a a a) #1# #1# #1#) #2# #2# #2#) #3# #3# #3#) #4# #4# #4#) #5# #5# #5#) #6# #6# #6#) #6# #5# #5# #5# #5# aa))").status ≡ Done
+unfolding need must unless
+longest_text_is_printed = refl
+
+one_byte_more_is_refused : check "(print (#7=(#6=(#5=(#4=(#3=(#2=(#1=(a a a a) #1# #1# #1#) #2# #2# #2#) #3# #3# #3#) #4# #4# #4#) #5# #5# #5#) #6# #6# #6#) #6# #5# #5# #5# #5# aaa))" ≡ says ("1 PRINT - refused LONG" ∷ "events 1 accepted 0 refused 1 level 1" ∷ []) SomeRefused
+unfolding need must unless
+one_byte_more_is_refused = refl
