@@ -4,10 +4,9 @@ ghost use Rattle.std.specs.Fmt.{decimal};
 ghost use Rattle.mw_model.specs.Object.{Object};
 ghost use Rattle.mw_model.specs.Term.{formula_object};
 ghost use Rattle.mw_model.specs.Primitive.{Profile};
-ghost use Rattle.mw_model.specs.Definition.{IsWellMade};
 ghost use Rattle.mw_model.specs.Axioms.{primitive_axioms};
 ghost use Rattle.mw_model.specs.AxiomsText.{axioms_text};
-ghost use Rattle.mw_model.specs.BuiltIn.{built_in, built_in_definitions};
+ghost use Rattle.mw_model.specs.BuiltIn.{built_in};
 ghost use Rattle.mw_model.specs.BuiltInReading.{blocks_of};
 ghost use Rattle.mw_model.specs.BuiltInText.{built_in_text};
 ghost use Rattle.mw_model.specs.Lexemes.{Ends, decimal_value};
@@ -27,10 +26,9 @@ pub fn numerals()
     ensures as_std { (n : ℕ) → n < 10 ^ 64 → numeral n ≡ decimal n }
 {}
 
-/// The built-in definitions are what their text gives when it is read and expanded, and are well made. The axioms of the
-/// primitives are what their text gives.
+/// The built-in definitions are what their text gives when it is read and expanded. The axioms of the primitives are what
+/// their text gives.
 pub fn built_in_text_read()
     ensures definitions { (P : Profile) → blocks_of (reading Ends (built_in_text P)).events ≡ Some (reverse (built_in P)) }
-    ensures well_made { (P : Profile) → IsWellMade (built_in_definitions P) }
     ensures axioms { (P : Profile) → map formula_object (primitive_axioms P) ≡ (reading Ends (axioms_text P)).events }
 {}

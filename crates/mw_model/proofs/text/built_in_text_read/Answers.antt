@@ -6,8 +6,5 @@ use Rattle.mw_model.proofs.text.built_in_text_read.Goals as goal
 pub returns-clause-definitions : goal.returns-clause-definitions
 returns-clause-definitions c = definitions.reads
 
-pub returns-clause-well_made : goal.returns-clause-well_made
-returns-clause-well_made c = definitions.well_made
-
 pub returns-clause-axioms : goal.returns-clause-axioms
 returns-clause-axioms c = axioms.reads
