@@ -1,19 +1,15 @@
 -- What a call's value is, by its depth: statements of laws.
-use Rattle.std.specs.Prelude.{◌≡◌, ◌↔◌, ℕ, suc, Bool, false, List, [], ◌∷◌, Some, None}
-use Rattle.mw_model.specs.Object.{Name, Object, same_name}
+use Rattle.std.specs.Prelude.{◌≡◌, ◌↔◌, ℕ, suc, false, List, [], ◌∷◌, Some, None}
+use Rattle.mw_model.specs.Object.{Name, Object}
 use Rattle.mw_model.specs.Term.{Term, Terms, Call}
 use Rattle.mw_model.specs.Primitive.{Profile, primitive_named}
-use Rattle.mw_model.specs.Definition.{Function, Block, Functions, Choice, Definitions, definitions, function_named, is_present}
+use Rattle.mw_model.specs.Definition.{Function, Block, Functions, Choice, Definitions, definitions, function_named, is_defined}
 use Rattle.mw_model.specs.Value.{Environment, bind, HaveValues, IsWitness, block_calls, block_calls_within, IsValueWithin}
 use Rattle.mw_model.specs.Proof.{constants}
 
 -- values of each of the terms with call depth at most k
 abbrev pub AreValuesWithin : Definitions → ℕ → Environment → Terms → List Object → Type 0
 AreValuesWithin D k e ts vs = HaveValues D.profile (block_calls_within D.profile D.blocks k) e ts vs
-
-abbrev pub is_name_of : Block → Name → Bool
-is_name_of (Functions B) f = is_present (function_named B f)
-is_name_of (Choice g y xs b) f = same_name g f
 
 -- A function of the last block: the depth is not 0, and the body has the value one less deep where just the formals
 -- are bound to the values of the actuals.
@@ -36,7 +32,7 @@ CallOfWitness =
 -- some depth.
 abbrev pub CallOfEarlier : Type 0
 CallOfEarlier =
-    (P : Profile) (L : Block) (D : List Block) (f : Name) → primitive_named P f ≡ None → is_name_of L f ≡ false →
+    (P : Profile) (L : Block) (D : List Block) (f : Name) → primitive_named P f ≡ None → is_defined (L ∷ []) f ≡ false →
     (k : ℕ) (e : Environment) (ts : Terms) (v : Object) →
     IsValueWithin (definitions P (L ∷ D)) k e (Call f ts) v
     ↔ ((vs : List Object) × (j : ℕ) × AreValuesWithin (definitions P (L ∷ D)) k e ts vs × IsValueWithin (definitions P D) j [] (Call f (constants vs)) v)
