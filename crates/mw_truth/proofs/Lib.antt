@@ -18,4 +18,9 @@ pub mod Owes
 pub mod ObligationsFormed
 pub mod OrdinalFunctions
 pub mod Admits
+pub mod TrueLists
+pub mod Drafted
+pub mod Growth
+pub mod Events
+pub mod Reached
 pub mod AdmissionExample

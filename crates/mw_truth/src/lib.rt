@@ -4,3 +4,4 @@
 pub mod admission;
 pub mod axioms;
 pub mod methods;
+pub mod soundness;
