@@ -1,7 +1,7 @@
 -- The reference checker's base evaluation is the rule's, in each profile.
 use Rattle.std.proofs.Common.{◌≡◌, Bool, true, false, ◌&&◌, ◌||◌, cond, List, [], ◌∷◌, Option, Some, None, refl, sym, ap, ap₂, ◌∙◌, subst, ◌+◌, arith}
 use Rattle.std.proofs.lemmas.Bool.{ne_eqb}
-use Rattle.mw_model.specs.Object.{Name, Object, Natural, Symbol, Pair, named, symbol, same_name, same_object, nil_name, NIL, car, cdr, second_of, third_of, truth_of, list3, is_member}
+use Rattle.mw_model.specs.Object.{Name, Object, Natural, Symbol, Pair, named, symbol, same_name, same_object, nil_name, NIL, car, cdr, second_of, third_of, truth_of, list2, is_member}
 use Rattle.mw_model.specs.Term.{Term, Variable, Constant, If, Call, Lambda, NoTerms, More, Formula, Equal, Not, Or, term_object, terms_object, formula_object, names_object, ArityTable, IsFormula}
 use Rattle.mw_model.specs.Primitive.{Profile, One, Two, Primitive, Equality, IsPair, Cons, Car, Cdr, IsSymbol, SymbolLess, IsNatural, Less, Plus, Minus, Times, primitive_name, shared_primitives, product, primitive_among, primitive_named, or_product, apply_to, apply, choose, first_value, second_value, is_pair}
 use Rattle.mw_model.specs.Definition.{is_present}
@@ -143,3 +143,93 @@ apply_to-answer Two Times x h = answer-body Two "LOGIC.APPLY" (Symbol (primitive
 
 apply_if-answer : (P : Profile) (x : Object) → answer P "LOGIC.APPLY" (symbol "IF" ∷ x ∷ []) ≡ choose (car x) (second_of x) (third_of x)
 apply_if-answer P x = answer-body P "LOGIC.APPLY" (symbol "IF" ∷ x ∷ [])
+
+module _ (P : Profile) where
+  product_name : (f : Name) (p : Primitive) (b : Bool) → same_name (primitive_name Times) f ≡ b → cond b (product P) None ≡ Some p → primitive_name p ≡ f
+  product_name f p true e h = go P h
+    where
+      go : (Q : Profile) → product Q ≡ Some p → primitive_name p ≡ f
+      go One h = cc
+      go Two h = let r : Times ≡ p = cc h in subst (λ z. primitive_name z ≡ f) r (same_name-eq (primitive_name Times) f e)
+  product_name f p false e h = cc
+
+  -- the primitive of a name has that name
+  primitive_named-name : (f : Name) (p : Primitive) → primitive_named P f ≡ Some p → primitive_name p ≡ f
+  primitive_named-name f p h = go (primitive_among shared_primitives f) refl h
+    where
+      go : (o : Option Primitive) → primitive_among shared_primitives f ≡ o → or_product P f o ≡ Some p → primitive_name p ≡ f
+      go (Some q) e k = among_name shared_primitives f p (e ∙ k)
+      go None e k = product_name f p (same_name (primitive_name Times) f) refl k
+
+  -- the value of the call
+  apply-answer : (f : Name) (vs : List Object) (i : Bool) (o : Option Primitive) → same_name f (named "IF") ≡ i → primitive_named P f ≡ o → (i || is_present o) ≡ true → (v : Object) → same_object v (answer P "LOGIC.APPLY" (Symbol f ∷ values_object vs ∷ [])) ≡ is_that_value (cond i (Some (choose (first_value vs) (second_value vs) (third_value vs))) (value_by o vs)) v
+  apply-answer f vs true o e q k v =
+      ap (same_object v) (ap (λ z. answer P "LOGIC.APPLY" (Symbol z ∷ values_object vs ∷ [])) (same_name-eq f (named "IF") e)
+      ∙ (apply_if-answer P (values_object vs) ∙ (ap₂ (λ a b. choose a b (third_of (values_object vs))) (first_is vs) (second_is vs) ∙ ap (choose (first_value vs) (second_value vs)) (third_is vs))))
+      ∙ same_object-swap v _
+  apply-answer f vs false None e q k v = cc
+  apply-answer f vs false (Some p) e q k v =
+      let n = primitive_named-name f p q in
+      ap (same_object v) (ap (λ z. answer P "LOGIC.APPLY" (Symbol z ∷ values_object vs ∷ [])) (sym n) ∙ (apply_to-answer P p (values_object vs) (ap (primitive_named P) n ∙ q) ∙ ap₂ (apply_to p) (first_is vs) (second_is vs)))
+      ∙ same_object-swap v _
+
+  no_value : (i : Bool) (o : Option Primitive) (u : Option Object) (vs : List Object) (v : Object) → (i || is_present o) ≡ false → is_that_value (cond i u (value_by o vs)) v ≡ false
+  no_value true o u vs v h = cc
+  no_value false None u vs v h = refl
+  no_value false (Some p) u vs v h = cc
+
+  -- known, constants, a constant, the value: in either order
+  four_tests : (p c r v w : Bool) → (p ≡ true → v ≡ w) → (p ≡ false → w ≡ false) → (p && (c && (r && v))) ≡ (r && (c && w))
+  four_tests true true true v w h k = h refl
+  four_tests true true false v w h k = refl
+  four_tests true false true v w h k = refl
+  four_tests true false false v w h k = refl
+  four_tests false true true v w h k = sym (k refl)
+  four_tests false true false v w h k = refl
+  four_tests false false true v w h k = refl
+  four_tests false false false v w h k = refl
+
+  abbrev with_value : Object → Object → Object
+  with_value l r =
+      choose (truth_of (is_pair l))
+      (choose (answer P "LOGIC.PRIMITIVEP" (car l ∷ []))
+      (choose (answer P "LOGIC.CONST-LISTP" (cdr l ∷ []))
+      (choose (answer P "LOGIC.CONSTANTP" (r ∷ [])) (truth_of (same_object (second_of r) (answer P "LOGIC.APPLY" (car l ∷ answer P "LOGIC.UNQUOTE-LIST" (cdr l ∷ []) ∷ [])))) NIL) NIL) NIL) NIL
+
+  call-answer : (f : Name) (ts r : Object) → with_value (Pair (Symbol f) ts) r ≡ truth_of (is_constant_object r && is_call_with_value P (Pair (Symbol f) ts) (second_of r))
+  call-answer f ts r =
+      and_then (is_known P f) _ (primitivep-answer P (Symbol f) ∙ ap truth_of (member_known P f)) (λ _.
+      and_then (are_constant_objects ts) _ (const_listp-answer P ts) (λ _. and_then (is_constant_object r) _ (constantp-answer-constant P r) (λ _. ap (λ v. truth_of (same_object (second_of r) (answer P "LOGIC.APPLY" (Symbol f ∷ v ∷ [])))) (unquote_list-answer P ts))))
+      ∙ ap truth_of (four_tests (is_known P f) (are_constant_objects ts) (is_constant_object r) (same_object (second_of r) (answer P "LOGIC.APPLY" (Symbol f ∷ values_object (unquoted ts) ∷ []))) (is_that_value (primitive_value P f (unquoted ts)) (second_of r))
+      (λ h. apply-answer f (unquoted ts) (same_name f (named "IF")) (primitive_named P f) refl refl h (second_of r))
+      (λ h. no_value (same_name f (named "IF")) (primitive_named P f) _ (unquoted ts) (second_of r) h))
+
+  no_member : (a b : Object) (ps : List Primitive) (rest : Object) → is_member (Pair a b) rest ≡ false → is_member (Pair a b) (names_of_primitives ps rest) ≡ false
+  unfolding names_of_primitives
+  no_member a b [] rest h = h
+  no_member a b (p ∷ ps) rest h = no_member a b ps rest h
+
+  no_product : (Q : Profile) (a b : Object) → is_member (Pair a b) (product_list Q) ≡ false
+  no_product One a b = refl
+  no_product Two a b = refl
+
+  -- a lambda call calls no primitive
+  lambda-answer : (a b ts r : Object) → with_value (Pair (Pair a b) ts) r ≡ truth_of (is_constant_object r && false)
+  lambda-answer a b ts r =
+      ap (λ v. choose v (choose (answer P "LOGIC.CONST-LISTP" (ts ∷ [])) (choose (answer P "LOGIC.CONSTANTP" (r ∷ [])) (truth_of (same_object (second_of r) (answer P "LOGIC.APPLY" (Pair a b ∷ answer P "LOGIC.UNQUOTE-LIST" (ts ∷ []) ∷ [])))) NIL) NIL) NIL)
+      (primitivep-answer P (Pair a b) ∙ ap truth_of (ap (is_member (Pair a b)) (list_is P) ∙ no_member a b shared_primitives (product_list P) (no_product P a b)))
+      ∙ ap truth_of (sym (and_false (is_constant_object r)))
+
+  base_eval_at : (l r : Term) → with_value (term_object l) (term_object r) ≡ truth_of (is_constant_object (term_object r) && is_call_with_value P (term_object l) (second_of (term_object r)))
+  base_eval_at (Variable x) r = ap truth_of (sym (and_false (is_constant_object (term_object r))))
+  base_eval_at (Constant c) r = call-answer (named "QUOTE") (Pair c NIL) (term_object r)
+  base_eval_at (If a b c) r = call-answer (named "IF") (terms_object (three_terms a b c)) (term_object r)
+  base_eval_at (Call f ts) r = call-answer f (terms_object ts) (term_object r)
+  base_eval_at (Lambda xs b ts) r = lambda-answer (symbol "LAMBDA") (list2 (names_object xs) (term_object b)) (terms_object ts) (term_object r)
+
+  pub base_eval-answer : (A : ArityTable) (F : Formula) → IsFormula A F → answer P "LOGIC.BASE-EVAL-OKP" (formula_object F ∷ []) ≡ truth_of (is_base_eval P F)
+  base_eval-answer A (Not F) i = answer-body P "LOGIC.BASE-EVAL-OKP" (formula_object (Not F) ∷ [])
+  base_eval-answer A (Or F G) i = answer-body P "LOGIC.BASE-EVAL-OKP" (formula_object (Or F G) ∷ [])
+  base_eval-answer A (Equal l r) i =
+      answer-body P "LOGIC.BASE-EVAL-OKP" (formula_object (Equal l r) ∷ [])
+      ∙ (base_eval_at l r ∙ ap truth_of (object_is_base_eval-exact P (Equal l r) (formula_readable A (Equal l r) i)))
