@@ -3,3 +3,6 @@ mod SubstituteAnswers
 mod RuleAnswers
 mod EqualityAnswers
 mod BaseEvalAnswers
+mod Stub
+mod InductionAnswers
+mod StepAnswers
