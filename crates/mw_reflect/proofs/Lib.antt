@@ -6,3 +6,4 @@ mod BaseEvalAnswers
 mod Stub
 mod InductionAnswers
 mod StepAnswers
+mod ProofAnswers
