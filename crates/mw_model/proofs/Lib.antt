@@ -32,3 +32,4 @@ pub mod SomeValue
 pub mod Begins
 pub mod Defined
 pub mod BuiltInTotal
+pub mod BytesOrder

@@ -10,7 +10,7 @@ use Rattle.mw_model.specs.RulesInduction.{is_list_object, length_object, are_cas
 use Rattle.mw_model.proofs.BuiltInAnswers.{answer, answer-body}
 use Rattle.mw_reflect.proofs.ListAnswers.{and_then, has_length, listp-answer, len-answer, lenp-answer, pequal-answer, pnot-answer, por-answer}
 use Rattle.mw_reflect.proofs.SubstituteAnswers.{substitute-answer, formula_substitute-answer}
-use Rattle.mw_reflect.proofs.Stub.{sigmap-answer, sigma_list_listp-answer}
+use Rattle.mw_reflect.proofs.SubstitutionAnswers.{sigmap-answer, sigma_list_listp-answer}
 
 -- a proper list of n members
 one_less : (m n : ℕ) → eqb (1 + m) (suc n) ≡ eqb m n

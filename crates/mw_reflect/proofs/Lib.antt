@@ -1,9 +1,13 @@
+pub mod TestValues
 pub mod ListAnswers
+pub mod ClosedAnswers
+pub mod TermAnswers
+pub mod FormulaAnswers
+pub mod SubstitutionAnswers
 mod SubstituteAnswers
 mod RuleAnswers
 mod EqualityAnswers
 mod BaseEvalAnswers
-mod Stub
 mod InductionAnswers
 mod StepAnswers
 mod ProofAnswers

@@ -15,7 +15,7 @@ use Rattle.mw_model.proofs.Judging.{judges_good, goods_judge}
 use Rattle.mw_model.proofs.RulesExact.{is_present-that}
 use Rattle.mw_model.proofs.BuiltInAnswers.{answer, answer-body}
 use Rattle.mw_reflect.proofs.ListAnswers.{and_then, passes, listp-answer, len-answer, memberp-answer}
-use Rattle.mw_reflect.proofs.Stub.{formulap-answer}
+use Rattle.mw_reflect.proofs.FormulaAnswers.{formulap-answer}
 use Rattle.mw_reflect.proofs.StepAnswers.{step-answer}
 
 -- conclusions

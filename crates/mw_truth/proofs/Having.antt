@@ -69,7 +69,7 @@ module _ (P : Profile) (C : Calls) (det : Det C) (o : Orders C) where
       k (truth_true (is_below x a) v (o.less x a v (subst (λ z. C (named "ORD<") z v) us hv.2)) q))
 
 -- one more pair
-induces_more : (P : Profile) (C : Calls) (e e' : Environment) (s : Substitution) (x : Name) (t : Term) (w : Object) → HasValue P C e t w → Induces P C e s e' → Induces P C e ((x, t) ∷ s) ((x, w) ∷ e')
+pub induces_more : (P : Profile) (C : Calls) (e e' : Environment) (s : Substitution) (x : Name) (t : Term) (w : Object) → HasValue P C e t w → Induces P C e s e' → Induces P C e ((x, t) ∷ s) ((x, w) ∷ e')
 induces_more P C e e' s x t w h ind y = go (same_name x y)
   where
     go : (b : Bool) → HasValue P C e (cond b t (image s y)) (cond b w (lookup e' y))

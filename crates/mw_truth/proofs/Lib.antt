@@ -1,3 +1,13 @@
 pub mod Having
 pub mod BlockTotal
+pub mod PrimitiveValues
+pub mod Tells
+pub mod ObjectAxioms
+pub mod NumberAxioms
 pub mod AxiomsTrue
+pub mod TrueSubstituted
+pub mod Equations
+pub mod InductionTrue
+pub mod MethodsTrue
+pub mod AxiomFormulas
+pub mod ProofsTrue

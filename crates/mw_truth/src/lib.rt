@@ -1,2 +1,5 @@
 // Truth in the standard model: laws that each step of a theory keeps it.
 #![tactic(auto)]
+
+pub mod axioms;
+pub mod methods;
