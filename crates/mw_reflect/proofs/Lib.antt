@@ -11,3 +11,4 @@ mod BaseEvalAnswers
 mod InductionAnswers
 mod StepAnswers
 mod ProofAnswers
+mod Reflects
