@@ -12,3 +12,4 @@ mod InductionAnswers
 mod StepAnswers
 mod ProofAnswers
 mod Reflects
+mod Provable

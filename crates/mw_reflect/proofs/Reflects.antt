@@ -43,7 +43,7 @@ module _ (D : Definitions) (begun : BeginsBuiltIn D) (axioms theorems : Object) 
   abbrev is_proof : Object → Bool
   is_proof p = is_present (judge axioms theorems (arity_table D) D.profile p)
 
-  abbrev arguments : Object → List Object
+  abbrev pub arguments : Object → List Object
   arguments p = p ∷ axioms ∷ theorems ∷ table_object (arity_table D) ∷ []
 
   pub proofp_answer-test : (p : Object) → answer D.profile "LOGIC.PROOFP" (arguments p) ≡ truth_of (is_proof p)
