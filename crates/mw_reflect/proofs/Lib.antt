@@ -13,3 +13,4 @@ mod StepAnswers
 mod ProofAnswers
 mod Reflects
 mod Provable
+mod ClaimsTrue

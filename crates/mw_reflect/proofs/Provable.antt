@@ -83,7 +83,7 @@ module _ (D : Definitions) (begun : BeginsBuiltIn D) (axioms theorems : Object) 
     body_only : (p c v : Object) → HasValue P C (at p c) proves_body v → v ≡ truth_of (proves c p)
     body_only p c v h = ev_det P C det (at p c) proves_body v (truth_of (proves c p)) h (body_has p c)
 
-  abbrev Calls52 : Calls
+  abbrev pub Calls52 : Calls
   Calls52 = block_calls P (Older P)
 
   abbrev Calls54 : Calls
@@ -105,7 +105,7 @@ module _ (D : Definitions) (begun : BeginsBuiltIn D) (axioms theorems : Object) 
   abbrev args : Object → List Object
   args c = arguments D begun axioms theorems c
 
-  abbrev Witness : Object → Object → Type 0
+  abbrev pub Witness : Object → Object → Type 0
   Witness c p = IsWitness P Calls52 (named "PROOF") free_names proves_body (args c) p
 
   satisfies_from : (c p : Object) → proves c p ≡ true → Satisfies P Calls52 (named "PROOF") free_names proves_body (args c) p
@@ -124,7 +124,7 @@ module _ (D : Definitions) (begun : BeginsBuiltIn D) (axioms theorems : Object) 
       ∙ ap (λ B. block_calls P B (named "LOGIC.PROVABLEP") (args c) v) (built_in-parts P)
 
   -- LOGIC.PROVABLEP's values
-  provable_call : (c p : Object) → Witness c p → block_calls P D.blocks (named "LOGIC.PROVABLEP") (args c) (truth_of (proves c p))
+  pub provable_call : (c p : Object) → Witness c p → block_calls P D.blocks (named "LOGIC.PROVABLEP") (args c) (truth_of (proves c p))
   provable_call c p h =
       subst (λ X. X) (sym (provable_stays c (truth_of (proves c p))))
       (block_fold P (block_calls P (logic_provable_witness ∷ Older P)) (logic_provablep ∷ []) logic_provablep (args c) (truth_of (proves c p))
