@@ -16,11 +16,10 @@ abbrev pub reads_formula : ArityTable → Object → Bool
 reads_formula A x = passes (is_formula A) (formula_of x)
 
 module _ (P : Profile) (A : ArityTable) (three : arity_of A (named "IF") ≡ Some 3) where
-  -- formulas
-  abbrev pub formula_answer : Object → Object
+  abbrev formula_answer : Object → Object
   formula_answer x = answer P "LOGIC.FORMULAP" (x ∷ table_object A ∷ [])
 
-  -- by the head
+  -- what LOGIC.FORMULAP tests by the head of an object: x for PEQUAL*, y for PNOT*, z for POR*
   abbrev by_head : (p n o : Bool) (x y z : Object) → Object
   by_head p n o x y z = choose (truth_of p) x (choose (truth_of n) y (choose (truth_of o) z NIL))
 
@@ -38,22 +37,18 @@ module _ (P : Profile) (A : ArityTable) (three : arity_of A (named "IF") ≡ Som
   not_of-test None = refl
   not_of-test (Some a) = refl
 
-  when-test : (b : Bool) (o : Option Formula) → passes (is_formula A) (when b o) ≡ b && passes (is_formula A) o
-  when-test true o = refl
-  when-test false o = refl
-
   same_object-apart : (h : Object) (m n : Name) → same_name m n ≡ false → same_object h (Symbol m) ≡ true → same_object h (Symbol n) ≡ false
   same_object-apart h m n d e = subst (λ z. same_object z (Symbol n) ≡ false) (sym (same_object-eq h (Symbol m) e)) d
 
-  by_head-three : (h a b z : Object) (p n o s : Bool) → same_object h (symbol "PEQUAL*") ≡ p → same_object h (symbol "PNOT*") ≡ n → same_object h (symbol "POR*") ≡ o → same_object z NIL ≡ s → (x y u : Object) (i j k : Bool) → x ≡ truth_of (s && i) → y ≡ NIL → u ≡ truth_of (s && j) → by_head p n o x y u ≡ truth_of (cond s (cond p i (o && j)) false)
-  by_head-three h a b z true n o true hp hn ho hs x y u i j k ex ey eu = ex
-  by_head-three h a b z true n o false hp hn ho hs x y u i j k ex ey eu = ex
-  by_head-three h a b z false true o true hp hn ho hs x y u i j k ex ey eu = ey ∙ ap (λ t. truth_of (t && j)) (sym (sym ho ∙ same_object-apart h (named "PNOT*") (named "POR*") refl hn))
-  by_head-three h a b z false true o false hp hn ho hs x y u i j k ex ey eu = ey
-  by_head-three h a b z false false true true hp hn ho hs x y u i j k ex ey eu = eu
-  by_head-three h a b z false false true false hp hn ho hs x y u i j k ex ey eu = eu
-  by_head-three h a b z false false false true hp hn ho hs x y u i j k ex ey eu = refl
-  by_head-three h a b z false false false false hp hn ho hs x y u i j k ex ey eu = refl
+  by_head-three : (h a b z : Object) (p n o s : Bool) → same_object h (symbol "PEQUAL*") ≡ p → same_object h (symbol "PNOT*") ≡ n → same_object h (symbol "POR*") ≡ o → same_object z NIL ≡ s → (x y u : Object) (i j : Bool) → x ≡ truth_of (s && i) → y ≡ NIL → u ≡ truth_of (s && j) → by_head p n o x y u ≡ truth_of (cond s (cond p i (o && j)) false)
+  by_head-three h a b z true n o true hp hn ho hs x y u i j ex ey eu = ex
+  by_head-three h a b z true n o false hp hn ho hs x y u i j ex ey eu = ex
+  by_head-three h a b z false true o true hp hn ho hs x y u i j ex ey eu = ey ∙ ap (λ t. truth_of (t && j)) (sym (sym ho ∙ same_object-apart h (named "PNOT*") (named "POR*") refl hn))
+  by_head-three h a b z false true o false hp hn ho hs x y u i j ex ey eu = ey
+  by_head-three h a b z false false true true hp hn ho hs x y u i j ex ey eu = eu
+  by_head-three h a b z false false true false hp hn ho hs x y u i j ex ey eu = eu
+  by_head-three h a b z false false false true hp hn ho hs x y u i j ex ey eu = refl
+  by_head-three h a b z false false false false hp hn ho hs x y u i j ex ey eu = refl
 
   passes-cond : (s p o : Bool) (u v : Option Formula) → cond s (cond p (passes (is_formula A) u) (o && passes (is_formula A) v)) false ≡ passes (is_formula A) (when s (cond p u (when o v)))
   passes-cond true true o u v = refl
@@ -92,7 +87,7 @@ module _ (P : Profile) (A : ArityTable) (three : arity_of A (named "IF") ≡ Som
       (choose-lenp (Pair h (Pair a (Symbol s))) 3 _ (and_false (same_name s nil_name)))
   formula_answer-test (Pair h (Pair a (Pair b z))) =
       answer-body P "LOGIC.FORMULAP" (Pair h (Pair a (Pair b z)) ∷ table_object A ∷ [])
-      ∙ (by_head-three h a b z (same_object h (symbol "PEQUAL*")) (same_object h (symbol "PNOT*")) (same_object h (symbol "POR*")) (same_object z NIL) refl refl refl refl _ _ _ (passes (is_formula A) (equal_of (term_of a) (term_of b))) (passes (is_formula A) (or_of (formula_of a) (formula_of b))) true
+      ∙ (by_head-three h a b z (same_object h (symbol "PEQUAL*")) (same_object h (symbol "PNOT*")) (same_object h (symbol "POR*")) (same_object z NIL) refl refl refl refl _ _ _ (passes (is_formula A) (equal_of (term_of a) (term_of b))) (passes (is_formula A) (or_of (formula_of a) (formula_of b)))
       (and_then (same_object z NIL) _ (lenp-answer P (Pair h (Pair a (Pair b z))) 3 ∙ ap truth_of (has_length-three h a b z)) (λ _. and_then (reads_term A a) (reads_term A b) (termp-answer P A three a ∙ ap truth_of (that-present (is_term A) (term_of a))) (λ _. termp-answer P A three b ∙ ap truth_of (that-present (is_term A) (term_of b))) ∙ ap truth_of (equal_of-test (term_of a) (term_of b))))
       (and_then false false (lenp-answer P (Pair h (Pair a (Pair b z))) 2 ∙ ap truth_of (has_length-not_two h a b z)) (λ e. cc))
       (and_then (same_object z NIL) _ (lenp-answer P (Pair h (Pair a (Pair b z))) 3 ∙ ap truth_of (has_length-three h a b z)) (λ _. and_then (reads_formula A a) (reads_formula A b) (formula_answer-test a) (λ _. formula_answer-test b) ∙ ap truth_of (or_of-test (formula_of a) (formula_of b))))

@@ -4,6 +4,7 @@ pub mod ClosedAnswers
 pub mod TermAnswers
 pub mod FormulaAnswers
 pub mod SubstitutionAnswers
+pub mod CheckerReads
 mod SubstituteAnswers
 mod RuleAnswers
 mod EqualityAnswers

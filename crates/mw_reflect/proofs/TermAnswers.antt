@@ -44,7 +44,7 @@ constant_of-test A f (Pair c (Symbol s)) = go (same_name s nil_name)
     go false = refl
 constant_of-test A f (Pair c (Pair a b)) = ap (λ t. is_list_object b && t) (eqb-one_more b) ∙ and_false (is_list_object b)
 
--- terms
+-- Under a table where IF has three arguments, as it has in each table of well-made definitions.
 module _ (P : Profile) (A : ArityTable) (three : arity_of A (named "IF") ≡ Some 3) where
   if_of-test : (n : ℕ) (d : Option Terms) → ((ts : Terms) → d ≡ Some ts → n ≡ count ts) → eqb n 3 && passes (are_terms A) d ≡ passes (is_term A) (if_of d)
   if_of-test n None h = and_false (eqb n 3)
