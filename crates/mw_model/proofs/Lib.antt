@@ -52,3 +52,5 @@ pub mod TextReadBack
 pub mod Acyclic
 pub mod Finite
 pub mod CallDepth
+pub mod NewNames
+pub mod CodeStays
