@@ -15,3 +15,4 @@ mod ProofAnswers
 mod Reflects
 mod Provable
 mod ClaimsTrue
+mod EachLevel

@@ -35,7 +35,7 @@ pub present : {X : Type 0} (o : Option X) → is_present o ≡ true → (x : X) 
 present None h = cc
 present (Some x) h = (x, refl)
 
-if_arity : (P : Profile) → arity_of (arities P (built_in P)) (named "IF") ≡ Some 3
+pub if_arity : (P : Profile) → arity_of (arities P (built_in P)) (named "IF") ≡ Some 3
 if_arity One = refl
 if_arity Two = refl
 
