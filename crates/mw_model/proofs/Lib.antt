@@ -45,6 +45,7 @@ mod ExamplesProfile
 mod ExamplesText
 mod ExamplesSyntax
 mod ExamplesTrial
+mod ExamplesVersion
 mod ExamplesLong
 pub mod Numerals
 pub mod Lexing
