@@ -1,10 +1,10 @@
 -- What a checker with a true claim says yes to has a true conclusion: else no object is a proof of it, and the claim fails.
-use Rattle.std.proofs.Common.{◌≡◌, ◌≢◌, Bool, true, false, List, [], ◌∷◌, refl, sym, ap, ◌∙◌, subst, inl, inr}
+use Rattle.std.proofs.Common.{◌≡◌, Bool, true, false, List, [], ◌∷◌, refl, sym, ◌∙◌, subst}
 use Rattle.mw_model.specs.Object.{Name, Object, named, NIL, second_of, truth_of}
-use Rattle.mw_model.specs.Term.{Term, Constant, Formula, Equal, Not, Or, formula_object, table_object, IsFormula}
+use Rattle.mw_model.specs.Term.{Term, Constant, Formula, formula_object, table_object, IsFormula}
 use Rattle.mw_model.specs.Primitive.{Profile, primitive_named}
 use Rattle.mw_model.specs.Definition.{Definitions, arity_table}
-use Rattle.mw_model.specs.Value.{Environment, Calls, bind, OnCall, HasValue, HaveValues, IsValue, block_calls}
+use Rattle.mw_model.specs.Value.{Environment, Calls, bind, OnCall, HasValue, HaveValues, block_calls}
 use Rattle.mw_model.specs.Truth.{TrueAt, IsTrueIn}
 use Rattle.mw_model.specs.Writing.{terms, var, call}
 use Rattle.mw_model.specs.Proof.{Proves}
@@ -12,19 +12,15 @@ use Rattle.mw_model.specs.Theory.{on_the_theory, claim}
 use Rattle.mw_model.proofs.Read.{formula_object-one}
 use Rattle.mw_model.proofs.Depth.{one_value}
 use Rattle.mw_model.proofs.Judging.{good_judge}
+use Rattle.mw_model.proofs.CallDepth.{constants_are}
 use Rattle.mw_model.proofs.SomeValue.{witness_has}
 use Rattle.mw_model.proofs.BuiltInAnswers.{answer-body}
 use Rattle.mw_model.proofs.BuiltInTotal.{begun_answer}
-use Rattle.mw_reflect.specs.Laws.{checker_call, SaysYes, BeginsBuiltIn, IsProved}
+use Rattle.mw_truth.proofs.Having.{stable}
+use Rattle.mw_reflect.specs.Laws.{SaysYes, BeginsBuiltIn, IsProved}
 use Rattle.mw_reflect.proofs.ProofAnswers.{conclusion_of-proof}
-use Rattle.mw_reflect.proofs.Reflects.{constants_only, arguments}
+use Rattle.mw_reflect.proofs.Reflects.{arguments}
 use Rattle.mw_reflect.proofs.Provable.{proves_body, free_names, proves, Calls52, Witness, provable_call, proved_to}
-
--- what is not false is true
-true_stable : (P : Profile) (C : Calls) (e : Environment) (F : Formula) → ((TrueAt P C e F → ⊥) → ⊥) → TrueAt P C e F
-true_stable P C e (Equal a b) h = λ k. h (λ t. t k)
-true_stable P C e (Not F) h = λ k. h (λ t. t k)
-true_stable P C e (Or F G) h = λ k l. h (λ t. t k l)
 
 module _ (D : Definitions) (begun : BeginsBuiltIn D) (axioms theorems : Object) where
   abbrev P : Profile
@@ -57,7 +53,7 @@ module _ (D : Definitions) (begun : BeginsBuiltIn D) (axioms theorems : Object) 
 
   claim_gives : (f : Name) (e : Environment) (p : Object) → IsTrueIn D (claim f) → SaysYes f D e p axioms theorems → (IsProved D axioms theorems (second_of p) → ⊥) → ⊥
   claim_gives f e p t h np =
-      let vs_are = constants_only P C e (args p) h.2.0 h.2.1 in
+      let vs_are = constants_are P C e (args p) h.2.0 h.2.1 in
       let here : HasValue P C (at p) (says f) h.0 = (args p, (p, _, refl, refl, the_rest p), subst (λ vs. OnCall C (primitive_named P f) f vs h.0) vs_are h.2.2) in
       t (at p)
       (λ a. a (λ u g k. h.1 (one_value D (at p) (says f) h.0 u here g ∙ k)))
@@ -69,7 +65,7 @@ module _ (D : Definitions) (begun : BeginsBuiltIn D) (axioms theorems : Object) 
 
   pub claim_true : ((q : Object) (G : Formula) → Proves axioms theorems (arity_table D) P q G → IsTrueIn D G) → (f : Name) (e : Environment) (p : Object) → IsTrueIn D (claim f) → SaysYes f D e p axioms theorems → (F : Formula) → IsFormula (arity_table D) F → second_of p ≡ formula_object F → IsTrueIn D F
   claim_true sound f e p t h F i s e' =
-      true_stable P C e' F (λ no. claim_gives f e p t h (λ q.
+      stable P C e' F (λ no. claim_gives f e p t h (λ q.
       let g : formula_object q.1.0 ≡ formula_object F = sym (conclusion_of-proof axioms theorems (arity_table D) P q.0 q.1.0 q.1.1) ∙ (q.2 ∙ s) in
       let same : q.1.0 ≡ F = formula_object-one (arity_table D) (arity_table D) q.1.0 F (good_judge axioms theorems (arity_table D) P q.0 q.1.0 q.1.1).0 i g in
       no (subst (λ X. TrueAt P C e' X) same (sound q.0 q.1.0 q.1.1 e'))))

@@ -1,13 +1,12 @@
 -- At every level a sound theory's checker says yes to what is true alone: the built-in one by the table of methods,
 -- another one by its claim, which is a theorem and so true.
-use Rattle.std.proofs.Common.{◌≡◌, ◌≢◌, ℕ, Bool, true, false, ◌&&◌, not, cond, List, [], ◌∷◌, length, Option, Some, None, refl, sym, ap, ◌∙◌, subst, ◌⊎◌, inl, inr}
+use Rattle.std.proofs.Common.{◌≡◌, ◌≢◌, ℕ, true, false, not, cond, List, [], ◌∷◌, length, Option, Some, None, refl, ap, ◌∙◌, subst, ◌⊎◌, inl, inr}
 use Rattle.std.proofs.lemmas.Bool.{and_from}
-use Rattle.mw_model.specs.Object.{Name, Object, named, same_name, same_object, NIL, T, second_of, Member}
-use Rattle.mw_model.specs.Term.{Constant, Formula, Equal, formula_object, arity_of, is_function_name, is_call_name}
+use Rattle.mw_model.specs.Object.{Name, Object, named, same_name, same_object, NIL, T, Member}
+use Rattle.mw_model.specs.Term.{Constant, Equal, formula_object, arity_of, is_function_name, is_call_name}
 use Rattle.mw_model.specs.Primitive.{One}
 use Rattle.mw_model.specs.Definition.{Function, arity_table}
 use Rattle.mw_model.specs.Truth.{IsTrueIn}
-use Rattle.mw_model.specs.BuiltIn.{built_in}
 use Rattle.mw_model.specs.Evaluation.{Outcome, Value, Steps, Overflow, Witness, evaluate, code_of}
 use Rattle.mw_model.specs.Theory.{Theory, initial, IsSound, IsClaimed, claim}
 use Rattle.mw_model.specs.Refusal.{NILVALUE}
@@ -18,13 +17,12 @@ use Rattle.mw_model.proofs.Names.{name_cases, object_cases}
 use Rattle.mw_model.proofs.Readable.{ReadableFormula, formula_readable, formula_object-one}
 use Rattle.mw_model.proofs.FunctionNames.{table_names}
 use Rattle.mw_model.proofs.CodeStays.{code_arity}
-use Rattle.mw_model.proofs.Begins.{begins_arity}
+use Rattle.mw_model.proofs.NewNames.{if_known}
 use Rattle.mw_model.proofs.Evaluates.{evaluate_value}
 use Rattle.mw_truth.specs.Reached.{JudgesTruly}
 use Rattle.mw_truth.proofs.ProofsTrue.{proved_true}
 use Rattle.mw_truth.proofs.Reached.{initial_sound, built_in_judges, event_keeps-truly, after_sound, sound_consistent}
-use Rattle.mw_reflect.specs.Laws.{checker_call, SaysYes}
-use Rattle.mw_reflect.proofs.Reflects.{if_arity}
+use Rattle.mw_reflect.specs.Laws.{checker_call}
 use Rattle.mw_reflect.proofs.ClaimsTrue.{claim_true}
 
 -- a checker's name may be called: it has four formals, and IF three
@@ -34,7 +32,7 @@ checker_name t s f h k four =
     let D = t.definitions.blocks in
     let arity : arity_of (arity_table t.definitions) f ≡ Some 4 = code_arity P D s.made f h k ∙ ap Some four in
     let function = table_names P D s.made f 4 arity in
-    let three = begins_arity P (built_in P) D s.made s.begun (named "IF") 3 (if_arity P) in
+    let three = if_known P D s.made in
     and_from (not (same_name f (named "QUOTE"))) (not (same_name f (named "IF"))) (not_quote function (name_cases f (named "QUOTE"))) (not_if arity three (name_cases f (named "IF")))
   where
     not_quote : is_function_name f ≡ true → ((same_name f (named "QUOTE") ≡ true) × (f ≡ named "QUOTE")) ⊎ ((same_name f (named "QUOTE") ≡ false) × (f ≢ named "QUOTE")) → not (same_name f (named "QUOTE")) ≡ true

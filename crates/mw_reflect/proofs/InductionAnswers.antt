@@ -1,40 +1,15 @@
 -- The reference checker's instantiation and induction are the tests on objects.
-use Rattle.std.proofs.Common.{◌≡◌, ℕ, zero, suc, ◌+◌, Bool, true, false, ◌&&◌, eqb, eqb-true, eq-eqb, [], ◌∷◌, Some, refl, ap, ap₂, ◌∙◌, arith}
-use Rattle.std.proofs.lemmas.Bool.{ne_eqb}
-use Rattle.std.specs.Cmp.{both_ways as same_test}
-use Rattle.mw_model.specs.Object.{Object, Natural, Symbol, Pair, named, symbol, same_name, same_object, nil_name, NIL, T, car, cdr, second_of, third_of, has_members, truth_of, list2, list3}
+use Rattle.std.proofs.Common.{◌≡◌, eqb, [], ◌∷◌, Some, ap, ap₂, ◌∙◌}
+use Rattle.mw_model.specs.Object.{Object, Natural, Symbol, Pair, named, symbol, same_object, T, car, cdr, second_of, third_of, has_members, truth_of, list2, list3}
 use Rattle.mw_model.specs.Term.{Formula, formula_object, ArityTable, arity_of, table_object}
 use Rattle.mw_model.specs.Primitive.{Profile}
-use Rattle.mw_model.specs.Rules.{or_object, not_object, equal_object, is_substitution_object, object_is_instance}
-use Rattle.mw_model.specs.RulesInduction.{is_list_object, length_object, are_case_objects, disjunction_object, hypotheses_object, steps_object, true_object, ordinal_object, fall_object, falls_object, all_falls_object, premises_object, object_is_induction}
+use Rattle.mw_model.specs.Rules.{or_object, not_object, is_substitution_object, object_is_instance}
+use Rattle.mw_model.specs.RulesInduction.{is_list_object, length_object, are_case_objects, disjunction_object, hypotheses_object, steps_object, true_object, falls_object, all_falls_object, premises_object, object_is_induction}
 use Rattle.mw_model.proofs.BuiltInAnswers.{answer, answer-body}
-use Rattle.mw_reflect.proofs.ListAnswers.{and_then, has_length, listp-answer, len-answer, lenp-answer, pequal-answer, pnot-answer, por-answer}
+use Rattle.mw_reflect.proofs.ListAnswers.{and_then, listp-answer, len-answer, lenp-answer, pequal-answer, pnot-answer, por-answer}
+use Rattle.mw_reflect.proofs.TestValues.{has_length-members}
 use Rattle.mw_reflect.proofs.SubstituteAnswers.{substitute-answer, formula_substitute-answer}
 use Rattle.mw_reflect.proofs.SubstitutionAnswers.{sigmap-answer, sigma_list_listp-answer}
-
--- a proper list of n members
-one_less : (m n : ℕ) → eqb (1 + m) (suc n) ≡ eqb m n
-one_less m n = same_test (eqb (1 + m) (suc n)) (eqb m n) (λ h. let e = eqb-true (1 + m) (suc n) h in eq-eqb m n (omega arith)) (λ h. let e = eqb-true m n h in eq-eqb (1 + m) (suc n) (omega arith))
-
-has_length-members : (n : ℕ) (x : Object) → has_length x n ≡ has_members n x
-has_length-members zero (Natural n) = refl
-has_length-members zero (Symbol s) = go (same_name s nil_name)
-  where
-    go : (b : Bool) → (b && true) ≡ b
-    go true = refl
-    go false = refl
-has_length-members zero (Pair a r) = ap (λ t. is_list_object r && t) (ne_eqb (1 + length_object r) 0 (λ e. omega (arith, e))) ∙ go (is_list_object r)
-  where
-    go : (b : Bool) → (b && false) ≡ false
-    go true = refl
-    go false = refl
-has_length-members (suc n) (Natural m) = refl
-has_length-members (suc n) (Symbol s) = ap (λ t. same_name s nil_name && t) (ne_eqb 0 (suc n) (λ e. omega (arith, e))) ∙ go (same_name s nil_name)
-  where
-    go : (b : Bool) → (b && false) ≡ false
-    go true = refl
-    go false = refl
-has_length-members (suc n) (Pair a r) = ap (λ t. is_list_object r && t) (one_less (length_object r) n) ∙ has_length-members n r
 
 module _ (P : Profile) where
   disjoin-answer : (x : Object) → answer P "LOGIC.DISJOIN" (x ∷ []) ≡ disjunction_object x

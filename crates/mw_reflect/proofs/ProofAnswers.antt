@@ -6,26 +6,21 @@ use Rattle.mw_model.specs.Term.{Formula, formula_object, ArityTable, arity_of, t
 use Rattle.mw_model.specs.Reading.{formula_of, and_more, when}
 use Rattle.mw_model.specs.Primitive.{Profile}
 use Rattle.mw_model.specs.Definition.{is_present}
-use Rattle.mw_model.specs.Proof.{Method, HasMembers, two, three, four, Proves, proof, ProveEach, no_proofs, more_proofs}
+use Rattle.mw_model.specs.Proof.{Method, Proves, proof, ProveEach, no_proofs, more_proofs}
 use Rattle.mw_model.specs.Judgment.{methods, method_among, follows, judge_step, judge, judge_each}
-use Rattle.mw_model.specs.Rules.{is_formula_object}
 use Rattle.mw_model.specs.RulesInduction.{formulas_object, is_list_object, length_object}
 use Rattle.mw_model.proofs.Follows.{formula_back}
 use Rattle.mw_model.proofs.Judging.{judges_good, goods_judge}
-use Rattle.mw_model.proofs.RulesExact.{is_present-that}
 use Rattle.mw_model.proofs.BuiltInAnswers.{answer, answer-body}
+use Rattle.mw_truth.proofs.Reached.{second_conclusion}
+use Rattle.mw_reflect.proofs.TestValues.{and_false, and_true, and_assoc, that-present}
 use Rattle.mw_reflect.proofs.ListAnswers.{and_then, passes, listp-answer, len-answer, memberp-answer}
 use Rattle.mw_reflect.proofs.FormulaAnswers.{formulap-answer}
 use Rattle.mw_reflect.proofs.StepAnswers.{step-answer}
 
 -- conclusions
-members_second : (p m c ps x : Object) → HasMembers p m c ps x → second_of p ≡ c
-members_second p m c ps x (two a b) = refl
-members_second p m c ps x (three a b q) = refl
-members_second p m c ps x (four a b q y) = refl
-
 pub conclusion_of-proof : (axioms theorems : Object) (A : ArityTable) (P : Profile) (p : Object) (F : Formula) → Proves axioms theorems A P p F → second_of p ≡ formula_object F
-conclusion_of-proof axioms theorems A P p F (proof q ps x m G Fs h i gs r) = members_second q _ _ ps x h
+conclusion_of-proof axioms theorems A P p F (proof q ps x m G Fs h i gs r) = second_conclusion q _ _ ps x h
 
 conclusions-answer : (axioms theorems : Object) (A : ArityTable) (P : Profile) (ps : Object) (Fs : List Formula) → ProveEach axioms theorems A P ps Fs → answer P "LOGIC.CONCLUSIONS" (ps ∷ []) ≡ formulas_object Fs
 conclusions-answer axioms theorems A P ps Fs no_proofs = answer-body P "LOGIC.CONCLUSIONS" (NIL ∷ [])
@@ -39,18 +34,6 @@ two_to_four = Pair (Natural 2) (Pair (Natural 3) (Pair (Natural 4) NIL))
 
 abbrev has_two_to_four : Object → Bool
 has_two_to_four x = is_list_object x && is_member (Natural (length_object x)) two_to_four
-
-and_false : (b : Bool) → (b && false) ≡ false
-and_false true = refl
-and_false false = refl
-
-and_true : (b : Bool) → (b && true) ≡ b
-and_true true = refl
-and_true false = refl
-
-and_assoc : (a b c : Bool) → (a && (b && c)) ≡ ((a && b) && c)
-and_assoc true b c = refl
-and_assoc false b c = refl
 
 five_or_more : (r : Object) → is_member (Natural (1 + (1 + (1 + (1 + (1 + length_object r)))))) two_to_four ≡ false
 five_or_more r =
@@ -110,7 +93,7 @@ module _ (P : Profile) (A : ArityTable) (three_arguments : arity_of A (named "IF
       answer-body P "LOGIC.FLAG-PROOFP" (symbol "PROOF" ∷ Pair y z ∷ axioms ∷ theorems ∷ table_object A ∷ [])
       ∙ (and_then (is_list_object (Pair y z)) _ (listp-answer P (Pair y z)) (λ _.
       and_then (is_member (Natural (length_object (Pair y z))) two_to_four) _ (ap (λ n. answer P "LOGIC.MEMBERP" (n ∷ two_to_four ∷ [])) (len-answer P (Pair y z)) ∙ memberp-answer P (Natural (length_object (Pair y z))) two_to_four) (λ _.
-      and_then (passes (is_formula A) (formula_of (second_of (Pair y z)))) _ (formulap-answer P A three_arguments (second_of (Pair y z)) ∙ ap truth_of (is_present-that (is_formula A) (formula_of (second_of (Pair y z))))) (λ f.
+      and_then (passes (is_formula A) (formula_of (second_of (Pair y z)))) _ (formulap-answer P A three_arguments (second_of (Pair y z)) ∙ ap truth_of (that-present (is_formula A) (formula_of (second_of (Pair y z))))) (λ f.
       and_then (is_present (judge_each axioms theorems A P (third_of (Pair y z)))) _ ih (λ g.
       last_part (Pair y z) (formula_of (second_of (Pair y z))) (judge_each axioms theorems A P (third_of (Pair y z))) refl refl f g))))
       ∙ ap truth_of (ap (λ t. is_list_object (Pair y z) && (is_member (Natural (length_object (Pair y z))) two_to_four && t)) (step_absent (method_among methods y) (formula_of (second_of (Pair y z))) (judge_each axioms theorems A P (third_of (Pair y z))) (fourth_of (Pair y z))) ∙ and_assoc (is_list_object (Pair y z)) (is_member (Natural (length_object (Pair y z))) two_to_four) _))

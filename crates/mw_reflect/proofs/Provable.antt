@@ -1,31 +1,30 @@
 -- LOGIC.PROVABLEP: its witness is a proof of the wanted conclusion wherever there is one.
-use Rattle.std.proofs.Common.{◌≡◌, ◌≢◌, ◌↔◌, Bool, true, false, ◌&&◌, ◌||◌, List, [], ◌∷◌, Option, Some, None, refl, sym, ap, ap₂, ◌∙◌, subst, ◌⊎◌, inl, inr}
+use Rattle.std.proofs.Common.{◌≡◌, ◌↔◌, Bool, true, false, ◌&&◌, ◌||◌, List, [], ◌∷◌, Some, refl, sym, ap, ap₂, ◌∙◌, subst, ◌⊎◌, inl, inr}
 use Rattle.std.proofs.lemmas.Bool.{and_parts, and_from, or_cases}
 use Prim.Native.String.{String}
-use Rattle.mw_model.specs.Object.{Name, Object, named, NIL, same_name, same_object, second_of, T, truth_of}
+use Rattle.mw_model.specs.Object.{Name, Object, named, same_name, same_object, second_of, T, truth_of}
 use Rattle.mw_model.specs.Term.{Term, is_among, arity_of, table_object}
 use Rattle.mw_model.specs.Primitive.{Profile, One, Two}
 use Rattle.mw_model.specs.Definition.{Block, Definitions, arities, arity_table, is_present}
-use Rattle.mw_model.specs.Value.{Environment, Calls, bind, HasValue, HaveValues, IsValue, Satisfies, IsWitness, block_calls}
+use Rattle.mw_model.specs.Value.{Environment, Calls, bind, HasValue, HaveValues, Satisfies, IsWitness, block_calls}
 use Rattle.mw_model.specs.Writing.{terms, var, call, ◌&◌}
-use Rattle.mw_model.specs.Proof.{Proves}
 use Rattle.mw_model.specs.Judgment.{judge}
 use Rattle.mw_model.specs.BuiltIn.{block_of, built_in}
 use Rattle.mw_model.specs.BuiltInProofs.{logic_provable_witness, logic_provablep}
 use Rattle.mw_model.proofs.Names.{same_name-eq, same_object-eq, same_object-from}
 use Rattle.mw_model.proofs.Values.{Det, ev_det}
-use Rattle.mw_model.proofs.Depth.{block_fold, block_unfold, block_calls-det, one_value}
+use Rattle.mw_model.proofs.Depth.{block_fold, block_unfold, block_calls-det}
 use Rattle.mw_model.proofs.Judging.{judge_good, good_judge}
+use Rattle.mw_model.proofs.CallDepth.{constants_have, constants_are}
 use Rattle.mw_model.proofs.SomeValue.{witness_has}
 use Rattle.mw_model.proofs.Begins.{begins_call}
-use Rattle.mw_model.proofs.BuiltInRead.{well_made}
 use Rattle.mw_model.proofs.BuiltInValue.{value_at, names}
 use Rattle.mw_model.proofs.BuiltInCalls.{alone, value_among}
 use Rattle.mw_model.proofs.BuiltInAnswers.{before_witness, built_in_functions, built_in-parts, built_in_value, built_in_value-value, answer, answer-body}
-use Rattle.mw_model.proofs.BuiltInTotal.{begun_answer, built_in_begins}
-use Rattle.mw_reflect.specs.Laws.{checker_call, SaysYes, BeginsBuiltIn, IsProof, IsProved}
+use Rattle.mw_truth.proofs.Tells.{t_not_nil}
+use Rattle.mw_reflect.specs.Laws.{SaysYes, BeginsBuiltIn, IsProved}
 use Rattle.mw_reflect.proofs.TestValues.{and_then}
-use Rattle.mw_reflect.proofs.Reflects.{constants_have, constants_only, T_differs, present, arguments, proofp_answer-test}
+use Rattle.mw_reflect.proofs.Reflects.{present, arguments, proofp_answer-test}
 
 -- the witness's body: PROOF is a proof with the conclusion X
 abbrev pub proves_body : Term
@@ -109,7 +108,7 @@ module _ (D : Definitions) (begun : BeginsBuiltIn D) (axioms theorems : Object) 
   Witness c p = IsWitness P Calls52 (named "PROOF") free_names proves_body (args c) p
 
   satisfies_from : (c p : Object) → proves c p ≡ true → Satisfies P Calls52 (named "PROOF") free_names proves_body (args c) p
-  satisfies_from c p h = (T, T_differs, subst (λ b. HasValue P Calls52 (at p c) proves_body (truth_of b)) h (has52 p c))
+  satisfies_from c p h = (T, t_not_nil, subst (λ b. HasValue P Calls52 (at p c) proves_body (truth_of b)) h (has52 p c))
 
   satisfies_to : (c p : Object) → Satisfies P Calls52 (named "PROOF") free_names proves_body (args c) p → proves c p ≡ true
   satisfies_to c p h = go (proves c p) refl (only52 p c h.0 h.2)
@@ -155,7 +154,7 @@ module _ (D : Definitions) (begun : BeginsBuiltIn D) (axioms theorems : Object) 
 
   provable_to : (e : Environment) (c : Object) → SaysYes (named "LOGIC.PROVABLEP") D e c axioms theorems → IsProved D axioms theorems c
   provable_to e c h =
-      let vs_are = constants_only P (block_calls P D.blocks) e (args c) h.2.0 h.2.1 in
+      let vs_are = constants_are P (block_calls P D.blocks) e (args c) h.2.0 h.2.1 in
       let b = provable_back c h.0 (subst (λ vs. block_calls P D.blocks (named "LOGIC.PROVABLEP") vs h.0) vs_are h.2.2) in
       go b.0 (proves c b.0) refl b.1
     where
@@ -171,7 +170,7 @@ module _ (D : Definitions) (begun : BeginsBuiltIn D) (axioms theorems : Object) 
       go p (inl h) =
           let t = satisfies_to c p h.0 in
           let v : block_calls P D.blocks (named "LOGIC.PROVABLEP") (args c) T = subst (λ b. block_calls P D.blocks (named "LOGIC.PROVABLEP") (args c) (truth_of b)) t (provable_call c p (inl h)) in
-          k (T, T_differs, (args c, constants_have P (block_calls P D.blocks) e (args c), v))
+          k (T, t_not_nil, (args c, constants_have P (block_calls P D.blocks) e (args c), v))
 
   pub provable_reflects : (e : Environment) (c : Object) → ((SaysYes (named "LOGIC.PROVABLEP") D e c axioms theorems → ⊥) → ⊥) ↔ ((IsProved D axioms theorems c → ⊥) → ⊥)
   provable_reflects e c = (λ h k. h (λ n. k (provable_to e c n)), λ h k. h (λ q. provable_from e c q k))

@@ -1,43 +1,24 @@
 -- The reference checker says yes exactly to proofs: in all definitions that begin with the built-in ones.
-use Rattle.std.proofs.Common.{◌≡◌, ◌≢◌, ◌↔◌, Bool, true, false, List, [], ◌∷◌, Option, Some, None, refl, sym, ap, ap₂, ◌∙◌, subst}
-use Rattle.mw_model.specs.Object.{Name, Object, named, NIL, T, same_object, truth_of}
-use Rattle.mw_model.specs.Term.{Formula, arity_of, table_object}
-use Rattle.mw_model.specs.Primitive.{Profile, One, Two}
-use Rattle.mw_model.specs.Definition.{Definitions, arities, arity_table, IsWellMade, is_present}
-use Rattle.mw_model.specs.Value.{Environment, Calls, HaveValues, IsValue, block_calls}
-use Rattle.mw_model.specs.Proof.{constants, Proves}
+use Rattle.std.proofs.Common.{◌≡◌, ◌↔◌, Bool, true, false, List, [], ◌∷◌, Option, Some, None, refl, subst}
+use Rattle.mw_model.specs.Object.{Object, named, T, truth_of}
+use Rattle.mw_model.specs.Term.{table_object}
+use Rattle.mw_model.specs.Definition.{Definitions, arity_table, is_present}
+use Rattle.mw_model.specs.Value.{Environment, IsValue, block_calls}
 use Rattle.mw_model.specs.Judgment.{judge}
-use Rattle.mw_model.specs.BuiltIn.{built_in}
-use Rattle.mw_model.specs.Theory.{BeginsWith}
-use Rattle.mw_model.proofs.Names.{same_object-from}
 use Rattle.mw_model.proofs.Depth.{one_value}
 use Rattle.mw_model.proofs.FunctionNames.{table_names}
 use Rattle.mw_model.proofs.Judging.{judge_good, good_judge}
-use Rattle.mw_model.proofs.Begins.{begins_arity}
+use Rattle.mw_model.proofs.NewNames.{if_known}
+use Rattle.mw_model.proofs.CallDepth.{constants_have}
 use Rattle.mw_model.proofs.BuiltInAnswers.{answer}
 use Rattle.mw_model.proofs.BuiltInTotal.{begun_answer}
+use Rattle.mw_truth.proofs.Tells.{t_not_nil}
 use Rattle.mw_reflect.specs.Laws.{checker_call, SaysYes, BeginsBuiltIn, IsProof}
 use Rattle.mw_reflect.proofs.ProofAnswers.{proofp-answer}
-
--- constants have their values, and no others
-pub constants_have : (P : Profile) (C : Calls) (e : Environment) (vs : List Object) → HaveValues P C e (constants vs) vs
-constants_have P C e [] = refl
-constants_have P C e (v ∷ vs) = (v, vs, refl, refl, constants_have P C e vs)
-
-pub constants_only : (P : Profile) (C : Calls) (e : Environment) (vs us : List Object) → HaveValues P C e (constants vs) us → us ≡ vs
-constants_only P C e [] us h = h
-constants_only P C e (v ∷ vs) us h = h.2 ∙ ap₂ ◌∷◌ h.3 (constants_only P C e vs h.1 h.4)
-
-pub T_differs : T ≢ NIL
-T_differs e = cc (same_object-from T NIL e)
 
 pub present : {X : Type 0} (o : Option X) → is_present o ≡ true → (x : X) × (o ≡ Some x)
 present None h = cc
 present (Some x) h = (x, refl)
-
-pub if_arity : (P : Profile) → arity_of (arities P (built_in P)) (named "IF") ≡ Some 3
-if_arity One = refl
-if_arity Two = refl
 
 module _ (D : Definitions) (begun : BeginsBuiltIn D) (axioms theorems : Object) where
   abbrev is_proof : Object → Bool
@@ -48,7 +29,7 @@ module _ (D : Definitions) (begun : BeginsBuiltIn D) (axioms theorems : Object) 
 
   pub proofp_answer-test : (p : Object) → answer D.profile "LOGIC.PROOFP" (arguments p) ≡ truth_of (is_proof p)
   proofp_answer-test =
-      proofp-answer D.profile (arity_table D) (begins_arity D.profile (built_in D.profile) D.blocks begun.0 begun.1 (named "IF") 3 (if_arity D.profile)) (table_names D.profile D.blocks begun.0) axioms theorems
+      proofp-answer D.profile (arity_table D) (if_known D.profile D.blocks begun.0) (table_names D.profile D.blocks begun.0) axioms theorems
 
   -- the one value of the call
   pub proofp_value : (e : Environment) (p : Object) → IsValue D e (checker_call (named "LOGIC.PROOFP") D p axioms theorems) (truth_of (is_proof p))
@@ -69,4 +50,4 @@ module _ (D : Definitions) (begun : BeginsBuiltIn D) (axioms theorems : Object) 
           go false k q = absurd (h.1 q)
 
       from : IsProof D axioms theorems p → SaysYes (named "LOGIC.PROOFP") D e p axioms theorems
-      from g = (T, T_differs, subst (λ o. IsValue D e (checker_call (named "LOGIC.PROOFP") D p axioms theorems) (truth_of (is_present o))) (good_judge axioms theorems (arity_table D) D.profile p g.0 g.1).1 (proofp_value e p))
+      from g = (T, t_not_nil, subst (λ o. IsValue D e (checker_call (named "LOGIC.PROOFP") D p axioms theorems) (truth_of (is_present o))) (good_judge axioms theorems (arity_table D) D.profile p g.0 g.1).1 (proofp_value e p))

@@ -1,13 +1,13 @@
 -- The reference checker's step is the table of methods.
-use Rattle.std.proofs.Common.{◌≡◌, ℕ, ◌<◌, ◌+◌, Bool, true, false, ◌&&◌, cond, eqb, List, [], ◌∷◌, Option, Some, None, refl, sym, ap, ap₂, ◌∙◌, subst, arith}
-use Rattle.std.proofs.lemmas.Bool.{ne_eqb, false≢true}
+use Rattle.std.proofs.Common.{◌≡◌, ℕ, ◌<◌, Bool, true, false, ◌&&◌, cond, eqb, List, [], ◌∷◌, Option, Some, None, refl, sym, ap, ap₂, ◌∙◌, subst, arith}
+use Rattle.std.proofs.lemmas.Bool.{ne_eqb}
 use Rattle.mw_model.specs.Object.{Name, Object, Natural, Symbol, named, same_object, NIL, car, second_of, third_of, fourth_of, truth_of, is_member}
-use Rattle.mw_model.specs.Term.{Formula, Or, formula_object, ArityTable, arity_of, table_object, is_function_name, IsFormula}
+use Rattle.mw_model.specs.Term.{Formula, formula_object, ArityTable, arity_of, table_object, is_function_name, IsFormula}
 use Rattle.mw_model.specs.Primitive.{Profile, choose}
 use Rattle.mw_model.specs.Substitution.{substitution_of}
 use Rattle.mw_model.specs.Truth.{Each}
 use Rattle.mw_model.specs.Proof.{Method, Axiom, Theorem, PropositionalSchema, FunctionalEquality, BetaReduction, BaseEval, Expansion, Contraction, Associativity, Cut, Instantiation, Induction, method_name}
-use Rattle.mw_model.specs.Judgment.{methods, method_among, is_schema, last_disjunct, is_functional_equality, is_beta, is_base_eval, is_expansion, is_contraction, is_associativity, is_cut, is_instance, is_induction, of_none, of_one, of_two, follows}
+use Rattle.mw_model.specs.Judgment.{methods, method_among, is_schema, last_disjunct, is_functional_equality, is_beta, is_base_eval, is_expansion, is_contraction, is_associativity, is_cut, is_instance, of_none, of_one, of_two, follows}
 use Rattle.mw_model.specs.RulesInduction.{formulas_object, length_object}
 use Rattle.mw_model.proofs.Names.{same_object-eq}
 use Rattle.mw_model.proofs.Readable.{formula_readable}
@@ -110,10 +110,10 @@ module _ (P : Profile) where
   for_two m c a b = choose (is_that m Cut) (answer P "LOGIC.CUT-OKP" (c ∷ a ∷ b ∷ [])) NIL
 
   abbrev step_by : Object → Object → Object → Object → Object → Object → Object → Object → Object
-  step_by m c as' x n axioms theorems table =
-      choose (is_that m Instantiation) (choose (truth_of (same_object n (Natural 1))) (answer P "LOGIC.INSTANTIATION-OKP" (c ∷ car as' ∷ x ∷ table ∷ [])) NIL)
-      (choose (is_that m Induction) (answer P "LOGIC.INDUCTION-OKP" (c ∷ as' ∷ x ∷ table ∷ []))
-      (choose x NIL (by_number n (for_none m c axioms theorems) (for_one m c (car as')) (for_two m c (car as') (second_of as')))))
+  step_by m c gs x n axioms theorems table =
+      choose (is_that m Instantiation) (choose (truth_of (same_object n (Natural 1))) (answer P "LOGIC.INSTANTIATION-OKP" (c ∷ car gs ∷ x ∷ table ∷ [])) NIL)
+      (choose (is_that m Induction) (answer P "LOGIC.INDUCTION-OKP" (c ∷ gs ∷ x ∷ table ∷ []))
+      (choose x NIL (by_number n (for_none m c axioms theorems) (for_one m c (car gs)) (for_two m c (car gs) (second_of gs)))))
 
   step-body : (p axioms theorems table : Object) → answer P "LOGIC.STEP-OKP" (p ∷ axioms ∷ theorems ∷ table ∷ []) ≡ step_by (car p) (second_of p) (answer P "LOGIC.CONCLUSIONS" (third_of p ∷ [])) (fourth_of p) (answer P "LOGIC.LEN" (answer P "LOGIC.CONCLUSIONS" (third_of p ∷ []) ∷ [])) axioms theorems table
   step-body p axioms theorems table = answer-body P "LOGIC.STEP-OKP" (p ∷ axioms ∷ theorems ∷ table ∷ [])
@@ -161,6 +161,6 @@ module _ (P : Profile) where
     pub step-answer : (p : Object) → second_of p ≡ F' → answer P "LOGIC.CONCLUSIONS" (third_of p ∷ []) ≡ formulas_object Fs → fourth_of p ≡ x → answer P "LOGIC.STEP-OKP" (p ∷ axioms ∷ theorems ∷ table_object A ∷ []) ≡ truth_of (passes (λ k. follows axioms theorems A P k F Fs x) (method_among methods (car p)))
     step-answer p hc hs hx =
         step-body p axioms theorems (table_object A)
-        ∙ (ap₂ (λ c as'. step_by (car p) c as' (fourth_of p) (answer P "LOGIC.LEN" (as' ∷ [])) axioms theorems (table_object A)) hc hs
+        ∙ (ap₂ (λ c gs. step_by (car p) c gs (fourth_of p) (answer P "LOGIC.LEN" (gs ∷ [])) axioms theorems (table_object A)) hc hs
         ∙ (ap₂ (λ e n. step_by (car p) F' (formulas_object Fs) e n axioms theorems (table_object A)) hx (len-answer P (formulas_object Fs))
         ∙ by_some_method (car p) (method_among methods (car p)) refl))

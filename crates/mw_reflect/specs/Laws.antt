@@ -1,14 +1,18 @@
--- What the reference checker, provability and a claim say.
-use Rattle.std.specs.Prelude.{◌≡◌, ◌≢◌, ◌↔◌, [], ◌∷◌}
-use Rattle.mw_model.specs.Object.{Name, Object, named, NIL, second_of, truth_of}
-use Rattle.mw_model.specs.Term.{Term, Call, Formula, formula_object, table_object, IsFormula}
+-- What the reference checker, provability and a claim say, and which theories events reach.
+use Rattle.std.specs.Prelude.{◌≡◌, ◌≢◌, ◌↔◌, ℕ, List, [], ◌∷◌}
+use Rattle.mw_model.specs.Object.{Name, Object, named, NIL, T, second_of, truth_of, Member}
+use Rattle.mw_model.specs.Term.{Term, Constant, Call, Formula, Equal, formula_object, table_object, IsFormula}
+use Rattle.mw_model.specs.Primitive.{One}
 use Rattle.mw_model.specs.Definition.{Definitions, arity_table, IsWellMade, is_present}
 use Rattle.mw_model.specs.Value.{Environment, IsValue}
 use Rattle.mw_model.specs.Truth.{IsTrueIn}
 use Rattle.mw_model.specs.Proof.{constants, Proves}
 use Rattle.mw_model.specs.Judgment.{judge}
 use Rattle.mw_model.specs.BuiltIn.{built_in}
-use Rattle.mw_model.specs.Theory.{BeginsWith, claim}
+use Rattle.mw_model.specs.Theory.{Theory, BeginsWith, initial, IsSound, claim}
+use Rattle.mw_model.specs.Fate.{after}
+use Rattle.mw_model.specs.Headline.{EachKeeps}
+use Rattle.mw_truth.specs.Reached.{JudgesTruly}
 
 -- (f 'p 'axioms 'theorems 'table), where the table is that of the definitions
 abbrev pub checker_call : Name → Definitions → (p axioms theorems : Object) → Term
@@ -49,3 +53,19 @@ Provability =
 abbrev pub Claims : Type 0
 Claims =
     (D : Definitions) → BeginsBuiltIn D → (axioms theorems : Object) → ((q : Object) (G : Formula) → Proves axioms theorems (arity_table D) D.profile q G → IsTrueIn D G) → (f : Name) (e : Environment) (p : Object) → IsTrueIn D (claim f) → SaysYes f D e p axioms theorems → (F : Formula) → IsFormula (arity_table D) F → second_of p ≡ formula_object F → IsTrueIn D F
+
+-- A sound theory's checker, also one that was switched to, says yes only where the conclusion is true.
+abbrev pub CheckersJudgeTruly : Type 0
+CheckersJudgeTruly = (t : Theory) (N : ℕ) → IsSound t → JudgesTruly t N
+
+-- whatever events happen from the initial theory on, with any switches: each of them keeps truth
+abbrev pub EventsKeep : Type 0
+EventsKeep = (es : List Object) (N : ℕ) → EachKeeps (initial One) N es
+
+-- the theory that they lead to is sound
+abbrev pub ReachedIsSound : Type 0
+ReachedIsSound = (es : List Object) (N : ℕ) → IsSound (after (initial One) es N)
+
+-- and t = nil is none of its theorems
+abbrev pub ReachedIsConsistent : Type 0
+ReachedIsConsistent = (es : List Object) (N : ℕ) → Member (formula_object (Equal (Constant T) (Constant NIL))) (after (initial One) es N).theorems → ⊥

@@ -1,19 +1,16 @@
 // The reference checker: laws that it says yes exactly where the written rules hold.
 #![tactic(auto)]
 
-ghost use Rattle.std.specs.Prelude.{◌≡◌, ◌↔◌, ℕ, true, List, [], ◌∷◌, Some};
-ghost use Rattle.mw_model.specs.Object.{Object, named, NIL, T, truth_of, Member};
-ghost use Rattle.mw_model.specs.Term.{ArityTable, arity_of, table_object, Constant, Equal, formula_object};
-ghost use Rattle.mw_model.specs.Primitive.{Profile, One};
+ghost use Rattle.std.specs.Prelude.{◌≡◌, ◌↔◌, true, List, [], ◌∷◌, Some};
+ghost use Rattle.mw_model.specs.Object.{Object, named, truth_of};
+ghost use Rattle.mw_model.specs.Term.{ArityTable, arity_of, table_object};
+ghost use Rattle.mw_model.specs.Primitive.{Profile};
 ghost use Rattle.mw_model.specs.Definition.{Block, are_blocks};
 ghost use Rattle.mw_model.specs.Value.{block_calls};
 ghost use Rattle.mw_model.specs.BuiltIn.{built_in};
 ghost use Rattle.mw_model.specs.Rules.{is_term_object, is_formula_object, is_substitution_object};
-ghost use Rattle.mw_model.specs.Theory.{Theory, BeginsWith, initial, IsSound};
-ghost use Rattle.mw_model.specs.Fate.{after};
-ghost use Rattle.mw_model.specs.Headline.{EachKeeps};
-ghost use Rattle.mw_truth.specs.Reached.{JudgesTruly};
-ghost use Rattle.mw_reflect.specs.Laws.{ReferenceChecker, ReferenceValue, Provability, Claims};
+ghost use Rattle.mw_model.specs.Theory.{BeginsWith};
+ghost use Rattle.mw_reflect.specs.Laws.{ReferenceChecker, ReferenceValue, Provability, Claims, CheckersJudgeTruly, EventsKeep, ReachedIsSound, ReachedIsConsistent};
 
 /// In all definitions that begin with the built-in ones, LOGIC.TERMP, LOGIC.FORMULAP and LOGIC.SIGMAP say yes exactly on
 /// the objects of terms, formulas and substitutions under an arity table in which IF has its three arguments.
@@ -41,15 +38,11 @@ pub fn claims()
     ensures { Claims }
 {}
 
-/// A sound theory's checker says yes only to proofs with a true conclusion, also one that was switched to.
-pub fn checkers_judge_truly()
-    ensures { (t : Theory) (N : ℕ) → IsSound t → JudgesTruly t N }
-{}
-
-/// Whatever events happen from the initial theory on, with any switches, each of them keeps truth, the theory that they
-/// lead to is sound, and t = nil is no theorem of it.
-pub fn every_theory_sound()
-    ensures events { (es : List Object) (N : ℕ) → EachKeeps (initial One) N es }
-    ensures sound { (es : List Object) (N : ℕ) → IsSound (after (initial One) es N) }
-    ensures consistent { (es : List Object) (N : ℕ) → Member (formula_object (Equal (Constant T) (Constant NIL))) (after (initial One) es N).theorems → ⊥ }
+/// Whatever events happen from the initial theory on, with any switches of the checker, each of them keeps truth, the
+/// theory that they lead to is sound, and t = nil is no theorem of it: what a sound theory's checker says yes to is true.
+pub fn reached_sound()
+    ensures judges { CheckersJudgeTruly }
+    ensures events { EventsKeep }
+    ensures sound { ReachedIsSound }
+    ensures consistent { ReachedIsConsistent }
 {}

@@ -1,6 +1,9 @@
 -- The lemmas of EachLevel.
-use Rattle.mw_reflect.proofs.EachLevel.{every_event, every_theory, never_nil}
-use Rattle.mw_reflect.proofs.every_theory_sound.Goals as goal
+use Rattle.mw_reflect.proofs.EachLevel.{judges_truly, every_event, every_theory, never_nil}
+use Rattle.mw_reflect.proofs.reached_sound.Goals as goal
+
+pub returns-clause-judges : goal.returns-clause-judges
+returns-clause-judges c = λ t N s. judges_truly t s N
 
 pub returns-clause-events : goal.returns-clause-events
 returns-clause-events c = every_event
