@@ -16,3 +16,4 @@ mod Reflects
 mod Provable
 mod ClaimsTrue
 mod EachLevel
+mod ReflectionExample
