@@ -49,11 +49,11 @@ call_of_witness P g y xs b D n k e ts v =
     )
 
 -- constants have their values, and no others
-constants_have : (P : Profile) (C : Calls) (e : Environment) (vs : List Object) → HaveValues P C e (constants vs) vs
+pub constants_have : (P : Profile) (C : Calls) (e : Environment) (vs : List Object) → HaveValues P C e (constants vs) vs
 constants_have P C e [] = refl
 constants_have P C e (v ∷ vs) = (v, vs, refl, refl, constants_have P C e vs)
 
-constants_are : (P : Profile) (C : Calls) (e : Environment) (vs ws : List Object) → HaveValues P C e (constants vs) ws → ws ≡ vs
+pub constants_are : (P : Profile) (C : Calls) (e : Environment) (vs ws : List Object) → HaveValues P C e (constants vs) ws → ws ≡ vs
 constants_are P C e [] ws h = h
 constants_are P C e (v ∷ vs) ws (u, us, p, q, r) = p ∙ ap₂ ◌∷◌ q (constants_are P C e vs us r)
 

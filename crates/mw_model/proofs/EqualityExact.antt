@@ -31,7 +31,7 @@ and_false true c h = h refl
 and_false false c h = refl
 
 module _ (A : ArityTable) (F : Formula) (i : ReadableFormula F) where
-  same_unless : (ts us : Terms) (G : Formula) → AreReadable ts → AreReadable us → ReadableFormula G → same_object (formula_object F) (unless_equal_object (terms_object ts) (terms_object us) (formula_object G)) ≡ same_formula F (unless_equal ts us G)
+  pub same_unless : (ts us : Terms) (G : Formula) → AreReadable ts → AreReadable us → ReadableFormula G → same_object (formula_object F) (unless_equal_object (terms_object ts) (terms_object us) (formula_object G)) ≡ same_formula F (unless_equal ts us G)
   same_unless ts us G j k l = ap (same_object (formula_object F)) (unless_equal_object-is ts us G) ∙ same_object-formulas F (unless_equal ts us G) i (unless_equal-readable ts us G j k l)
 
   equal_calls : (f g : Name) (ts us : Terms) → Formed A (Call f ts) → Formed A (Call g us) → object_ends_with_equality (formula_object F) (formula_object (Equal (Call f ts) (Call g us))) ≡ is_functional_equality F (Equal (Call f ts) (Call g us))

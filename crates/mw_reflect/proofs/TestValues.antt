@@ -1,12 +1,11 @@
 -- Tests as the values of terms, and what holds of tests.
-use Rattle.std.proofs.Common.{◌≡◌, ℕ, Bool, true, false, ◌&&◌, ◌||◌, not, eqb, Option, Some, None, refl, sym, ap, ◌∙◌, arith, eqb-true, eq-eqb}
+use Rattle.std.proofs.Common.{◌≡◌, ℕ, zero, suc, ◌+◌, Bool, true, false, ◌&&◌, ◌||◌, not, eqb, refl, sym, ap, ◌∙◌, arith, eqb-true, eq-eqb}
 use Rattle.std.specs.Cmp.{both_ways as same_test}
 use Rattle.std.proofs.lemmas.Bool.{ne_eqb}
-use Rattle.mw_model.specs.Object.{Name, Object, Natural, Symbol, Pair, same_name, same_object, nil_name, NIL, T, truth_of}
-use Rattle.mw_model.specs.Reading.{that, when}
+use Rattle.mw_model.specs.Object.{Name, Object, Natural, Symbol, Pair, same_name, same_object, nil_name, NIL, T, truth_of, has_members}
 use Rattle.mw_model.specs.Primitive.{choose}
-use Rattle.mw_model.specs.Definition.{is_present}
 use Rattle.mw_model.specs.RulesInduction.{is_list_object, length_object}
+pub use Rattle.mw_model.proofs.RulesExact.{passes, that-present}
 use Rattle.mw_model.proofs.Names.{same_name-eq, same_name-from}
 
 -- tests as values
@@ -38,11 +37,6 @@ pub same_name-swap : (x y : Name) → same_name x y ≡ same_name y x
 same_name-swap x y =
     same_test (same_name x y) (same_name y x) (λ h. same_name-from y x (sym (same_name-eq x y h))) (λ h. same_name-from x y (sym (same_name-eq y x h)))
 
--- a test of what there may be
-abbrev pub passes : {X : Type 0} → (X → Bool) → Option X → Bool
-passes test None = false
-passes test (Some x) = test x
-
 -- a proper list of n members
 abbrev pub has_length : Object → ℕ → Bool
 has_length x n = is_list_object x && eqb (length_object x) n
@@ -66,25 +60,23 @@ and_assoc false b c = refl
 pub eqb-swap : (a b : ℕ) → eqb a b ≡ eqb b a
 eqb-swap a b = same_test (eqb a b) (eqb b a) (λ h. eq-eqb b a (sym (eqb-true a b h))) (λ h. eq-eqb a b (sym (eqb-true b a h)))
 
--- lists of two and of three
+-- has_length is has_members
+one_less : (m n : ℕ) → eqb (1 + m) (suc n) ≡ eqb m n
+one_less m n = same_test (eqb (1 + m) (suc n)) (eqb m n) (λ h. let e = eqb-true (1 + m) (suc n) h in eq-eqb m n (omega arith)) (λ h. let e = eqb-true m n h in eq-eqb (1 + m) (suc n) (omega arith))
+
+pub has_length-members : (n : ℕ) (x : Object) → has_length x n ≡ has_members n x
+has_length-members zero (Natural n) = refl
+has_length-members zero (Symbol s) = and_true (same_name s nil_name)
+has_length-members zero (Pair a r) = ap (λ t. is_list_object r && t) (ne_eqb (1 + length_object r) 0 (λ e. omega (arith, e))) ∙ and_false (is_list_object r)
+has_length-members (suc n) (Natural m) = refl
+has_length-members (suc n) (Symbol s) = ap (λ t. same_name s nil_name && t) (ne_eqb 0 (suc n) (λ e. omega (arith, e))) ∙ and_false (same_name s nil_name)
+has_length-members (suc n) (Pair a r) = ap (λ t. is_list_object r && t) (one_less (length_object r) n) ∙ has_length-members n r
+
 pub has_length-three : (a b c z : Object) → has_length (Pair a (Pair b (Pair c z))) 3 ≡ same_object z NIL
-has_length-three a b c (Natural n) = refl
-has_length-three a b c (Symbol s) = and_true (same_name s nil_name)
-has_length-three a b c (Pair x y) = ap (λ t. is_list_object y && t) (ne_eqb _ _ (λ e. absurd (omega (arith, e)))) ∙ and_false (is_list_object y)
+has_length-three a b c z = has_length-members 3 (Pair a (Pair b (Pair c z)))
 
 pub has_length-two : (a b z : Object) → has_length (Pair a (Pair b z)) 2 ≡ same_object z NIL
-has_length-two a b (Natural n) = refl
-has_length-two a b (Symbol s) = and_true (same_name s nil_name)
-has_length-two a b (Pair x y) = ap (λ t. is_list_object y && t) (ne_eqb _ _ (λ e. absurd (omega (arith, e)))) ∙ and_false (is_list_object y)
+has_length-two a b z = has_length-members 2 (Pair a (Pair b z))
 
 pub has_length-not_two : (a b c z : Object) → has_length (Pair a (Pair b (Pair c z))) 2 ≡ false
-has_length-not_two a b c z = ap (λ t. is_list_object z && t) (ne_eqb _ _ (λ e. absurd (omega (arith, e)))) ∙ and_false (is_list_object z)
-
--- what is there and passes a test is there under the test
-pub that-present : {X : Type 0} (test : X → Bool) (o : Option X) → is_present (that test o) ≡ passes test o
-that-present test None = refl
-that-present test (Some x) = go (test x)
-  where
-    go : (b : Bool) → is_present (when b (Some x)) ≡ b
-    go true = refl
-    go false = refl
+has_length-not_two a b c z = has_length-members 2 (Pair a (Pair b (Pair c z)))
