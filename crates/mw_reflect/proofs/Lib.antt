@@ -1,0 +1,5 @@
+pub mod ListAnswers
+mod SubstituteAnswers
+mod RuleAnswers
+mod EqualityAnswers
+mod BaseEvalAnswers
