@@ -1,6 +1,7 @@
 -- Each call of a built-in function or witness has a value, and so has each term over them.
 use Rattle.std.proofs.Common.{◌≡◌, ◌≢◌, Bool, true, false, ◌||◌, cond, List, [], ◌∷◌, ◌++◌, append_assoc, Some, None, refl, sym, ap, ◌∙◌, subst, ◌⊎◌, inl, inr}
 use Rattle.std.proofs.lemmas.Bool.{or_cases, or_left, or_right, false≢true}
+use Prim.Native.String.{String}
 use Rattle.mw_model.specs.Object.{Name, Object, named, same_name}
 use Rattle.mw_model.specs.Term.{is_among}
 use Rattle.mw_model.specs.Primitive.{Profile, One, Two}
@@ -19,7 +20,7 @@ use Rattle.mw_model.proofs.Begins.{begins_call}
 use Rattle.mw_model.proofs.BuiltInRead.{well_made}
 use Rattle.mw_model.proofs.BuiltInValue.{names}
 use Rattle.mw_model.proofs.BuiltInCalls.{alone}
-use Rattle.mw_model.proofs.BuiltInAnswers.{built_in_functions, built_in-parts, built_in_value, built_in_value-value}
+use Rattle.mw_model.proofs.BuiltInAnswers.{answer, before_witness, built_in_functions, built_in-parts, built_in_value, built_in_value-value}
 
 -- each call of a defined name is not without a value
 abbrev pub DefinedHave : Profile → List Block → Type 0
@@ -117,6 +118,15 @@ module _ (P : Profile) where
   pub begun_value-only : (D : List Block) → are_blocks P D ≡ true → BeginsWith (built_in P) D → (f : Name) → is_among f (names (built_in_functions P)) ≡ true → (vs : List Object) (v : Object) → block_calls P D f vs v → v ≡ built_in_value P f vs
   begun_value-only D w begins f i vs v h = block_calls-det P D f vs v (built_in_value P f vs) h (begun_value D w begins f i vs)
 
+-- the same at a function's text: the premise holds by `refl` for each of the 52 functions
+module _ (P : Profile) (D : List Block) (w : are_blocks P D ≡ true) (begins : BeginsWith (built_in P) D) (f : String) (i : is_among (named f) (names (before_witness (built_in P))) ≡ true) (vs : List Object) where
+  pub begun_answer : block_calls P D (named f) vs (answer P f vs)
+  unfolding built_in_functions
+  begun_answer = begun_value P D w begins (named f) i vs
+
+  pub begun_answer-only : (v : Object) → block_calls P D (named f) vs v → v ≡ answer P f vs
+  begun_answer-only v h = block_calls-det P D (named f) vs v (answer P f vs) h begun_answer
+
 -- the built-in definitions themselves are such definitions, with calls to speak of
 pub built_in_begins : (P : Profile) → BeginsWith (built_in P) (built_in P)
 built_in_begins P = ([], refl)
@@ -126,3 +136,6 @@ provablep_defined P = refl
 
 pub witness_defined : (P : Profile) → is_defined (built_in P) (named "LOGIC.PROVABLE-WITNESS") ≡ true
 witness_defined P = refl
+
+step_answer : (P : Profile) (vs : List Object) → block_calls P (built_in P) (named "LOGIC.STEP-OKP") vs (answer P "LOGIC.STEP-OKP" vs)
+step_answer P vs = begun_answer P (built_in P) (well_made P) (built_in_begins P) "LOGIC.STEP-OKP" refl vs

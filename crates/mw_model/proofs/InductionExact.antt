@@ -19,7 +19,7 @@ use Rattle.mw_model.proofs.Readable.{ReadableFormula, ReadableSubstitution, term
 use Rattle.mw_model.proofs.ReadBack.{nil_is}
 use Rattle.mw_model.proofs.Follows.{substitution_back, row_is}
 use Rattle.mw_model.proofs.Judging.{row_holds, substitution_read, measure_formed}
-use Rattle.mw_model.proofs.RulesExact.{holds, is_substitution_object-is}
+use Rattle.mw_model.proofs.RulesExact.{passes, is_substitution_object-is}
 use Rattle.mw_model.proofs.PremisesObject.{ReadableCase, premises_object-is, premises-readable, formulas_object-one}
 
 -- three members
@@ -59,7 +59,7 @@ conditions_back A (Pair q r) c (Or G H) h i e =
 substitution_from : (A : ArityTable) (x : Object) → is_substitution_object A x ≡ true → (s : Substitution) × (substitution_object s ≡ x) × (is_substitution A s ≡ true)
 substitution_from A x h = go (substitution_of x) refl (sym (is_substitution_object-is A x) ∙ h)
   where
-    go : (o : Option Substitution) → substitution_of x ≡ o → holds (is_substitution A) o ≡ true → (s : Substitution) × (substitution_object s ≡ x) × (is_substitution A s ≡ true)
+    go : (o : Option Substitution) → substitution_of x ≡ o → passes (is_substitution A) o ≡ true → (s : Substitution) × (substitution_object s ≡ x) × (is_substitution A s ≡ true)
     go None e k = cc
     go (Some s) e k = (s, substitution_back x s e, k)
 
@@ -148,7 +148,7 @@ module _ (A : ArityTable) where
   substitution_objects [] h = refl
   substitution_objects (s ∷ ss) h =
       let p = and_parts (is_substitution A s) (are_substitutions A ss) h in
-      and_from (is_substitution_object A (substitution_object s)) (are_substitution_objects A (substitutions_object ss)) (is_substitution_object-is A (substitution_object s) ∙ (ap (holds (is_substitution A)) (substitution_read A s p.0) ∙ p.0)) (substitution_objects ss p.1)
+      and_from (is_substitution_object A (substitution_object s)) (are_substitution_objects A (substitutions_object ss)) (is_substitution_object-is A (substitution_object s) ∙ (ap (passes (is_substitution A)) (substitution_read A s p.0) ∙ p.0)) (substitution_objects ss p.1)
 
   case_objects : (cs : List Case) → are_cases A cs ≡ true → are_case_objects A (cases_object cs) ≡ true
   case_objects [] h = refl

@@ -34,3 +34,25 @@ pub mod Begins
 pub mod Defined
 pub mod BuiltInTotal
 pub mod BytesOrder
+pub mod Examples
+mod ExamplesProofs
+mod ExamplesDefinitions
+mod ExamplesObligations
+mod ExamplesBlocks
+mod ExamplesRuns
+mod ExamplesSwitch
+mod ExamplesEvents
+mod ExamplesProfile
+mod ExamplesText
+mod ExamplesSyntax
+mod ExamplesTrial
+mod ExamplesVersion
+mod ExamplesLong
+pub mod Numerals
+pub mod Lexing
+pub mod TextReadBack
+pub mod Acyclic
+pub mod Finite
+pub mod CallDepth
+pub mod NewNames
+pub mod CodeStays

@@ -55,42 +55,43 @@ object_is_beta-exact (Equal (Lambda xs b ts) r) i =
     ∙ same_object-terms r (substitute (actuals_for xs ts) b) i.1 (substitute-readable (actuals_for xs ts) (actuals_for-readable xs ts i.0.1) b i.0.0))
 
 -- instances
-abbrev pub holds : {X : Type 0} → (X → Bool) → Option X → Bool
-holds test None = false
-holds test (Some x) = test x
+-- a test of what there may be
+abbrev pub passes : {X : Type 0} → (X → Bool) → Option X → Bool
+passes test None = false
+passes test (Some x) = test x
 
-pub is_present-that : {X : Type 0} (test : X → Bool) (o : Option X) → is_present (that test o) ≡ holds test o
-is_present-that test None = refl
-is_present-that test (Some x) = go (test x)
+pub that-present : {X : Type 0} (test : X → Bool) (o : Option X) → is_present (that test o) ≡ passes test o
+that-present test None = refl
+that-present test (Some x) = go (test x)
   where
     go : (b : Bool) → is_present (when b (Some x)) ≡ b
     go true = refl
     go false = refl
 
-pub if_nil-holds : {X : Type 0} (test : X → Bool) (s : Name) (x : X) → test x ≡ true → same_name s nil_name ≡ holds test (if_nil s x)
-if_nil-holds test s x h = go (same_name s nil_name)
+pub if_nil-passes : {X : Type 0} (test : X → Bool) (s : Name) (x : X) → test x ≡ true → same_name s nil_name ≡ passes test (if_nil s x)
+if_nil-passes test s x h = go (same_name s nil_name)
   where
-    go : (b : Bool) → b ≡ holds test (cond b (Some x) None)
+    go : (b : Bool) → b ≡ passes test (cond b (Some x) None)
     go true = sym h
     go false = refl
 
 module _ (A : ArityTable) where
-  pub is_substitution_object-is : (x : Object) → is_substitution_object A x ≡ holds (is_substitution A) (substitution_of x)
+  pub is_substitution_object-is : (x : Object) → is_substitution_object A x ≡ passes (is_substitution A) (substitution_of x)
   is_substitution_object-is (Natural n) = refl
-  is_substitution_object-is (Symbol n) = if_nil-holds (is_substitution A) n [] refl
+  is_substitution_object-is (Symbol n) = if_nil-passes (is_substitution A) n [] refl
   is_substitution_object-is (Pair (Natural n) r) = refl
   is_substitution_object-is (Pair (Symbol n) r) = refl
   is_substitution_object-is (Pair (Pair (Natural n) t) r) = refl
   is_substitution_object-is (Pair (Pair (Pair a b) t) r) = refl
   is_substitution_object-is (Pair (Pair (Symbol x) t) r) =
-      ap₂ (λ p q. is_variable x && (p && q)) (is_present-that (is_term A) (term_of t)) (is_substitution_object-is r) ∙ go (term_of t) (substitution_of r)
+      ap₂ (λ p q. is_variable x && (p && q)) (that-present (is_term A) (term_of t)) (is_substitution_object-is r) ∙ go (term_of t) (substitution_of r)
     where
       none : (a b : Bool) → (a && (b && false)) ≡ false
       none true true = refl
       none true false = refl
       none false b = refl
 
-      go : (o : Option Term) (p : Option Substitution) → (is_variable x && (holds (is_term A) o && holds (is_substitution A) p)) ≡ holds (is_substitution A) (and_more (pair_for x o) p)
+      go : (o : Option Term) (p : Option Substitution) → (is_variable x && (passes (is_term A) o && passes (is_substitution A) p)) ≡ passes (is_substitution A) (and_more (pair_for x o) p)
       go None p = none (is_variable x) true
       go (Some u) None = none (is_variable x) (is_term A u)
       go (Some u) (Some s) = refl
@@ -106,7 +107,7 @@ module _ (A : ArityTable) where
     pub object_is_instance-exact : (x : Object) → object_is_instance A (formula_object F) (formula_object G) x ≡ is_instance A F G (substitution_of x)
     object_is_instance-exact x = ap (λ b. b && same_object (formula_object F) (substitute_formula_object x (formula_object G))) (is_substitution_object-is x) ∙ go (substitution_of x) refl
       where
-        go : (o : Option Substitution) → substitution_of x ≡ o → (holds (is_substitution A) o && same_object (formula_object F) (substitute_formula_object x (formula_object G))) ≡ is_instance A F G o
+        go : (o : Option Substitution) → substitution_of x ≡ o → (passes (is_substitution A) o && same_object (formula_object F) (substitute_formula_object x (formula_object G))) ≡ is_instance A F G o
         go None e = refl
         go (Some s) e =
             subst (λ z. (is_substitution A s && same_object (formula_object F) (substitute_formula_object z (formula_object G))) ≡ is_instance A F G (Some s)) (substitution_back x s e)

@@ -62,7 +62,7 @@ last_disjunct_object x = x
 
 -- not a1 = b1 or .. or not an = bn or e, for two lists of terms
 abbrev pub unless_equal_object : Object → Object → Object → Object
-unless_equal_object (Pair a as') (Pair b bs) e = or_object (not_object (equal_object a b)) (unless_equal_object as' bs e)
+unless_equal_object (Pair a ts) (Pair b us) e = or_object (not_object (equal_object a b)) (unless_equal_object ts us e)
 unless_equal_object _ _ e = e
 
 -- two calls of one function

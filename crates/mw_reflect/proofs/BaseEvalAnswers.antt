@@ -1,29 +1,20 @@
 -- The reference checker's base evaluation is the rule's, in each profile.
-use Rattle.std.proofs.Common.{◌≡◌, Bool, true, false, ◌&&◌, ◌||◌, cond, List, [], ◌∷◌, Option, Some, None, refl, sym, ap, ap₂, ◌∙◌, subst, ◌+◌, arith}
-use Rattle.std.proofs.lemmas.Bool.{ne_eqb}
-use Rattle.mw_model.specs.Object.{Name, Object, Natural, Symbol, Pair, named, symbol, same_name, same_object, nil_name, NIL, car, cdr, second_of, third_of, truth_of, list2, is_member}
-use Rattle.mw_model.specs.Term.{Term, Variable, Constant, If, Call, Lambda, NoTerms, More, Formula, Equal, Not, Or, term_object, terms_object, formula_object, names_object, ArityTable, IsFormula}
-use Rattle.mw_model.specs.Primitive.{Profile, One, Two, Primitive, Equality, IsPair, Cons, Car, Cdr, IsSymbol, SymbolLess, IsNatural, Less, Plus, Minus, Times, primitive_name, shared_primitives, product, primitive_among, primitive_named, or_product, apply_to, apply, choose, first_value, second_value, is_pair}
+use Rattle.std.proofs.Common.{◌≡◌, Bool, true, false, ◌&&◌, ◌||◌, cond, List, [], ◌∷◌, Option, Some, None, refl, sym, ap, ap₂, ◌∙◌, subst}
+use Rattle.mw_model.specs.Object.{Name, Object, Natural, Symbol, Pair, named, symbol, same_name, same_object, NIL, car, cdr, second_of, third_of, truth_of, list2, has_members, is_member}
+use Rattle.mw_model.specs.Term.{Term, Variable, Constant, If, Call, Lambda, Formula, Equal, Not, Or, term_object, terms_object, formula_object, names_object, ArityTable, IsFormula}
+use Rattle.mw_model.specs.Primitive.{Profile, One, Two, Primitive, Equality, IsPair, Cons, Car, Cdr, IsSymbol, SymbolLess, IsNatural, Less, Plus, Minus, Times, primitive_name, shared_primitives, product, primitive_among, primitive_named, or_product, apply_to, choose, first_value, second_value, is_pair}
 use Rattle.mw_model.specs.Definition.{is_present}
 use Rattle.mw_model.specs.BuiltInRules.{product_list, primitive_list}
 use Rattle.mw_model.specs.Proof.{three_terms}
 use Rattle.mw_model.specs.Judgment.{is_base_eval}
-use Rattle.mw_model.specs.Rules.{is_equal_object, is_constant_object, are_constant_objects, unquoted, third_value, value_by, primitive_value, is_that_value, is_call_with_value, object_is_base_eval}
-use Rattle.mw_model.specs.RulesInduction.{is_list_object, length_object}
-use Rattle.mw_model.proofs.Names.{same_name-eq, name_cases}
+use Rattle.mw_model.specs.Rules.{is_constant_object, are_constant_objects, unquoted, third_value, value_by, primitive_value, is_that_value, is_call_with_value}
+use Rattle.mw_model.proofs.Names.{same_name-eq}
 use Rattle.mw_model.proofs.Readable.{formula_readable}
 use Rattle.mw_model.proofs.BaseEvalExact.{object_is_base_eval-exact}
 use Rattle.mw_model.proofs.BuiltInAnswers.{answer, answer-body}
+use Rattle.mw_reflect.proofs.TestValues.{and_false, has_length-members}
 use Rattle.mw_reflect.proofs.ListAnswers.{and_then, has_length, memberp-answer, lenp-answer}
 use Rattle.mw_reflect.proofs.SubstituteAnswers.{same_object-swap}
-
-and_false : (b : Bool) → (b && false) ≡ false
-and_false true = refl
-and_false false = refl
-
-and_true : (b : Bool) → (b && true) ≡ b
-and_true true = refl
-and_true false = refl
 
 values_object : List Object → Object
 values_object [] = NIL
@@ -38,14 +29,15 @@ module _ (P : Profile) where
       answer-body P "LOGIC.CONSTANTP" (Pair h r ∷ [])
       ∙ (and_then (same_object h (symbol "QUOTE")) _ refl (λ _. lenp-answer P (Pair h r) 2) ∙ ap truth_of (go r))
     where
+      members : (r : Object) → (same_object h (symbol "QUOTE") && has_members 2 (Pair h r)) ≡ is_constant_object (Pair h r)
+      members (Natural n) = and_false (same_object h (symbol "QUOTE"))
+      members (Symbol s) = and_false (same_object h (symbol "QUOTE"))
+      members (Pair c (Natural n)) = and_false (same_object h (symbol "QUOTE"))
+      members (Pair c (Symbol s)) = refl
+      members (Pair c (Pair a b)) = and_false (same_object h (symbol "QUOTE"))
+
       go : (r : Object) → (same_object h (symbol "QUOTE") && has_length (Pair h r) 2) ≡ is_constant_object (Pair h r)
-      go (Natural n) = and_false (same_object h (symbol "QUOTE"))
-      go (Symbol s) = ap (λ b. same_object h (symbol "QUOTE") && b) (and_false (same_name s nil_name)) ∙ and_false (same_object h (symbol "QUOTE"))
-      go (Pair c (Natural n)) = and_false (same_object h (symbol "QUOTE"))
-      go (Pair c (Symbol s)) = ap (λ b. same_object h (symbol "QUOTE") && b) (and_true (same_name s nil_name))
-      go (Pair c (Pair a b)) =
-          ap (λ t. same_object h (symbol "QUOTE") && (is_list_object b && t)) (ne_eqb (1 + (1 + (1 + length_object b))) 2 (λ e. omega (arith, e)))
-          ∙ (ap (λ t. same_object h (symbol "QUOTE") && t) (and_false (is_list_object b)) ∙ and_false (same_object h (symbol "QUOTE")))
+      go r = ap (λ t. same_object h (symbol "QUOTE") && t) (has_length-members 2 (Pair h r)) ∙ members r
 
   const_listp-answer : (x : Object) → answer P "LOGIC.CONST-LISTP" (x ∷ []) ≡ truth_of (are_constant_objects x)
   const_listp-answer (Natural n) = answer-body P "LOGIC.CONST-LISTP" (Natural n ∷ [])

@@ -1,13 +1,12 @@
 -- The reference checker's functional equality is the rule's, under a table whose names are function names.
-use Rattle.std.proofs.Common.{◌≡◌, Bool, true, false, ◌&&◌, cond, eqb, [], ◌∷◌, refl, sym, ap, ap₂, ◌∙◌, subst, ℕ, Some, eq-eqb}
+use Rattle.std.proofs.Common.{◌≡◌, Bool, true, false, ◌&&◌, cond, [], ◌∷◌, refl, sym, ap, ap₂, ◌∙◌, ℕ, Some}
 use Rattle.std.proofs.lemmas.Bool.{and_parts}
-use Rattle.mw_model.specs.Object.{Name, Object, Symbol, Pair, named, symbol, same_name, same_object, NIL, T, car, cdr, second_of, third_of, truth_of, list2, list3}
+use Rattle.mw_model.specs.Object.{Name, Object, Pair, named, symbol, same_name, same_object, NIL, T, car, cdr, second_of, third_of, truth_of}
 use Rattle.mw_model.specs.Term.{Term, Terms, Variable, Constant, If, Call, Lambda, NoTerms, More, Formula, Equal, Not, Or, term_object, terms_object, formula_object, count, ArityTable, arity_of, is_function_name, is_term, is_formula, IsFormula}
-use Rattle.mw_model.specs.Same.{same_formula}
 use Rattle.mw_model.specs.Primitive.{Profile, is_pair, is_symbol}
-use Rattle.mw_model.specs.Proof.{unless_equal, three_terms}
+use Rattle.mw_model.specs.Proof.{three_terms}
 use Rattle.mw_model.specs.Judgment.{last_disjunct, is_functional_equality}
-use Rattle.mw_model.specs.Rules.{is_equal_object, or_object, not_object, unless_equal_object, object_ends_with_equality, object_is_functional_equality}
+use Rattle.mw_model.specs.Rules.{is_equal_object, or_object, not_object, unless_equal_object, object_ends_with_equality}
 use Rattle.mw_model.proofs.Names.{same_name-eq}
 use Rattle.mw_model.proofs.Formed.{Formed, formed}
 use Rattle.mw_model.proofs.Readable.{not_quote, not_if}
@@ -37,19 +36,19 @@ module _ (P : Profile) where
       (cond (same_object (truth_of (is_symbol (car (second_of e)))) NIL) NIL
       (cond (same_object (cond (same_object (truth_of (same_object (car (second_of e)) (symbol "QUOTE"))) NIL) T NIL) NIL) NIL
       (cond (same_object (truth_of (same_object (car (second_of e)) (car (third_of e)))) NIL) NIL
-      (truth_of (same_object c (answer P "LOGIC.FEQ" (cdr (second_of e) ∷ cdr (third_of e) ∷ e ∷ []))))))))) 
+      (truth_of (same_object c (answer P "LOGIC.FEQ" (cdr (second_of e) ∷ cdr (third_of e) ∷ e ∷ [])))))))))
 
   equality-body : (c : Object) → answer P "LOGIC.FUNCTIONAL-EQUALITY-OKP" (c ∷ []) ≡ equality_by c (answer P "LOGIC.LAST-DISJUNCT" (c ∷ []))
   equality-body c = answer-body P "LOGIC.FUNCTIONAL-EQUALITY-OKP" (c ∷ [])
 
   module _ (A : ArityTable) (names : (f : Name) (n : ℕ) → arity_of A f ≡ Some n → is_function_name f ≡ true) (c : Object) where
     -- heads f and g, of which f is not QUOTE
-    heads : (f g : Name) (as' bs e : Object) → same_name f (named "QUOTE") ≡ false → is_function_name f ≡ true → (same_name f g ≡ true → answer P "LOGIC.FEQ" (as' ∷ bs ∷ e ∷ []) ≡ unless_equal_object as' bs e) → cond (same_object (cond (same_object (truth_of (same_name f (named "QUOTE"))) NIL) T NIL) NIL) NIL (cond (same_object (truth_of (same_name f g)) NIL) NIL (truth_of (same_object c (answer P "LOGIC.FEQ" (as' ∷ bs ∷ e ∷ []))))) ≡ truth_of ((is_function_name f && same_name f g) && same_object c (unless_equal_object as' bs e))
-    heads f g as' bs e q n h =
-        ap (λ a. cond (same_object (cond (same_object (truth_of a) NIL) T NIL) NIL) NIL (cond (same_object (truth_of (same_name f g)) NIL) NIL (truth_of (same_object c (answer P "LOGIC.FEQ" (as' ∷ bs ∷ e ∷ [])))))) q
+    heads : (f g : Name) (ts us e : Object) → same_name f (named "QUOTE") ≡ false → is_function_name f ≡ true → (same_name f g ≡ true → answer P "LOGIC.FEQ" (ts ∷ us ∷ e ∷ []) ≡ unless_equal_object ts us e) → cond (same_object (cond (same_object (truth_of (same_name f (named "QUOTE"))) NIL) T NIL) NIL) NIL (cond (same_object (truth_of (same_name f g)) NIL) NIL (truth_of (same_object c (answer P "LOGIC.FEQ" (ts ∷ us ∷ e ∷ []))))) ≡ truth_of ((is_function_name f && same_name f g) && same_object c (unless_equal_object ts us e))
+    heads f g ts us e q n h =
+        ap (λ a. cond (same_object (cond (same_object (truth_of a) NIL) T NIL) NIL) NIL (cond (same_object (truth_of (same_name f g)) NIL) NIL (truth_of (same_object c (answer P "LOGIC.FEQ" (ts ∷ us ∷ e ∷ [])))))) q
         ∙ go (is_function_name f) (same_name f g) n h
       where
-        go : (a b : Bool) → a ≡ true → (b ≡ true → answer P "LOGIC.FEQ" (as' ∷ bs ∷ e ∷ []) ≡ unless_equal_object as' bs e) → cond (same_object (truth_of b) NIL) NIL (truth_of (same_object c (answer P "LOGIC.FEQ" (as' ∷ bs ∷ e ∷ [])))) ≡ truth_of ((a && b) && same_object c (unless_equal_object as' bs e))
+        go : (a b : Bool) → a ≡ true → (b ≡ true → answer P "LOGIC.FEQ" (ts ∷ us ∷ e ∷ []) ≡ unless_equal_object ts us e) → cond (same_object (truth_of b) NIL) NIL (truth_of (same_object c (answer P "LOGIC.FEQ" (ts ∷ us ∷ e ∷ [])))) ≡ truth_of ((a && b) && same_object c (unless_equal_object ts us e))
         go true true n h = ap (λ v. truth_of (same_object c v)) (h refl)
         go true false n h = refl
         go false b n h = cc

@@ -1,53 +1,15 @@
 -- The reference checker's functions on lists, names and the arity table are the tests on objects.
-use Rattle.std.proofs.Common.{◌≡◌, ℕ, ◌+◌, Bool, true, false, ◌&&◌, ◌||◌, not, cond, eqb, List, [], ◌∷◌, Option, Some, None, refl, sym, ap, ap₂, ◌∙◌, arith}
-use Rattle.std.specs.Cmp.{both_ways as same_test}
+use Rattle.std.proofs.Common.{◌≡◌, ℕ, ◌+◌, Bool, true, false, ◌&&◌, ◌||◌, cond, eqb, List, [], ◌∷◌, Option, Some, None, refl, ap, ap₂, ◌∙◌, arith}
 use Rattle.mw_model.specs.Object.{Name, Object, Natural, Symbol, Pair, named, same_name, same_object, nil_name, NIL, T, truth_of, is_member}
 use Rattle.mw_model.specs.Term.{names_object, is_among, are_distinct, are_variables, is_variable, ArityTable, arity_of, table_object}
 use Rattle.mw_model.specs.Reading.{names_of, and_more}
 use Rattle.mw_model.specs.Primitive.{Profile, number, choose}
 use Rattle.mw_model.specs.Rules.{is_variable_object, equal_object, not_object, or_object}
 use Rattle.mw_model.specs.RulesInduction.{is_list_object, length_object}
-use Rattle.mw_model.proofs.Names.{same_name-eq, same_name-from}
+use Rattle.mw_model.proofs.Names.{same_name-eq}
 use Rattle.mw_model.proofs.BuiltInValue.{pairs}
 use Rattle.mw_model.proofs.BuiltInAnswers.{answer, answer-body}
-
--- tests as values
-pub and_value : (a b : Bool) → choose (truth_of a) (truth_of b) NIL ≡ truth_of (a && b)
-and_value true b = refl
-and_value false b = refl
-
-pub or_value : (a b : Bool) → choose (truth_of a) T (truth_of b) ≡ truth_of (a || b)
-or_value true b = refl
-or_value false b = refl
-
-pub not_value : (a : Bool) → choose (truth_of a) NIL T ≡ truth_of (not a)
-not_value true = refl
-not_value false = refl
-
-pub not_and_value : (a b : Bool) → choose (truth_of a) NIL (truth_of b) ≡ truth_of (not a && b)
-not_and_value true b = refl
-not_and_value false b = refl
-
--- the second part is needed only where the first holds
-pub and_then : {u v : Object} (a b : Bool) → u ≡ truth_of a → (a ≡ true → v ≡ truth_of b) → choose u v NIL ≡ truth_of (a && b)
-and_then {u} {v} a b p q = go a p q
-  where
-    go : (a : Bool) → u ≡ truth_of a → (a ≡ true → v ≡ truth_of b) → choose u v NIL ≡ truth_of (a && b)
-    go true p q = ap (λ w. choose w v NIL) p ∙ q refl
-    go false p q = ap (λ w. choose w v NIL) p
-
-pub same_name-swap : (x y : Name) → same_name x y ≡ same_name y x
-same_name-swap x y =
-    same_test (same_name x y) (same_name y x) (λ h. same_name-from y x (sym (same_name-eq x y h))) (λ h. same_name-from x y (sym (same_name-eq y x h)))
-
--- a test of what there may be
-abbrev pub passes : {X : Type 0} → (X → Bool) → Option X → Bool
-passes test None = false
-passes test (Some x) = test x
-
--- a proper list of n members
-abbrev pub has_length : Object → ℕ → Bool
-has_length x n = is_list_object x && eqb (length_object x) n
+pub use Rattle.mw_reflect.proofs.TestValues.{and_value, or_value, not_value, not_and_value, and_then, same_name-swap, passes, has_length}
 
 module _ (P : Profile) where
   -- lists

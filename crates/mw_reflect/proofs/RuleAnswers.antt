@@ -1,21 +1,16 @@
 -- The reference checker's rules on connectives, functional equality and beta reduction are the tests.
-use Rattle.std.proofs.Common.{◌≡◌, Bool, true, false, ◌&&◌, cond, eqb, [], List, ◌∷◌, refl, sym, ap, ap₂, ◌∙◌, ℕ, length, Some, eq-eqb}
-use Rattle.std.proofs.lemmas.Bool.{and_parts, both_ways}
-use Rattle.mw_model.specs.Object.{Name, Object, Symbol, Pair, named, symbol, same_name, same_object, NIL, T, car, cdr, second_of, third_of, truth_of, list1, list2, list3}
-use Rattle.mw_model.specs.Term.{Term, Terms, Variable, Constant, If, Call, Lambda, NoTerms, More, Formula, Equal, Not, Or, term_object, terms_object, formula_object, names_object, count, ArityTable, arity_of, is_function_name, is_call_name, is_term, is_formula, IsFormula}
-use Rattle.mw_model.specs.Same.{same_term, same_formula}
-use Rattle.mw_model.specs.Primitive.{Profile, is_pair, is_symbol}
-use Rattle.mw_model.specs.Substitution.{substitute, actuals_for}
-use Rattle.mw_model.specs.Proof.{unless_equal, three_terms}
-use Rattle.mw_model.specs.Judgment.{last_disjunct, is_functional_equality, is_beta}
-use Rattle.mw_model.specs.Rules.{is_or_object, is_equal_object, not_object, or_object, equal_object, object_is_schema, object_is_expansion, object_is_contraction, object_is_associativity, object_is_cut, last_disjunct_object, unless_equal_object, actuals_object, substitute_object, object_is_beta}
-use Rattle.mw_model.proofs.Names.{same_name-eq}
-use Rattle.mw_model.proofs.Formed.{Formed, AreFormed, formed}
-use Rattle.mw_model.proofs.Readable.{term_readable, terms_readable, formula_readable, not_quote, not_if, same_object-formulas}
+use Rattle.std.proofs.Common.{◌≡◌, [], List, ◌∷◌, refl, ap, ◌∙◌, length}
+use Rattle.std.proofs.lemmas.Bool.{and_parts}
+use Rattle.mw_model.specs.Object.{Name, Object, Symbol, Pair, same_object, NIL, second_of, third_of, truth_of}
+use Rattle.mw_model.specs.Term.{Term, Terms, Variable, Constant, If, Call, Lambda, NoTerms, More, Formula, Equal, Not, Or, term_object, terms_object, formula_object, names_object, count, ArityTable, is_term, IsFormula}
+use Rattle.mw_model.specs.Primitive.{Profile}
+use Rattle.mw_model.specs.Judgment.{is_beta}
+use Rattle.mw_model.specs.Rules.{is_or_object, not_object, or_object, object_is_schema, object_is_expansion, object_is_contraction, object_is_associativity, object_is_cut, actuals_object, substitute_object, object_is_beta}
+use Rattle.mw_model.proofs.Formed.{Formed, formed}
+use Rattle.mw_model.proofs.Readable.{formula_readable}
 use Rattle.mw_model.proofs.RulesExact.{object_is_beta-exact}
-use Rattle.mw_model.proofs.EqualityExact.{same_unless}
 use Rattle.mw_model.proofs.BuiltInAnswers.{answer, answer-body}
-use Rattle.mw_reflect.proofs.ListAnswers.{and_then, pequal-answer, pnot-answer, por-answer}
+use Rattle.mw_reflect.proofs.ListAnswers.{and_then, pnot-answer, por-answer}
 use Rattle.mw_reflect.proofs.SubstituteAnswers.{substitute-answer}
 
 module _ (P : Profile) where

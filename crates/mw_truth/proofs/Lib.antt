@@ -11,3 +11,16 @@ pub mod InductionTrue
 pub mod MethodsTrue
 pub mod AxiomFormulas
 pub mod ProofsTrue
+pub mod OlderTruth
+pub mod Totals
+pub mod NewAxioms
+pub mod Owes
+pub mod ObligationsFormed
+pub mod OrdinalFunctions
+pub mod Admits
+pub mod TrueLists
+pub mod Drafted
+pub mod Growth
+pub mod Events
+pub mod Reached
+pub mod AdmissionExample

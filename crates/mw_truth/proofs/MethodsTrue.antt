@@ -23,7 +23,7 @@ use Rattle.mw_truth.proofs.Equations.{last_formula, base_true, base_if-true, cal
 use Rattle.mw_truth.proofs.InductionTrue.{induction_passes, induction_true}
 
 -- a member of a list of true formulas, read in its one way
-member_true : (D : Definitions) (list : Object) → AreTrueFormulas D list → (F : Formula) → IsFormula (arity_table D) F → Member (formula_object F) list → IsTrueIn D F
+pub member_true : (D : Definitions) (list : Object) → AreTrueFormulas D list → (F : Formula) → IsFormula (arity_table D) F → Member (formula_object F) list → IsTrueIn D F
 member_true D list all F i q =
     let g = all (formula_object F) q in
     subst (IsTrueIn D) (formula_object-one (arity_table D) (arity_table D) g.0 F g.2 i g.1) g.3

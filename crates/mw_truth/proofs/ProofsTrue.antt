@@ -3,24 +3,20 @@ use Rattle.std.proofs.Common.{List}
 use Rattle.mw_model.specs.Object.{Object}
 use Rattle.mw_model.specs.Term.{Formula}
 use Rattle.mw_model.specs.Definition.{Definitions, arity_table, IsWellMade}
-use Rattle.mw_model.specs.Value.{IsTotal, block_calls}
+use Rattle.mw_model.specs.Value.{IsTotal}
 use Rattle.mw_model.specs.Truth.{Each}
 use Rattle.mw_model.specs.Proof.{Method, Axiom, Theorem, PropositionalSchema, FunctionalEquality, BetaReduction, BaseEval, Expansion, Contraction, Associativity, Cut, Instantiation, Induction, by_induction, Proves, ProveEach, proof, no_proofs, more_proofs}
 use Rattle.mw_model.specs.BuiltIn.{built_in}
 use Rattle.mw_model.specs.Theory.{BeginsWith, AreTrueFormulas}
-use Rattle.mw_ordinal.proofs.Computed.{ord_less_value, ordp_value}
 use Rattle.mw_truth.specs.Methods.{IsTrueFormula, Needs, KeepsTruth, InductionDescends}
-use Rattle.mw_truth.proofs.Having.{Orders}
+use Rattle.mw_truth.proofs.OrdinalFunctions.{orders}
 use Rattle.mw_truth.proofs.MethodsTrue.{axiom_keeps, theorem_keeps, schema_keeps, equality_keeps, beta_keeps, base_keeps, expansion_keeps, contraction_keeps, associativity_keeps, cut_keeps, instantiation_keeps, induction_descends, induction_concludes}
 
-orders : (D : Definitions) → IsWellMade D → BeginsWith (built_in D.profile) D.blocks → Orders (block_calls D.profile D.blocks)
-orders D made begun = record { less = ord_less_value D.profile D.blocks made begun; ord = ordp_value D.profile D.blocks made begun }
-
 pub induction_passes : InductionDescends
-induction_passes D made total begun F m cs i hs = induction_descends D total (orders D made begun) F m cs i hs
+induction_passes D made total begun F m cs i hs = induction_descends D total (orders D.profile D.blocks made begun) F m cs i hs
 
 pub induction_keeps : KeepsTruth Induction
-induction_keeps D made total axioms theorems begun F Fs x (by_induction G m cs j) i hs = induction_concludes D total (orders D made begun) G m cs j hs
+induction_keeps D made total axioms theorems begun F Fs x (by_induction G m cs j) i hs = induction_concludes D total (orders D.profile D.blocks made begun) G m cs j hs
 
 method_keeps : (m : Method) → KeepsTruth m
 method_keeps Axiom = axiom_keeps

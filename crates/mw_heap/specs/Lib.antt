@@ -1,0 +1,5 @@
+pub mod Objects
+pub mod Cells
+pub mod Code
+pub mod Inserted
+pub mod Variants
