@@ -3,3 +3,4 @@ pub mod Cells
 pub mod Code
 pub mod Inserted
 pub mod Variants
+pub mod Parts

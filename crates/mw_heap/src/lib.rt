@@ -6,6 +6,7 @@ mod cell;
 mod heap;
 mod mark;
 mod memory;
+mod parts;
 mod primitive;
 mod profile;
 mod reference;
