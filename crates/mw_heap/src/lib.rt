@@ -17,7 +17,7 @@ mod view;
 pub use heap::Heap;
 pub use mark::Mark;
 pub use memory::Memory;
-pub use primitive::Prim;
+pub use primitive::Primitive;
 pub use profile::Profile;
 pub use reference::Ref;
 pub use refusal::Refusal;
