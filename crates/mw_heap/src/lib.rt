@@ -8,6 +8,7 @@ mod mark;
 mod memory;
 mod parts;
 mod primitive;
+mod primitive_name;
 mod profile;
 mod reference;
 mod refusal;
