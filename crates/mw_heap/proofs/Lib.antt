@@ -8,3 +8,5 @@ pub mod Numbered
 pub mod NameSet
 pub mod Shown
 pub mod NameOrder
+pub mod Kept
+pub mod PrimitivesNamed

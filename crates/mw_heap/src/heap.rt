@@ -52,6 +52,11 @@ impl Heap {
         })
     }
 
+    /// The allocator from which the heap has its memory.
+    pub fn alloc(&self) -> Global {
+        self.alloc
+    }
+
     /// The natural `n`.
     pub fn nat(&mut self, n: u128) -> Result<Ref, Memory>
         ensures grows { Grows self.old self.new }
