@@ -8,3 +8,6 @@ pub mod Numbered
 pub mod NameSet
 pub mod Shown
 pub mod NameOrder
+pub mod BareNames
+pub mod Measures
+pub mod Measuring

@@ -1,5 +1,6 @@
 pub mod Objects
-pub mod Cells
-pub mod Code
 pub mod Inserted
+pub mod Cells
+pub mod Lengths
+pub mod Code
 pub mod Variants
