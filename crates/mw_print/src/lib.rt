@@ -9,7 +9,7 @@ mod printing;
 mod text;
 
 pub use bytes::Bytes;
-pub use printing::{Printed, print, text_len};
+pub use printing::{Printed, print};
 
 #[cfg(test)]
 mod tests;

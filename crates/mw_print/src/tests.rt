@@ -1,17 +1,11 @@
 ghost use Rattle.std.specs.Prelude.{◌≡◌, true};
 ghost use Rattle.mw_model.specs.Object.{is_name};
 
-use crate::{Bytes, Printed, print, text_len};
+use crate::{Bytes, Printed, print};
 use mw_heap::{Heap, Memory, Ref};
 use std::alloc::Global;
 use std::process::Abort;
 use std::test::Fail;
-
-fn symbol(heap: &mut Heap, name: &[u8]) -> Result<Ref, Memory>
-    requires { is_name name.now ≡ true }
-{
-    heap.symbol(name)
-}
 
 fn pair(rt: &impl Abort, heap: &mut Heap, first: Ref, second: Ref) -> Result<Ref, Memory> {
     let count = heap.mark().cells();
@@ -36,7 +30,6 @@ fn shows(rt: &impl Abort, alloc: Global, heap: &Heap, x: Ref, text: &[u8]) -> Re
     assert!(rt; out.as_slice().starts_with(b"> ".as_slice()));
     assert!(rt; out.as_slice().ends_with(text));
     assert_eq!(rt; out.len(), 2 + text.len());
-    assert_eq!(rt; text_len(heap, x), text.len() as u64);
     Ok(())
 }
 
@@ -46,116 +39,139 @@ fn is_long(rt: &impl Abort, alloc: Global, heap: &Heap, x: Ref) -> Result<(), Fa
     let mut out = b"> ".to_vec(alloc)?;
     assert_eq!(rt; print(heap, x, &mut out), Printed::Long);
     assert_eq!(rt; out.as_slice(), b"> ".as_slice());
-    assert_eq!(rt; text_len(heap, x), 65537);
     Ok(())
 }
 
-#[test]
-fn naturals(rt: HostRuntime) -> Result<(), Fail> {
-    let mut heap = Heap::new(rt.alloc())?;
-    let x = heap.nat(7)?;
-    shows(&rt, rt.alloc(), &heap, x, b"7")?;
-    let x = heap.nat(0)?;
-    shows(&rt, rt.alloc(), &heap, x, b"0")?;
-    let x = heap.nat(u128::MAX)?;
-    shows(
-        &rt,
-        rt.alloc(),
-        &heap,
-        x,
+fn shows_natural(
+    rt: &impl Abort,
+    heap: &mut Heap,
+    alloc: Global,
+    n: u128,
+    text: &[u8],
+) -> Result<(), Fail> {
+    let x = heap.nat(n)?;
+    shows(rt, alloc, heap, x, text)
+}
+
+fn shows_symbol(
+    rt: &impl Abort,
+    heap: &mut Heap,
+    alloc: Global,
+    name: &[u8],
+    text: &[u8],
+) -> Result<(), Fail>
+    requires { is_name name.now ≡ true }
+{
+    let x = heap.symbol(name)?;
+    shows(rt, alloc, heap, x, text)
+}
+
+fn shows_naturals(rt: &impl Abort, heap: &mut Heap, alloc: Global) -> Result<(), Fail> {
+    shows_natural(rt, heap, alloc, 7, b"7")?;
+    shows_natural(rt, heap, alloc, 0, b"0")?;
+    shows_natural(
+        rt,
+        heap,
+        alloc,
+        u128::MAX,
         b"340282366920938463463374607431768211455",
     )
 }
 
 #[test]
+fn naturals(rt: HostRuntime) -> Result<(), Fail> {
+    let mut heap = Heap::new(rt.alloc())?;
+    shows_naturals(&rt, &mut heap, rt.alloc())
+}
+
+fn shows_bare_names(rt: &impl Abort, heap: &mut Heap, alloc: Global) -> Result<(), Fail> {
+    shows_symbol(rt, heap, alloc, b"AB", b"AB")?;
+    shows_symbol(rt, heap, alloc, b"NIL", b"NIL")?;
+    shows_symbol(rt, heap, alloc, b"-", b"-")?;
+    shows_symbol(rt, heap, alloc, b"A.1+", b"A.1+")?;
+    shows_symbol(rt, heap, alloc, b"..!", b"..!")
+}
+
+#[test]
 fn bare_names(rt: HostRuntime) -> Result<(), Fail> {
     let mut heap = Heap::new(rt.alloc())?;
-    let x = symbol(&mut heap, b"AB")?;
-    shows(&rt, rt.alloc(), &heap, x, b"AB")?;
-    let x = symbol(&mut heap, b"NIL")?;
-    shows(&rt, rt.alloc(), &heap, x, b"NIL")?;
-    let x = symbol(&mut heap, b"-")?;
-    shows(&rt, rt.alloc(), &heap, x, b"-")?;
-    let x = symbol(&mut heap, b"A.1+")?;
-    shows(&rt, rt.alloc(), &heap, x, b"A.1+")?;
-    let x = symbol(&mut heap, b"..!")?;
-    shows(&rt, rt.alloc(), &heap, x, b"..!")
+    shows_bare_names(&rt, &mut heap, rt.alloc())
+}
+
+fn shows_names_in_bars(rt: &impl Abort, heap: &mut Heap, alloc: Global) -> Result<(), Fail> {
+    shows_symbol(rt, heap, alloc, b"a b", b"|a b|")?;
+    shows_symbol(rt, heap, alloc, b"Ab", b"|Ab|")?;
+    shows_symbol(rt, heap, alloc, b"12", b"|12|")?;
+    shows_symbol(rt, heap, alloc, b"-1A", b"|-1A|")?;
+    shows_symbol(rt, heap, alloc, b".", b"|.|")?;
+    shows_symbol(rt, heap, alloc, b"...", b"|...|")?;
+    shows_symbol(rt, heap, alloc, b"A(;", b"|A(;|")
 }
 
 #[test]
 fn names_in_bars(rt: HostRuntime) -> Result<(), Fail> {
     let mut heap = Heap::new(rt.alloc())?;
-    let x = symbol(&mut heap, b"a b")?;
-    shows(&rt, rt.alloc(), &heap, x, b"|a b|")?;
-    let x = symbol(&mut heap, b"Ab")?;
-    shows(&rt, rt.alloc(), &heap, x, b"|Ab|")?;
-    let x = symbol(&mut heap, b"12")?;
-    shows(&rt, rt.alloc(), &heap, x, b"|12|")?;
-    let x = symbol(&mut heap, b"-1A")?;
-    shows(&rt, rt.alloc(), &heap, x, b"|-1A|")?;
-    let x = symbol(&mut heap, b".")?;
-    shows(&rt, rt.alloc(), &heap, x, b"|.|")?;
-    let x = symbol(&mut heap, b"...")?;
-    shows(&rt, rt.alloc(), &heap, x, b"|...|")?;
-    let x = symbol(&mut heap, b"A(;")?;
-    shows(&rt, rt.alloc(), &heap, x, b"|A(;|")
+    shows_names_in_bars(&rt, &mut heap, rt.alloc())
+}
+
+fn shows_lists(rt: &impl Abort, heap: &mut Heap, alloc: Global) -> Result<(), Fail> {
+    let a = heap.symbol(b"A")?;
+    let quote = heap.symbol(b"QUOTE")?;
+    let seven = heap.nat(7)?;
+    let quoted = list(rt, heap, &[quote, a])?;
+    let dotted = pair(rt, heap, seven, quote)?;
+    let numbered = pair(rt, heap, quoted, dotted)?;
+    let empty = list(rt, heap, &[])?;
+    let nested = list(rt, heap, &[dotted, empty, quoted])?;
+    shows(rt, alloc, heap, quoted, b"(QUOTE A)")?;
+    shows(rt, alloc, heap, dotted, b"(7 . QUOTE)")?;
+    shows(rt, alloc, heap, numbered, b"((QUOTE A) 7 . QUOTE)")?;
+    shows(rt, alloc, heap, nested, b"((7 . QUOTE) NIL (QUOTE A))")
 }
 
 #[test]
 fn lists(rt: HostRuntime) -> Result<(), Fail> {
     let mut heap = Heap::new(rt.alloc())?;
-    let a = symbol(&mut heap, b"A")?;
-    let quote = symbol(&mut heap, b"QUOTE")?;
-    let seven = heap.nat(7)?;
-    let quoted = list(&rt, &mut heap, &[quote, a])?;
-    shows(&rt, rt.alloc(), &heap, quoted, b"(QUOTE A)")?;
-    let rest = pair(&rt, &mut heap, a, quote)?;
-    let dotted = pair(&rt, &mut heap, seven, rest)?;
-    shows(&rt, rt.alloc(), &heap, dotted, b"(7 A . QUOTE)")?;
-    let numbered = pair(&rt, &mut heap, quoted, seven)?;
-    shows(&rt, rt.alloc(), &heap, numbered, b"((QUOTE A) . 7)")?;
-    let empty = list(&rt, &mut heap, &[])?;
-    let nested = list(&rt, &mut heap, &[dotted, empty, quoted])?;
-    shows(
-        &rt,
-        rt.alloc(),
-        &heap,
-        nested,
-        b"((7 A . QUOTE) NIL (QUOTE A))",
-    )
+    shows_lists(&rt, &mut heap, rt.alloc())
 }
 
-// Texts of 65,535 bytes and a little more.
+// Lists whose texts have 65,536 bytes and one more.
+fn shows_longest(rt: &impl Abort, heap: &mut Heap, alloc: Global) -> Result<(), Fail> {
+    let one = heap.symbol(b"A")?;
+    let two = heap.symbol(b"AA")?;
+    let three = heap.symbol(b"AAA")?;
+    let mut rest = list(rt, heap, &[])?;
+    for _ in 0..32766 {
+        rest = pair(rt, heap, one, rest)?;
+    }
+    let longest = pair(rt, heap, two, rest)?;
+    let longer = pair(rt, heap, three, rest)?;
+    assert!(rt; longest.index() < heap.mark().cells());
+    let mut out = Vec::new(alloc);
+    assert_eq!(rt; print(heap, longest, &mut out), Printed::Ok);
+    assert_eq!(rt; out.len(), 65536);
+    is_long(rt, alloc, heap, longer)
+}
+
 #[test]
 fn longest_text(rt: HostRuntime) -> Result<(), Fail> {
     let mut heap = Heap::new(rt.alloc())?;
-    let a = symbol(&mut heap, b"A")?;
-    let more = symbol(&mut heap, b"AA")?;
-    let mut all = list(&rt, &mut heap, &[])?;
-    for _ in 0..32766 {
-        all = pair(&rt, &mut heap, a, all)?;
-    }
-    let longest = pair(&rt, &mut heap, more, all)?;
-    assert!(rt; longest.index() < heap.mark().cells());
-    let mut out = Vec::new(rt.alloc());
-    assert_eq!(rt; print(&heap, longest, &mut out), Printed::Ok);
-    assert_eq!(rt; out.len(), 65536);
-    assert!(rt; out.as_slice().starts_with(b"(AA A A ".as_slice()));
-    assert!(rt; out.as_slice().ends_with(b" A A)".as_slice()));
-    let longer = pair(&rt, &mut heap, a, all)?;
-    let longer = pair(&rt, &mut heap, longer, longer)?;
-    is_long(&rt, rt.alloc(), &heap, longer)
+    shows_longest(&rt, &mut heap, rt.alloc())
 }
 
 // A text of more bytes than could be written.
+fn shows_shared(rt: &impl Abort, heap: &mut Heap, alloc: Global) -> Result<(), Fail> {
+    let mut x = heap.symbol(b"A")?;
+    for _ in 0..1000 {
+        x = pair(rt, heap, x, x)?;
+    }
+    is_long(rt, alloc, heap, x)
+}
+
 #[test]
 fn shared_parts(rt: HostRuntime) -> Result<(), Fail> {
     let mut heap = Heap::new(rt.alloc())?;
-    let mut x = symbol(&mut heap, b"A")?;
-    for _ in 0..1000 {
-        x = pair(&rt, &mut heap, x, x)?;
-    }
-    is_long(&rt, rt.alloc(), &heap, x)
+    shows_shared(&rt, &mut heap, rt.alloc())
 }
 
 #[test]
