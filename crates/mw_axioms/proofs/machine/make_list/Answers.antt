@@ -46,6 +46,6 @@ returns-clause-made c =
     let first = c.in_ok-head.ensures.grows in
     let list = c.in_ok-list.ensures.made in
     let name = ap (λ b. Symbol (name_of_bytes b)) c.name.ensures.name in
-    let parts = list.1 ∙ ap₂ Pair (head.1 ∙ name) (object_at-Grows _ _ _ first c.loop.invariant.members_in) in
+    let parts = list.1 ∙ ap₂ Pair (head.1 ∙ name) (object_at-Grows _ _ first _ c.loop.invariant.members_in) in
     ap (stack_of c.cons-2.new.self) c.in_ok-push.ensures.items
     ∙ Gathers-list _ _ _ _ _ _ _ _ _ _ c.loop.invariant c.loop-test.false (Grows-trans _ _ _ first c.in_ok-list.ensures.grows) parts
