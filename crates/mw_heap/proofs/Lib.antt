@@ -10,3 +10,6 @@ pub mod Shown
 pub mod NameOrder
 pub mod Kept
 pub mod PrimitivesNamed
+pub mod BareNames
+pub mod Measures
+pub mod Measuring
