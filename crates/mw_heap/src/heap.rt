@@ -280,6 +280,7 @@ mod tests {
         assert!(rt; heap.name_of(car) == b"CAR".as_slice());
         assert!(rt; !heap.symbol_less(car, car));
         assert_eq!(rt; heap.nth(0), car);
+        assert_eq!(rt; heap.lengths(car), (3, 6));
         Ok(())
     }
 }

@@ -9,7 +9,7 @@ mod printing;
 mod text;
 
 pub use bytes::Bytes;
-pub use printing::{Printed, print};
+pub use printing::{Printed, print, text_len};
 
 #[cfg(test)]
 mod tests;

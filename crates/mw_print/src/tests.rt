@@ -1,7 +1,7 @@
 ghost use Rattle.std.specs.Prelude.{◌≡◌, true};
 ghost use Rattle.mw_model.specs.Object.{is_name};
 
-use crate::{Bytes, Printed, print};
+use crate::{Bytes, Printed, print, text_len};
 use mw_heap::{Heap, Memory, Ref};
 use std::alloc::Global;
 use std::process::Abort;
@@ -30,6 +30,7 @@ fn shows(rt: &impl Abort, alloc: Global, heap: &Heap, x: Ref, text: &[u8]) -> Re
     assert!(rt; out.as_slice().starts_with(b"> ".as_slice()));
     assert!(rt; out.as_slice().ends_with(text));
     assert_eq!(rt; out.len(), 2 + text.len());
+    assert_eq!(rt; text_len(heap, x), text.len() as u64);
     Ok(())
 }
 
@@ -39,6 +40,7 @@ fn is_long(rt: &impl Abort, alloc: Global, heap: &Heap, x: Ref) -> Result<(), Fa
     let mut out = b"> ".to_vec(alloc)?;
     assert_eq!(rt; print(heap, x, &mut out), Printed::Long);
     assert_eq!(rt; out.as_slice(), b"> ".as_slice());
+    assert_eq!(rt; text_len(heap, x), 65537);
     Ok(())
 }
 

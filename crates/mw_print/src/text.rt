@@ -1,19 +1,14 @@
 //! The text of an object.
 ghost use Rattle.std.specs.Prelude.{◌≡◌, [], ◌∷◌, ◌++◌, All, IfOk, OnOk};
-ghost use Rattle.std.specs.Option.{option_map};
 ghost use Rattle.mw_model.specs.Object.{Pair};
 ghost use Rattle.mw_model.specs.Printing.{text_of};
 ghost use Rattle.mw_heap.specs.Objects.{IsIn, object_at};
 ghost use Rattle.mw_print.specs.Parts.{IsPart, Writes};
-ghost use Rattle.mw_print.specs.Printing.{IsShown};
 
 use crate::atom::{write_atom, write_end};
 use crate::part::Part;
 use mw_heap::{Heap, Memory, Ref, View};
 use std::alloc::Global;
-
-// The longest text that is shown, in bytes.
-const LONGEST: usize = 65536;
 
 // Writes a byte, and leaves to be written the text of `first`, and behind it what follows with `rest` behind it.
 fn write_open(
@@ -55,20 +50,16 @@ fn write_part(
     }
 }
 
-// The text of an object, or `None` if it has more bytes than are shown, by a stack of what is still to be written. Each part that is
-// taken writes a byte, so that a text of any length ends the loop as soon as it is too long.
-pub(crate) fn text(heap: &Heap, alloc: Global, x: Ref) -> Result<Option<Vec<u8>>, Memory>
+// The text of an object, by a stack of what is still to be written.
+pub(crate) fn text(heap: &Heap, alloc: Global, x: Ref) -> Result<Vec<u8>, Memory>
     requires { IsIn heap.now x }
-    ensures { IfOk result (λ shown. IsShown (text_of (object_at heap.now x)) (option_map (λ t. t.items) shown)) }
+    ensures { IfOk result (λ text. text.items ≡ text_of (object_at heap.now x)) }
 {
     let mut out = Vec::new(alloc);
     let mut parts = Vec::new(alloc);
     parts.push(Part::Text(x))?;
     while let Some(part) = parts.pop() {
         write_part(heap, part, &mut parts, &mut out)?;
-        if out.len() > LONGEST {
-            return Ok(None);
-        }
     }
-    Ok(Some(out))
+    Ok(out)
 }
