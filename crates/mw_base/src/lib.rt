@@ -4,7 +4,14 @@
 mod answers;
 mod application;
 mod applied;
+mod compare;
+mod constants;
+mod rule;
 mod values;
 
 pub use application::apply;
 pub use applied::Applied;
+pub use rule::base_eval;
+
+#[cfg(test)]
+mod tests;
