@@ -136,7 +136,7 @@ impl Model for Marks {
 
 /// The marks of the objects of the heap below a mark. It takes time in proportion to them, and to the size of each distinct head of
 /// a lambda call.
-pub fn mark_terms(heap: &Heap, arity: &Arity, below: Mark, alloc: Global) -> Result<Marks, Memory>
+pub fn mark_terms(alloc: Global, heap: &Heap, arity: &Arity, below: Mark) -> Result<Marks, Memory>
     requires { below ≤ length heap.now }
     ensures marked { IfOk result (AreMarks arity.now heap.now) }
     ensures length { IfOk result (λ m. length m ≡ below) }
