@@ -9,3 +9,4 @@ pub mod NameSet
 pub mod Shown
 pub mod NameOrder
 pub mod Kept
+pub mod NoPair

@@ -5,6 +5,7 @@
 mod cell;
 mod heap;
 mod mark;
+mod members;
 mod memory;
 mod parts;
 mod primitive;
