@@ -10,3 +10,4 @@ pub mod Shown
 pub mod NameOrder
 pub mod Kept
 pub mod NoPair
+pub mod PrimitivesNamed

@@ -4,3 +4,4 @@ pub mod Code
 pub mod Inserted
 pub mod Variants
 pub mod Parts
+pub mod PrimitiveNames

@@ -186,3 +186,32 @@ impl Heap {
         self.cells.truncate(to.cells());
     }
 }
+
+#[cfg(test)]
+mod tests {
+    use super::*;
+
+    #[test]
+    fn keeps_a_pair_once(rt: HostRuntime) -> Result<(), Memory> {
+        let mut heap = Heap::new(rt.alloc())?;
+        let large = heap.nat(1 << 100)?;
+        assert_eq!(rt; heap.view(large), View::Nat(1 << 100));
+        let mark = heap.mark();
+        let pair = heap.cons(large, large)?;
+        assert_eq!(rt; heap.view(pair), View::Pair(large, large));
+        assert!(rt; heap.same(pair, pair));
+        heap.cut_back(mark);
+        assert_eq!(rt; heap.mark().cells(), 1);
+        Ok(())
+    }
+
+    #[test]
+    fn orders_names(rt: HostRuntime) -> Result<(), Memory> {
+        let mut heap = Heap::new(rt.alloc())?;
+        let car = heap.symbol(b"CAR")?;
+        assert!(rt; heap.name_of(car) == b"CAR".as_slice());
+        assert!(rt; !heap.symbol_less(car, car));
+        assert_eq!(rt; heap.nth(0), car);
+        Ok(())
+    }
+}

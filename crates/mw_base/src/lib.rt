@@ -1,0 +1,10 @@
+//! The values of the primitive functions, and the rule of proof that computes them.
+#![tactic(auto)]
+
+mod answers;
+mod application;
+mod applied;
+mod values;
+
+pub use application::apply;
+pub use applied::Applied;
