@@ -1,0 +1,3 @@
+pub mod SigmaObject
+pub mod Made
+pub mod Path
