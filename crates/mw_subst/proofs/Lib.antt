@@ -1,3 +1,5 @@
 pub mod SigmaObject
 pub mod Made
 pub mod Path
+pub mod PairLists
+pub mod FormulaObjects
