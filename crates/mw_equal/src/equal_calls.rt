@@ -7,7 +7,7 @@ ghost use Rattle.mw_heap.specs.Objects.{object_at, IsIn};
 use crate::shapes::{arguments_of_one, is_inequality, members};
 use mw_heap::{Heap, Ref, View};
 
-/// Whether `c` is: not a1 = b1 or .. or not an = bn or (f a1 .. an) = (f b1 .. bn).
+/// Whether `c` is: not a1 = b1 or .. or not an = bn or (f a1 .. an) = (f b1 .. bn), where f is the name of a function.
 pub fn functional_equality(heap: &Heap, c: Ref) -> bool
     requires { IsIn heap.now c }
     ensures { result ≡ object_is_functional_equality (object_at heap.now c) }

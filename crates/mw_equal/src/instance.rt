@@ -10,7 +10,7 @@ use mw_subst::{sigma_of, substitute};
 use mw_term::{Marks, is_substitution};
 
 /// Whether the formula `c` is the formula `a` under the substitution `s`, a proper list of pairs (variable . term), where the marks
-/// say what is a term.
+/// say what is a term. The heap grows by what the substitution makes; the only error is want of memory.
 pub fn instantiation(heap: &mut Heap, c: Ref, a: Ref, s: Ref, marks: &Marks) -> Result<bool, Memory>
     requires marks { (A : ArityTable) × AreMarks A heap.old marks.now }
     requires conclusion { IsIn heap.old c }

@@ -10,7 +10,8 @@ use crate::shapes::members;
 use mw_heap::{Heap, Memory, Ref, View};
 use mw_subst::{Sigma, substitute};
 
-/// Whether `c` is: ((lambda (x1 .. xn) b) t1 .. tn) = b with t1 .. tn for x1 .. xn.
+/// Whether `c` is: ((lambda (x1 .. xn) b) t1 .. tn) = b with t1 .. tn for x1 .. xn. The heap grows by what the substitution makes; the
+/// only error is want of memory.
 pub fn beta(heap: &mut Heap, c: Ref) -> Result<bool, Memory>
     requires { IsIn heap.old c }
     ensures grows { Grows heap.old heap.new }
@@ -28,9 +29,9 @@ pub fn beta(heap: &mut Heap, c: Ref) -> Result<bool, Memory>
     let View::Pair(_, _) = heap.view(function) else {
         return Ok(false);
     };
-    let value = heap.third_of(c);
-    let reduced = reduced(heap, function, arguments)?;
-    Ok(heap.is_same(value, Some(reduced)))
+    let right = heap.third_of(c);
+    let body = reduced(heap, function, arguments)?;
+    Ok(heap.is_same(right, Some(body)))
 }
 
 // The body of the function with the arguments for its formals.
