@@ -1,5 +1,5 @@
 -- The pairs of formals and arguments, one after another.
-use Rattle.std.proofs.Common.{◌≡◌, ℕ, Bool, true, false, ◌&&◌, List, [], ◌∷◌, ◌++◌, refl, sym, ap, ap₂, ◌∙◌}
+use Rattle.std.proofs.Common.{◌≡◌, ℕ, false, ◌&&◌, List, [], ◌∷◌, ◌++◌, refl, sym, ap, ap₂, ◌∙◌}
 use Rattle.mw_model.specs.Object.{Object, Natural, Symbol, Pair, NIL}
 use Rattle.mw_model.specs.Primitive.{is_pair}
 use Rattle.mw_model.specs.Rules.{actuals_object}

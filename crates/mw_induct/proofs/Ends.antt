@@ -8,7 +8,6 @@ use Rattle.std.proofs.Math.Dec.{eqb-zero-suc, eqb-suc-zero, eqb-suc-suc}
 use Rattle.std.proofs.Math.Bool.{and-false}
 use Rattle.mw_model.specs.Primitive.{is_pair}
 use Rattle.std.proofs.lemmas.Bool.{and_parts}
-use Rattle.mw_subst.specs.Pairs.{is_list_of_pairs}
 use Rattle.mw_subst.proofs.PairLists.{substitution_pairs}
 use Rattle.mw_induct.specs.Pairs.{are_lists_of_pairs, are_cases_of_pairs}
 

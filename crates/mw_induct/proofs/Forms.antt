@@ -1,5 +1,5 @@
 -- Lists with one head are the same where their members are.
-use Rattle.std.proofs.Common.{◌≡◌, Bool, true, false, ◌&&◌, refl, sym, ap, ap₂, ◌∙◌}
+use Rattle.std.proofs.Common.{◌≡◌, true, false, ◌&&◌, refl, sym, ap, ◌∙◌}
 use Rattle.std.proofs.Math.Bool.{and-true, and-false}
 use Rattle.mw_model.specs.Object.{Object, Natural, Symbol, Pair, symbol, same_object, list2, list3, NIL, T}
 use Rattle.mw_model.specs.Primitive.{is_pair}

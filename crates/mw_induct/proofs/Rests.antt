@@ -1,11 +1,11 @@
 -- Conclusions one after another, over a heap that grows.
-use Rattle.std.proofs.Common.{◌≡◌, ℕ, zero, suc, ◌+◌, ◌<◌, ◌≤◌, Bool, true, false, ◌&&◌, nat_eq, All, List, [], ◌∷◌, length, take, drop, ◌-◌, get_or, Option, Some, None, refl, sym, ap, ap₂, ◌∙◌, subst, arith, zero-add}
+use Rattle.std.proofs.Common.{◌≡◌, ℕ, zero, suc, ◌+◌, ◌<◌, ◌≤◌, false, nat_eq, All, List, [], ◌∷◌, length, take, drop, ◌-◌, get_or, Option, Some, None, refl, sym, ap, ap₂, ◌∙◌, subst, arith, zero-add}
 use Rattle.std.proofs.Math.Dec.{eqb-zero-suc, eqb-suc-suc}
 use Rattle.std.proofs.lemmas.List.{drop_more, drop_all, length-drop}
 use Rattle.std.proofs.Math.Seq.{take-length}
 use Rattle.mw_model.specs.Object.{Object, Pair, NIL, same_object}
 use Rattle.mw_heap.specs.Objects.{object_at, IsIn, Grows}
-use Rattle.mw_heap.proofs.Objects.{IsIn-Grows, object_at-Grows}
+use Rattle.mw_heap.proofs.Objects.{object_at-Grows}
 use Rattle.mw_model.specs.RulesInduction.{ordinal_object, falls_object, all_falls_object}
 use Rattle.mw_induct.proofs.Forms.{step_object, same_step}
 use Rattle.mw_induct.specs.Conclusions.{conclusions_object, Takes}

@@ -1,5 +1,5 @@
 -- A substitution is a list of pairs, and on the object of a formula it substitutes in the formula.
-use Rattle.std.proofs.Common.{◌≡◌, ◌&&◌, sym, ap, ap₂, ◌∙◌}
+use Rattle.std.proofs.Common.{◌&&◌, sym, ap, ap₂, ◌∙◌}
 use Rattle.mw_model.specs.Object.{same_object}
 use Rattle.mw_model.specs.Rules.{substitute_object, substitute_formula_object}
 use Rattle.mw_heap.specs.Objects.{object_at}

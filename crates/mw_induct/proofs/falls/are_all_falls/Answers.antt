@@ -1,7 +1,7 @@
 -- One case after another, over the heap at the start.
-use Rattle.std.proofs.Common.{◌≡◌, ◌+◌, ◌≤◌, ℕ, true, length, drop, sym, ap, ◌∙◌, arith, length-drop}
+use Rattle.std.proofs.Common.{drop, sym, ap, ◌∙◌, arith, length-drop}
 use Rattle.std.proofs.lemmas.Bool.{and_parts}
-use Rattle.mw_model.specs.Object.{Object, same_object}
+use Rattle.mw_model.specs.Object.{same_object}
 use Rattle.mw_model.specs.RulesInduction.{length_object, falls_object, all_falls_object}
 use Rattle.mw_heap.specs.Objects.{object_at, IsIn}
 use Rattle.mw_model.specs.Primitive.{is_pair}

@@ -1,8 +1,7 @@
 -- The tests of the data and of the premises make the rule.
-use Rattle.std.proofs.Common.{◌≡◌, ◌&&◌, sym, ◌∙◌, eqb, eqb-true}
+use Rattle.std.proofs.Common.{sym, ◌∙◌, eqb-true}
 use Rattle.std.proofs.lemmas.Result.{IfOk-weaker}
 use Rattle.std.proofs.lemmas.Bool.{and_parts}
-use Rattle.mw_model.specs.RulesInduction.{is_list_object, length_object, are_case_objects}
 use Rattle.mw_heap.specs.Objects.{object_at}
 use Rattle.mw_subst.proofs.FormulaObjects.{substitute_object-formula}
 use Rattle.mw_induct.specs.Conclusions.{conclusions_object}

@@ -1,8 +1,8 @@
 -- One hypothesis after another. The heap grows by what the substitutions make.
-use Rattle.std.proofs.Common.{◌≡◌, true, sym, ap, ap₂, ◌∙◌, subst}
+use Rattle.std.proofs.Common.{sym, ap, ◌∙◌, subst}
 use Rattle.std.proofs.lemmas.Bool.{and_parts}
-use Rattle.mw_model.specs.Object.{Object, Pair, same_object}
-use Rattle.mw_model.specs.Rules.{not_object, substitute_formula_object}
+use Rattle.mw_model.specs.Object.{Pair, same_object}
+use Rattle.mw_model.specs.Rules.{not_object}
 use Rattle.mw_model.specs.RulesInduction.{disjunction_object, hypotheses_object}
 use Rattle.mw_heap.specs.Objects.{object_at}
 use Rattle.mw_heap.proofs.Objects.{IsIn-Grows, object_at-Grows, Grows-trans}

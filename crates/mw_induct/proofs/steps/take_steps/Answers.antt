@@ -1,10 +1,9 @@
 -- One step premise after another, over the heap at the start.
-use Rattle.std.proofs.Common.{◌≡◌, ◌<◌, ◌≤◌, ℕ, true, length, drop, sym, ap, ap₂, ◌∙◌, subst, arith}
+use Rattle.std.proofs.Common.{◌<◌, ◌≤◌, length, sym, ap, ◌∙◌, subst, arith}
 use Rattle.std.proofs.lemmas.Bool.{and_parts}
-use Rattle.mw_model.specs.Object.{Object, same_object}
 use Rattle.mw_model.specs.RulesInduction.{length_object}
 use Rattle.mw_heap.specs.Objects.{object_at, IsIn}
-use Rattle.mw_heap.proofs.Objects.{object_at-Grows, Grows-trans}
+use Rattle.mw_heap.proofs.Objects.{Grows-trans}
 use Rattle.mw_induct.specs.Pairs.{are_lists_of_pairs, are_cases_of_pairs}
 use Rattle.mw_induct.proofs.Forms.{steps_next, steps_none}
 use Rattle.mw_induct.proofs.Rests.{older_pair, next_conclusion, no_conclusion, same_step-Grows}
