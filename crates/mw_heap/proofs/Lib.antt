@@ -8,6 +8,7 @@ pub mod Numbered
 pub mod NameSet
 pub mod Shown
 pub mod NameOrder
+pub mod NoPair
 pub mod PrimitivesNamed
 pub mod BareNames
 pub mod Measures

@@ -7,6 +7,7 @@ mod cell;
 mod heap;
 mod lengths;
 mod mark;
+mod members;
 mod memory;
 mod parts;
 mod primitive;

@@ -1,3 +1,4 @@
 pub mod Sigma
 pub mod Memo
 pub mod Steps
+pub mod Pairs

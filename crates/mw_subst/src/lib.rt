@@ -3,8 +3,10 @@
 
 mod memo;
 mod part;
+mod read;
 mod sigma;
 mod walk;
 
+pub use read::sigma_of;
 pub use sigma::Sigma;
 pub use walk::substitute;

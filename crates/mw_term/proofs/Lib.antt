@@ -9,3 +9,4 @@ mod FormalList
 mod Heads
 mod ByIndex
 pub mod CallerLemmas
+pub mod SubstitutionLists

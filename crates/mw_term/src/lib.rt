@@ -10,6 +10,8 @@ mod list;
 mod marks;
 mod names;
 mod part;
+mod substitutions;
 
 pub use arity::Arity;
 pub use marks::{Marks, mark_terms};
+pub use substitutions::is_substitution;

@@ -1,0 +1,16 @@
+-- The pairs so far stand before those of what is left.
+use Rattle.std.proofs.Common.{◌≡◌}
+use Rattle.mw_model.specs.Rules.{actuals_object}
+use Rattle.mw_heap.specs.Objects.{object_at, IsIn}
+use Rattle.mw_heap.specs.Parts.{part_at}
+use Rattle.mw_subst.specs.Sigma.{AreIn}
+use Rattle.mw_subst.proofs.PairLists.{pairs_before}
+use Rattle.mw_equal.proofs.reduction.actuals.Given as goal
+
+abbrev pub invariant-loop-x : goal.invariant-loop-x
+invariant-loop-x l =
+    let o = object_at l.heap in
+    IsIn l.heap l.formals × IsIn l.heap l.arguments × AreIn l.heap l.sigma × (pairs_before l.heap l.sigma (actuals_object (o l.formals) (o l.arguments)) ≡ actuals_object (part_at l.heap l.fn.formals) (o l.fn.arguments))
+
+abbrev pub decreases-loop-x : goal.decreases-loop-x
+decreases-loop-x l = l.formals

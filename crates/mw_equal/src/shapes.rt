@@ -1,0 +1,99 @@
+//! The shapes of formulas and of calls.
+ghost use Rattle.std.specs.Prelude.{◌≡◌, ◌<◌, ◌&&◌, true, false, IfSome, MatchOption, is_some};
+ghost use Rattle.std.specs.List.{list_any};
+ghost use Rattle.mw_model.specs.Object.{same_bytes, Object, Pair, is_name, name_of_bytes, same_object, cdr};
+ghost use Rattle.mw_model.specs.Term.{is_function_name};
+ghost use Rattle.mw_model.specs.Primitive.{is_pair, is_symbol, name_of};
+ghost use Rattle.mw_model.specs.Rules.{or_object, not_object, equal_object, are_calls_of_one};
+ghost use Rattle.mw_heap.specs.Objects.{object_at, IsIn};
+ghost use Rattle.mw_heap.specs.Parts.{part_at, IsPart};
+
+use mw_heap::{Heap, Ref, View};
+
+// What is no name of a function.
+const OTHER_WORDS: [&[u8]; 18] = [
+    b"NIL", b"T", b"QUOTE", b"LAMBDA", b"PEQUAL*", b"PNOT*", b"POR*", b"AND", b"OR", b"COND",
+    b"LIST", b"LET", b"LET*", b"FIRST", b"SECOND", b"THIRD", b"FOURTH", b"FIFTH",
+];
+
+// Whether x is: not a = b.
+pub(crate) fn is_inequality(heap: &Heap, x: Ref, a: Ref, b: Ref) -> bool
+    requires within { IsIn heap.now x }
+    requires first_within { IsIn heap.now a }
+    requires second_within { IsIn heap.now b }
+    ensures { result ≡ same_object (object_at heap.now x) (not_object (equal_object (object_at heap.now a) (object_at heap.now b))) }
+{
+    match heap.member_after(x, b"PNOT*") {
+        Some(equality) => heap.is_list3(Some(equality), b"PEQUAL*", Some(a), Some(b)),
+        None => false,
+    }
+}
+
+// The lists of arguments of two calls of one function.
+pub(crate) fn arguments_of_one(heap: &Heap, x: Option<Ref>, y: Option<Ref>) -> Option<(Ref, Ref)>
+    requires first_within { IsPart heap.now x }
+    requires second_within { IsPart heap.now y }
+    ensures within { IfSome result (λ p. IsIn heap.now p.0 × IsIn heap.now p.1) }
+    ensures calls { are_calls_of_one (part_at heap.now x) (part_at heap.now y) ≡ is_some result }
+    ensures arguments { IfSome result (λ p. (object_at heap.now p.0 ≡ cdr (part_at heap.now x)) × (object_at heap.now p.1 ≡ cdr (part_at heap.now y))) }
+{
+    let (Some(x), Some(y)) = (x, y) else {
+        return None;
+    };
+    let View::Pair(f, firsts) = heap.view(x) else {
+        return None;
+    };
+    let View::Pair(g, seconds) = heap.view(y) else {
+        return None;
+    };
+    if !is_function(heap, f) {
+        return None;
+    }
+    if !heap.same(f, g) {
+        return None;
+    }
+    Some((firsts, seconds))
+}
+
+// Whether it is the name of a function.
+fn is_function(heap: &Heap, x: Ref) -> bool
+    requires { IsIn heap.now x }
+    ensures { result ≡ (is_symbol (object_at heap.now x) && is_function_name (name_of (object_at heap.now x))) }
+{
+    match heap.view(x) {
+        View::Symbol => is_function_word(heap.name_of(x)),
+        _ => false,
+    }
+}
+
+// Whether the name is that of a function: no word of the logic and no abbreviation word.
+fn is_function_word(name: &[u8]) -> bool
+    requires { is_name name.now ≡ true }
+    ensures { result ≡ is_function_name (name_of_bytes name.now) }
+{
+    !is_one_of(name, &OTHER_WORDS)
+}
+
+// Whether it is one of the words.
+fn is_one_of(name: &[u8], words: &[&[u8]]) -> bool
+    ensures { result ≡ list_any (λ word. same_bytes name.now word.now) words.now }
+{
+    words.iter().any(|word| name == *word)
+}
+
+// The first member and the rest of each of two lists that have members.
+pub(crate) fn members(heap: &Heap, xs: Ref, ys: Ref) -> Option<((Ref, Ref), (Ref, Ref))>
+    requires first_within { IsIn heap.now xs }
+    requires second_within { IsIn heap.now ys }
+    ensures within { IfSome result (λ p. IsIn heap.now p.0.0 × IsIn heap.now p.0.1 × IsIn heap.now p.1.0 × IsIn heap.now p.1.1 × (p.0.1 < xs)) }
+    ensures members { IfSome result (λ p. (object_at heap.now xs ≡ Pair (object_at heap.now p.0.0) (object_at heap.now p.0.1)) × (object_at heap.now ys ≡ Pair (object_at heap.now p.1.0) (object_at heap.now p.1.1))) }
+    ensures both { is_some result ≡ (is_pair (object_at heap.now xs) && is_pair (object_at heap.now ys)) }
+{
+    let View::Pair(a, more_xs) = heap.view(xs) else {
+        return None;
+    };
+    let View::Pair(b, more_ys) = heap.view(ys) else {
+        return None;
+    };
+    Some(((a, more_xs), (b, more_ys)))
+}

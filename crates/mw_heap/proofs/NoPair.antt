@@ -1,0 +1,17 @@
+-- A view that is no pair shows no pair.
+use Rattle.std.proofs.Common.{◌≡◌, ℕ, true, false, List, refl, ap}
+use Rattle.mw_model.specs.Object.{Object, Natural, Symbol, Pair}
+use Rattle.mw_model.specs.Primitive.{is_pair, is_symbol}
+use Rattle.mw_heap.specs.declared.view.View.{View}
+use Rattle.mw_heap.specs.declared.view.View.TheVariants.{Nat, Symbol as Named, Pair as Parts}
+use Rattle.mw_heap.specs.Objects.{Shows}
+
+symbol_no_pair : (x : Object) → is_symbol x ≡ true → is_pair x ≡ false
+symbol_no_pair (Natural n) h = refl
+symbol_no_pair (Symbol s) h = refl
+symbol_no_pair (Pair a b) h = cc
+
+pub shown_no_pair : (os : List Object) (v : View) (x : Object) → Shows os v x → ((a b : ℕ) → v ≡ Parts a b → ⊥) → is_pair x ≡ false
+shown_no_pair os (Nat n) x h other = ap is_pair h
+shown_no_pair os Named x h other = symbol_no_pair x h
+shown_no_pair os (Parts a b) x h other = absurd (other a b refl)

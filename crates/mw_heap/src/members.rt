@@ -1,0 +1,51 @@
+//! Members of lists.
+ghost use Rattle.std.specs.Prelude.{◌≡◌, true, false, IfSome, MatchOption};
+ghost use Rattle.mw_model.specs.Object.{Object, Symbol, name_of_bytes, is_name, same_object, list2, list3};
+ghost use Rattle.mw_heap.specs.Objects.{object_at, IsIn};
+
+use crate::{Heap, Ref, View};
+
+impl Heap {
+    /// The member a of the list (NAME a), where NAME is the symbol of this name; nothing where it is no such list.
+    pub fn member_after(&self, x: Ref, name: &[u8]) -> Option<Ref>
+        requires within { IsIn self.now x }
+        requires name { is_name name.now ≡ true }
+        ensures within { IfSome result (λ a. IsIn self.now a) }
+        ensures member { MatchOption result ((a : Object) → same_object (object_at self.now x) (list2 (Symbol (name_of_bytes name.now)) a) ≡ false) (λ a. object_at self.now x ≡ list2 (Symbol (name_of_bytes name.now)) (object_at self.now a)) }
+    {
+        let View::Pair(head, rest) = self.view(x) else {
+            return None;
+        };
+        let View::Pair(first, end) = self.view(rest) else {
+            return None;
+        };
+        if self.is_named(Some(head), name) && self.is_nil(Some(end)) {
+            Some(first)
+        } else {
+            None
+        }
+    }
+
+    /// The members a and b of the list (NAME a b), where NAME is the symbol of this name; nothing where it is no such list.
+    pub fn members_after(&self, x: Ref, name: &[u8]) -> Option<(Ref, Ref)>
+        requires within { IsIn self.now x }
+        requires name { is_name name.now ≡ true }
+        ensures within { IfSome result (λ p. IsIn self.now p.0 × IsIn self.now p.1) }
+        ensures members { MatchOption result ((a b : Object) → same_object (object_at self.now x) (list3 (Symbol (name_of_bytes name.now)) a b) ≡ false) (λ p. object_at self.now x ≡ list3 (Symbol (name_of_bytes name.now)) (object_at self.now p.0) (object_at self.now p.1)) }
+    {
+        let View::Pair(head, rest) = self.view(x) else {
+            return None;
+        };
+        let View::Pair(first, rest) = self.view(rest) else {
+            return None;
+        };
+        let View::Pair(second, end) = self.view(rest) else {
+            return None;
+        };
+        if self.is_named(Some(head), name) && self.is_nil(Some(end)) {
+            Some((first, second))
+        } else {
+            None
+        }
+    }
+}

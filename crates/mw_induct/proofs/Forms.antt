@@ -1,0 +1,73 @@
+-- Lists with one head are the same where their members are.
+use Rattle.std.proofs.Common.{◌≡◌, true, false, ◌&&◌, refl, sym, ap, ◌∙◌}
+use Rattle.std.proofs.Math.Bool.{and-true, and-false}
+use Rattle.mw_model.specs.Object.{Object, Natural, Symbol, Pair, symbol, same_object, list2, list3, NIL, T}
+use Rattle.mw_model.specs.Primitive.{is_pair}
+use Rattle.mw_model.specs.Rules.{or_object, not_object, substitute_formula_object}
+use Rattle.mw_model.specs.RulesInduction.{true_object, disjunction_object, hypotheses_object, steps_object, falls_object, all_falls_object}
+use Rattle.mw_model.proofs.Names.{same_object-refl}
+
+pub same_list3 : (h a b c d : Object) → same_object (list3 h a b) (list3 h c d) ≡ (same_object a c && same_object b d)
+same_list3 h a b c d = rw (same_object-refl h, and-true (same_object b d)) refl
+
+pub same_list2 : (h a b : Object) → same_object (list2 h a) (list2 h b) ≡ same_object a b
+same_list2 h a b = rw (same_object-refl h, and-true (same_object a b)) refl
+
+-- what begins with one member: the rest decides
+pub same_rest : (x h a b c d : Object) → x ≡ list3 h a b → same_object a c ≡ true → same_object x (list3 h c d) ≡ same_object b d
+same_rest x h a b c d e s = ap (λ y. same_object y (list3 h c d)) e ∙ (same_list3 h a b c d ∙ ap (λ t. t && same_object b d) s)
+
+pub other_first : (x h a b c d : Object) → x ≡ list3 h a b → same_object a c ≡ false → same_object x (list3 h c d) ≡ false
+other_first x h a b c d e s = ap (λ y. same_object y (list3 h c d)) e ∙ (same_list3 h a b c d ∙ ap (λ t. t && same_object b d) s)
+
+pub other_second : (x h a b c d : Object) → x ≡ list3 h a b → same_object b d ≡ false → same_object x (list3 h c d) ≡ false
+other_second x h a b c d e s = ap (λ y. same_object y (list3 h c d)) e ∙ (same_list3 h a b c d ∙ (ap (λ t. same_object a c && t) s ∙ and-false (same_object a c)))
+
+-- equations with 't are the same where their terms are
+pub same_true : (t u : Object) → same_object (true_object t) (true_object u) ≡ same_object t u
+same_true t u = same_list3 (symbol "PEQUAL*") t (list2 (symbol "QUOTE") T) u (list2 (symbol "QUOTE") T) ∙ and-true (same_object t u)
+
+-- whether x is: not q or w = 't
+pub same_fall : (x n e t q w : Object) → x ≡ or_object n e → same_object n (not_object q) ≡ true → e ≡ true_object t → same_object x (or_object (not_object q) (true_object w)) ≡ same_object t w
+same_fall x n e t q w is_or is_not is_true =
+    same_rest x (symbol "POR*") n e (not_object q) (true_object w) is_or is_not ∙ (ap (λ y. same_object y (true_object w)) is_true ∙ same_true t w)
+
+-- one hypothesis, and those after it
+pub hypotheses_next : (x n e b a s r more : Object) → x ≡ or_object n e → same_object n (not_object b) ≡ true → more ≡ Pair s r → same_object e (disjunction_object (Pair (not_object (substitute_formula_object s a)) (hypotheses_object a r))) ≡ same_object x (disjunction_object (Pair (not_object b) (hypotheses_object a more)))
+hypotheses_next x n e b a s r more is_or is_not is_more =
+    sym (same_rest x (symbol "POR*") n e (not_object b) (disjunction_object (Pair (not_object (substitute_formula_object s a)) (hypotheses_object a r))) is_or is_not)
+    ∙ ap (λ y. same_object x (disjunction_object (Pair (not_object b) (hypotheses_object a y)))) (sym is_more)
+
+-- the step premise for a condition and its substitutions
+abbrev pub step_object : Object → Object → Object → Object
+step_object a q ss = disjunction_object (Pair a (Pair (not_object q) (hypotheses_object a ss)))
+
+-- one step premise, and those after it
+pub steps_next : (a p ps q qs s ss conclusions conditions cases rest : Object) → conclusions ≡ Pair p ps → conditions ≡ Pair q qs → cases ≡ Pair s ss → same_object p (step_object a q s) ≡ true → same_object conclusions (steps_object a conditions cases rest) ≡ same_object ps (steps_object a qs ss rest)
+steps_next a p ps q qs s ss conclusions conditions cases rest d e f h = rw (d, e, f) (ap (λ b. b && same_object ps (steps_object a qs ss rest)) h)
+
+pub steps_none : (a q qs conclusions conditions cases rest : Object) → conclusions ≡ NIL → conditions ≡ Pair q qs → same_object conclusions (steps_object a conditions cases rest) ≡ false
+steps_none a q qs conclusions conditions cases rest d e = rw (d, e) refl
+
+-- the falls of one case, and those of the others
+pub all_falls_next : (m q qs s ss conditions cases : Object) → conditions ≡ Pair q qs → cases ≡ Pair s ss → all_falls_object m conditions cases ≡ falls_object m q s (all_falls_object m qs ss)
+all_falls_next m q qs s ss conditions cases e f = rw (e, f) refl
+
+pub all_falls_end : (m conditions cases : Object) → is_pair conditions ≡ false → all_falls_object m conditions cases ≡ NIL
+all_falls_end m (Natural n) cases h = refl
+all_falls_end m (Symbol s) cases h = refl
+all_falls_end m (Pair a b) cases h = cc
+
+pub true_from : (x t k v : Object) → x ≡ list3 (symbol "PEQUAL*") t k → k ≡ list2 (symbol "QUOTE") v → v ≡ T → x ≡ true_object t
+true_from x t k v d e f = d ∙ ap (list3 (symbol "PEQUAL*") t) (e ∙ ap (list2 (symbol "QUOTE")) f)
+
+-- equal parts make equal tests
+pub same_hypotheses : (x y b d a e r s : Object) → x ≡ y → b ≡ d → a ≡ e → r ≡ s → same_object x (disjunction_object (Pair (not_object b) (hypotheses_object a r))) ≡ same_object y (disjunction_object (Pair (not_object d) (hypotheses_object e s)))
+same_hypotheses x y b d a e r s p q t u =
+    ap (λ z. same_object z (disjunction_object (Pair (not_object b) (hypotheses_object a r)))) p
+    ∙ (ap (λ z. same_object y (disjunction_object (Pair (not_object z) (hypotheses_object a r)))) q
+    ∙ (ap (λ z. same_object y (disjunction_object (Pair (not_object d) (hypotheses_object z r)))) t ∙ ap (λ z. same_object y (disjunction_object (Pair (not_object d) (hypotheses_object e z)))) u))
+
+pub same_step : (x y a b q r s t : Object) → x ≡ y → a ≡ b → q ≡ r → s ≡ t → same_object x (step_object a q s) ≡ same_object y (step_object b r t)
+same_step x y a b q r s t d e f g =
+    ap (λ z. same_object z (step_object a q s)) d ∙ (ap (λ z. same_object y (step_object z q s)) e ∙ (ap (λ z. same_object y (step_object b z s)) f ∙ ap (λ z. same_object y (step_object b r z)) g))

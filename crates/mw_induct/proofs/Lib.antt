@@ -1,0 +1,3 @@
+mod Forms
+mod Rests
+mod Ends

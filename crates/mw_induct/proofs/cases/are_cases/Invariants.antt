@@ -1,0 +1,19 @@
+-- What is left of the conditions and of the cases decides.
+use Rattle.std.proofs.Common.{◌≡◌, ◌<◌, ◌&&◌, eqb, length}
+use Rattle.mw_model.specs.Term.{ArityTable}
+use Rattle.mw_model.specs.RulesInduction.{is_list_object, length_object, are_case_objects}
+use Rattle.mw_heap.specs.Objects.{object_at, IsIn}
+use Rattle.mw_term.specs.Marking.{AreMarks}
+use Rattle.mw_induct.proofs.cases.are_cases.Given as goal
+
+abbrev pub invariant-loop-more : goal.invariant-loop-more
+invariant-loop-more l =
+    let q = object_at l.heap l.conditions in
+    let s = object_at l.heap l.cases in
+    let q0 = object_at l.heap l.fn.conditions in
+    let s0 = object_at l.heap l.fn.cases in
+    IsIn l.heap l.conditions × IsIn l.heap l.cases × (l.cases < length l.marks)
+    × ((A : ArityTable) → AreMarks A l.heap l.marks → (is_list_object q0 && (eqb (length_object q0) (length_object s0) && are_case_objects A s0)) ≡ (is_list_object q && (eqb (length_object q) (length_object s) && are_case_objects A s)))
+
+abbrev pub decreases-loop-more : goal.decreases-loop-more
+decreases-loop-more l = l.conditions

@@ -1,0 +1,13 @@
+-- What is left of the list decides.
+use Rattle.std.proofs.Common.{◌≡◌, ◌<◌, length}
+use Rattle.mw_model.specs.Term.{ArityTable}
+use Rattle.mw_model.specs.RulesInduction.{are_substitution_objects}
+use Rattle.mw_heap.specs.Objects.{object_at, IsIn}
+use Rattle.mw_term.specs.Marking.{AreMarks}
+use Rattle.mw_induct.proofs.cases.are_substitutions.Given as goal
+
+abbrev pub invariant-loop-s : goal.invariant-loop-s
+invariant-loop-s l = IsIn l.heap l.rest × (l.rest < length l.marks) × ((A : ArityTable) → AreMarks A l.heap l.marks → are_substitution_objects A (object_at l.heap l.fn.x) ≡ are_substitution_objects A (object_at l.heap l.rest))
+
+abbrev pub decreases-loop-s : goal.decreases-loop-s
+decreases-loop-s l = l.rest

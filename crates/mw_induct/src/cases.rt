@@ -1,0 +1,70 @@
+//! The data of an induction: conditions, and for each a list of substitutions.
+ghost use Rattle.std.specs.Prelude.{◌≡◌, ◌<◌, ◌&&◌, eqb, false, length, IfSome, MatchOption};
+ghost use Rattle.mw_model.specs.Object.{has_members, list3};
+ghost use Rattle.mw_model.specs.Term.{ArityTable};
+ghost use Rattle.mw_model.specs.RulesInduction.{is_list_object, length_object, are_substitution_objects, are_case_objects};
+ghost use Rattle.mw_heap.specs.Objects.{object_at, IsIn};
+ghost use Rattle.mw_term.specs.Marking.{AreMarks};
+
+use mw_heap::{Heap, Ref, View};
+use mw_term::{Marks, is_substitution};
+
+// The members of a list of three.
+pub(crate) fn three_members(heap: &Heap, x: Ref) -> Option<(Ref, Ref, Ref)>
+    requires { IsIn heap.now x }
+    ensures within { IfSome result (λ p. (p.0 < x) × (p.1 < x) × (p.2 < x)) }
+    ensures members { MatchOption result (has_members 3 (object_at heap.now x) ≡ false) (λ p. object_at heap.now x ≡ list3 (object_at heap.now p.0) (object_at heap.now p.1) (object_at heap.now p.2)) }
+{
+    let View::Pair(first, rest) = heap.view(x) else {
+        return None;
+    };
+    let View::Pair(second, rest) = heap.view(rest) else {
+        return None;
+    };
+    let View::Pair(third, end) = heap.view(rest) else {
+        return None;
+    };
+    if heap.is_nil(Some(end)) {
+        Some((first, second, third))
+    } else {
+        None
+    }
+}
+
+// Whether the conditions are a proper list, and the cases one of as many lists of substitutions.
+pub(crate) fn are_cases(heap: &Heap, marks: &Marks, conditions: Ref, cases: Ref) -> bool
+    requires conditions_within { IsIn heap.now conditions }
+    requires cases_within { IsIn heap.now cases }
+    requires marked { cases < length marks.now }
+    ensures { (A : ArityTable) → AreMarks A heap.now marks.now → result ≡ (is_list_object (object_at heap.now conditions) && (eqb (length_object (object_at heap.now conditions)) (length_object (object_at heap.now cases)) && are_case_objects A (object_at heap.now cases))) }
+{
+    let mut conditions = conditions;
+    let mut cases = cases;
+    while let View::Pair(_, more) = heap.view(conditions) {
+        let View::Pair(substitutions, others) = heap.view(cases) else {
+            return false;
+        };
+        if !are_substitutions(heap, marks, substitutions) {
+            return false;
+        }
+        conditions = more;
+        cases = others;
+    }
+    heap.is_nil(Some(conditions)) && heap.is_nil(Some(cases))
+}
+
+// Whether it is a proper list of substitutions.
+fn are_substitutions(heap: &Heap, marks: &Marks, x: Ref) -> bool
+    requires within { IsIn heap.now x }
+    requires marked { x < length marks.now }
+    ensures { (A : ArityTable) → AreMarks A heap.now marks.now → result ≡ are_substitution_objects A (object_at heap.now x) }
+{
+    let mut rest = x;
+    while let View::Pair(s, more) = heap.view(rest) {
+        if !is_substitution(heap, marks, s) {
+            return false;
+        }
+        rest = more;
+    }
+    heap.is_nil(Some(rest))
+}

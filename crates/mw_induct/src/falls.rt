@@ -1,0 +1,106 @@
+//! The premises by which the measure falls.
+ghost use Rattle.std.specs.Prelude.{◌≡◌, true, All, IfOk};
+ghost use Rattle.mw_model.specs.Object.{same_object};
+ghost use Rattle.mw_model.specs.RulesInduction.{length_object, fall_object, falls_object, all_falls_object};
+ghost use Rattle.mw_heap.specs.Objects.{object_at, Grows, IsIn};
+ghost use Rattle.mw_subst.specs.Pairs.{is_list_of_pairs};
+ghost use Rattle.mw_induct.specs.Conclusions.{conclusions_object, Takes};
+ghost use Rattle.mw_induct.specs.Pairs.{are_lists_of_pairs, are_cases_of_pairs};
+
+use crate::instance::instance_of;
+use crate::shapes::true_term;
+use mw_heap::{Heap, Memory, Ref, View};
+
+// Whether the conclusions are those by which the measure falls, in each case by each of its substitutions.
+pub(crate) fn are_all_falls(
+    heap: &mut Heap,
+    measure: Ref,
+    conditions: Ref,
+    cases: Ref,
+    conclusions: &[Ref],
+) -> Result<bool, Memory>
+    requires within { IsIn heap.old measure }
+    requires conditions_within { IsIn heap.old conditions }
+    requires cases_within { IsIn heap.old cases }
+    requires conclusions_within { All (IsIn heap.old) conclusions.now }
+    requires as_many { length_object (object_at heap.old conditions) ≡ length_object (object_at heap.old cases) }
+    requires pairs { are_cases_of_pairs (object_at heap.old cases) ≡ true }
+    ensures grows { Grows heap.old heap.new }
+    ensures falls { IfOk result (λ b. b ≡ same_object (conclusions_object heap.old conclusions.now) (all_falls_object (object_at heap.old measure) (object_at heap.old conditions) (object_at heap.old cases))) }
+{
+    let mut taken = 0;
+    let mut conditions = conditions;
+    let mut cases = cases;
+    while let View::Pair(condition, more) = heap.view(conditions) {
+        let View::Pair(substitutions, others) = heap.view(cases) else {
+            unreachable!()
+        };
+        match take_falls(
+            heap,
+            measure,
+            condition,
+            substitutions,
+            &conclusions[taken..],
+        )? {
+            Some(count) => taken += count,
+            None => return Ok(false),
+        }
+        conditions = more;
+        cases = others;
+    }
+    Ok(taken == conclusions.len())
+}
+
+// How many conclusions the premises take by which the measure falls in one case, where these fit.
+fn take_falls(
+    heap: &mut Heap,
+    measure: Ref,
+    condition: Ref,
+    substitutions: Ref,
+    conclusions: &[Ref],
+) -> Result<Option<usize>, Memory>
+    requires within { IsIn heap.old measure }
+    requires condition_within { IsIn heap.old condition }
+    requires substitutions_within { IsIn heap.old substitutions }
+    requires conclusions_within { All (IsIn heap.old) conclusions.now }
+    requires pairs { are_lists_of_pairs (object_at heap.old substitutions) ≡ true }
+    ensures grows { Grows heap.old heap.new }
+    ensures falls { IfOk result (Takes (falls_object (object_at heap.old measure) (object_at heap.old condition) (object_at heap.old substitutions)) heap.old conclusions.now) }
+{
+    let mut taken = 0;
+    let mut substitutions = substitutions;
+    while let View::Pair(s, more) = heap.view(substitutions) {
+        if taken == conclusions.len() {
+            return Ok(None);
+        }
+        if !is_fall(heap, conclusions[taken], measure, condition, s)? {
+            return Ok(None);
+        }
+        taken += 1;
+        substitutions = more;
+    }
+    Ok(Some(taken))
+}
+
+// Whether x is: not q or (ord< m/s m) = 't.
+fn is_fall(heap: &mut Heap, x: Ref, measure: Ref, condition: Ref, s: Ref) -> Result<bool, Memory>
+    requires within { IsIn heap.old x }
+    requires measure_within { IsIn heap.old measure }
+    requires condition_within { IsIn heap.old condition }
+    requires substitution_within { IsIn heap.old s }
+    requires pairs { is_list_of_pairs (object_at heap.old s) ≡ true }
+    ensures grows { Grows heap.old heap.new }
+    ensures fall { IfOk result (λ b. b ≡ same_object (object_at heap.old x) (fall_object (object_at heap.old measure) (object_at heap.old condition) (object_at heap.old s))) }
+{
+    let Some((negation, fall)) = heap.members_after(x, b"POR*") else {
+        return Ok(false);
+    };
+    if !heap.is_list2(Some(negation), b"PNOT*", Some(condition)) {
+        return Ok(false);
+    }
+    let Some(term) = true_term(heap, fall) else {
+        return Ok(false);
+    };
+    let before = instance_of(heap, measure, s)?;
+    Ok(heap.is_list3(Some(term), b"ORD<", Some(before), Some(measure)))
+}

@@ -1,0 +1,11 @@
+//! The rule of induction, as a test on the conclusions of its premises.
+#![tactic(auto)]
+
+mod cases;
+mod falls;
+mod instance;
+mod premises;
+mod shapes;
+mod steps;
+
+pub use premises::premises_hold;

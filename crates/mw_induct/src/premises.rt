@@ -1,0 +1,103 @@
+//! The premises of an induction.
+ghost use Rattle.std.specs.Prelude.{◌≡◌, ◌<◌, true, length, All, IfOk};
+ghost use Rattle.mw_model.specs.Term.{ArityTable};
+ghost use Rattle.mw_model.specs.Rules.{is_formula_object};
+ghost use Rattle.mw_model.specs.Object.{Pair, same_object};
+ghost use Rattle.mw_model.specs.RulesInduction.{length_object, ordinal_object, all_falls_object, premises_object, object_is_induction};
+ghost use Rattle.mw_heap.specs.Objects.{object_at, Grows, IsIn};
+ghost use Rattle.mw_term.specs.Marking.{AreMarks};
+ghost use Rattle.mw_induct.specs.Conclusions.{conclusions_object};
+ghost use Rattle.mw_induct.specs.Pairs.{are_cases_of_pairs, IsLikeFormula};
+
+use crate::cases::{are_cases, three_members};
+use crate::falls::are_all_falls;
+use crate::shapes::{is_disjunction, is_ordinal_premise};
+use crate::steps::take_steps;
+use mw_heap::{Heap, Memory, Ref};
+use mw_term::Marks;
+
+/// Whether the conclusions are, in order, the premises of an induction that concludes the formula `f`, by `extras`: a list of the
+/// measure, the conditions, and for each condition a list of substitutions. The marks say what is a term.
+/// The heap grows by what the substitutions make; the only error is want of memory.
+pub fn premises_hold(
+    heap: &mut Heap,
+    f: Ref,
+    extras: Ref,
+    conclusions: &[Ref],
+    marks: &Marks,
+) -> Result<bool, Memory>
+    requires marks { (A : ArityTable) × AreMarks A heap.old marks.now }
+    requires conclusion { IsIn heap.old f }
+    requires extras { extras < length marks.now }
+    requires premises { All (IsIn heap.old) conclusions.now }
+    requires formula { (A : ArityTable) × (is_formula_object A (object_at heap.old f) ≡ true) }
+    ensures grows { Grows heap.old heap.new }
+    ensures answer { IfOk result (λ b. (A : ArityTable) → AreMarks A heap.old marks.now → b ≡ object_is_induction A (object_at heap.old f) (conclusions_object heap.old conclusions.now) (object_at heap.old extras)) }
+{
+    let Some((measure, conditions, cases)) = three_members(heap, extras) else {
+        return Ok(false);
+    };
+    if !are_cases(heap, marks, conditions, cases) {
+        return Ok(false);
+    }
+    are_premises(heap, f, measure, conditions, cases, conclusions)
+}
+
+// Whether the conclusions are the premises of an induction.
+fn are_premises(
+    heap: &mut Heap,
+    a: Ref,
+    measure: Ref,
+    conditions: Ref,
+    cases: Ref,
+    conclusions: &[Ref],
+) -> Result<bool, Memory>
+    requires within { IsIn heap.old a }
+    requires measure_within { IsIn heap.old measure }
+    requires conditions_within { IsIn heap.old conditions }
+    requires cases_within { IsIn heap.old cases }
+    requires conclusions_within { All (IsIn heap.old) conclusions.now }
+    requires as_many { length_object (object_at heap.old conditions) ≡ length_object (object_at heap.old cases) }
+    requires pairs { are_cases_of_pairs (object_at heap.old cases) ≡ true }
+    requires formula { IsLikeFormula (object_at heap.old a) }
+    ensures grows { Grows heap.old heap.new }
+    ensures premises { IfOk result (λ b. b ≡ same_object (conclusions_object heap.old conclusions.now) (premises_object (object_at heap.old a) (object_at heap.old measure) (object_at heap.old conditions) (object_at heap.old cases))) }
+{
+    if conclusions.is_empty() {
+        return Ok(false);
+    }
+    if !is_disjunction(heap, conclusions[0], a, conditions) {
+        return Ok(false);
+    }
+    let others = &conclusions[1..];
+    match take_steps(heap, a, conditions, cases, others)? {
+        Some(count) => are_measured(heap, measure, conditions, cases, &others[count..]),
+        None => Ok(false),
+    }
+}
+
+// Whether the conclusions are the premises on the measure: that it is an ordinal, and that it falls.
+fn are_measured(
+    heap: &mut Heap,
+    measure: Ref,
+    conditions: Ref,
+    cases: Ref,
+    conclusions: &[Ref],
+) -> Result<bool, Memory>
+    requires within { IsIn heap.old measure }
+    requires conditions_within { IsIn heap.old conditions }
+    requires cases_within { IsIn heap.old cases }
+    requires conclusions_within { All (IsIn heap.old) conclusions.now }
+    requires as_many { length_object (object_at heap.old conditions) ≡ length_object (object_at heap.old cases) }
+    requires pairs { are_cases_of_pairs (object_at heap.old cases) ≡ true }
+    ensures grows { Grows heap.old heap.new }
+    ensures premises { IfOk result (λ b. b ≡ same_object (conclusions_object heap.old conclusions.now) (Pair (ordinal_object (object_at heap.old measure)) (all_falls_object (object_at heap.old measure) (object_at heap.old conditions) (object_at heap.old cases)))) }
+{
+    if conclusions.is_empty() {
+        return Ok(false);
+    }
+    if !is_ordinal_premise(heap, conclusions[0], measure) {
+        return Ok(false);
+    }
+    are_all_falls(heap, measure, conditions, cases, &conclusions[1..])
+}

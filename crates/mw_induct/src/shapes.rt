@@ -1,0 +1,62 @@
+//! Premises that need no substitution, and the shapes of the others.
+ghost use Rattle.std.specs.Prelude.{◌≡◌, false, IfSome, MatchOption};
+ghost use Rattle.mw_model.specs.Object.{Object, Pair, same_object};
+ghost use Rattle.mw_model.specs.RulesInduction.{disjunction_object, true_object, ordinal_object};
+ghost use Rattle.mw_heap.specs.Objects.{object_at, IsIn};
+
+use mw_heap::{Heap, Ref, View};
+
+// Whether x is: A or q1 or .. or qn, for the formula A and the members of a list.
+pub(crate) fn is_disjunction(heap: &Heap, x: Ref, a: Ref, members: Ref) -> bool
+    requires within { IsIn heap.now x }
+    requires first_within { IsIn heap.now a }
+    requires members_within { IsIn heap.now members }
+    ensures { result ≡ same_object (object_at heap.now x) (disjunction_object (Pair (object_at heap.now a) (object_at heap.now members))) }
+{
+    let mut rest = x;
+    let mut first = a;
+    let mut members = members;
+    while let View::Pair(next, more) = heap.view(members) {
+        let Some((side, others)) = heap.members_after(rest, b"POR*") else {
+            return false;
+        };
+        if !heap.same(side, first) {
+            return false;
+        }
+        rest = others;
+        first = next;
+        members = more;
+    }
+    heap.same(rest, first)
+}
+
+// The term t, where x is: t = 't.
+pub(crate) fn true_term(heap: &Heap, x: Ref) -> Option<Ref>
+    requires { IsIn heap.now x }
+    ensures within { IfSome result (λ t. IsIn heap.now t) }
+    ensures term { MatchOption result ((t : Object) → same_object (object_at heap.now x) (true_object t) ≡ false) (λ t. object_at heap.now x ≡ true_object (object_at heap.now t)) }
+{
+    let Some((term, constant)) = heap.members_after(x, b"PEQUAL*") else {
+        return None;
+    };
+    let Some(value) = heap.member_after(constant, b"QUOTE") else {
+        return None;
+    };
+    if heap.is_named(Some(value), b"T") {
+        Some(term)
+    } else {
+        None
+    }
+}
+
+// Whether x is: (ordp m) = 't.
+pub(crate) fn is_ordinal_premise(heap: &Heap, x: Ref, measure: Ref) -> bool
+    requires within { IsIn heap.now x }
+    requires measure_within { IsIn heap.now measure }
+    ensures { result ≡ same_object (object_at heap.now x) (ordinal_object (object_at heap.now measure)) }
+{
+    match true_term(heap, x) {
+        Some(term) => heap.is_list2(Some(term), b"ORDP", Some(measure)),
+        None => false,
+    }
+}

@@ -1,0 +1,20 @@
+-- On the object of a formula, substitution in terms is substitution in the formula.
+use Rattle.std.proofs.Common.{◌≡◌, true, Option, Some, None, refl, ap, ap₂, subst, cond}
+use Rattle.mw_model.specs.Object.{Object, symbol, list2, list3, NIL, Pair}
+use Rattle.mw_model.specs.Term.{Formula, Equal, Not, Or, formula_object, ArityTable, is_formula}
+use Rattle.mw_model.specs.Reading.{formula_of, that}
+use Rattle.mw_model.specs.Definition.{is_present}
+use Rattle.mw_model.specs.Rules.{is_formula_object, substitute_object, substitute_formula_object}
+use Rattle.mw_model.proofs.ReadBack.{formula_back}
+
+pub on_formula : (s : Object) (F : Formula) → substitute_object s (formula_object F) ≡ substitute_formula_object s (formula_object F)
+on_formula s (Equal a b) = refl
+on_formula s (Not F) = ap (list2 (symbol "PNOT*")) (on_formula s F)
+on_formula s (Or F G) = ap₂ (list3 (symbol "POR*")) (on_formula s F) (on_formula s G)
+
+pub substitute_object-formula : (A : ArityTable) (s x : Object) → is_formula_object A x ≡ true → substitute_object s x ≡ substitute_formula_object s x
+substitute_object-formula A s x h = go (formula_of x) refl h
+  where
+    go : (o : Option Formula) → formula_of x ≡ o → is_present (that (is_formula A) o) ≡ true → substitute_object s x ≡ substitute_formula_object s x
+    go None e h = cc
+    go (Some F) e h = subst (λ y. substitute_object s y ≡ substitute_formula_object s y) (formula_back x F e) (on_formula s F)

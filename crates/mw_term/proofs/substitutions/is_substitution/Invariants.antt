@@ -1,0 +1,13 @@
+-- What is left of the list decides.
+use Rattle.std.proofs.Common.{◌≡◌, ◌<◌, length}
+use Rattle.mw_model.specs.Term.{ArityTable}
+use Rattle.mw_model.specs.Rules.{is_substitution_object}
+use Rattle.mw_heap.specs.Objects.{object_at, IsIn}
+use Rattle.mw_term.specs.Marking.{AreMarks}
+use Rattle.mw_term.proofs.substitutions.is_substitution.Given as goal
+
+abbrev pub invariant-loop-pair : goal.invariant-loop-pair
+invariant-loop-pair l = IsIn l.heap l.rest × (l.rest < length l.marks) × ((A : ArityTable) → AreMarks A l.heap l.marks → is_substitution_object A (object_at l.heap l.fn.s) ≡ is_substitution_object A (object_at l.heap l.rest))
+
+abbrev pub decreases-loop-pair : goal.decreases-loop-pair
+decreases-loop-pair l = l.rest

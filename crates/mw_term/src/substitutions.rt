@@ -1,0 +1,51 @@
+//! Which objects are substitutions under an arity table.
+ghost use Rattle.std.specs.Prelude.{◌≡◌, ◌<◌, ◌&&◌, length};
+ghost use Rattle.mw_model.specs.Object.{car, cdr};
+ghost use Rattle.mw_model.specs.Term.{ArityTable};
+ghost use Rattle.mw_model.specs.Primitive.{is_pair};
+ghost use Rattle.mw_model.specs.Rules.{is_variable_object, is_term_object, is_substitution_object};
+ghost use Rattle.mw_heap.specs.Objects.{object_at, IsIn};
+ghost use Rattle.mw_term.specs.Marking.{AreMarks};
+
+use crate::Marks;
+use crate::names::is_variable_name;
+use mw_heap::{Heap, Ref, View};
+
+/// Whether an object is a substitution: a proper list of pairs (variable . term).
+pub fn is_substitution(heap: &Heap, marks: &Marks, s: Ref) -> bool
+    requires within { IsIn heap.now s }
+    requires marked { s < length marks.now }
+    ensures { (A : ArityTable) → AreMarks A heap.now marks.now → result ≡ is_substitution_object A (object_at heap.now s) }
+{
+    let mut rest = s;
+    while let View::Pair(pair, more) = heap.view(rest) {
+        if !is_pair_of_substitution(heap, marks, pair) {
+            return false;
+        }
+        rest = more;
+    }
+    heap.is_nil(Some(rest))
+}
+
+// Whether it is a pair (variable . term).
+fn is_pair_of_substitution(heap: &Heap, marks: &Marks, pair: Ref) -> bool
+    requires within { IsIn heap.now pair }
+    requires marked { pair < length marks.now }
+    ensures { (A : ArityTable) → AreMarks A heap.now marks.now → result ≡ (is_pair (object_at heap.now pair) && (is_variable_object (car (object_at heap.now pair)) && is_term_object A (cdr (object_at heap.now pair)))) }
+{
+    match heap.view(pair) {
+        View::Pair(variable, term) => is_variable(heap, variable) && marks.is_term(term),
+        _ => false,
+    }
+}
+
+// Whether it is a variable.
+fn is_variable(heap: &Heap, x: Ref) -> bool
+    requires { IsIn heap.now x }
+    ensures { result ≡ is_variable_object (object_at heap.now x) }
+{
+    match heap.view(x) {
+        View::Symbol => is_variable_name(heap.name_of(x)),
+        _ => false,
+    }
+}
