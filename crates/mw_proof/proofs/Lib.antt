@@ -1,1 +1,2 @@
 pub mod StepExact
+pub mod Counted

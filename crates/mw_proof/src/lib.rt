@@ -1,12 +1,16 @@
 //! Judging proofs over a heap, each distinct proof once.
 #![tactic(auto)]
 
+mod known;
+
 ghost use Rattle.std.specs.Prelude.{◌≡◌, Some};
 ghost use Rattle.mw_model.specs.Object.{Object, second_of};
 ghost use Rattle.mw_model.specs.Term.{ArityTable, Formula, formula_object};
 ghost use Rattle.mw_model.specs.Primitive.{Profile};
 ghost use Rattle.mw_model.specs.Judgment.{judge};
 ghost use Rattle.mw_proof.specs.Step.{subproofs_of, is_proof, are_proofs, is_step};
+
+pub use known::Known;
 
 /// Judging is a local test: an object is a proof exactly where it has the shape of one, its conclusion is a formula, its
 /// subproofs are proofs and the rule of its method holds. What is judged a proof proves the formula that it names.
