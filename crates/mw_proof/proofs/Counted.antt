@@ -120,7 +120,7 @@ pub if-false : {X : Type 0} (b : Bool) (x y z : X) → z ≡ (if b then x else y
 if-false true x y z e h = cc
 if-false false x y z e h = e
 
-keys_more : (b : Bool) (ks : List ℕ) (x : ℕ) → (more : List ℕ) × ((if b then ks else ks ++ x ∷ []) ≡ ks ++ more)
+pub keys_more : (b : Bool) (ks : List ℕ) (x : ℕ) → (more : List ℕ) × ((if b then ks else ks ++ x ∷ []) ≡ ks ++ more)
 keys_more true ks x = ([], sym (append-nil ks))
 keys_more false ks x = (x ∷ [], refl)
 

@@ -1,2 +1,5 @@
 pub mod StepExact
 pub mod Counted
+pub mod ProofMembers
+pub mod MethodNames
+pub mod Gathering

@@ -1,2 +1,5 @@
 pub mod Step
 pub mod Known
+pub mod Methods
+pub mod Members
+pub mod Gathered

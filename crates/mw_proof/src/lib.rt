@@ -2,6 +2,9 @@
 #![tactic(auto)]
 
 mod known;
+mod members;
+mod method;
+mod proofs;
 
 ghost use Rattle.std.specs.Prelude.{◌≡◌, Some};
 ghost use Rattle.mw_model.specs.Object.{Object, second_of};
