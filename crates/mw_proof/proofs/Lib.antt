@@ -3,3 +3,5 @@ pub mod Counted
 pub mod ProofMembers
 pub mod MethodNames
 pub mod Gathering
+pub mod RuleLemmas
+pub mod Collecting

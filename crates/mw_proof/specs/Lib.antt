@@ -3,3 +3,5 @@ pub mod Known
 pub mod Methods
 pub mod Members
 pub mod Gathered
+pub mod Judging
+pub mod Counted

@@ -1,10 +1,12 @@
 //! Judging proofs over a heap, each distinct proof once.
 #![tactic(auto)]
 
+mod conclusions;
 mod known;
 mod members;
 mod method;
 mod proofs;
+mod rules;
 
 ghost use Rattle.std.specs.Prelude.{◌≡◌, Some};
 ghost use Rattle.mw_model.specs.Object.{Object, second_of};
