@@ -5,3 +5,4 @@ pub mod MethodNames
 pub mod Gathering
 pub mod RuleLemmas
 pub mod Collecting
+mod Deciding

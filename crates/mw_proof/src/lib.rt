@@ -2,6 +2,8 @@
 #![tactic(auto)]
 
 mod conclusions;
+mod decide;
+mod judge;
 mod known;
 mod members;
 mod method;
