@@ -10,7 +10,7 @@ use Rattle.std.specs.List.{list_any}
 use Rattle.mw_proof.specs.declared.known.Entry.{Entry}
 use Rattle.mw_proof.specs.Known.{references, AreSame, no_entry, distinct_among, AreCounted}
 
-eqb-swap : (a b : ℕ) → (a == b) ≡ (b == a)
+pub eqb-swap : (a b : ℕ) → (a == b) ≡ (b == a)
 eqb-swap a b = go (cases_eq a b)
   where
     go : (a ≡ b) ⊎ (a ≡ b → ⊥) → (a == b) ≡ (b == a)

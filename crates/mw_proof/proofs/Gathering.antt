@@ -18,26 +18,27 @@ use Rattle.mw_proof.specs.Gathered.{IsAmong, AreIn, HasMembers, HasSubproofs, Ad
 pub IsAmong-append : (keys more : List ℕ) (x : ℕ) → IsAmong keys x → IsAmong (keys ++ more) x
 IsAmong-append keys more x h = list_any-append (λ y. x == y) keys more ∙ or_left (list_any (λ y. x == y) keys) (list_any (λ y. x == y) more) h
 
-pub HasMembers-append : (os : List Object) (keys more : List ℕ) (x : Object) → HasMembers os keys x → HasMembers os (keys ++ more) x
-HasMembers-append os keys more (Pair a r) h = ((h.0.0, h.0.1, IsAmong-append keys more h.0.0 h.0.2), HasMembers-append os keys more r h.1)
-HasMembers-append os keys more (Natural n) h = tt
-HasMembers-append os keys more (Symbol s) h = tt
+pub HasMembers-append : (os : List Object) (keys more : List ℕ) (n : ℕ) (x : Object) → HasMembers os keys n x → HasMembers os (keys ++ more) n x
+HasMembers-append os keys more n (Pair a r) h = ((h.0.0, h.0.1, IsAmong-append keys more h.0.0 h.0.2, h.0.3), HasMembers-append os keys more n r h.1)
+HasMembers-append os keys more n (Natural m) h = tt
+HasMembers-append os keys more n (Symbol s) h = tt
 
 -- the walk along a list: what is yet to be held
-pub record Walks (os : List Object) (old keys : List ℕ) (list rest : ℕ) : Type 0 where
+pub record Walks (os : List Object) (old keys : List ℕ) (n list rest : ℕ) : Type 0 where
   pub more : List ℕ
   pub longer : keys ≡ old ++ more
   pub within : AreIn os keys
   pub rest_within : IsIn os rest
-  pub held : (later : List ℕ) → HasMembers os (keys ++ later) (object_at os rest) → HasMembers os (keys ++ later) (object_at os list)
+  pub rest_before : rest < n
+  pub held : (later : List ℕ) → HasMembers os (keys ++ later) n (object_at os rest) → HasMembers os (keys ++ later) n (object_at os list)
 
-module _ (os : List Object) (old : List ℕ) (list : ℕ) where
-  pub walk_starts : AreIn os old → IsIn os list → Walks os old old list list
-  walk_starts within here = record { more = []; longer = sym (append-nil old); within = within; rest_within = here; held = λ later h. h }
+module _ (os : List Object) (old : List ℕ) (n list : ℕ) where
+  pub walk_starts : AreIn os old → IsIn os list → list < n → Walks os old old n list list
+  walk_starts within here before = record { more = []; longer = sym (append-nil old); within = within; rest_within = here; rest_before = before; held = λ later h. h }
 
-  module _ (keys : List ℕ) (rest : ℕ) (w : Walks os old keys list rest) where
-    pub walk_goes_on : (q r : ℕ) (new : List ℕ) (b : Bool) → IsIn os q × IsIn os r × (object_at os rest ≡ Pair (object_at os q) (object_at os r)) → new ≡ (if b then keys else keys ++ q ∷ []) → list_any (λ y. q == y) new ≡ true → ((x : ℕ) → list_any (λ y. x == y) new ≡ cond (q == x) true (list_any (λ y. x == y) keys)) → Walks os old new list r
-    walk_goes_on q r new b shows inserted here says =
+  module _ (keys : List ℕ) (rest : ℕ) (w : Walks os old keys n list rest) where
+    pub walk_goes_on : (q r : ℕ) (new : List ℕ) (b : Bool) → IsIn os q × IsIn os r × (object_at os rest ≡ Pair (object_at os q) (object_at os r)) → (q < rest) × (r < rest) → new ≡ (if b then keys else keys ++ q ∷ []) → list_any (λ y. q == y) new ≡ true → ((x : ℕ) → list_any (λ y. x == y) new ≡ cond (q == x) true (list_any (λ y. x == y) keys)) → Walks os old new n list r
+    walk_goes_on q r new b shows older inserted here says =
         let m = keys_more b keys q in
         let longer : new ≡ keys ++ m.0 = inserted ∙ m.1 in
         record {
@@ -45,35 +46,35 @@ module _ (os : List Object) (old : List ℕ) (list : ℕ) where
           longer = longer ∙ (ap (λ k. k ++ m.0) w.longer ∙ append_assoc old w.more m.0);
           within = λ x h. inside x (q == x) refl (sym (says x) ∙ h);
           rest_within = shows.1;
-          held = λ later h. subst (λ k. HasMembers os k (object_at os list)) (sym (whole m.0 longer later)) (w.held (m.0 ++ later) (subst (λ k. HasMembers os k (object_at os rest)) (whole m.0 longer later) (subst (HasMembers os (new ++ later)) (sym shows.2) ((q, refl, IsAmong-append new later q here), h))));
+          rest_before = omega (arith, older, w.rest_before);
+          held = λ later h. subst (λ k. HasMembers os k n (object_at os list)) (sym (whole m.0 longer later)) (w.held (m.0 ++ later) (subst (λ k. HasMembers os k n (object_at os rest)) (whole m.0 longer later) (subst (HasMembers os (new ++ later) n) (sym shows.2) ((q, refl, IsAmong-append new later q here, below older), h))));
         }
       where
+        below : (q < rest) × (r < rest) → q < n
+        below o = omega (arith, o, w.rest_before)
         whole : (more : List ℕ) → new ≡ keys ++ more → (later : List ℕ) → new ++ later ≡ keys ++ (more ++ later)
         whole more e later = ap (λ k. k ++ later) e ∙ append_assoc keys more later
         inside : (x : ℕ) (t : Bool) → (q == x) ≡ t → cond (q == x) true (list_any (λ y. x == y) keys) ≡ true → IsIn os x
         inside x true e h = subst (IsIn os) (eqb-true q x e) shows.0
         inside x false e h = w.within x (sym (ap (λ s. cond s true (list_any (λ y. x == y) keys)) e) ∙ h)
 
-    pub walk_ends : HasMembers os keys (object_at os rest) → HasMembers os keys (object_at os list)
-    walk_ends h = subst (λ k. HasMembers os k (object_at os list)) (append-nil keys) (w.held [] (subst (λ k. HasMembers os k (object_at os rest)) (sym (append-nil keys)) h))
+    pub walk_ends : HasMembers os keys n (object_at os rest) → HasMembers os keys n (object_at os list)
+    walk_ends h = subst (λ k. HasMembers os k n (object_at os list)) (append-nil keys) (w.held [] (subst (λ k. HasMembers os k n (object_at os rest)) (sym (append-nil keys)) h))
 
 -- what is no pair has no members
-pub HasMembers-natural : (os : List Object) (keys : List ℕ) (x : Object) (n : ℕ) → x ≡ Natural n → HasMembers os keys x
-HasMembers-natural os keys x n e = subst (HasMembers os keys) (sym e) tt
+pub HasMembers-symbol : (os : List Object) (keys : List ℕ) (n : ℕ) (x : Object) → is_symbol x ≡ true → HasMembers os keys n x
+HasMembers-symbol os keys n (Natural m) h = cc
+HasMembers-symbol os keys n (Symbol s) h = tt
+HasMembers-symbol os keys n (Pair a b) h = cc
 
-pub HasMembers-symbol : (os : List Object) (keys : List ℕ) (x : Object) → is_symbol x ≡ true → HasMembers os keys x
-HasMembers-symbol os keys (Natural n) h = cc
-HasMembers-symbol os keys (Symbol s) h = tt
-HasMembers-symbol os keys (Pair a b) h = cc
+pub HasMembers-shown : (os : List Object) (keys : List ℕ) (n : ℕ) (x : Object) (v : View) → Shows os v x → ((a b : ℕ) → v ≡ Parts a b → ⊥) → HasMembers os keys n x
+HasMembers-shown os keys n x (Nat m) h bad = subst (HasMembers os keys n) (sym h) tt
+HasMembers-shown os keys n x Word h bad = HasMembers-symbol os keys n x h
+HasMembers-shown os keys n x (Parts a b) h bad = absurd (bad a b refl)
 
-pub HasMembers-shown : (os : List Object) (keys : List ℕ) (x : Object) (v : View) → Shows os v x → ((a b : ℕ) → v ≡ Parts a b → ⊥) → HasMembers os keys x
-HasMembers-shown os keys x (Nat n) h bad = HasMembers-natural os keys x n h
-HasMembers-shown os keys x Word h bad = HasMembers-symbol os keys x h
-HasMembers-shown os keys x (Parts a b) h bad = absurd (bad a b refl)
-
-pub adds : (os : List Object) (old keys : List ℕ) (list rest p : ℕ) → Walks os old keys list rest → HasMembers os keys (object_at os rest) → object_at os list ≡ subproofs_of (object_at os p) → AddsSubproofs os p old keys
+pub adds : (os : List Object) (old keys : List ℕ) (list rest p : ℕ) → Walks os old keys p list rest → HasMembers os keys p (object_at os rest) → object_at os list ≡ subproofs_of (object_at os p) → AddsSubproofs os p old keys
 adds os old keys list rest p w ends is =
-    record { more = w.more; longer = w.longer; within = w.within; held = λ shape. subst (HasMembers os keys) is (walk_ends os old list keys rest w ends) }
+    record { more = w.more; longer = w.longer; within = w.within; held = λ shape. subst (HasMembers os keys p) is (walk_ends os old p list keys rest w ends) }
 
 -- places in a list
 pub read_at : (x : ℕ) (xs keys : List ℕ) (i n : ℕ) → x ≡ get_or xs i x → xs ≡ keys → i < n → n ≡ length keys → x ≡ get_or keys i 0
@@ -116,7 +117,7 @@ module _ (os : List Object) (keys : List ℕ) (proof next : ℕ) (g : Gathers os
       same : (i : ℕ) → i < length keys → get_or keys i 0 ≡ get_or new i 0
       same i k = sym (ap (λ ks. get_or ks i 0) a.longer ∙ get_or-append keys a.more 0 i k)
       kept : (p : ℕ) → HasSubproofs os keys p → HasSubproofs os new p
-      kept p h shape = subst (λ k. HasMembers os k (subproofs_of (object_at os p))) (sym a.longer) (HasMembers-append os keys a.more (subproofs_of (object_at os p)) (h shape))
+      kept p h shape = subst (λ k. HasMembers os k p (subproofs_of (object_at os p))) (sym a.longer) (HasMembers-append os keys a.more p (subproofs_of (object_at os p)) (h shape))
       go : (i : ℕ) → (i < next) ⊎ (next ≤ i) → i < next + 1 → HasSubproofs os new (get_or new i 0)
       go i (inl k) h = subst (HasSubproofs os new) (same i (omega arith)) (kept (get_or keys i 0) (g.held i k))
       go i (inr k) h =

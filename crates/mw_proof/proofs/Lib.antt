@@ -5,4 +5,5 @@ pub mod MethodNames
 pub mod Gathering
 pub mod RuleLemmas
 pub mod Collecting
-mod Deciding
+pub mod Deciding
+pub mod DecidingAll
