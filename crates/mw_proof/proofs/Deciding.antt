@@ -10,7 +10,6 @@ use Rattle.mw_model.specs.Proof.{Method}
 use Rattle.mw_model.specs.Judgment.{methods, method_among}
 use Rattle.mw_model.specs.Rules.{is_formula_object}
 use Rattle.mw_heap.specs.Objects.{object_at, IsIn, Grows}
-use Rattle.mw_heap.proofs.Kept.{object_at-grows}
 use Rattle.mw_proof.specs.Step.{has_proof_shape, subproofs_of, conclusions_object, rule_holds, step_holds, is_step, are_proofs}
 use Rattle.mw_proof.specs.Known.{known_object}
 use Rattle.mw_proof.specs.Members.{AreMembers}
@@ -64,13 +63,12 @@ module _ (b : Basis) (os : List Object) where
         ∙ (ap (λ o. rule o (conclusions_object (object_at os m.subproofs))) (sym named)
         ∙ sym (by_members ∙ ap₂ (λ f t. f && (t && rule (method_among methods (object_at os m.method)) (conclusions_object (object_at os m.subproofs)))) formula a.proofs))
 
--- what the marks say holds in the heap that grew
-pub marked_formula : (marked os : List Object) (A : ArityTable) (c : ℕ) → Grows marked os → c < length marked → is_formula_object A (object_at marked c) ≡ is_formula_object A (object_at os c)
-marked_formula marked os A c g l = ap (is_formula_object A) (sym (object_at-grows marked os c g l))
-
 pub below : (rs : List ℕ) (list p n : ℕ) → All (λ r. r < list) rs → list < p → p < n → All (λ r. r < n) rs
 below rs list p n h l k = λ i d j. omega (arith, h i d j)
 
-pub IfOk-same : {E : Type 0} (r : Result Bool E) (x y : Bool) → IfOk r (λ t. t ≡ x) → x ≡ y → IfOk r (λ t. t ≡ y)
-IfOk-same (Ok t) x y h e = h ∙ e
-IfOk-same (Err f) x y h e = h
+pub All-map : (P Q : ℕ → Type 0) (rs : List ℕ) → ((r : ℕ) → P r → Q r) → All P rs → All Q rs
+All-map P Q rs f h = λ i d l. f _ (h i d l)
+
+pub IfOk-map : {E : Type 0} (r : Result Bool E) (P Q : Bool → Type 0) → ((t : Bool) → P t → Q t) → IfOk r P → IfOk r Q
+IfOk-map (Ok t) P Q f h = f t h
+IfOk-map (Err e) P Q f h = h

@@ -1,5 +1,5 @@
 -- Deciding proofs in order, so that of each it is known which of its subproofs are proofs.
-use Rattle.std.proofs.Common.{◌≡◌, ℕ, ◌+◌, ◌<◌, ◌≤◌, ◌==◌, Bool, true, false, ◌&&◌, ◌||◌, cond, List, [], ◌∷◌, ◌++◌, length, take, get_or, refl, sym, ap, ap₂, ◌∙◌, subst, arith, length-append, get_or-take, ◌⊎◌, inl, inr}
+use Rattle.std.proofs.Common.{◌≡◌, ℕ, ◌+◌, ◌<◌, ◌≤◌, ◌==◌, Bool, true, false, ◌&&◌, ◌||◌, cond, List, [], ◌∷◌, ◌++◌, length, take, get_or, Some, refl, sym, ap, ap₂, ◌∙◌, subst, arith, length-append, get_or-take, ◌⊎◌, inl, inr}
 use Rattle.std.specs.List.{list_any, All}
 use Rattle.std.proofs.Math.Seq.{take-length}
 use Rattle.std.proofs.lemmas.Bool.{and_right, eqb-true, eq-eqb, cases_lt}
@@ -11,12 +11,18 @@ use Rattle.mw_model.specs.Term.{ArityTable}
 use Rattle.mw_model.specs.Primitive.{Profile}
 use Rattle.mw_heap.specs.Objects.{object_at, IsIn, Grows, AreDistinct}
 use Rattle.mw_heap.proofs.Kept.{IsIn-grows, object_at-grows}
+use Rattle.mw_term.specs.Marking.{AreMarks, mark_of_object}
+use Rattle.mw_term.specs.declared.cell_mark.CellMark.{CellMark}
 use Rattle.mw_proof.specs.Step.{has_proof_shape, subproofs_of}
 use Rattle.mw_proof.specs.Known.{known_object}
 use Rattle.mw_proof.specs.Gathered.{IsAmong, AreIn, HasMembers, HasSubproofs}
 use Rattle.mw_proof.specs.Judging.{Basis, basis, is_proof_on, IsKnown, AreSubproofsKnown, AreDecided, AreSortedProofs}
 use Rattle.mw_proof.proofs.Counted.{eqb-swap}
 use Rattle.mw_proof.proofs.Gathering.{IsAmong-at, place}
+
+-- marks of objects that a heap had before it grew
+pub AreMarks-older : (A : ArityTable) (os new : List Object) (ms : List CellMark) → Grows os new → length ms ≤ length os → AreMarks A new ms → AreMarks A os ms
+AreMarks-older A os new ms g l h = record { within = l; each = λ i k. h.each i k ∙ ap (λ o. Some (mark_of_object A o)) (object_at-grows os new i g (omega arith)) }
 
 module _ (os new : List Object) (g : Grows os new) where
   known_object-grows : (k : List ℕ) → All (λ r. r < length os) k → known_object new k ≡ known_object os k

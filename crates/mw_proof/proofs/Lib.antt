@@ -7,3 +7,4 @@ pub mod RuleLemmas
 pub mod Collecting
 pub mod Deciding
 pub mod DecidingAll
+mod Ordered

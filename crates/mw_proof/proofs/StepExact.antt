@@ -13,8 +13,7 @@ use Rattle.mw_model.specs.Substitution.{substitution_of}
 use Rattle.mw_model.specs.Rules.{is_formula_object, object_is_expansion, object_is_contraction, object_is_associativity, object_is_cut, object_is_instance}
 use Rattle.mw_model.specs.RulesInduction.{formulas_object}
 use Rattle.mw_model.proofs.Readable.{formula_readable}
-use Rattle.mw_model.proofs.ReadBack.{some_one, cond_some, and_more-back, formula_back}
-use Rattle.mw_model.proofs.Follows.{when_back}
+use Rattle.mw_model.proofs.ReadBack.{when_some, some_one, cond_some, and_more-back, formula_back}
 use Rattle.mw_model.proofs.RulesExact.{object_is_schema-exact, object_is_beta-exact, object_is_expansion-exact, object_is_contraction-exact, object_is_associativity-exact, object_is_cut-exact, object_is_instance-exact}
 use Rattle.mw_model.proofs.EqualityExact.{object_is_functional_equality-exact}
 use Rattle.mw_model.proofs.BaseEvalExact.{object_is_base_eval-exact}
@@ -62,16 +61,16 @@ module _ (ax th : Object) (A : ArityTable) (P : Profile) where
       go (Some m) None e fs k = cc
       go (Some m) (Some G) e None k = cc
       go (Some m) (Some G) e (Some Gs) k =
-          let p = when_back (is_formula A G && follows ax th A P m G Gs x) (Some G) F k in
+          let p = when_some (is_formula A G && follows ax th A P m G Gs x) (Some G) F k in
           let q : G ≡ F = some_one p.1 in
           (formula_back c F (e ∙ ap Some q), subst (IsFormula A) q (and_parts (is_formula A G) (follows ax th A P m G Gs x) p.0).0)
 
   pub judge-conclusion : (p : Object) (F : Formula) → judge ax th A P p ≡ Some F → (formula_object F ≡ second_of p) × IsFormula A F
   judge-conclusion (Pair m (Pair c (Pair ps (Pair x z)))) F h =
-      step_conclusion (method_among methods m) c (judge_each ax th A P ps) x F (when_back (same_object z NIL) _ F h).1
+      step_conclusion (method_among methods m) c (judge_each ax th A P ps) x F (when_some (same_object z NIL) _ F h).1
   judge-conclusion (Pair m (Pair c (Pair ps (Symbol s)))) F h =
-      step_conclusion (method_among methods m) c (judge_each ax th A P ps) NIL F (when_back (same_name s nil_name) _ F h).1
-  judge-conclusion (Pair m (Pair c (Symbol s))) F h = step_conclusion (method_among methods m) c (Some []) NIL F (when_back (same_name s nil_name) _ F h).1
+      step_conclusion (method_among methods m) c (judge_each ax th A P ps) NIL F (when_some (same_name s nil_name) _ F h).1
+  judge-conclusion (Pair m (Pair c (Symbol s))) F h = step_conclusion (method_among methods m) c (Some []) NIL F (when_some (same_name s nil_name) _ F h).1
   judge-conclusion (Pair m (Pair c (Pair ps (Natural n)))) F h = cc
   judge-conclusion (Pair m (Pair c (Natural n))) F h = cc
   judge-conclusion (Pair m (Natural n)) F h = cc

@@ -5,3 +5,4 @@ pub mod Members
 pub mod Gathered
 pub mod Judging
 pub mod Counted
+pub mod Judgments

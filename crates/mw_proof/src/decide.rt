@@ -1,7 +1,9 @@
 //! One proof, and many.
 ghost use Rattle.std.specs.Prelude.{◌≡◌, ◌<◌, All, length, IfOk};
-ghost use Rattle.mw_heap.specs.Objects.{object_at, Grows};
-ghost use Rattle.mw_heap.specs.Profiles.{profile_of};
+ghost use Rattle.mw_heap.specs.Objects.{object_at, IsIn, Grows};
+ghost use Rattle.mw_heap.specs.Variants.{profile_of};
+ghost use Rattle.mw_term.specs.Marking.{AreMarks};
+ghost use Rattle.mw_model.specs.Term.{ArityTable};
 ghost use Rattle.mw_proof.specs.Judging.{basis, is_proof_on, AreSubproofsKnown};
 
 use crate::conclusions::conclusions_of;
@@ -23,13 +25,13 @@ pub(crate) fn decide(
     profile: Profile,
     marks: &Marks,
 ) -> Result<bool, Memory>
-    requires marked { Grows marks.now.objects heap.old }
-    requires within { p < length marks.now.objects }
-    requires axioms { All (λ r. r < length marks.now.objects) axioms.now }
-    requires theorems { All (λ r. r < length marks.now.objects) theorems.now }
-    requires known { AreSubproofsKnown (basis heap.old marks.now.table axioms.now theorems.now (profile_of profile)) heap.old good.now.keys (object_at heap.old p) }
+    requires marks { (A : ArityTable) × AreMarks A heap.old marks.now }
+    requires within { p < length marks.now }
+    requires axioms { All (IsIn heap.old) axioms.now }
+    requires theorems { All (IsIn heap.old) theorems.now }
+    requires known { (A : ArityTable) → AreMarks A heap.old marks.now → AreSubproofsKnown (basis heap.old A axioms.now theorems.now (profile_of profile)) heap.old good.now.keys (object_at heap.old p) }
     ensures grows { Grows heap.old heap.new }
-    ensures answer { IfOk result (λ b. b ≡ is_proof_on (basis heap.old marks.now.table axioms.now theorems.now (profile_of profile)) (object_at heap.old p)) }
+    ensures answer { IfOk result (λ b. (A : ArityTable) → AreMarks A heap.old marks.now → b ≡ is_proof_on (basis heap.old A axioms.now theorems.now (profile_of profile)) (object_at heap.old p)) }
 {
     let Some(members) = members_of(heap, p) else {
         return Ok(false);

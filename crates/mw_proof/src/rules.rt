@@ -1,7 +1,9 @@
 //! The rules of proof.
 ghost use Rattle.std.specs.Prelude.{◌≡◌, ◌<◌, true, All, length, Some, IfOk};
 ghost use Rattle.mw_heap.specs.Objects.{object_at, IsIn, Grows, AreDistinct};
-ghost use Rattle.mw_heap.specs.Profiles.{profile_of};
+ghost use Rattle.mw_heap.specs.Variants.{profile_of};
+ghost use Rattle.mw_term.specs.Marking.{AreMarks};
+ghost use Rattle.mw_model.specs.Term.{ArityTable};
 ghost use Rattle.mw_model.specs.Object.{is_member};
 ghost use Rattle.mw_model.specs.Rules.{is_formula_object};
 ghost use Rattle.mw_proof.specs.Step.{rule_holds};
@@ -30,15 +32,16 @@ pub(crate) fn follows(
     profile: Profile,
     marks: &Marks,
 ) -> Result<bool, Memory>
-    requires marked { Grows marks.now.objects heap.old }
-    requires conclusion { c < length marks.now.objects }
-    requires premises { All (λ r. r < length marks.now.objects) conclusions.now }
-    requires formulas { All (λ r. is_formula_object marks.now.table (object_at heap.old r) ≡ true) conclusions.now }
-    requires extras { extras < length marks.now.objects }
-    requires axioms { All (λ r. r < length marks.now.objects) axioms.now }
-    requires theorems { All (λ r. r < length marks.now.objects) theorems.now }
+    requires marks { (A : ArityTable) × AreMarks A heap.old marks.now }
+    requires conclusion { c < length marks.now }
+    requires formula { (A : ArityTable) × (is_formula_object A (object_at heap.old c) ≡ true) }
+    requires premises { All (IsIn heap.old) conclusions.now }
+    requires formulas { All (λ r. (A : ArityTable) × (is_formula_object A (object_at heap.old r) ≡ true)) conclusions.now }
+    requires extras { extras < length marks.now }
+    requires axioms { All (IsIn heap.old) axioms.now }
+    requires theorems { All (IsIn heap.old) theorems.now }
     ensures grows { Grows heap.old heap.new }
-    ensures answer { IfOk result (λ b. b ≡ rule_holds (known_object heap.old axioms.now) (known_object heap.old theorems.now) marks.now.table (profile_of profile) (Some (method_of_logic method)) (object_at heap.old c) (known_object heap.old conclusions.now) (object_at heap.old extras)) }
+    ensures answer { IfOk result (λ b. (A : ArityTable) → AreMarks A heap.old marks.now → b ≡ rule_holds (known_object heap.old axioms.now) (known_object heap.old theorems.now) A (profile_of profile) (Some (method_of_logic method)) (object_at heap.old c) (known_object heap.old conclusions.now) (object_at heap.old extras)) }
 {
     match method {
         Method::Instantiation => match conclusions {
@@ -75,7 +78,7 @@ fn follows_from_none(
         Method::Axiom => Ok(is_known(heap, axioms, c)),
         Method::Theorem => Ok(is_known(heap, theorems, c)),
         Method::PropositionalSchema => Ok(schema(heap, c)),
-        Method::FunctionalEquality => Ok(functional_equality(heap, c)),
+        Method::FunctionalEquality => functional_equality(heap, c),
         Method::BetaReduction => beta(heap, c),
         Method::BaseEval => base_eval(heap, c, profile),
         _ => Ok(false),
