@@ -1,15 +1,14 @@
 -- Collecting the conclusions of a list of proofs.
-use Rattle.std.proofs.Common.{◌≡◌, ℕ, ◌==◌, ◌<◌, ◌≤◌, Bool, true, false, ◌&&◌, List, [], ◌∷◌, ◌++◌, refl, sym, ap, ap₂, ◌∙◌, subst, arith, true≢false}
+use Rattle.std.proofs.Common.{◌≡◌, ℕ, ◌==◌, ◌<◌, ◌≤◌, true, false, ◌&&◌, List, [], ◌∷◌, ◌++◌, refl, sym, ap, ◌∙◌, subst, arith}
 use Rattle.std.specs.List.{list_any, All}
-use Rattle.std.proofs.lemmas.Bool.{and_parts, and_left}
+use Rattle.std.proofs.lemmas.Bool.{and_left}
 use Rattle.std.proofs.lemmas.List.Elements.{All-push}
 use Rattle.mw_model.specs.Object.{Object, Natural, Symbol, Pair, same_object, NIL, second_of}
-use Rattle.mw_model.specs.Primitive.{is_symbol}
 use Rattle.mw_model.proofs.Names.{same_object-eq}
 use Rattle.mw_heap.specs.Objects.{object_at, IsIn, Shows}
 use Rattle.mw_heap.specs.declared.view.View.{View}
 use Rattle.mw_heap.specs.declared.view.View.TheVariants.{Nat, Symbol as Word, Pair as Parts}
-use Rattle.mw_proof.specs.Step.{has_proof_shape, subproofs_of, conclusions_object, are_proofs, is_step}
+use Rattle.mw_proof.specs.Step.{has_proof_shape, conclusions_object}
 use Rattle.mw_proof.specs.Known.{known_object}
 use Rattle.mw_proof.specs.Judging.{Basis, is_proof_on, are_proofs_on, IsKnown, AreConclusions}
 use Rattle.mw_proof.proofs.StepExact.{is_proof-step}
@@ -57,12 +56,12 @@ module _ (os : List Object) (good : List ℕ) (list : ℕ) where
         rest_before = omega (arith, older, w.rest_before);
         before = All-push (λ r. r < list) rs c w.before (omega (arith, older, w.rest_before, is.0));
         holds = λ b k.
-          let r = w.holds b k in
-          record {
-            known = (subst (IsKnown b os good) shows.2 r.known).1;
-            proofs = r.proofs ∙ (parts b ∙ ap (λ t. t && are_proofs_on b (object_at os more)) (sym (answer b k) ∙ good_p));
-            conclusions = known_before-push os rs c (conclusions_object (object_at os more)) ∙ (ap (λ z. known_before os rs (Pair z (conclusions_object (object_at os more)))) is.1 ∙ (ap (λ z. known_before os rs (conclusions_object z)) (sym shows.2) ∙ r.conclusions));
-          };
+            let r = w.holds b k in
+            record {
+              known = (subst (IsKnown b os good) shows.2 r.known).1;
+              proofs = r.proofs ∙ (parts b ∙ ap (λ t. t && are_proofs_on b (object_at os more)) (sym (answer b k) ∙ good_p));
+              conclusions = known_before-push os rs c (conclusions_object (object_at os more)) ∙ (ap (λ z. known_before os rs (Pair z (conclusions_object (object_at os more)))) is.1 ∙ (ap (λ z. known_before os rs (conclusions_object z)) (sym shows.2) ∙ r.conclusions));
+            };
       }
 
       pub stops_at_bad : list_any (λ y. p == y) good ≡ false → (b : Basis) → IsKnown b os good (object_at os list) → are_proofs_on b (object_at os list) ≡ false

@@ -1,20 +1,18 @@
 -- Deciding one proof, in a heap that grew since the objects were marked.
-use Rattle.std.proofs.Common.{◌≡◌, ℕ, ◌+◌, ◌<◌, ◌≤◌, ◌==◌, Bool, true, false, ◌&&◌, List, [], ◌∷◌, ◌++◌, length, Option, Some, None, option_map, Vec, Result, Ok, Err, IfOk, refl, sym, ap, ap₂, ◌∙◌, subst, arith, length-append}
-use Rattle.std.specs.List.{list_any, All}
+use Rattle.std.proofs.Common.{◌≡◌, ℕ, ◌<◌, Bool, true, false, ◌&&◌, List, [], ◌∷◌, Option, Some, None, Result, Ok, Err, IfOk, sym, ap, ap₂, ◌∙◌, arith}
+use Rattle.std.specs.List.{All}
 use Rattle.std.proofs.lemmas.Bool.{and_parts, and_left, and_right}
-use Rattle.std.proofs.lemmas.List.Elements.{All-head, All-tail, All-cons}
-use Rattle.mw_model.specs.Object.{Object, Natural, Symbol, Pair, NIL, car, cdr, second_of, fourth_of}
-use Rattle.mw_model.specs.Term.{ArityTable}
-use Rattle.mw_model.specs.Primitive.{Profile}
+use Rattle.std.proofs.lemmas.List.Elements.{All-cons}
+use Rattle.mw_model.specs.Object.{Object, Natural, Symbol, Pair, car, cdr, second_of, fourth_of}
 use Rattle.mw_model.specs.Proof.{Method}
 use Rattle.mw_model.specs.Judgment.{methods, method_among}
 use Rattle.mw_model.specs.Rules.{is_formula_object}
-use Rattle.mw_heap.specs.Objects.{object_at, IsIn, Grows}
-use Rattle.mw_proof.specs.Step.{has_proof_shape, subproofs_of, conclusions_object, rule_holds, step_holds, is_step, are_proofs}
+use Rattle.mw_heap.specs.Objects.{object_at}
+use Rattle.mw_proof.specs.Step.{has_proof_shape, subproofs_of, conclusions_object, rule_holds}
 use Rattle.mw_proof.specs.Known.{known_object}
 use Rattle.mw_proof.specs.Members.{AreMembers}
 use Rattle.mw_proof.specs.declared.members.Members.{Members}
-use Rattle.mw_proof.specs.Judging.{Basis, is_proof_on, are_proofs_on, IsKnown, AreSubproofsKnown, AreConclusions, IsAnswer}
+use Rattle.mw_proof.specs.Judging.{Basis, is_proof_on, are_proofs_on, AreConclusions}
 use Rattle.mw_proof.proofs.StepExact.{is_proof-step}
 
 module _ (b : Basis) (os : List Object) where

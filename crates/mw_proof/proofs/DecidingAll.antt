@@ -1,8 +1,7 @@
 -- Deciding proofs in order, so that of each it is known which of its subproofs are proofs.
-use Rattle.std.proofs.Common.{◌≡◌, ℕ, ◌+◌, ◌<◌, ◌≤◌, ◌==◌, Bool, true, false, ◌&&◌, ◌||◌, cond, List, [], ◌∷◌, ◌++◌, length, take, get_or, Some, refl, sym, ap, ap₂, ◌∙◌, subst, arith, length-append, get_or-take, ◌⊎◌, inl, inr}
+use Rattle.std.proofs.Common.{◌≡◌, ℕ, ◌+◌, ◌<◌, ◌≤◌, ◌==◌, Bool, true, false, ◌&&◌, ◌||◌, cond, List, [], ◌∷◌, length, take, get_or, Some, refl, sym, ap, ap₂, ◌∙◌, subst, arith, get_or-take, ◌⊎◌, inl, inr}
 use Rattle.std.specs.List.{list_any, All}
-use Rattle.std.proofs.Math.Seq.{take-length}
-use Rattle.std.proofs.lemmas.Bool.{and_right, eqb-true, eq-eqb, cases_lt}
+use Rattle.std.proofs.lemmas.Bool.{and_right, eqb-true, cases_lt}
 use Rattle.std.proofs.lemmas.List.{length-take-le}
 use Rattle.std.proofs.lemmas.List.Folds.{list_any_more}
 use Rattle.std.proofs.lemmas.List.Elements.{All-head, All-tail}
@@ -13,9 +12,9 @@ use Rattle.mw_heap.specs.Objects.{object_at, IsIn, Grows, AreDistinct}
 use Rattle.mw_heap.proofs.Kept.{IsIn-grows, object_at-grows}
 use Rattle.mw_term.specs.Marking.{AreMarks, mark_of_object}
 use Rattle.mw_term.specs.declared.cell_mark.CellMark.{CellMark}
-use Rattle.mw_proof.specs.Step.{has_proof_shape, subproofs_of}
+use Rattle.mw_proof.specs.Step.{subproofs_of}
 use Rattle.mw_proof.specs.Known.{known_object}
-use Rattle.mw_proof.specs.Gathered.{IsAmong, AreIn, HasMembers, HasSubproofs}
+use Rattle.mw_proof.specs.Gathered.{IsAmong, HasMembers}
 use Rattle.mw_proof.specs.Judging.{Basis, basis, is_proof_on, IsKnown, AreSubproofsKnown, AreDecided, AreSortedProofs}
 use Rattle.mw_proof.proofs.Counted.{eqb-swap}
 use Rattle.mw_proof.proofs.Gathering.{IsAmong-at, place}

@@ -1,7 +1,7 @@
 -- Gathering the proofs below a proof.
-use Rattle.std.proofs.Common.{◌≡◌, ℕ, suc, ◌+◌, ◌-◌, ◌==◌, ◌<◌, ◌≤◌, Bool, true, false, ◌||◌, List, [], ◌∷◌, ◌++◌, length, length-append, get_or, cond, eqb, if◌then◌else◌, append_assoc, append-nil, refl, sym, ap, ◌∙◌, subst, arith, ◌⊎◌, inl, inr}
+use Rattle.std.proofs.Common.{◌≡◌, ℕ, suc, ◌+◌, ◌==◌, ◌<◌, ◌≤◌, Bool, true, false, List, [], ◌∷◌, ◌++◌, length, length-append, get_or, cond, eqb, if◌then◌else◌, append_assoc, append-nil, refl, sym, ap, ◌∙◌, subst, arith, ◌⊎◌, inl, inr}
 use Rattle.std.specs.List.{list_any, IsDistinct}
-use Rattle.std.proofs.lemmas.Bool.{cases_lt, or_left, or_right, or_cases, eqb-true, eq-eqb}
+use Rattle.std.proofs.lemmas.Bool.{cases_lt, or_left, or_cases, eqb-true, eq-eqb}
 use Rattle.std.proofs.lemmas.List.Folds.{list_any-append, list_any_at}
 use Rattle.std.proofs.lemmas.Map.Steps.{length-le_from_distinct_below}
 use Rattle.std.proofs.Math.ListN.{get_or-append}
@@ -52,8 +52,10 @@ module _ (os : List Object) (old : List ℕ) (n list : ℕ) where
       where
         below : (q < rest) × (r < rest) → q < n
         below o = omega (arith, o, w.rest_before)
+
         whole : (more : List ℕ) → new ≡ keys ++ more → (later : List ℕ) → new ++ later ≡ keys ++ (more ++ later)
         whole more e later = ap (λ k. k ++ later) e ∙ append_assoc keys more later
+
         inside : (x : ℕ) (t : Bool) → (q == x) ≡ t → cond (q == x) true (list_any (λ y. x == y) keys) ≡ true → IsIn os x
         inside x true e h = subst (IsIn os) (eqb-true q x e) shows.0
         inside x false e h = w.within x (sym (ap (λ s. cond s true (list_any (λ y. x == y) keys)) e) ∙ h)
@@ -116,8 +118,10 @@ module _ (os : List Object) (keys : List ℕ) (proof next : ℕ) (g : Gathers os
     where
       same : (i : ℕ) → i < length keys → get_or keys i 0 ≡ get_or new i 0
       same i k = sym (ap (λ ks. get_or ks i 0) a.longer ∙ get_or-append keys a.more 0 i k)
+
       kept : (p : ℕ) → HasSubproofs os keys p → HasSubproofs os new p
       kept p h shape = subst (λ k. HasMembers os k p (subproofs_of (object_at os p))) (sym a.longer) (HasMembers-append os keys a.more p (subproofs_of (object_at os p)) (h shape))
+
       go : (i : ℕ) → (i < next) ⊎ (next ≤ i) → i < next + 1 → HasSubproofs os new (get_or new i 0)
       go i (inl k) h = subst (HasSubproofs os new) (same i (omega arith)) (kept (get_or keys i 0) (g.held i k))
       go i (inr k) h =

@@ -1,7 +1,7 @@
 -- Methods by the bytes of their names.
-use Rattle.std.proofs.Common.{◌≡◌, ℕ, ◌+◌, ◌<◌, Bool, true, false, ◌&&◌, cond, eqb, List, [], ◌∷◌, length, map, drop, get_or, Option, Some, None, option_map, refl, sym, ap, ap₂, ◌∙◌, subst, add-one, drop-cons}
+use Rattle.std.proofs.Common.{◌≡◌, ℕ, ◌+◌, ◌<◌, Bool, true, false, ◌&&◌, cond, eqb, List, [], ◌∷◌, length, map, drop, get_or, Some, refl, sym, ap, ap₂, ◌∙◌, add-one, drop-cons}
 use Rattle.std.specs.Cmp.Lexicographic.{pointwise}
-use Rattle.mw_model.specs.Object.{Object, Natural, Symbol, Pair, same_bytes, same_object}
+use Rattle.mw_model.specs.Object.{Object, Natural, Symbol, Pair, same_bytes}
 use Rattle.mw_model.specs.Primitive.{is_symbol, name_of}
 use Rattle.mw_model.specs.Proof.{Method as Rule, method_name}
 use Rattle.mw_model.specs.Judgment.{method_among}

@@ -1,11 +1,11 @@
 -- The proofs below a proof, put in order.
-use Rattle.std.proofs.Common.{◌≡◌, ℕ, ◌<◌, ◌≤◌, ◌==◌, Bool, true, false, ◌&&◌, List, length, get_or, sym, ap, ◌∙◌, subst}
+use Rattle.std.proofs.Common.{◌≡◌, ℕ, ◌==◌, ◌&&◌, List, sym, ap, ◌∙◌}
 use Rattle.std.specs.List.{list_any}
 use Rattle.std.specs.List.Sorted.{IsNonDecreasing}
 use Rattle.mw_model.specs.Object.{Object, Natural, Symbol, Pair}
-use Rattle.mw_heap.specs.Objects.{object_at, IsIn}
+use Rattle.mw_heap.specs.Objects.{object_at}
 use Rattle.mw_proof.specs.Step.{subproofs_of}
-use Rattle.mw_proof.specs.Gathered.{IsAmong, HasMembers, AreGathered}
+use Rattle.mw_proof.specs.Gathered.{HasMembers, AreGathered}
 use Rattle.mw_proof.specs.Judging.{Basis, is_proof_on, AreDecided, AreSortedProofs}
 
 module _ (os : List Object) (keys sorted : List ℕ) (same : (x : ℕ) → list_any (λ y. x == y) sorted ≡ list_any (λ y. x == y) keys) where

@@ -1,5 +1,5 @@
 -- The rules over references.
-use Rattle.std.proofs.Common.{◌≡◌, ◌≢◌, ℕ, suc, ◌==◌, ◌<◌, ◌≤◌, Bool, true, false, ◌&&◌, ◌||◌, List, [], ◌∷◌, length, get_or, Option, Some, None, refl, sym, ap, ap₂, ◌∙◌, subst, arith, ◌⊎◌, inl, inr}
+use Rattle.std.proofs.Common.{◌≡◌, ◌≢◌, ℕ, ◌==◌, ◌<◌, ◌≤◌, true, false, ◌&&◌, ◌||◌, List, [], ◌∷◌, length, get_or, Some, refl, sym, ap, ap₂, ◌∙◌, arith, ◌⊎◌, inl, inr}
 use Rattle.std.specs.List.{list_any, All}
 use Rattle.std.proofs.lemmas.Bool.{eq-eqb, ne_eqb, cases_eq}
 use Rattle.std.proofs.lemmas.List.Elements.{All-head, All-tail}
@@ -14,7 +14,7 @@ use Rattle.mw_proof.specs.declared.method.Method.TheVariants.{Instantiation, Ind
 use Rattle.mw_proof.specs.Step.{rule_holds}
 use Rattle.mw_proof.specs.Known.{known_object}
 use Rattle.mw_proof.specs.Methods.{method_of_logic}
-use Rattle.mw_proof.specs.Counted.{rule_of_none, rule_of_one, rule_of_two}
+use Rattle.mw_proof.specs.Counted.{rule_of_one, rule_of_two}
 
 same-references : (os : List Object) (x y : ℕ) → AreDistinct os → IsIn os x → IsIn os y → (x == y) ≡ same_object (object_at os x) (object_at os y)
 same-references os x y d i j = go (cases_eq x y) (object_cases (object_at os x) (object_at os y))

@@ -6,11 +6,11 @@ ghost use Rattle.mw_term.specs.Marking.{AreMarks};
 ghost use Rattle.mw_model.specs.Term.{ArityTable};
 ghost use Rattle.mw_proof.specs.Judging.{basis, is_proof_on, AreSubproofsKnown};
 
+use crate::Known;
 use crate::conclusions::conclusions_of;
 use crate::members::members_of;
 use crate::method::Method;
 use crate::rules::follows;
-use crate::Known;
 use indexmap::IndexSet;
 use mw_heap::{Heap, Memory, Profile, Ref};
 use mw_term::Marks;
@@ -45,5 +45,15 @@ pub(crate) fn decide(
     let Some(conclusions) = conclusions_of(heap, members.subproofs, good)? else {
         return Ok(false);
     };
-    follows(heap, method, members.conclusion, &conclusions, members.extras, axioms, theorems, profile, marks)
+    follows(
+        heap,
+        method,
+        members.conclusion,
+        &conclusions,
+        members.extras,
+        axioms,
+        theorems,
+        profile,
+        marks,
+    )
 }

@@ -9,9 +9,9 @@ ghost use Rattle.mw_proof.specs.Known.{known_object};
 ghost use Rattle.mw_proof.specs.Judging.{basis, is_proof_on, AreDecided, AreSortedProofs};
 ghost use Rattle.mw_proof.specs.Judgments.{IsJudgment};
 
+use crate::Known;
 use crate::decide::decide;
 use crate::proofs::proofs_of;
-use crate::Known;
 use indexmap::IndexSet;
 use mw_heap::{Heap, Memory, Profile, Ref};
 use mw_term::{Arity, Marks};

@@ -17,7 +17,7 @@ ghost use Rattle.mw_model.specs.Primitive.{Profile};
 ghost use Rattle.mw_model.specs.Judgment.{judge};
 ghost use Rattle.mw_proof.specs.Step.{subproofs_of, is_proof, are_proofs, is_step};
 
-pub use judging::{judge, Judged};
+pub use judging::{Judged, judge};
 pub use known::Known;
 
 /// Judging is a local test: an object is a proof exactly where it has the shape of one, its conclusion is a formula, its

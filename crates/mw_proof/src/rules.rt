@@ -11,8 +11,8 @@ ghost use Rattle.mw_proof.specs.Known.{known_object};
 ghost use Rattle.mw_proof.specs.Methods.{method_of_logic};
 ghost use Rattle.mw_proof.specs.Counted.{rule_of_none, rule_of_one, rule_of_two};
 
-use crate::method::Method;
 use crate::Known;
+use crate::method::Method;
 use mw_base::base_eval;
 use mw_equal::{beta, functional_equality, instantiation};
 use mw_heap::{Heap, Memory, Profile, Ref};

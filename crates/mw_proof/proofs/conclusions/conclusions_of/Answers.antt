@@ -1,5 +1,5 @@
 -- One conclusion more, and the end of the list.
-use Rattle.std.proofs.Common.{◌≡◌, true, sym, ◌∙◌, subst}
+use Rattle.std.proofs.Common.{sym, ◌∙◌, subst}
 use Rattle.mw_proof.proofs.Collecting.{Collects, collects_more, collects_all}
 use Rattle.mw_proof.proofs.conclusions.conclusions_of.Goals as goal
 

@@ -1,16 +1,16 @@
 -- By the members of the proof.
-use Rattle.std.proofs.Common.{◌≡◌, ◌<◌, Bool, true, false, List, length, Option, Some, None, option_map, Vec, sym, ap, ◌∙◌, subst, arith}
+use Rattle.std.proofs.Common.{◌≡◌, true, length, Some, option_map, sym, ap, ◌∙◌, subst, arith}
 use Rattle.std.specs.List.{All}
 use Rattle.mw_model.specs.Term.{ArityTable}
 use Rattle.mw_model.specs.Judgment.{methods, method_among}
 use Rattle.mw_model.specs.Rules.{is_formula_object}
-use Rattle.mw_heap.specs.Objects.{object_at, IsIn, Grows}
+use Rattle.mw_heap.specs.Objects.{object_at, IsIn}
 use Rattle.mw_heap.specs.Variants.{profile_of}
 use Rattle.mw_heap.proofs.Kept.{Grows-refl}
 use Rattle.mw_proof.specs.Step.{rule_holds}
 use Rattle.mw_proof.specs.Known.{known_object}
 use Rattle.mw_proof.specs.Methods.{method_of_logic}
-use Rattle.mw_proof.specs.Judging.{Basis, basis, is_proof_on, IsKnown, AreConclusions, IsAnswer}
+use Rattle.mw_proof.specs.Judging.{basis, IsKnown, AreConclusions, IsAnswer}
 use Rattle.mw_proof.proofs.Deciding.{conclusions_formulas, no_formula, no_proofs, no_method, by_rule, below, All-map, IfOk-map}
 use Rattle.mw_proof.proofs.decide.decide.Goals as goal
 

@@ -1,10 +1,9 @@
 -- One more proof is decided.
-use Rattle.std.proofs.Common.{◌≡◌, ◌<◌, ◌==◌, ◌+◌, ℕ, Bool, true, false, List, length, take, get_or, refl, sym, ap, ◌∙◌, subst, arith}
+use Rattle.std.proofs.Common.{◌≡◌, ◌<◌, ◌==◌, ◌+◌, length, take, get_or, refl, sym, ap, ◌∙◌, subst, arith}
 use Rattle.std.specs.List.{list_any}
-use Rattle.mw_heap.specs.Objects.{object_at, IsIn, Grows}
+use Rattle.mw_heap.specs.Objects.{object_at, IsIn}
 use Rattle.mw_heap.specs.Variants.{profile_of}
 use Rattle.mw_heap.proofs.Kept.{Grows-refl, Grows-trans, IsIn-grows, object_at-grows}
-use Rattle.mw_term.specs.Marking.{AreMarks}
 use Rattle.mw_term.proofs.CallerLemmas.{AreMarks-grows}
 use Rattle.mw_proof.specs.Judging.{basis, is_proof_on, AreSubproofsKnown, AreDecided}
 use Rattle.mw_proof.proofs.Deciding.{All-map}
@@ -95,28 +94,29 @@ pub returns-in_err-insert-clause-grows : goal.returns-in_err-insert-clause-grows
 returns-in_err-insert-clause-grows c = Grows-trans c.args.heap.now c.loop-p.heap c.decide.new.heap c.loop-p.invariant.0 c.decide.ensures.grows
 
 pub loop-p-preserved : goal.loop-p-preserved
-loop-p-preserved c =
-    (Grows-trans c.args.heap.now c.loop-p.heap c.decide.new.heap c.loop-p.invariant.0 c.decide.ensures.grows,
-    λ A k.
-    let os = c.args.heap.now in
-    let new = c.loop-p.heap in
-    let ax = c.args.axioms.now in
-    let th = c.args.theorems.now in
-    let P = profile_of c.args.profile in
-    let proofs = c.args.proofs.now in
-    let i = c.loop-p.p-index in
-    let p = c.p-item.result in
-    let g = c.loop-p.invariant.0 in
-    let is = read_at p proofs proofs i (length proofs) c.p-item.is refl c.loop-p-test.true refl in
-    let p_in = subst (IsIn os) (sym is) (c.requires.sorted.within (get_or proofs i 0) (IsAmong-at proofs i c.loop-p-test.true)) in
-    let b = basis os A ax th P in
-    let d = c.loop-p.invariant.1 A k in
-    let answer : c.in_ok-decide.field-0 ≡ is_proof_on b (object_at os p) =
+loop-p-preserved c = (
+  Grows-trans c.args.heap.now c.loop-p.heap c.decide.new.heap c.loop-p.invariant.0 c.decide.ensures.grows,
+  λ A k.
+      let os = c.args.heap.now in
+      let new = c.loop-p.heap in
+      let ax = c.args.axioms.now in
+      let th = c.args.theorems.now in
+      let P = profile_of c.args.profile in
+      let proofs = c.args.proofs.now in
+      let i = c.loop-p.p-index in
+      let p = c.p-item.result in
+      let g = c.loop-p.invariant.0 in
+      let is = read_at p proofs proofs i (length proofs) c.p-item.is refl c.loop-p-test.true refl in
+      let p_in = subst (IsIn os) (sym is) (c.requires.sorted.within (get_or proofs i 0) (IsAmong-at proofs i c.loop-p-test.true)) in
+      let b = basis os A ax th P in
+      let d = c.loop-p.invariant.1 A k in
+      let answer : c.in_ok-decide.field-0 ≡ is_proof_on b (object_at os p) =
       c.in_ok-decide.ensures.answer A (AreMarks-grows A os new c.args.marks.now g k) ∙ (ap (λ e. is_proof_on e (object_at new p)) (basis-grows os new g A ax th P c.requires.axioms c.requires.theorems) ∙ ap (is_proof_on b) (object_at-grows os new p g p_in)) in
-    elim c.if-branch.branch [
-      then-branch+in_ok-insert w ↦ subst (λ s. AreDecided b os (take (i + 1) proofs) s.keys) (sym w.good-is) (decided-good b os proofs c.loop-p.good.keys i p c.loop-p-test.true is d w.insert.new.self.keys (sym answer ∙ w.if-branch.true) w.in_ok-insert.ensures.updates.0)
-      | else-branch w ↦ subst (λ s. AreDecided b os (take (i + 1) proofs) s.keys) (sym w.good-is) (decided-bad b os proofs c.loop-p.good.keys i p c.loop-p-test.true is d (sym answer ∙ w.if-branch.false))
-    ])
+      elim c.if-branch.branch [
+        | then-branch+in_ok-insert w ↦ subst (λ s. AreDecided b os (take (i + 1) proofs) s.keys) (sym w.good-is) (decided-good b os proofs c.loop-p.good.keys i p c.loop-p-test.true is d w.insert.new.self.keys (sym answer ∙ w.if-branch.true) w.in_ok-insert.ensures.updates.0)
+        | else-branch w ↦ subst (λ s. AreDecided b os (take (i + 1) proofs) s.keys) (sym w.good-is) (decided-bad b os proofs c.loop-p.good.keys i p c.loop-p-test.true is d (sym answer ∙ w.if-branch.false))
+      ],
+)
 
 pub returns-clause-grows : goal.returns-clause-grows
 returns-clause-grows c = c.loop-p.invariant.0

@@ -1,7 +1,4 @@
 -- What was added, and that the subproofs are held once the rest is.
-use Rattle.std.proofs.Common.{◌≡◌, ℕ, List, ◌++◌}
-use Rattle.mw_heap.specs.Objects.{object_at, IsIn}
-use Rattle.mw_proof.specs.Gathered.{AreIn}
 use Rattle.mw_proof.proofs.Gathering.{Walks}
 use Rattle.mw_proof.proofs.proofs.add_subproofs.Given as goal
 

@@ -1,5 +1,5 @@
 -- The proofs before the next one have their subproofs among all.
-use Rattle.std.proofs.Common.{◌≡◌, ◌<◌, ℕ, length, subst, sym, refl, arith}
+use Rattle.std.proofs.Common.{◌<◌, length, subst, sym, refl, arith}
 use Rattle.mw_heap.specs.Objects.{IsIn}
 use Rattle.mw_proof.specs.Gathered.{AddsSubproofs}
 use Rattle.mw_proof.proofs.Gathering.{read_at, next_in, few, gathers_more, gathered}

@@ -1,5 +1,5 @@
 -- The proofs before the next one have their subproofs among all.
-use Rattle.std.proofs.Common.{◌≡◌, ℕ, ◌-◌, length}
+use Rattle.std.proofs.Common.{◌-◌, length}
 use Rattle.mw_proof.proofs.Gathering.{Gathers}
 use Rattle.mw_proof.proofs.proofs.proofs_of.Given as goal
 

@@ -1,6 +1,5 @@
 -- The rules by how many subproofs they take.
-use Rattle.std.proofs.Common.{◌≡◌, Bool, true, false, Some, sym, ap, ◌∙◌, subst, arith}
-use Rattle.mw_model.specs.Object.{same_object, NIL}
+use Rattle.std.proofs.Common.{◌≡◌, true, Some, sym, ap, ◌∙◌, subst, arith}
 use Rattle.mw_model.specs.Rules.{is_formula_object}
 use Rattle.mw_heap.specs.Objects.{object_at}
 use Rattle.mw_heap.specs.Variants.{profile_of}
@@ -29,7 +28,7 @@ returns-in-len1-conclusions c =
     record {
       grows = Grows-refl os;
       answer = λ A k. c.follows_from_one.ensures ∙ rule_of_one-is (known_object os c.args.axioms.now) (known_object os c.args.theorems.now) A (profile_of c.args.profile) (object_at os c.args.c) (object_at os c.args.extras) os c.args.method c.in_default-2.not-Instantiation c.in_default-2.not-Induction
-        (sym c.is_nil.ensures ∙ c.if-not-is_nil.false) c.args.conclusions.now c.a-item-then-conclusions-lt2-2.result c.in-len1-conclusions.len_at_least c.in-len1-conclusions.len_below c.a-item-then-conclusions-lt2-2.is;
+          (sym c.is_nil.ensures ∙ c.if-not-is_nil.false) c.args.conclusions.now c.a-item-then-conclusions-lt2-2.result c.in-len1-conclusions.len_at_least c.in-len1-conclusions.len_below c.a-item-then-conclusions-lt2-2.is;
     }
 
 pub returns-in-len2 : goal.returns-in-len2
@@ -38,7 +37,7 @@ returns-in-len2 c =
     record {
       grows = Grows-refl os;
       answer = λ A k. c.follows_from_two.ensures ∙ rule_of_two-is (known_object os c.args.axioms.now) (known_object os c.args.theorems.now) A (profile_of c.args.profile) (object_at os c.args.c) (object_at os c.args.extras) os c.args.method c.in_default-2.not-Instantiation c.in_default-2.not-Induction
-        (sym c.is_nil.ensures ∙ c.if-not-is_nil.false) c.args.conclusions.now c.a-item-then-conclusions-lt3.result c.b-item.result c.in-len2.len_at_least c.in-len2.len_below c.a-item-then-conclusions-lt3.is c.b-item.is;
+          (sym c.is_nil.ensures ∙ c.if-not-is_nil.false) c.args.conclusions.now c.a-item-then-conclusions-lt3.result c.b-item.result c.in-len2.len_at_least c.in-len2.len_below c.a-item-then-conclusions-lt3.is c.b-item.is;
     }
 
 pub returns-in_default-conclusions-2 : goal.returns-in_default-conclusions-2
@@ -47,7 +46,7 @@ returns-in_default-conclusions-2 c =
     record {
       grows = Grows-refl os;
       answer = λ A k. rule_of_more (known_object os c.args.axioms.now) (known_object os c.args.theorems.now) A (profile_of c.args.profile) (object_at os c.args.c) (object_at os c.args.extras) os c.args.method c.in_default-2.not-Instantiation c.in_default-2.not-Induction
-        (sym c.is_nil.ensures ∙ c.if-not-is_nil.false) c.args.conclusions.now c.in_default-conclusions-2.len_at_least;
+          (sym c.is_nil.ensures ∙ c.if-not-is_nil.false) c.args.conclusions.now c.in_default-conclusions-2.len_at_least;
     }
 
 pub instantiation-requires-clause-formula : goal.instantiation-requires-clause-formula

@@ -1,8 +1,7 @@
 -- A symbol is the name of a method where its bytes are.
-use Rattle.std.proofs.Common.{ap, ◌∙◌}
+use Rattle.std.proofs.Common.{◌∙◌}
 use Rattle.mw_model.specs.Judgment.{methods}
 use Rattle.mw_heap.specs.Objects.{object_at}
-use Rattle.mw_proof.specs.Methods.{method_of_bytes}
 use Rattle.mw_proof.proofs.MethodNames.{method_of_bytes-symbol}
 use Rattle.mw_proof.proofs.method.Method.of.Goals as goal
 
