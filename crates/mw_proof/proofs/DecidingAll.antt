@@ -9,7 +9,7 @@ use Rattle.mw_model.specs.Object.{Object, Natural, Symbol, Pair}
 use Rattle.mw_model.specs.Term.{ArityTable}
 use Rattle.mw_model.specs.Primitive.{Profile}
 use Rattle.mw_heap.specs.Objects.{object_at, IsIn, Grows, AreDistinct}
-use Rattle.mw_heap.proofs.Kept.{IsIn-grows, object_at-grows}
+use Rattle.mw_heap.proofs.Objects.{IsIn-Grows, object_at-Grows}
 use Rattle.mw_term.specs.Marking.{AreMarks, mark_of_object}
 use Rattle.mw_term.specs.declared.cell_mark.CellMark.{CellMark}
 use Rattle.mw_proof.specs.Step.{subproofs_of}
@@ -21,12 +21,12 @@ use Rattle.mw_proof.proofs.Gathering.{IsAmong-at, place}
 
 -- marks of objects that a heap had before it grew
 pub AreMarks-older : (A : ArityTable) (os new : List Object) (ms : List CellMark) → Grows os new → length ms ≤ length os → AreMarks A new ms → AreMarks A os ms
-AreMarks-older A os new ms g l h = record { within = l; each = λ i k. h.each i k ∙ ap (λ o. Some (mark_of_object A o)) (object_at-grows os new i g (omega arith)) }
+AreMarks-older A os new ms g l h = record { within = l; each = λ i k. h.each i k ∙ ap (λ o. Some (mark_of_object A o)) (object_at-Grows os new g i (omega arith)) }
 
 module _ (os new : List Object) (g : Grows os new) where
   known_object-grows : (k : List ℕ) → All (λ r. r < length os) k → known_object new k ≡ known_object os k
   known_object-grows [] h = refl
-  known_object-grows (r ∷ k) h = ap₂ Pair (object_at-grows os new r g (All-head (λ r. r < length os) r k h)) (known_object-grows k (All-tail (λ r. r < length os) r k h))
+  known_object-grows (r ∷ k) h = ap₂ Pair (object_at-Grows os new g r (All-head (λ r. r < length os) r k h)) (known_object-grows k (All-tail (λ r. r < length os) r k h))
 
   pub basis-grows : (A : ArityTable) (ax th : List ℕ) (P : Profile) → All (λ r. r < length os) ax → All (λ r. r < length os) th → basis new A ax th P ≡ basis os A ax th P
   basis-grows A ax th P h k = ap₂ (λ a t. record { axioms = a; theorems = t; table = A; profile = P }) (known_object-grows ax h) (known_object-grows th k)
@@ -52,13 +52,13 @@ module _ (os new : List Object) (g : Grows os new) where
         member q q_in e =
             let y = h.0.0 in
             let y_in = s.within y h.0.2 in
-            let same : y ≡ q = distinct y q (IsIn-grows os new y g y_in) q_in (object_at-grows os new y g y_in ∙ (h.0.1 ∙ sym e)) in
+            let same : y ≡ q = distinct y q (IsIn-Grows os new g y y_in) q_in (object_at-Grows os new g y y_in ∙ (h.0.1 ∙ sym e)) in
             ap (λ z. list_any (λ w. z == w) good) (sym same) ∙ (d y ∙ (ap (λ t. t && is_proof_on b (object_at os y)) (decided_before y h.0.2 h.0.3) ∙ ap (is_proof_on b) h.0.1))
 
     pub subproofs_known : AreSubproofsKnown b new good (object_at new (get_or proofs i 0))
     subproofs_known =
         let p_in = s.within (get_or proofs i 0) (IsAmong-at proofs i l) in
-        subst (AreSubproofsKnown b new good) (sym (object_at-grows os new (get_or proofs i 0) g p_in)) (λ shape. knows (subproofs_of (object_at os (get_or proofs i 0))) (s.held (get_or proofs i 0) (IsAmong-at proofs i l) shape))
+        subst (AreSubproofsKnown b new good) (sym (object_at-Grows os new g (get_or proofs i 0) p_in)) (λ shape. knows (subproofs_of (object_at os (get_or proofs i 0))) (s.held (get_or proofs i 0) (IsAmong-at proofs i l) shape))
 
 or-true : (a : Bool) → (a || true) ≡ true
 or-true true = refl

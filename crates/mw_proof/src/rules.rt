@@ -78,7 +78,7 @@ fn follows_from_none(
         Method::Axiom => Ok(is_known(heap, axioms, c)),
         Method::Theorem => Ok(is_known(heap, theorems, c)),
         Method::PropositionalSchema => Ok(schema(heap, c)),
-        Method::FunctionalEquality => functional_equality(heap, c),
+        Method::FunctionalEquality => Ok(functional_equality(heap, c)),
         Method::BetaReduction => beta(heap, c),
         Method::BaseEval => base_eval(heap, c, profile),
         _ => Ok(false),

@@ -3,7 +3,7 @@ use Rattle.std.proofs.Common.{◌≡◌, ◌<◌, ◌==◌, ◌+◌, length, tak
 use Rattle.std.specs.List.{list_any}
 use Rattle.mw_heap.specs.Objects.{object_at, IsIn}
 use Rattle.mw_heap.specs.Variants.{profile_of}
-use Rattle.mw_heap.proofs.Kept.{Grows-refl, Grows-trans, IsIn-grows, object_at-grows}
+use Rattle.mw_heap.proofs.Objects.{Grows-refl, Grows-trans, IsIn-Grows, object_at-Grows}
 use Rattle.mw_term.proofs.CallerLemmas.{AreMarks-grows}
 use Rattle.mw_proof.specs.Judging.{basis, is_proof_on, AreSubproofsKnown, AreDecided}
 use Rattle.mw_proof.proofs.Deciding.{All-map}
@@ -28,7 +28,7 @@ same-requires-clause-first_in c =
     let g = c.loop-p.invariant.0 in
     let is = read_at p proofs proofs i (length proofs) c.p-item.is refl c.loop-p-test.true refl in
     let p_in = subst (IsIn os) (sym is) (c.requires.sorted.within (get_or proofs i 0) (IsAmong-at proofs i c.loop-p-test.true)) in
-    IsIn-grows os new p g p_in
+    IsIn-Grows os new g p p_in
 
 pub same-requires-clause-second_in : goal.same-requires-clause-second_in
 same-requires-clause-second_in c =
@@ -43,16 +43,16 @@ same-requires-clause-second_in c =
     let g = c.loop-p.invariant.0 in
     let is = read_at p proofs proofs i (length proofs) c.p-item.is refl c.loop-p-test.true refl in
     let p_in = subst (IsIn os) (sym is) (c.requires.sorted.within (get_or proofs i 0) (IsAmong-at proofs i c.loop-p-test.true)) in
-    IsIn-grows os new p g p_in
+    IsIn-Grows os new g p p_in
 
 pub decide-requires-clause-marks : goal.decide-requires-clause-marks
 decide-requires-clause-marks c = (c.requires.marks.0, AreMarks-grows c.requires.marks.0 c.args.heap.now c.loop-p.heap c.args.marks.now c.loop-p.invariant.0 c.requires.marks.1)
 
 pub decide-requires-clause-axioms : goal.decide-requires-clause-axioms
-decide-requires-clause-axioms c = All-map (IsIn c.args.heap.now) (IsIn c.loop-p.heap) c.args.axioms.now (λ r. IsIn-grows c.args.heap.now c.loop-p.heap r c.loop-p.invariant.0) c.requires.axioms
+decide-requires-clause-axioms c = All-map (IsIn c.args.heap.now) (IsIn c.loop-p.heap) c.args.axioms.now (λ r. IsIn-Grows c.args.heap.now c.loop-p.heap c.loop-p.invariant.0 r) c.requires.axioms
 
 pub decide-requires-clause-theorems : goal.decide-requires-clause-theorems
-decide-requires-clause-theorems c = All-map (IsIn c.args.heap.now) (IsIn c.loop-p.heap) c.args.theorems.now (λ r. IsIn-grows c.args.heap.now c.loop-p.heap r c.loop-p.invariant.0) c.requires.theorems
+decide-requires-clause-theorems c = All-map (IsIn c.args.heap.now) (IsIn c.loop-p.heap) c.args.theorems.now (λ r. IsIn-Grows c.args.heap.now c.loop-p.heap c.loop-p.invariant.0 r) c.requires.theorems
 
 pub decide-requires-clause-within : goal.decide-requires-clause-within
 decide-requires-clause-within c =
@@ -111,7 +111,7 @@ loop-p-preserved c = (
       let b = basis os A ax th P in
       let d = c.loop-p.invariant.1 A k in
       let answer : c.in_ok-decide.field-0 ≡ is_proof_on b (object_at os p) =
-      c.in_ok-decide.ensures.answer A (AreMarks-grows A os new c.args.marks.now g k) ∙ (ap (λ e. is_proof_on e (object_at new p)) (basis-grows os new g A ax th P c.requires.axioms c.requires.theorems) ∙ ap (is_proof_on b) (object_at-grows os new p g p_in)) in
+      c.in_ok-decide.ensures.answer A (AreMarks-grows A os new c.args.marks.now g k) ∙ (ap (λ e. is_proof_on e (object_at new p)) (basis-grows os new g A ax th P c.requires.axioms c.requires.theorems) ∙ ap (is_proof_on b) (object_at-Grows os new g p p_in)) in
       elim c.if-branch.branch [
         | then-branch+in_ok-insert w ↦ subst (λ s. AreDecided b os (take (i + 1) proofs) s.keys) (sym w.good-is) (decided-good b os proofs c.loop-p.good.keys i p c.loop-p-test.true is d w.insert.new.self.keys (sym answer ∙ w.if-branch.true) w.in_ok-insert.ensures.updates.0)
         | else-branch w ↦ subst (λ s. AreDecided b os (take (i + 1) proofs) s.keys) (sym w.good-is) (decided-bad b os proofs c.loop-p.good.keys i p c.loop-p-test.true is d (sym answer ∙ w.if-branch.false))

@@ -3,7 +3,7 @@ use Rattle.std.proofs.Common.{◌≡◌, true, Some, sym, ap, ◌∙◌, subst, 
 use Rattle.mw_model.specs.Rules.{is_formula_object}
 use Rattle.mw_heap.specs.Objects.{object_at}
 use Rattle.mw_heap.specs.Variants.{profile_of}
-use Rattle.mw_heap.proofs.Kept.{Grows-refl}
+use Rattle.mw_heap.proofs.Objects.{Grows-refl}
 use Rattle.mw_proof.specs.Step.{rule_holds}
 use Rattle.mw_proof.specs.Known.{known_object}
 use Rattle.mw_proof.specs.Methods.{method_of_logic}
