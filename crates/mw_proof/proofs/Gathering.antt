@@ -1,0 +1,137 @@
+-- Gathering the proofs below a proof.
+use Rattle.std.proofs.Common.{◌≡◌, ℕ, suc, ◌+◌, ◌==◌, ◌<◌, ◌≤◌, Bool, true, false, List, [], ◌∷◌, ◌++◌, length, length-append, get_or, cond, eqb, if◌then◌else◌, append_assoc, append-nil, refl, sym, ap, ◌∙◌, subst, arith, ◌⊎◌, inl, inr}
+use Rattle.std.specs.List.{list_any, IsDistinct}
+use Rattle.std.proofs.lemmas.Bool.{cases_lt, or_left, or_cases, eqb-true, eq-eqb}
+use Rattle.std.proofs.lemmas.List.Folds.{list_any-append, list_any_at}
+use Rattle.std.proofs.lemmas.Map.Steps.{length-le_from_distinct_below}
+use Rattle.std.proofs.Math.ListN.{get_or-append}
+use Rattle.std.proofs.lemmas.List.{get_or_read_under}
+use Rattle.mw_model.specs.Object.{Object, Natural, Symbol, Pair}
+use Rattle.mw_model.specs.Primitive.{is_symbol}
+use Rattle.mw_heap.specs.Objects.{object_at, IsIn, Shows}
+use Rattle.mw_heap.specs.declared.view.View.{View}
+use Rattle.mw_heap.specs.declared.view.View.TheVariants.{Nat, Symbol as Word, Pair as Parts}
+use Rattle.mw_proof.specs.Step.{subproofs_of}
+use Rattle.mw_proof.proofs.Counted.{keys_more}
+use Rattle.mw_proof.specs.Gathered.{IsAmong, AreIn, HasMembers, HasSubproofs, AddsSubproofs, AreGathered}
+
+pub IsAmong-append : (keys more : List ℕ) (x : ℕ) → IsAmong keys x → IsAmong (keys ++ more) x
+IsAmong-append keys more x h = list_any-append (λ y. x == y) keys more ∙ or_left (list_any (λ y. x == y) keys) (list_any (λ y. x == y) more) h
+
+pub HasMembers-append : (os : List Object) (keys more : List ℕ) (n : ℕ) (x : Object) → HasMembers os keys n x → HasMembers os (keys ++ more) n x
+HasMembers-append os keys more n (Pair a r) h = ((h.0.0, h.0.1, IsAmong-append keys more h.0.0 h.0.2, h.0.3), HasMembers-append os keys more n r h.1)
+HasMembers-append os keys more n (Natural m) h = tt
+HasMembers-append os keys more n (Symbol s) h = tt
+
+-- the walk along a list: what is yet to be held
+pub record Walks (os : List Object) (old keys : List ℕ) (n list rest : ℕ) : Type 0 where
+  pub more : List ℕ
+  pub longer : keys ≡ old ++ more
+  pub within : AreIn os keys
+  pub rest_within : IsIn os rest
+  pub rest_before : rest < n
+  pub held : (later : List ℕ) → HasMembers os (keys ++ later) n (object_at os rest) → HasMembers os (keys ++ later) n (object_at os list)
+
+module _ (os : List Object) (old : List ℕ) (n list : ℕ) where
+  pub walk_starts : AreIn os old → IsIn os list → list < n → Walks os old old n list list
+  walk_starts within here before = record { more = []; longer = sym (append-nil old); within = within; rest_within = here; rest_before = before; held = λ later h. h }
+
+  module _ (keys : List ℕ) (rest : ℕ) (w : Walks os old keys n list rest) where
+    pub walk_goes_on : (q r : ℕ) (new : List ℕ) (b : Bool) → IsIn os q × IsIn os r × (object_at os rest ≡ Pair (object_at os q) (object_at os r)) → (q < rest) × (r < rest) → new ≡ (if b then keys else keys ++ q ∷ []) → list_any (λ y. q == y) new ≡ true → ((x : ℕ) → list_any (λ y. x == y) new ≡ cond (q == x) true (list_any (λ y. x == y) keys)) → Walks os old new n list r
+    walk_goes_on q r new b shows older inserted here says =
+        let m = keys_more b keys q in
+        let longer : new ≡ keys ++ m.0 = inserted ∙ m.1 in
+        record {
+          more = w.more ++ m.0;
+          longer = longer ∙ (ap (λ k. k ++ m.0) w.longer ∙ append_assoc old w.more m.0);
+          within = λ x h. inside x (q == x) refl (sym (says x) ∙ h);
+          rest_within = shows.1;
+          rest_before = omega (arith, older, w.rest_before);
+          held = λ later h. subst (λ k. HasMembers os k n (object_at os list)) (sym (whole m.0 longer later)) (w.held (m.0 ++ later) (subst (λ k. HasMembers os k n (object_at os rest)) (whole m.0 longer later) (subst (HasMembers os (new ++ later) n) (sym shows.2) ((q, refl, IsAmong-append new later q here, below older), h))));
+        }
+      where
+        below : (q < rest) × (r < rest) → q < n
+        below o = omega (arith, o, w.rest_before)
+
+        whole : (more : List ℕ) → new ≡ keys ++ more → (later : List ℕ) → new ++ later ≡ keys ++ (more ++ later)
+        whole more e later = ap (λ k. k ++ later) e ∙ append_assoc keys more later
+
+        inside : (x : ℕ) (t : Bool) → (q == x) ≡ t → cond (q == x) true (list_any (λ y. x == y) keys) ≡ true → IsIn os x
+        inside x true e h = subst (IsIn os) (eqb-true q x e) shows.0
+        inside x false e h = w.within x (sym (ap (λ s. cond s true (list_any (λ y. x == y) keys)) e) ∙ h)
+
+    pub walk_ends : HasMembers os keys n (object_at os rest) → HasMembers os keys n (object_at os list)
+    walk_ends h = subst (λ k. HasMembers os k n (object_at os list)) (append-nil keys) (w.held [] (subst (λ k. HasMembers os k n (object_at os rest)) (sym (append-nil keys)) h))
+
+-- what is no pair has no members
+pub HasMembers-symbol : (os : List Object) (keys : List ℕ) (n : ℕ) (x : Object) → is_symbol x ≡ true → HasMembers os keys n x
+HasMembers-symbol os keys n (Natural m) h = cc
+HasMembers-symbol os keys n (Symbol s) h = tt
+HasMembers-symbol os keys n (Pair a b) h = cc
+
+pub HasMembers-shown : (os : List Object) (keys : List ℕ) (n : ℕ) (x : Object) (v : View) → Shows os v x → ((a b : ℕ) → v ≡ Parts a b → ⊥) → HasMembers os keys n x
+HasMembers-shown os keys n x (Nat m) h bad = subst (HasMembers os keys n) (sym h) tt
+HasMembers-shown os keys n x Word h bad = HasMembers-symbol os keys n x h
+HasMembers-shown os keys n x (Parts a b) h bad = absurd (bad a b refl)
+
+pub adds : (os : List Object) (old keys : List ℕ) (list rest p : ℕ) → Walks os old keys p list rest → HasMembers os keys p (object_at os rest) → object_at os list ≡ subproofs_of (object_at os p) → AddsSubproofs os p old keys
+adds os old keys list rest p w ends is =
+    record { more = w.more; longer = w.longer; within = w.within; held = λ shape. subst (HasMembers os keys p) is (walk_ends os old p list keys rest w ends) }
+
+-- places in a list
+pub read_at : (x : ℕ) (xs keys : List ℕ) (i n : ℕ) → x ≡ get_or xs i x → xs ≡ keys → i < n → n ≡ length keys → x ≡ get_or keys i 0
+read_at x xs keys i n e same l len = get_or_read_under keys i n x 0 (e ∙ ap (λ k. get_or k i x) same) l len
+
+pub IsAmong-at : (keys : List ℕ) (i : ℕ) → i < length keys → IsAmong keys (get_or keys i 0)
+IsAmong-at keys i l = list_any_at (λ y. get_or keys i 0 == y) keys i 0 l (eq-eqb (get_or keys i 0) (get_or keys i 0) refl)
+
+pub place : (keys : List ℕ) (x : ℕ) → IsAmong keys x → (i : ℕ) × (i < length keys) × (get_or keys i 0 ≡ x)
+place [] x h = cc
+place (y ∷ keys) x h = go (or_cases (x == y) (list_any (λ z. x == z) keys) h) (place keys x)
+  where
+    go : ((x == y) ≡ true) ⊎ IsAmong keys x → (IsAmong keys x → (i : ℕ) × (i < length keys) × (get_or keys i 0 ≡ x)) → (i : ℕ) × (i < length (y ∷ keys)) × (get_or (y ∷ keys) i 0 ≡ x)
+    go (inl e) ih = (0, omega arith, sym (eqb-true x y e))
+    go (inr k) ih = let p = ih k in (suc p.0, omega (arith, p.1), p.2)
+
+-- the proofs up to the next one have their subproofs among all
+pub record Gathers (os : List Object) (keys : List ℕ) (proof next : ℕ) : Type 0 where
+  pub here : IsAmong keys proof
+  pub within : AreIn os keys
+  pub next_within : next ≤ length keys
+  pub held : (i : ℕ) → i < next → HasSubproofs os keys (get_or keys i 0)
+
+module _ (os : List Object) (keys : List ℕ) (proof next : ℕ) (g : Gathers os keys proof next) where
+  pub next_in : next < length keys → IsIn os (get_or keys next 0)
+  next_in l = g.within (get_or keys next 0) (IsAmong-at keys next l)
+
+  -- there are no more of them than objects
+  pub few : IsDistinct eqb keys → length keys ≤ length os
+  few distinct = length-le_from_distinct_below keys (length os) distinct g.within
+
+  pub gathers_more : (new : List ℕ) → next < length keys → AddsSubproofs os (get_or keys next 0) keys new → Gathers os new proof (next + 1)
+  gathers_more new l a = record {
+    here = subst (λ k. IsAmong k proof) (sym a.longer) (IsAmong-append keys a.more proof g.here);
+    within = a.within;
+    next_within = omega (arith, l, ap length a.longer, length-append keys a.more);
+    held = λ i h. go i (cases_lt i next) h;
+  }
+    where
+      same : (i : ℕ) → i < length keys → get_or keys i 0 ≡ get_or new i 0
+      same i k = sym (ap (λ ks. get_or ks i 0) a.longer ∙ get_or-append keys a.more 0 i k)
+
+      kept : (p : ℕ) → HasSubproofs os keys p → HasSubproofs os new p
+      kept p h shape = subst (λ k. HasMembers os k p (subproofs_of (object_at os p))) (sym a.longer) (HasMembers-append os keys a.more p (subproofs_of (object_at os p)) (h shape))
+
+      go : (i : ℕ) → (i < next) ⊎ (next ≤ i) → i < next + 1 → HasSubproofs os new (get_or new i 0)
+      go i (inl k) h = subst (HasSubproofs os new) (same i (omega arith)) (kept (get_or keys i 0) (g.held i k))
+      go i (inr k) h =
+          let e : next ≡ i = omega arith in
+          let e' : get_or keys next 0 ≡ get_or new i 0 = same next l ∙ ap (λ j. get_or new j 0) e in
+          subst (HasSubproofs os new) e' a.held
+
+  pub gathered : length keys ≤ next → AreGathered os keys proof
+  gathered l = record {
+    here = g.here;
+    within = g.within;
+    held = λ p h. let q = place keys p h in subst (HasSubproofs os keys) q.2 (g.held q.0 (omega (arith, q.1, l)));
+  }

@@ -1,0 +1,142 @@
+-- Judging is a local test: an object is a proof exactly where its parts, its subproofs and its step are as they should be.
+use Rattle.std.proofs.Common.{◌≡◌, Bool, true, false, ◌&&◌, ◌||◌, cond, List, [], ◌∷◌, Option, Some, None, refl, sym, ap, ap₂, ◌∙◌, subst}
+use Rattle.std.proofs.lemmas.Bool.{and_parts, and_right}
+use Rattle.mw_model.specs.Object.{Object, Natural, Symbol, Pair, same_name, same_object, nil_name, NIL, car, second_of, has_members, is_member}
+use Rattle.mw_model.specs.Term.{Formula, formula_object, ArityTable, is_formula, IsFormula}
+use Rattle.mw_model.specs.Reading.{formula_of, and_more, that, when}
+use Rattle.mw_model.specs.Primitive.{Profile}
+use Rattle.mw_model.specs.Definition.{is_present}
+use Rattle.mw_model.specs.Truth.{Each}
+use Rattle.mw_model.specs.Proof.{Method, Axiom, Theorem, PropositionalSchema, FunctionalEquality, BetaReduction, BaseEval, Expansion, Contraction, Associativity, Cut, Instantiation, Induction}
+use Rattle.mw_model.specs.Judgment.{methods, method_among, is_expansion, is_contraction, is_associativity, is_cut, is_instance, of_none, of_one, of_two, follows, judge_step, judge, judge_each}
+use Rattle.mw_model.specs.Substitution.{substitution_of}
+use Rattle.mw_model.specs.Rules.{is_formula_object, object_is_expansion, object_is_contraction, object_is_associativity, object_is_cut, object_is_instance}
+use Rattle.mw_model.specs.RulesInduction.{formulas_object}
+use Rattle.mw_model.proofs.Readable.{formula_readable}
+use Rattle.mw_model.proofs.ReadBack.{when_some, some_one, cond_some, and_more-back, formula_back}
+use Rattle.mw_model.proofs.RulesExact.{object_is_schema-exact, object_is_beta-exact, object_is_expansion-exact, object_is_contraction-exact, object_is_associativity-exact, object_is_cut-exact, object_is_instance-exact}
+use Rattle.mw_model.proofs.EqualityExact.{object_is_functional_equality-exact}
+use Rattle.mw_model.proofs.BaseEvalExact.{object_is_base_eval-exact}
+use Rattle.mw_model.proofs.InductionExact.{object_is_induction-exact}
+use Rattle.mw_proof.specs.Step.{subproofs_of, conclusions_object, rule_holds, is_proof, are_proofs, is_step}
+
+-- no subproof, one, two
+of_none-is : (test : Bool) (Fs : List Formula) → (has_members 0 (formulas_object Fs) && test) ≡ of_none test Fs
+of_none-is test [] = refl
+of_none-is test (F ∷ Fs) = refl
+
+of_one-is : (A : ArityTable) (test : Formula → Bool) (object_test : Object → Bool) → ((F : Formula) → IsFormula A F → object_test (formula_object F) ≡ test F) → (Fs : List Formula) → Each (IsFormula A) Fs → (has_members 1 (formulas_object Fs) && object_test (car (formulas_object Fs))) ≡ of_one test Fs
+of_one-is A test object_test e [] i = refl
+of_one-is A test object_test e (F ∷ []) i = e F i.0
+of_one-is A test object_test e (F ∷ G ∷ Fs) i = refl
+
+of_two-is : (A : ArityTable) (test : Formula → Formula → Bool) (object_test : Object → Object → Bool) → ((F G : Formula) → IsFormula A F → IsFormula A G → object_test (formula_object F) (formula_object G) ≡ test F G) → (Fs : List Formula) → Each (IsFormula A) Fs → (has_members 2 (formulas_object Fs) && object_test (car (formulas_object Fs)) (second_of (formulas_object Fs))) ≡ of_two test Fs
+of_two-is A test object_test e [] i = refl
+of_two-is A test object_test e (F ∷ []) i = refl
+of_two-is A test object_test e (F ∷ G ∷ []) i = e F G i.0 i.1.0
+of_two-is A test object_test e (F ∷ G ∷ H ∷ Fs) i = refl
+
+module _ (ax th : Object) (A : ArityTable) (P : Profile) where
+  -- the rule on objects is the table of methods
+  pub rule_holds-is : (m : Method) (F : Formula) (Fs : List Formula) (x : Object) → IsFormula A F → Each (IsFormula A) Fs → rule_holds ax th A P (Some m) (formula_object F) (formulas_object Fs) x ≡ follows ax th A P m F Fs x
+  rule_holds-is Axiom F Fs x i j = ap (λ b. same_object x NIL && b) (of_none-is (is_member (formula_object F) ax) Fs)
+  rule_holds-is Theorem F Fs x i j = ap (λ b. same_object x NIL && b) (of_none-is (is_member (formula_object F) th) Fs)
+  rule_holds-is PropositionalSchema F Fs x i j = ap (λ b. same_object x NIL && b) (ap (λ t. has_members 0 (formulas_object Fs) && t) (object_is_schema-exact F (formula_readable A F i)) ∙ of_none-is _ Fs)
+  rule_holds-is FunctionalEquality F Fs x i j = ap (λ b. same_object x NIL && b) (ap (λ t. has_members 0 (formulas_object Fs) && t) (object_is_functional_equality-exact A F i) ∙ of_none-is _ Fs)
+  rule_holds-is BetaReduction F Fs x i j = ap (λ b. same_object x NIL && b) (ap (λ t. has_members 0 (formulas_object Fs) && t) (object_is_beta-exact F (formula_readable A F i)) ∙ of_none-is _ Fs)
+  rule_holds-is BaseEval F Fs x i j = ap (λ b. same_object x NIL && b) (ap (λ t. has_members 0 (formulas_object Fs) && t) (object_is_base_eval-exact P F (formula_readable A F i)) ∙ of_none-is _ Fs)
+  rule_holds-is Expansion F Fs x i j = ap (λ b. same_object x NIL && b) (of_one-is A (is_expansion F) (object_is_expansion (formula_object F)) (λ G k. object_is_expansion-exact F G (formula_readable A F i) (formula_readable A G k)) Fs j)
+  rule_holds-is Contraction F Fs x i j = ap (λ b. same_object x NIL && b) (of_one-is A (is_contraction F) (object_is_contraction (formula_object F)) (λ G k. object_is_contraction-exact F G (formula_readable A F i) (formula_readable A G k)) Fs j)
+  rule_holds-is Associativity F Fs x i j = ap (λ b. same_object x NIL && b) (of_one-is A (is_associativity F) (object_is_associativity (formula_object F)) (λ G k. object_is_associativity-exact F G (formula_readable A F i) (formula_readable A G k)) Fs j)
+  rule_holds-is Cut F Fs x i j = ap (λ b. same_object x NIL && b) (of_two-is A (is_cut F) (object_is_cut (formula_object F)) (λ G H k l. object_is_cut-exact F G H (formula_readable A F i) (formula_readable A G k) (formula_readable A H l)) Fs j)
+  rule_holds-is Instantiation F Fs x i j = of_one-is A (λ G. is_instance A F G (substitution_of x)) (λ g. object_is_instance A (formula_object F) g x) (λ G k. object_is_instance-exact A F G i k x) Fs j
+  rule_holds-is Induction F Fs x i j = object_is_induction-exact A F Fs x i j
+
+  -- what judging answers stands in the object
+  step_conclusion : (om : Option Method) (c : Object) (oFs : Option (List Formula)) (x : Object) (F : Formula) → judge_step ax th A P om (formula_of c) oFs x ≡ Some F → (formula_object F ≡ c) × IsFormula A F
+  step_conclusion om c oFs x F h = go om (formula_of c) refl oFs h
+    where
+      go : (m : Option Method) (o : Option Formula) → formula_of c ≡ o → (fs : Option (List Formula)) → judge_step ax th A P m o fs x ≡ Some F → (formula_object F ≡ c) × IsFormula A F
+      go None o e fs k = cc
+      go (Some m) None e fs k = cc
+      go (Some m) (Some G) e None k = cc
+      go (Some m) (Some G) e (Some Gs) k =
+          let p = when_some (is_formula A G && follows ax th A P m G Gs x) (Some G) F k in
+          let q : G ≡ F = some_one p.1 in
+          (formula_back c F (e ∙ ap Some q), subst (IsFormula A) q (and_parts (is_formula A G) (follows ax th A P m G Gs x) p.0).0)
+
+  pub judge-conclusion : (p : Object) (F : Formula) → judge ax th A P p ≡ Some F → (formula_object F ≡ second_of p) × IsFormula A F
+  judge-conclusion (Pair m (Pair c (Pair ps (Pair x z)))) F h =
+      step_conclusion (method_among methods m) c (judge_each ax th A P ps) x F (when_some (same_object z NIL) _ F h).1
+  judge-conclusion (Pair m (Pair c (Pair ps (Symbol s)))) F h =
+      step_conclusion (method_among methods m) c (judge_each ax th A P ps) NIL F (when_some (same_name s nil_name) _ F h).1
+  judge-conclusion (Pair m (Pair c (Symbol s))) F h = step_conclusion (method_among methods m) c (Some []) NIL F (when_some (same_name s nil_name) _ F h).1
+  judge-conclusion (Pair m (Pair c (Pair ps (Natural n)))) F h = cc
+  judge-conclusion (Pair m (Pair c (Natural n))) F h = cc
+  judge-conclusion (Pair m (Natural n)) F h = cc
+  judge-conclusion (Pair m (Symbol n)) F h = cc
+  judge-conclusion (Natural n) F h = cc
+  judge-conclusion (Symbol n) F h = cc
+
+  pub judge_each-conclusions : (ps : Object) (Fs : List Formula) → judge_each ax th A P ps ≡ Some Fs → (formulas_object Fs ≡ conclusions_object ps) × Each (IsFormula A) Fs
+  judge_each-conclusions (Pair p ps) Fs h =
+      let q = and_more-back (judge ax th A P p) (judge_each ax th A P ps) Fs h in
+      let first = judge-conclusion p q.0 q.2 in
+      let rest = judge_each-conclusions ps q.1 q.3 in
+      (ap formulas_object q.4 ∙ ap₂ Pair first.0 rest.0, subst (Each (IsFormula A)) (sym q.4) (first.1, rest.1))
+  judge_each-conclusions (Symbol s) Fs h = let q : [] ≡ Fs = some_one (cond_some (same_name s nil_name) (Some []) Fs h).1 in (ap formulas_object (sym q), subst (Each (IsFormula A)) q tt)
+  judge_each-conclusions (Natural n) Fs h = cc
+
+  present-and_more : {X : Type 0} (o : Option X) (p : Option (List X)) → is_present (and_more o p) ≡ (is_present o && is_present p)
+  present-and_more None p = refl
+  present-and_more (Some x) None = refl
+  present-and_more (Some x) (Some xs) = refl
+
+  pub are_proofs-is : (ps : Object) → is_present (judge_each ax th A P ps) ≡ are_proofs ax th A P ps
+  are_proofs-is (Pair p ps) = present-and_more (judge ax th A P p) (judge_each ax th A P ps) ∙ ap (λ b. is_proof ax th A P p && b) (are_proofs-is ps)
+  are_proofs-is (Natural n) = refl
+  are_proofs-is (Symbol s) = elim (same_name s nil_name) as (λ b. is_present {X = List Formula} (cond b (Some []) None) ≡ b) [ true ↦ refl | false ↦ refl ]
+
+  and-false : (a b : Bool) → (a && (b && false)) ≡ false
+  and-false true true = refl
+  and-false true false = refl
+  and-false false b = refl
+
+  both_tests : {X : Type 0} (F : X) (f w p r : Bool) → p ≡ true → (f ≡ true → w ≡ r) → is_present (when (f && w) (Some F)) ≡ (is_present (when f (Some F)) && (p && r))
+  both_tests F false w p r e k = refl
+  both_tests F true true true r e k = k refl
+  both_tests F true false true r e k = k refl
+  both_tests F true w false r e k = cc
+
+  -- a step, where what the conclusion and the subproofs stand for are named
+  step_named : (om : Option Method) (c cs : Object) (ps : Bool) (x : Object) (o : Option Formula) → ((F : Formula) → o ≡ Some F → formula_object F ≡ c) → (fs : Option (List Formula)) → is_present fs ≡ ps → ((Fs : List Formula) → fs ≡ Some Fs → (formulas_object Fs ≡ cs) × Each (IsFormula A) Fs) → is_present (judge_step ax th A P om o fs x) ≡ (is_present (that (is_formula A) o) && (ps && rule_holds ax th A P om c cs x))
+  step_named None c cs ps x o e fs q r = sym (and-false (is_present (that (is_formula A) o)) ps)
+  step_named (Some m) c cs ps x None e fs q r = refl
+  step_named (Some m) c cs ps x (Some F) e None q r =
+      sym (ap (λ b. is_present (when (is_formula A F) (Some F)) && (b && rule_holds ax th A P (Some m) c cs x)) (sym q) ∙ and_right (is_present (when (is_formula A F) (Some F))) false refl)
+  step_named (Some m) c cs ps x (Some F) e (Some Fs) q r =
+      let parts = r Fs refl in
+      both_tests F (is_formula A F) (follows ax th A P m F Fs x) ps (rule_holds ax th A P (Some m) c cs x) (sym q) (λ i. sym (ap₂ (λ y ys. rule_holds ax th A P (Some m) y ys x) (sym (e F refl)) (sym parts.0) ∙ rule_holds-is m F Fs x i parts.1))
+
+  judge_step-is : (m c ps x : Object) → is_present (judge_step ax th A P (method_among methods m) (formula_of c) (judge_each ax th A P ps) x) ≡ (is_formula_object A c && (are_proofs ax th A P ps && rule_holds ax th A P (method_among methods m) c (conclusions_object ps) x))
+  judge_step-is m c ps x = step_named (method_among methods m) c (conclusions_object ps) (are_proofs ax th A P ps) x (formula_of c) (formula_back c) (judge_each ax th A P ps) (are_proofs-is ps) (judge_each-conclusions ps)
+
+  present-when : {X : Type 0} (b : Bool) (o : Option X) (t : Bool) → is_present o ≡ t → is_present (when b o) ≡ (b && t)
+  present-when true o t e = e
+  present-when false o t e = refl
+
+  present-shape : {X : Type 0} (b : Bool) (o : Option X) (t : Bool) → is_present o ≡ t → is_present (when b o) ≡ ((b || false) && t)
+  present-shape true o t e = e
+  present-shape false o t e = refl
+
+  -- an object is a proof exactly where it has the shape of one, its conclusion is a formula, its subproofs are proofs and its step holds
+  pub is_proof-step : (p : Object) → is_proof ax th A P p ≡ is_step ax th A P p (are_proofs ax th A P (subproofs_of p))
+  is_proof-step (Pair m (Pair c (Pair ps (Pair x z)))) = present-when (same_object z NIL) _ _ (judge_step-is m c ps x)
+  is_proof-step (Pair m (Pair c (Pair ps (Symbol s)))) = present-shape (same_name s nil_name) _ _ (judge_step-is m c ps NIL)
+  is_proof-step (Pair m (Pair c (Symbol s))) = present-shape (same_name s nil_name) _ _ (judge_step-is m c NIL NIL)
+  is_proof-step (Pair m (Pair c (Pair ps (Natural n)))) = refl
+  is_proof-step (Pair m (Pair c (Natural n))) = refl
+  is_proof-step (Pair m (Natural n)) = refl
+  is_proof-step (Pair m (Symbol n)) = refl
+  is_proof-step (Natural n) = refl
+  is_proof-step (Symbol n) = refl

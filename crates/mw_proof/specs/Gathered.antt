@@ -1,0 +1,34 @@
+-- The proofs below a proof, as references.
+use Rattle.std.specs.Prelude.{◌≡◌, ℕ, ◌<◌, ◌==◌, true, List, ◌++◌}
+use Rattle.std.specs.List.{list_any}
+use Rattle.mw_model.specs.Object.{Object, Natural, Symbol, Pair}
+use Rattle.mw_heap.specs.Objects.{object_at, IsIn}
+use Rattle.mw_proof.specs.Step.{has_proof_shape, subproofs_of}
+
+-- x is among the references
+abbrev pub IsAmong : List ℕ → ℕ → Type 0
+IsAmong keys x = list_any (λ y. x == y) keys ≡ true
+
+abbrev pub AreIn : List Object → List ℕ → Type 0
+AreIn os keys = (x : ℕ) → IsAmong keys x → IsIn os x
+
+-- each member of the list x is the object of one among the references that is below n
+abbrev pub HasMembers : List Object → List ℕ → ℕ → Object → Type 0
+HasMembers os keys n (Pair a r) = ((q : ℕ) × (object_at os q ≡ a) × IsAmong keys q × (q < n)) × HasMembers os keys n r
+HasMembers os keys n (Natural m) = Unit {0}
+HasMembers os keys n (Symbol s) = Unit {0}
+
+-- the subproofs of p, if it has the shape of a proof, are among the references, before it
+abbrev pub HasSubproofs : List Object → List ℕ → ℕ → Type 0
+HasSubproofs os keys p = has_proof_shape (object_at os p) ≡ true → HasMembers os keys p (subproofs_of (object_at os p))
+
+pub record AddsSubproofs (os : List Object) (p : ℕ) (old new : List ℕ) : Type 0 where
+  pub more : List ℕ
+  pub longer : new ≡ old ++ more
+  pub within : AreIn os new
+  pub held : HasSubproofs os new p
+
+pub record AreGathered (os : List Object) (keys : List ℕ) (proof : ℕ) : Type 0 where
+  pub here : IsAmong keys proof
+  pub within : AreIn os keys
+  pub held : (p : ℕ) → IsAmong keys p → HasSubproofs os keys p

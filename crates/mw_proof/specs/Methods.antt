@@ -1,0 +1,25 @@
+-- The methods of the code are those of the logic.
+use Rattle.std.specs.Prelude.{ℕ, cond, List, [], ◌∷◌, Option, Some, None}
+use Rattle.mw_model.specs.Object.{same_bytes}
+use Rattle.mw_model.specs.Proof as logic
+use Rattle.mw_proof.specs.declared.method.Method.{Method}
+use Rattle.mw_proof.specs.declared.method.Method.TheVariants.{Axiom, Theorem, PropositionalSchema, FunctionalEquality, BetaReduction, BaseEval, Expansion, Contraction, Associativity, Cut, Instantiation, Induction}
+
+abbrev pub method_of_logic : Method → logic.Method
+method_of_logic Axiom = logic.Axiom
+method_of_logic Theorem = logic.Theorem
+method_of_logic PropositionalSchema = logic.PropositionalSchema
+method_of_logic FunctionalEquality = logic.FunctionalEquality
+method_of_logic BetaReduction = logic.BetaReduction
+method_of_logic BaseEval = logic.BaseEval
+method_of_logic Expansion = logic.Expansion
+method_of_logic Contraction = logic.Contraction
+method_of_logic Associativity = logic.Associativity
+method_of_logic Cut = logic.Cut
+method_of_logic Instantiation = logic.Instantiation
+method_of_logic Induction = logic.Induction
+
+-- the method of this name
+abbrev pub method_of_bytes : List logic.Method → List ℕ → Option logic.Method
+method_of_bytes [] bytes = None
+method_of_bytes (m ∷ ms) bytes = cond (same_bytes (logic.method_name m).bytes bytes) (Some m) (method_of_bytes ms bytes)
