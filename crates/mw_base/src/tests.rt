@@ -14,34 +14,33 @@ fn is_in(heap: &Heap, x: Ref) -> bool
     x.index() < heap.mark().cells()
 }
 
-fn one(heap: &mut Heap, p: Primitive, a: Ref) -> Applied
+// Whether the value at one argument is v.
+fn one(heap: &mut Heap, p: Primitive, a: Ref, v: Ref) -> bool
     requires { arity p ≡ 1 }
 {
-    if is_in(heap, a) {
-        apply(heap, p, &[a])
-    } else {
-        Applied::Memory
-    }
+    is_in(heap, a) && apply(heap, p, &[a]) == Applied::Value(v)
 }
 
-fn two(heap: &mut Heap, p: Primitive, a: Ref, b: Ref) -> Applied
+// Whether the value at two arguments is v.
+fn two(heap: &mut Heap, p: Primitive, a: Ref, b: Ref, v: Ref) -> bool
     requires { arity p ≡ 2 }
 {
-    if is_in(heap, a) && is_in(heap, b) {
-        apply(heap, p, &[a, b])
-    } else {
-        Applied::Memory
-    }
+    is_in(heap, a) && is_in(heap, b) && apply(heap, p, &[a, b]) == Applied::Value(v)
 }
 
-fn three(heap: &mut Heap, p: Primitive, a: Ref, b: Ref, c: Ref) -> Applied
-    requires { arity p ≡ 3 }
+// Whether there is no value at two arguments, since it would be too large.
+fn overflows(heap: &mut Heap, p: Primitive, a: Ref, b: Ref) -> bool
+    requires { arity p ≡ 2 }
 {
-    if is_in(heap, a) && is_in(heap, b) && is_in(heap, c) {
-        apply(heap, p, &[a, b, c])
-    } else {
-        Applied::Memory
-    }
+    is_in(heap, a) && is_in(heap, b) && apply(heap, p, &[a, b]) == Applied::Overflow
+}
+
+// Whether IF chooses v.
+fn chooses(heap: &mut Heap, a: Ref, b: Ref, c: Ref, v: Ref) -> bool {
+    is_in(heap, a)
+        && is_in(heap, b)
+        && is_in(heap, c)
+        && apply(heap, Primitive::If, &[a, b, c]) == Applied::Value(v)
 }
 
 fn pair(heap: &mut Heap, first: Ref, second: Ref) -> Result<Ref, Memory> {
@@ -65,51 +64,84 @@ fn form(heap: &mut Heap, head: &[u8], parts: &[Ref]) -> Result<Ref, Memory>
 }
 
 #[test]
-fn primitives_have_their_values(rt: HostRuntime) -> Result<(), Fail> {
+fn parts_of_a_pair(rt: HostRuntime) -> Result<(), Fail> {
+    let heap = &mut Heap::new(rt.alloc())?;
+    let nil = heap.symbol(b"NIL")?;
+    let a = heap.nat(2)?;
+    let pair = pair(heap, a, nil)?;
+    assert!(rt; two(heap, Primitive::Cons, a, nil, pair));
+    assert!(rt; one(heap, Primitive::Car, pair, a));
+    assert!(rt; one(heap, Primitive::Cdr, pair, nil));
+    assert!(rt; one(heap, Primitive::Consp, a, nil));
+    Ok(())
+}
+
+#[test]
+fn symbols_and_equality(rt: HostRuntime) -> Result<(), Fail> {
     let heap = &mut Heap::new(rt.alloc())?;
     let t = heap.symbol(b"T")?;
     let nil = heap.symbol(b"NIL")?;
-    let a = heap.nat(2)?;
-    let b = heap.nat(3)?;
-    let most = heap.nat(u128::MAX)?;
-    let ab = pair(heap, a, b)?;
-    assert_eq!(rt; three(heap, Primitive::If, nil, a, b), Applied::Value(b));
-    assert_eq!(rt; two(heap, Primitive::Equal, a, a), Applied::Value(t));
-    assert_eq!(rt; one(heap, Primitive::Consp, a), Applied::Value(nil));
-    assert_eq!(rt; two(heap, Primitive::Cons, a, b), Applied::Value(ab));
-    assert_eq!(rt; one(heap, Primitive::Car, ab), Applied::Value(a));
-    assert_eq!(rt; one(heap, Primitive::Cdr, a), Applied::Value(nil));
-    assert_eq!(rt; one(heap, Primitive::Symbolp, t), Applied::Value(t));
-    assert_eq!(rt; two(heap, Primitive::SymbolLess, nil, t), Applied::Value(t));
-    assert_eq!(rt; one(heap, Primitive::Natp, ab), Applied::Value(nil));
-    assert_eq!(rt; two(heap, Primitive::Less, t, b), Applied::Value(t));
-    let five = heap.nat(5)?;
-    let six = heap.nat(6)?;
-    let zero = heap.nat(0)?;
-    assert_eq!(rt; two(heap, Primitive::Plus, a, b), Applied::Value(five));
-    assert_eq!(rt; two(heap, Primitive::Plus, most, a), Applied::Overflow);
-    assert_eq!(rt; two(heap, Primitive::Minus, a, b), Applied::Value(zero));
-    assert_eq!(rt; two(heap, Primitive::Times, a, b), Applied::Value(six));
+    assert!(rt; one(heap, Primitive::Symbolp, t, t));
+    assert!(rt; two(heap, Primitive::SymbolLess, nil, t, t));
+    assert!(rt; two(heap, Primitive::Equal, t, nil, nil));
     Ok(())
+}
+
+#[test]
+fn a_choice(rt: HostRuntime) -> Result<(), Fail> {
+    let heap = &mut Heap::new(rt.alloc())?;
+    let nil = heap.symbol(b"NIL")?;
+    let a = heap.nat(2)?;
+    assert!(rt; chooses(heap, nil, nil, a, a));
+    Ok(())
+}
+
+#[test]
+fn order_of_numbers(rt: HostRuntime) -> Result<(), Fail> {
+    let heap = &mut Heap::new(rt.alloc())?;
+    let t = heap.symbol(b"T")?;
+    let a = heap.nat(2)?;
+    assert!(rt; one(heap, Primitive::Natp, a, t));
+    assert!(rt; two(heap, Primitive::Less, t, a, t));
+    Ok(())
+}
+
+#[test]
+fn sums_and_products(rt: HostRuntime) -> Result<(), Fail> {
+    let heap = &mut Heap::new(rt.alloc())?;
+    let zero = heap.nat(0)?;
+    let a = heap.nat(2)?;
+    let four = heap.nat(4)?;
+    let most = heap.nat(u128::MAX)?;
+    assert!(rt; two(heap, Primitive::Plus, a, a, four));
+    assert!(rt; two(heap, Primitive::Minus, a, four, zero));
+    assert!(rt; two(heap, Primitive::Times, a, a, four));
+    assert!(rt; overflows(heap, Primitive::Times, most, a));
+    Ok(())
+}
+
+// The object of (name 'a 'a) = 'v.
+fn equation(heap: &mut Heap, name: &[u8], a: Ref, v: Ref) -> Result<Ref, Memory>
+    requires { is_name name.now ≡ true }
+{
+    let argument = form(heap, b"QUOTE", &[a])?;
+    let value = form(heap, b"QUOTE", &[v])?;
+    let call = form(heap, name, &[argument, argument])?;
+    form(heap, b"PEQUAL*", &[call, value])
+}
+
+// The rule, at an object of the heap.
+fn holds(heap: &mut Heap, c: Ref, profile: Profile) -> bool {
+    is_in(heap, c) && base_eval(heap, c, profile) == Ok(true)
 }
 
 #[test]
 fn products_are_computed_in_profile_two(rt: HostRuntime) -> Result<(), Fail> {
     let heap = &mut Heap::new(rt.alloc())?;
     let a = heap.nat(2)?;
-    let b = heap.nat(3)?;
-    let six = heap.nat(6)?;
-    let quoted_a = form(heap, b"QUOTE", &[a])?;
-    let quoted_b = form(heap, b"QUOTE", &[b])?;
-    let quoted_six = form(heap, b"QUOTE", &[six])?;
-    let product = form(heap, b"*", &[quoted_a, quoted_b])?;
-    let right = form(heap, b"PEQUAL*", &[product, quoted_six])?;
-    let wrong = form(heap, b"PEQUAL*", &[product, quoted_a])?;
-    assert!(rt; is_in(heap, right));
-    assert_eq!(rt; base_eval(heap, right, Profile::Two), Ok(true));
-    assert!(rt; is_in(heap, right));
-    assert_eq!(rt; base_eval(heap, right, Profile::One), Ok(false));
-    assert!(rt; is_in(heap, wrong));
-    assert_eq!(rt; base_eval(heap, wrong, Profile::Two), Ok(false));
+    let four = heap.nat(4)?;
+    let right = equation(heap, b"*", a, four)?;
+    assert!(rt; holds(heap, right, Profile::Two));
+    assert!(rt; !holds(heap, right, Profile::One));
     Ok(())
 }
