@@ -2,7 +2,7 @@
 use Rattle.std.proofs.Common.{◌≡◌, ℕ, zero, suc, ◌+◌, ◌-◌, ◌<◌, ◌≤◌, List, [], ◌∷◌, ◌++◌, length, refl, sym, ap, ap₂, ◌∙◌, arith}
 use Rattle.mw_model.specs.Object.{Object, Pair, NIL}
 use Rattle.mw_heap.specs.Objects.{object_at, IsIn, Grows}
-use Rattle.mw_heap.proofs.Kept.{Grows-trans}
+use Rattle.mw_heap.proofs.Objects.{Grows-trans}
 use Rattle.mw_axioms.specs.declared.piece.Word.{Word}
 use Rattle.mw_axioms.specs.Pieces.{symbol_of, gather}
 use Rattle.mw_axioms.specs.Stacks.{stack_of, AreIn}

@@ -7,18 +7,18 @@ use Rattle.std.proofs.lemmas.List.{get_or_append_left, reverse-append, reverse-r
 use Rattle.std.proofs.lemmas.List.Elements.{All-append}
 use Rattle.mw_model.specs.Object.{Object}
 use Rattle.mw_heap.specs.Objects.{object_at, IsIn, Grows}
-use Rattle.mw_heap.proofs.Kept.{IsIn-grows, object_at-grows}
+use Rattle.mw_heap.proofs.Objects.{IsIn-Grows, object_at-Grows}
 use Rattle.mw_axioms.specs.Stacks.{stack_of, AreIn}
 
 pub AreIn-grows : (old new : List Object) (refs : List ℕ) → Grows old new → AreIn old refs → AreIn new refs
-AreIn-grows old new refs g h = λ k d l. IsIn-grows old new _ g (h k d l)
+AreIn-grows old new refs g h = λ k d l. IsIn-Grows old new g _ (h k d l)
 
 pub map-grows : (old new : List Object) (refs : List ℕ) → Grows old new → AreIn old refs → map (object_at new) refs ≡ map (object_at old) refs
 map-grows old new [] g h = refl
 map-grows old new (r ∷ refs) g h =
     let tail : AreIn old refs = λ k d l. h (suc k) d (suc-le-suc l) in
     let here : IsIn old r = h 0 0 (omega arith) in
-    ap₂ ◌∷◌ (object_at-grows old new r g here) (map-grows old new refs g tail)
+    ap₂ ◌∷◌ (object_at-Grows old new g r here) (map-grows old new refs g tail)
 
 pub stack_of-grows : (old new : List Object) (refs : List ℕ) → Grows old new → AreIn old refs → stack_of new refs ≡ stack_of old refs
 stack_of-grows old new refs g h = ap reverse (map-grows old new refs g h)

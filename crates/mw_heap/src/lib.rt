@@ -2,8 +2,10 @@
 //! want of memory, the primitives, the profiles and the reasons of refusal.
 #![tactic(auto)]
 
+mod bare;
 mod cell;
 mod heap;
+mod lengths;
 mod mark;
 mod memory;
 mod parts;
@@ -15,6 +17,7 @@ mod refusal;
 mod sets;
 mod view;
 
+pub use bare::is_bare_name;
 pub use heap::Heap;
 pub use mark::Mark;
 pub use memory::Memory;

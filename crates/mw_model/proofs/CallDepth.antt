@@ -11,11 +11,11 @@ use Rattle.mw_model.proofs.Names.{same_name-refl}
 use Rattle.mw_model.proofs.Depth.{at_some_depth, from_some_depth}
 
 -- a call of what is no primitive
-no_primitive : (C : Calls) (o : Option Primitive) (f : Name) (vs : List Object) (v : Object) → o ≡ None → OnCall C o f vs v → C f vs v
+pub no_primitive : (C : Calls) (o : Option Primitive) (f : Name) (vs : List Object) (v : Object) → o ≡ None → OnCall C o f vs v → C f vs v
 no_primitive C None f vs v e h = h
 no_primitive C (Some p) f vs v e h = cc
 
-on_no_primitive : (C : Calls) (o : Option Primitive) (f : Name) (vs : List Object) (v : Object) → o ≡ None → C f vs v → OnCall C o f vs v
+pub on_no_primitive : (C : Calls) (o : Option Primitive) (f : Name) (vs : List Object) (v : Object) → o ≡ None → C f vs v → OnCall C o f vs v
 on_no_primitive C None f vs v e h = h
 on_no_primitive C (Some p) f vs v e h = cc
 

@@ -12,7 +12,7 @@ use Rattle.mw_model.proofs.Names.{same_name-eq}
 use Rattle.mw_model.proofs.Readable.{formula_readable}
 use Rattle.mw_model.proofs.BaseEvalExact.{object_is_base_eval-exact}
 use Rattle.mw_model.proofs.BuiltInAnswers.{answer, answer-body}
-use Rattle.mw_reflect.proofs.TestValues.{and_false, has_length-members}
+use Rattle.mw_reflect.proofs.TestValues.{and_false, has_length-members, same_name-swap}
 use Rattle.mw_reflect.proofs.ListAnswers.{and_then, has_length, memberp-answer, lenp-answer}
 use Rattle.mw_reflect.proofs.SubstituteAnswers.{same_object-swap}
 
@@ -74,13 +74,10 @@ list_is : (P : Profile) → primitive_list P ≡ Pair (symbol "IF") (names_of_pr
 unfolding names_of_primitives
 list_is P = refl
 
-name_swap : (x y : Name) → same_name x y ≡ same_name y x
-name_swap x y = same_object-swap (Symbol x) (Symbol y)
-
 member_primitives : (ps : List Primitive) (rest : Object) (f : Name) → is_member (Symbol f) (names_of_primitives ps rest) ≡ (is_present (primitive_among ps f) || is_member (Symbol f) rest)
 unfolding names_of_primitives
 member_primitives [] rest f = refl
-member_primitives (p ∷ ps) rest f = ap₂ (λ a b. a || b) (name_swap f (primitive_name p)) (member_primitives ps rest f) ∙ go (same_name (primitive_name p) f)
+member_primitives (p ∷ ps) rest f = ap₂ (λ a b. a || b) (same_name-swap f (primitive_name p)) (member_primitives ps rest f) ∙ go (same_name (primitive_name p) f)
   where
     go : (b : Bool) → (b || (is_present (primitive_among ps f) || is_member (Symbol f) rest)) ≡ (is_present (cond b (Some p) (primitive_among ps f)) || is_member (Symbol f) rest)
     go true = refl
@@ -93,7 +90,7 @@ with_product One f None = go (same_name (primitive_name Times) f)
     go : (b : Bool) → false ≡ is_present {X = Primitive} (cond b None None)
     go true = refl
     go false = refl
-with_product Two f None = ap (λ b. b || false) (name_swap f (primitive_name Times)) ∙ go (same_name (primitive_name Times) f)
+with_product Two f None = ap (λ b. b || false) (same_name-swap f (primitive_name Times)) ∙ go (same_name (primitive_name Times) f)
   where
     go : (b : Bool) → (b || false) ≡ is_present (cond b (Some Times) None)
     go true = refl

@@ -9,7 +9,7 @@ use Rattle.mw_model.specs.Definition.{is_present}
 use Rattle.mw_model.specs.Proof.{Method, Proves, proof, ProveEach, no_proofs, more_proofs}
 use Rattle.mw_model.specs.Judgment.{methods, method_among, follows, judge_step, judge, judge_each}
 use Rattle.mw_model.specs.RulesInduction.{formulas_object, is_list_object, length_object}
-use Rattle.mw_model.proofs.Follows.{formula_back}
+use Rattle.mw_model.proofs.ReadBack.{formula_back}
 use Rattle.mw_model.proofs.Judging.{judges_good, goods_judge}
 use Rattle.mw_model.proofs.BuiltInAnswers.{answer, answer-body}
 use Rattle.mw_truth.proofs.Reached.{second_conclusion}

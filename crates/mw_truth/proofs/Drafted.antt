@@ -10,14 +10,13 @@ use Rattle.mw_model.specs.Obligation.{measure_of, is_empty}
 use Rattle.mw_model.specs.Expansion.{expanded, expand}
 use Rattle.mw_model.specs.Admission.{Draft, all_of, new_name, formals_of, add_names, functions, measures, are_closed_by}
 use Rattle.mw_model.proofs.Names.{same_name-refl, name_differ, name_differ-from}
-use Rattle.mw_model.proofs.ReadBack.{some_one, and_more-back}
-use Rattle.mw_model.proofs.Follows.{when_back}
+use Rattle.mw_model.proofs.ReadBack.{some_one, and_more-back, when_some}
 
 -- what passes a test
 pub that_back : {X : Type 0} (test : X → Bool) (o : Option X) (x : X) → that test o ≡ Some x → (o ≡ Some x) × (test x ≡ true)
 that_back test None x h = cc
 that_back test (Some y) x h =
-    let p = when_back (test y) (Some y) x h in
+    let p = when_some (test y) (Some y) x h in
     (p.1, subst (λ z. test z ≡ true) (some_one p.1) p.0)
 
 pub both_back : {X Y : Type 0} (o : Option X) (p : Option Y) (z : X × Y) → both o p ≡ Some z → (o ≡ Some z.0) × (p ≡ Some z.1)
@@ -28,7 +27,7 @@ both_back (Some x) (Some y) z h = let e = some_one h in (ap (λ w. Some w.0) e, 
 pub new_name-new : (A : ArityTable) (x : Object) (f : Name) → new_name A x ≡ Some f → is_new A f ≡ true
 new_name-new A (Natural n) f h = cc
 new_name-new A (Pair a b) f h = cc
-new_name-new A (Symbol g) f h = let p = when_back (is_new A g) (Some g) f h in subst (λ z. is_new A z ≡ true) (some_one p.1) p.0
+new_name-new A (Symbol g) f h = let p = when_some (is_new A g) (Some g) f h in subst (λ z. is_new A z ≡ true) (some_one p.1) p.0
 
 pub formals_of-formals : (x : Object) (xs : List Name) → formals_of x ≡ Some xs → are_formals xs ≡ true
 formals_of-formals x xs h = (that_back are_formals (names_of x) xs h).1

@@ -20,8 +20,7 @@ use Rattle.mw_model.specs.Headline.{one_or_none, formulas_of_word, formulas_by, 
 use Rattle.mw_model.proofs.Names.{same_object-eq}
 use Rattle.mw_model.proofs.Formed.{formed}
 use Rattle.mw_model.proofs.NewNames.{each_found, no_if}
-use Rattle.mw_model.proofs.Follows.{when_back}
-use Rattle.mw_model.proofs.ReadBack.{some_one, and_more-back}
+use Rattle.mw_model.proofs.ReadBack.{some_one, and_more-back, when_some}
 use Rattle.mw_model.proofs.Unchanged.{unchanged}
 use Rattle.mw_truth.specs.Admitted.{IsAdmissible, with_block}
 use Rattle.mw_truth.specs.Methods.{IsTrueFormula}
@@ -234,7 +233,7 @@ module _ (t : Theory) (s : IsSound t) (N : ℕ) (j : JudgesTruly t N) (two : IsS
   happens_keeps : (e : Object) → Keeps e (happens t N e)
   happens_keeps e =
       need_keeps e t RANGE (when (not (is_out_of_range e)) (Some e)) _ s (λ x h.
-      let same = some_one (when_back (not (is_out_of_range e)) (Some e) x h).1 in
+      let same = some_one (when_some (not (is_out_of_range e)) (Some e) x h).1 in
       need_keeps e t EVENT (event_word x) _ s (λ w q.
       subst (λ z. Keeps z (happens_by w t N x)) (sym same) (happens_by-keeps w x q)))
 

@@ -9,8 +9,8 @@ use Rattle.mw_model.specs.BuiltIn.{built_in}
 use Rattle.mw_model.specs.Theory.{Theory, claim, BeginsWith, IsClaimed, IsSound}
 use Rattle.mw_model.specs.Admission.{add_to_theory}
 use Rattle.mw_model.specs.Fate.{has_four_formals, checker_named}
-use Rattle.mw_model.proofs.ReadBack.{some_one}
-use Rattle.mw_model.proofs.Follows.{when_back, member_true}
+use Rattle.mw_model.proofs.ReadBack.{some_one, when_some}
+use Rattle.mw_model.proofs.Follows.{member_true}
 use Rattle.mw_model.proofs.CodeStays.{code_stays}
 use Rattle.mw_truth.specs.Admitted.{with_block}
 use Rattle.mw_truth.specs.Methods.{IsTrueFormula}
@@ -62,7 +62,7 @@ checker_code : (t : Theory) (x : Object) (f : Name) → checker_named t x ≡ So
 checker_code t (Natural n) f h = cc
 checker_code t (Pair a b) f h = cc
 checker_code t (Symbol g) f h =
-    let p = when_back (has_four_formals (code_of t.definitions.blocks g)) (Some g) f h in
+    let p = when_some (has_four_formals (code_of t.definitions.blocks g)) (Some g) f h in
     subst (λ z. (h : Function) × (code_of t.definitions.blocks z ≡ Some h) × (length h.formals ≡ 4)) (some_one p.1) (four (code_of t.definitions.blocks g) p.0)
 
 pub switch_sound : (t : Theory) → IsSound t → (x : Object) (f : Name) → checker_named t x ≡ Some f → is_member (formula_object (claim f)) t.theorems ≡ true → IsSound (record t { checker = Some f; level = suc t.level })

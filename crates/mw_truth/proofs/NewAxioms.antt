@@ -1,12 +1,13 @@
 -- The axioms of a new block are formulas, and true once the definitions with the block are total.
-use Rattle.std.proofs.Common.{◌≡◌, ◌≢◌, suc, true, false, ◌&&◌, List, [], ◌∷◌, map, length, Option, Some, None, refl, sym, ap, ap₂, ◌∙◌, subst, ◌⊎◌, inl, inr}
+use Rattle.std.proofs.Common.{◌≡◌, ◌≢◌, suc, true, false, ◌&&◌, List, [], ◌∷◌, map, length, Some, refl, sym, ap, ap₂, ◌∙◌, subst, ◌⊎◌, inl, inr}
 use Rattle.std.proofs.lemmas.Bool.{and_parts, and_from, or_cases, cond-true, cond-false, false≢true}
 use Rattle.mw_model.specs.Object.{Name, Object, same_name, NIL}
 use Rattle.mw_model.specs.Term.{Term, Terms, Call, Lambda, More, ArityTable, arity_of, is_variable, are_variables, are_distinct, are_formals, is_among, is_closed, count, is_term, IsTerm, IsFormula}
-use Rattle.mw_model.specs.Primitive.{Profile, Primitive, primitive_named}
+use Rattle.mw_model.specs.Primitive.{Profile, primitive_named}
 use Rattle.mw_model.specs.Definition.{Function, Block, Functions, Choice, definitions, function_named, arities, is_new, are_functions, is_block, are_blocks, variable_terms, function_axiom, function_axioms, choice_axiom, block_axioms}
-use Rattle.mw_model.specs.Value.{Environment, lookup, bind, Calls, OnCall, HasValue, HaveValues, OnFunction, pick, CallAtSomeDepth, Satisfies, IsWitness, extend_by, block_calls, IsTotal}
+use Rattle.mw_model.specs.Value.{Environment, lookup, bind, Calls, HasValue, HaveValues, OnFunction, pick, CallAtSomeDepth, Satisfies, IsWitness, extend_by, block_calls, IsTotal}
 use Rattle.mw_model.specs.Truth.{IsTrueIn, Each}
+use Rattle.mw_model.proofs.CallDepth.{no_primitive, on_no_primitive}
 use Rattle.mw_model.proofs.Names.{same_name-eq, same_name-refl, name_cases}
 use Rattle.mw_model.proofs.Formed.{Formed, AreFormed, formed, is_term-from}
 use Rattle.mw_model.proofs.Values.{ev_det, evs_det, ev_vars}
@@ -16,7 +17,7 @@ use Rattle.mw_model.proofs.Older.{arity_here, functions_new, choice_new}
 use Rattle.mw_model.proofs.NewNames.{new_no_primitive, new_call_name, each_new, each_found}
 use Rattle.mw_truth.specs.Methods.{IsTrueFormula}
 use Rattle.mw_truth.proofs.OlderTruth.{term_stays, value_to}
-use Rattle.mw_truth.proofs.Totals.{on_none, total_before}
+use Rattle.mw_truth.proofs.Totals.{total_before}
 
 -- formals as actuals
 variables_values : (P : Profile) (C : Calls) (e : Environment) (xs : List Name) → HaveValues P C e (variable_terms xs) (map (lookup e) xs)
@@ -48,10 +49,6 @@ rebound e (y ∷ xs) x h = go (name_cases y x) (or_cases (same_name x y) (is_amo
     go (inr c) (inl q) ih = absurd (c.1 (sym (same_name-eq x y q)))
     go (inr c) (inr q) ih = cond-false (same_name y x) (lookup e y) (lookup (bind xs (map (lookup e) xs)) x) c.0 ∙ ih q
 
-none_on : (C : Calls) (o : Option Primitive) (f : Name) (vs : List Object) (v : Object) → o ≡ None → C f vs v → OnCall C o f vs v
-none_on C None f vs v e h = h
-none_on C (Some p) f vs v e h = cc
-
 -- the parts of a function that is well made
 function_parts : (A : ArityTable) (h : Function) (B : List Function) → are_functions A (h ∷ B) ≡ true → (are_formals h.formals ≡ true) × IsTerm A h.body × (is_closed h.formals h.body ≡ true) × (are_functions A B ≡ true)
 function_parts A h B w =
@@ -75,7 +72,7 @@ module _ (P : Profile) (B : List Function) (D : List Block) (w : are_blocks P (F
   function_true : (h : Function) → is_new (arities P D) h.name ≡ true → function_named B h.name ≡ Some h → (are_variables h.formals ≡ true) → is_closed h.formals h.body ≡ true → IsTrueIn (definitions P (Functions B ∷ D)) (function_axiom h)
   function_true h n f v shut e k =
       t.some e (Call h.name (variable_terms h.formals)) (is_term-from New (Call h.name (variable_terms h.formals)) (call_formed h n f v)) (λ u hu.
-      let c = on_none After (primitive_named P h.name) h.name hu.0 u (new_no_primitive P D h.name n) hu.2 in
+      let c = no_primitive After (primitive_named P h.name) h.name hu.0 u (new_no_primitive P D h.name n) hu.2 in
       let d = subst (λ o. OnFunction (block_calls P D) (CallAtSomeDepth P (block_calls P D) B) o h.name hu.0 u) f c in
       let b = block_unfold P (block_calls P D) B h hu.0 u d in
       let b' = subst (λ vs. HasValue P After (bind h.formals vs) h.body u) (variables_only P After e h.formals hu.0 hu.1) b in
@@ -118,7 +115,7 @@ module _ (P : Profile) (g y : Name) (xs : List Name) (b : Term) (D : List Block)
 
   choice_values : (e : Environment) (v : Object) → IsWitness P (block_calls P D) y xs b (map (lookup e) xs) v → HaveValues P Next e Actuals (v ∷ map (lookup e) xs)
   choice_values e v q =
-      (v, map (lookup e) xs, refl, (map (lookup e) xs, variables_values P Next e xs, none_on Next (primitive_named P g) g (map (lookup e) xs) v (new_no_primitive P D g (choice_new P g y xs b D w).0) (here g (block_calls P D) (IsWitness P (block_calls P D) y xs b) (map (lookup e) xs) v q)), variables_values P Next e xs)
+      (v, map (lookup e) xs, refl, (map (lookup e) xs, variables_values P Next e xs, on_no_primitive Next (primitive_named P g) g (map (lookup e) xs) v (new_no_primitive P D g (choice_new P g y xs b D w).0) (here g (block_calls P D) (IsWitness P (block_calls P D) y xs b) (map (lookup e) xs) v q)), variables_values P Next e xs)
 
   choice_true : IsTrueIn (definitions P (Choice g y xs b ∷ D)) (choice_axiom g y xs b)
   choice_true e no_nil no_not =

@@ -1,11 +1,12 @@
 -- Definitions are total exactly where each call of what they define is not without a value; a witness keeps that.
-use Rattle.std.proofs.Common.{◌≡◌, suc, Bool, true, false, cond, List, [], ◌∷◌, length, Option, Some, None, refl, sym, ap, ap₂, ◌∙◌, subst}
+use Rattle.std.proofs.Common.{◌≡◌, suc, Bool, true, false, cond, List, [], ◌∷◌, length, Some, refl, sym, ap, ◌∙◌, subst}
 use Rattle.mw_model.specs.Object.{Name, Object, same_name}
 use Rattle.mw_model.specs.Term.{Term, Call, ArityTable, arity_of, count}
-use Rattle.mw_model.specs.Primitive.{Profile, Primitive, primitive_named}
+use Rattle.mw_model.specs.Primitive.{Profile, primitive_named}
 use Rattle.mw_model.specs.Definition.{Block, Choice, Definitions, definitions, arities, arity_table, are_blocks}
-use Rattle.mw_model.specs.Value.{Environment, Calls, OnCall, HaveValues, IsWitness, pick, extend_by, block_calls, IsTotal}
+use Rattle.mw_model.specs.Value.{Calls, IsWitness, pick, extend_by, block_calls, IsTotal}
 use Rattle.mw_model.specs.Proof.{constants}
+use Rattle.mw_model.proofs.CallDepth.{no_primitive, constants_are}
 use Rattle.mw_model.proofs.Formed.{AreFormed, formed, is_term-from}
 use Rattle.mw_model.proofs.Depth.{one_value}
 use Rattle.mw_model.proofs.SomeValue.{CallsHave, term_has, witness_has}
@@ -20,14 +21,6 @@ constants_formed : (A : ArityTable) (vs : List Object) → AreFormed A (constant
 constants_formed A [] = tt
 constants_formed A (v ∷ vs) = (tt, constants_formed A vs)
 
-constants_values : (P : Profile) (C : Calls) (e : Environment) (vs ws : List Object) → HaveValues P C e (constants vs) ws → ws ≡ vs
-constants_values P C e [] ws h = h
-constants_values P C e (v ∷ vs) ws h = h.2 ∙ ap₂ ◌∷◌ h.3 (constants_values P C e vs h.1 h.4)
-
-pub on_none : (C : Calls) (o : Option Primitive) (f : Name) (vs : List Object) (v : Object) → o ≡ None → OnCall C o f vs v → C f vs v
-on_none C None f vs v e h = h
-on_none C (Some p) f vs v e h = cc
-
 pub total_from : (D : Definitions) → CallsHave D.profile (block_calls D.profile D.blocks) (arity_table D) → IsTotal D
 total_from D all = record {
   some = λ e t i k. term_has D.profile (block_calls D.profile D.blocks) (arity_table D) all e t (formed (arity_table D) t i) k;
@@ -39,7 +32,7 @@ calls_from D t f n ws c a p l k =
     let A = arity_table D in
     let C = block_calls D.profile D.blocks in
     t.some [] (Call f (constants ws)) (is_term-from A (Call f (constants ws)) (c, a ∙ ap Some (sym l ∙ sym (constants_count ws)), constants_formed A ws)) (λ v h.
-    k v (subst (λ us. C f us v) (constants_values D.profile C [] ws h.0 h.1) (on_none C (primitive_named D.profile f) f h.0 v p h.2)))
+    k v (subst (λ us. C f us v) (constants_are D.profile C [] ws h.0 h.1) (no_primitive C (primitive_named D.profile f) f h.0 v p h.2)))
 
 -- total definitions are total without the newest block
 pub total_before : (P : Profile) (B : Block) (D : List Block) → are_blocks P (B ∷ D) ≡ true → IsTotal (definitions P (B ∷ D)) → IsTotal (definitions P D)

@@ -1,7 +1,7 @@
 -- Each object taken goes to the front of the members, and the list takes the place of all.
 use Rattle.std.proofs.Common.{◌≡◌, ◌+◌, length, sym, ap, ap₂, ◌∙◌, subst, arith, append-nil}
 use Rattle.mw_model.specs.Object.{Symbol, Pair, name_of_bytes}
-use Rattle.mw_heap.proofs.Kept.{Grows-trans, object_at-grows}
+use Rattle.mw_heap.proofs.Objects.{Grows-trans, object_at-Grows}
 use Rattle.mw_axioms.specs.Stacks.{stack_of, AreIn}
 use Rattle.mw_axioms.proofs.OnStack.{AreIn-grows, AreIn-push}
 use Rattle.mw_axioms.proofs.Gathers.{Gathers, Gathers-first, Gathers-taken, Gathers-none, Gathers-list}
@@ -46,6 +46,6 @@ returns-clause-made c =
     let first = c.in_ok-head.ensures.grows in
     let list = c.in_ok-list.ensures.made in
     let name = ap (λ b. Symbol (name_of_bytes b)) c.name.ensures.name in
-    let parts = list.1 ∙ ap₂ Pair (head.1 ∙ name) (object_at-grows _ _ _ first c.loop.invariant.members_in) in
+    let parts = list.1 ∙ ap₂ Pair (head.1 ∙ name) (object_at-Grows _ _ first _ c.loop.invariant.members_in) in
     ap (stack_of c.cons-2.new.self) c.in_ok-push.ensures.items
     ∙ Gathers-list _ _ _ _ _ _ _ _ _ _ c.loop.invariant c.loop-test.false (Grows-trans _ _ _ first c.in_ok-list.ensures.grows) parts
