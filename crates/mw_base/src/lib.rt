@@ -12,3 +12,6 @@ mod values;
 pub use application::apply;
 pub use applied::Applied;
 pub use rule::base_eval;
+
+#[cfg(test)]
+mod tests;
