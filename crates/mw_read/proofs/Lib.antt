@@ -1,0 +1,4 @@
+pub mod Fuel
+pub mod Stack
+pub mod Bytes
+pub mod Clamp

@@ -1,0 +1,2 @@
+//! The reader of books.
+#![tactic(auto)]
