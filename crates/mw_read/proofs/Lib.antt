@@ -1,3 +1,4 @@
+pub mod Classes
 pub mod Fuel
 pub mod Stack
 pub mod Bytes

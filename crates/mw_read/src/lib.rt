@@ -1,2 +1,4 @@
 //! The reader of books.
 #![tactic(auto)]
+
+mod class;
