@@ -1,6 +1,6 @@
 //! Classes of bytes.
 ghost use Rattle.std.specs.Prelude.{◌≡◌};
-ghost use Rattle.mw_model.specs.Lexemes.{class, is_constituent, is_digit, glued, glued_bar};
+ghost use Rattle.mw_model.specs.Lexemes.{class, is_constituent, is_digit, is_sign, raised, glued, glued_bar};
 ghost use Rattle.mw_model.specs.Object.{is_name_byte};
 ghost use Rattle.mw_read.specs.Codes.{class_of};
 ghost use Rattle.mw_read.specs.Runs.{IsRun};
@@ -299,10 +299,24 @@ fn name_byte(b: u8) -> bool
     b >= 32 && (b <= 126 && (b != 92 && b != 124))
 }
 
-fn digit(b: u8) -> bool
+pub(crate) fn digit(b: u8) -> bool
     ensures { result ≡ is_digit b }
 {
     b >= 48 && b <= 57
+}
+
+/// Is the byte `+` or `-`?
+pub(crate) fn sign(b: u8) -> bool
+    ensures { result ≡ is_sign b }
+{
+    b == 43 || b == 45
+}
+
+/// The byte, in upper case where it is a letter.
+pub(crate) fn raise(b: u8) -> u8
+    ensures { result ≡ raised b }
+{
+    if b >= 97 && b <= 122 { b - 32 } else { b }
 }
 
 /// May the byte not stand directly behind a token?
