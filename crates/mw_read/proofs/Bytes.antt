@@ -6,7 +6,7 @@ use Rattle.mw_model.specs.Lexemes.{Lexeme, Atom, Open, Close, Dot, Quote, Mark, 
 use Rattle.mw_model.specs.Grammar.{Labels, Unused, Book, book, and_events, reading}
 use Rattle.mw_read.specs.Machine.{Frame, Members, Tailed, Quoting, Marking, close_bars, State, Idle, Within, Full, Broken, on, on_all, Mode, Between, Comment, InToken, InBars, Barred, InHash, Machine, Move, move, begin, turned, fresh, settle, step_mode, step, start, feed, last_lexemes, width, end_fault, finish, finish_fault, fault_of}
 use Rattle.mw_read.specs.Resume.{text, resume, onward}
-use Rattle.mw_read.proofs.Stack.{unwind_stop, onward_append, AllSolid, on_step, on_all_step}
+use Rattle.mw_read.proofs.Resuming.{unwind_stop, onward_append, AllSolid, on_step, on_all_step}
 
 -- what a mode's bytes are
 abbrev pub IsMode : Mode → Type 0

@@ -3,3 +3,5 @@ pub mod Resume
 pub mod Clamp
 pub mod Codes
 pub mod Runs
+pub mod Named
+pub mod Piles

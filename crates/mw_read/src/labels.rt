@@ -1,5 +1,5 @@
 //! The labels of a datum.
-ghost use Rattle.std.specs.Prelude.{◌≡◌, ℕ, ◌<◌, List, IfOk, OnOk, None, MatchBool, true, false};
+ghost use Rattle.std.specs.Prelude.{◌≡◌, ℕ, ◌<◌, List, IfOk, IfSome, OnOk, None, MatchBool, true, false};
 ghost use Rattle.mw_model.specs.Object.{Object};
 ghost use Rattle.mw_model.specs.Grammar.{Labels, Label, is_begun, labelled, complete};
 ghost use Rattle.mw_heap.specs.Objects.{object_at};
@@ -11,7 +11,7 @@ use std::collections::BTreeMap;
 // Begins the label, or says that it was begun already.
 pub(crate) fn begin(labels: &mut BTreeMap<u32, Option<Ref>>, n: u32) -> Result<bool, Memory>
     ensures begun { IfOk result (λ new. (os : List Object) (ls : Labels) → Agree os labels.old ls →
-        MatchBool new ((is_begun n ls ≡ true) × Agree os labels.new ls) ((is_begun n ls ≡ false) × Agree os labels.new (Label n None ls))) }
+        MatchBool new ((is_begun n ls ≡ false) × Agree os labels.new (Label n None ls)) ((is_begun n ls ≡ true) × Agree os labels.new ls)) }
     ensures listed { IfOk result (λ new. (k : ℕ) → IsListed k labels.old → IsListed k labels.new) }
 {
     if labels.contains_key(&n) {

@@ -6,8 +6,7 @@ ghost use Rattle.mw_model.specs.Grammar.{Labels, quoted};
 ghost use Rattle.mw_heap.specs.Objects.{object_at, IsIn, Grows};
 ghost use Rattle.mw_read.specs.Machine.{State, on};
 ghost use Rattle.mw_read.specs.Named.{Agree, IsListed};
-ghost use Rattle.mw_read.specs.Piles.{IsPile, pile_of, give_to, IsFrames, IsInList, members_of, frames_round, Frames, HoldsDatum, fault_of};
-ghost use Rattle.mw_read.specs.Stacks.{Does, IsStack, Means, Gives};
+ghost use Rattle.mw_read.specs.Piles.{IsPile, pile_of, give_to, Does, IsFrames, IsInList, members_of, frames_round, Frames, HoldsDatum};
 
 use crate::labels::{begin, end, look};
 use crate::step::{Fault, Outcome, SyntaxKind};
@@ -68,7 +67,7 @@ fn give(
     ensures pile { IfOk result (λ r. IsPile heap.new layers.new.items) }
     ensures listed { IfOk result (λ r. IsListed (length heap.new) labels.new) }
     ensures turn { IfOk result (λ r. (ks : Labels) → Agree heap.old labels.old ks →
-        Gives heap.new layers.new.items labels.new r (give_to (pile_of heap.old layers.old.items) (object_at heap.old x) ks)) }
+        Does heap.new layers.new.items labels.new r (give_to (pile_of heap.old layers.old.items) (object_at heap.old x) ks)) }
 {
     let mut x = x;
     while let Some(layer) = layers.pop() {
