@@ -6,3 +6,5 @@ pub mod Classes
 pub mod Growth
 pub mod Named
 pub mod Piles
+pub mod Folding
+pub mod Turns

@@ -49,7 +49,7 @@ piled_grows os more (Frames s) layers.Opening h = refl
 piled_grows os more (Frames s) layers.Quote h = refl
 piled_grows os more (Frames (Members xs ∷ s)) (layers.Item r) h = ap (λ x. Frames (Members (x ∷ xs) ∷ s)) (object_at-append os more r h)
 piled_grows os more (Frames (Members xs ∷ s)) layers.Dot h = refl
-piled_grows os more (Frames (Tailed xs ∷ s)) (layers.Last r) h = ap (λ x. Ready xs x s) (object_at-append os more r h)
+piled_grows os more (Frames (Members xs ∷ s)) (layers.Last r) h = ap (λ x. Ready xs x s) (object_at-append os more r h)
 piled_grows os more t l h = refl
 
 pile_grows_on : (os more : List Object) (t : Pile) (ls : List Layer) → AreUnder (length os) ls → pile_on (os ++ more) t ls ≡ pile_on os t ls
@@ -88,7 +88,7 @@ seen_grows os more None h = refl
 seen_grows os more (Some None) h = refl
 seen_grows os more (Some (Some r)) h = ap (λ x. Some (Some x)) (object_at-append os more r h)
 
-agree_grows : (os os2 : List Object) (m : BTreeMap ℕ (Option ℕ)) (ls : Labels) → Grows os os2 → IsListed (length os) m → Agree os m ls → Agree os2 m ls
+pub agree_grows : (os os2 : List Object) (m : BTreeMap ℕ (Option ℕ)) (ls : Labels) → Grows os os2 → IsListed (length os) m → Agree os m ls → Agree os2 m ls
 agree_grows os os2 m ls g l h n = ap (λ u. seen u (get nat_cmp m n)) g.1 ∙ seen_grows os g.0 (get nat_cmp m n) (l n) ∙ h n
 
 some_grows : (j k : ℕ) (g : Option (Option ℕ)) → j ≤ k → IfSome g (λ o. IfSome o (λ r. r < j)) → IfSome g (λ o. IfSome o (λ r. r < k))
@@ -178,9 +178,9 @@ module _ (old : List Object) (before : List Layer) (labels : BTreeMap ℕ (Optio
       )
 
   dot_gives : (os : List Object) (t : Pile) (m : BTreeMap ℕ (Option ℕ)) (x : ℕ) → MayLie t layers.Dot →
-      MayLie (piled os t layers.Dot) (layers.Last x)
+      MayLie t (layers.Last x)
       × ((js : Labels) → Agree os m js → ([] ≡ (give_to (piled os t layers.Dot) (object_at os x) js).events)
-      × Shows os (piled os (piled os t layers.Dot) (layers.Last x)) m (give_to (piled os t layers.Dot) (object_at os x) js).state)
+      × Shows os (piled os t (layers.Last x)) m (give_to (piled os t layers.Dot) (object_at os x) js).state)
   dot_gives os (Frames (Members (y ∷ ys) ∷ s)) m x h = (tt, λ js a. (refl, (refl, a)))
   dot_gives os (Frames (Members [] ∷ s)) m x h = absurd h
   dot_gives os (Frames (Tailed ys ∷ s)) m x h = absurd h
@@ -190,14 +190,17 @@ module _ (old : List Object) (before : List Layer) (labels : BTreeMap ℕ (Optio
   dot_gives os (Ready xs y s) m x h = absurd h
 
   pub give_last : (os : List Object) (ls rest new : List Layer) (m : BTreeMap ℕ (Option ℕ)) (x : ℕ) → Gives old before labels first os ls m x → ls ≡ rest ++ layers.Dot ∷ [] →
-      new ≡ (rest ++ layers.Dot ∷ []) ++ layers.Last x ∷ [] → IsPile os new × ((ks : Labels) → Agree old labels ks → Does os new m outcomes.Pending (give_to (pile_of old before) (object_at old first) ks))
+      new ≡ rest ++ layers.Last x ∷ [] → IsPile os new × ((ks : Labels) → Agree old labels ks → Does os new m outcomes.Pending (give_to (pile_of old before) (object_at old first) ks))
   give_last os ls rest new m x g e n =
-      let P : List Layer → Type 0 = λ u. IsPile os u in
-      let k = dot_gives os (pile_of os rest) m x (layer_lies os rest layers.Dot (subst P e g.pile)).0 in
-      let v = sym (pile_top os (Frames []) rest layers.Dot) ∙ ap (pile_of os) (sym e) in
-      give_layer os ls new m x (layers.Last x) g (n ∙ ap (λ u. u ++ layers.Last x ∷ []) (sym e)) g.listed
-      (subst (λ u. MayLie u (layers.Last x)) v k.0)
-      (subst (λ (u : Pile). (js : Labels) → Agree os m js → ([] ≡ (give_to u (object_at os x) js).events) × Shows os (piled os u (layers.Last x)) m (give_to u (object_at os x) js).state) v k.1)
+      let p = subst (λ u. IsPile os u) e g.pile in
+      let k = dot_gives os (pile_of os rest) m x (layer_lies os rest layers.Dot p).0 in
+      let v = sym (pile_top os (Frames []) rest layers.Dot) ∙ ap (pile_of os) (sym e) in (
+        subst (λ u. IsPile os u) (sym n) (more_layer os rest (layers.Last x) (less_layer os rest layers.Dot p) k.0 g.listed),
+        λ ks a. let t = g.turns ks a in
+            subst (λ (w : Turn). ([] ≡ w.events) × Shows os (pile_of os new) m w.state) (ap (λ u. give_to u (object_at os x) t.0) v ∙ t.2)
+            (subst (λ (q : Pile). ([] ≡ (give_to (piled os (pile_of os rest) layers.Dot) (object_at os x) t.0).events) × Shows os q m (give_to (piled os (pile_of os rest) layers.Dot) (object_at os x) t.0).state)
+            (sym (pile_top os (Frames []) rest (layers.Last x)) ∙ ap (pile_of os) (sym n)) (k.1 t.0 t.1)),
+      )
 
   item_gives : (os : List Object) (t : Pile) (l : Layer) (m : BTreeMap ℕ (Option ℕ)) (x : ℕ) → MayLie t l → IsFrames (piled os t l) →
       (l ≡ layers.Quote → ⊥) → (l ≡ layers.Dot → ⊥) → ((n : ℕ) → l ≡ layers.Mark n → ⊥) →
@@ -206,7 +209,7 @@ module _ (old : List Object) (before : List Layer) (labels : BTreeMap ℕ (Optio
       × Shows os (piled os (piled os t l) (layers.Item x)) m (give_to (piled os t l) (object_at os x) js).state)
   item_gives os (Frames s) layers.Opening m x y f q d k = (tt, λ js a. (refl, (refl, a)))
   item_gives os (Frames (Members ys ∷ s)) (layers.Item r) m x y f q d k = (tt, λ js a. (refl, (refl, a)))
-  item_gives os (Frames (Tailed ys ∷ s)) (layers.Last r) m x y f q d k = absurd f
+  item_gives os (Frames (Members (z ∷ ys) ∷ s)) (layers.Last r) m x y f q d k = absurd f
   item_gives os (Frames s) layers.Quote m x y f q d k = absurd (q refl)
   item_gives os (Frames s) (layers.Mark n) m x y f q d k = absurd (k n refl)
   item_gives os t layers.Dot m x y f q d k = absurd (d refl)
@@ -233,8 +236,6 @@ module _ (old : List Object) (before : List Layer) (labels : BTreeMap ℕ (Optio
         subst P (sym e) g.pile,
         (
           λ n. subst (λ u. IfSome u (λ o. IfSome o (λ r. r < length os))) (sym (none n)) tt,
-          λ ks a. let t = g.turns ks a in
-              subst (λ (w : Turn). (object_at os x ∷ [] ≡ w.events) × Shows os (pile_of os new) m2 w.state) t.2
-              (refl, (ap (pile_of os) e, λ n. ap (seen os) (none n))),
+          λ ks a. let t = g.turns ks a in (sym t.2, (ap (pile_of os) e, λ n. ap (seen os) (none n))),
         ),
       )

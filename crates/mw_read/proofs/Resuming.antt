@@ -3,7 +3,7 @@ use Rattle.std.proofs.Common.{◌≡◌, ℕ, suc, Bool, true, false, List, [], 
 use Rattle.mw_model.specs.Object.{Object, NIL}
 use Rattle.mw_model.specs.Lexemes.{Lexeme, Atom, Open, Close, Dot, Quote, Mark, Ref, Wrong, Stray, End, Fault, fault, DOT, CLOSE, LABEL}
 use Rattle.mw_model.specs.Grammar.{Labels, Label, Unused, Read, Got, Stop, and_then, quoted, pairing, and_tail, halt, closing, labelling, reference, Datum, Tail, read, labelled, is_begun, complete, enough, Book, book, and_events}
-use Rattle.mw_read.specs.Machine.{Frame, Members, Tailed, Quoting, Marking, State, Idle, Within, Full, Broken, quiet, broken, fill, given, refer, take, within, filled, on, on_all}
+use Rattle.mw_read.specs.Machine.{Frame, Members, Tailed, Quoting, Marking, State, Idle, Within, Full, Broken, quiet, broken, fill, given, refer, taken, within, filled, on, on_all}
 use Rattle.mw_read.specs.Resume.{reads, rest, filling, waits, hand, unwind, resume, onward, following}
 use Rattle.mw_read.proofs.Fuel.{reads_quote, reads_open, reads_mark, reads_dot, reads_pair, reads_last, rest_step}
 
@@ -70,7 +70,7 @@ take_ref : (y : Option Object) (o : ℕ) (s : List Frame) (ls : Labels) (r : Lis
 take_ref (Some x) o s ls r = unwind_got s x ls r
 take_ref None o s ls r = unwind_stop s (Some (fault LABEL o))
 
-take_step : (l : Lexeme) → IsSolid l → (s : List Frame) (ls : Labels) (r : List Lexeme) → unwind s (reads Datum ls (l ∷ r)) ≡ following (take s ls l) r
+take_step : (l : Lexeme) → IsSolid l → (s : List Frame) (ls : Labels) (r : List Lexeme) → unwind s (reads Datum ls (l ∷ r)) ≡ following (taken s ls l) r
 take_step (Atom o x) h s ls r = unwind_got s x ls r
 take_step (Open o) h s ls r = ap (unwind s) (reads_open o ls r)
 take_step (Close o) h s ls r = unwind_stop s (Some (fault CLOSE o))
@@ -107,7 +107,7 @@ full_step xs x s ls (Mark o n) h r = unwind_stop s (Some (fault DOT o))
 full_step xs x s ls (Ref o n) h r = unwind_stop s (Some (fault DOT o))
 full_step xs x s ls (Wrong o f) h r = unwind_stop s (Some (fault DOT o))
 
-idle_step : (l : Lexeme) → IsSolid l → (r : List Lexeme) → rest (l ∷ r) ≡ following (take [] Unused l) r
+idle_step : (l : Lexeme) → IsSolid l → (r : List Lexeme) → rest (l ∷ r) ≡ following (taken [] Unused l) r
 idle_step (End f) h r = absurd h
 idle_step (Atom o x) h r = rest_step (Atom o x) r ∙ take_step (Atom o x) h [] Unused r
 idle_step l h r = rest_step l r ∙ take_step l h [] Unused r

@@ -2,11 +2,12 @@
 use Rattle.std.specs.Prelude.{ℕ, ◌^◌, Bool, false, ◌||◌, not, ltb, List, [], ◌∷◌, Option, Some, None, if◌then◌else◌}
 use Rattle.mw_model.specs.Object.{Object, Natural, Symbol, Pair}
 use Rattle.mw_model.specs.Lexemes.{Lexeme, Atom}
+use Rattle.mw_model.specs.Fate.{is_out_of_range, range}
 use Rattle.mw_model.specs.Grammar.{Labels, Unused, Label}
 use Rattle.mw_read.specs.Machine.{Frame, Members, Tailed, Quoting, Marking, State, Idle, Within, Full, Broken, Turn}
 
 abbrev pub fits : ℕ → Bool
-fits n = ltb n (2 ^ 128)
+fits n = ltb n range
 
 abbrev pub cut : ℕ → ℕ
 cut n = if fits n then n else 0
@@ -15,12 +16,6 @@ abbrev pub clamp : Object → Object
 clamp (Natural n) = Natural (cut n)
 clamp (Symbol s) = Symbol s
 clamp (Pair a d) = Pair (clamp a) (clamp d)
-
--- does the object hold a natural that doesn't fit?
-abbrev pub is_big : Object → Bool
-is_big (Natural n) = not (fits n)
-is_big (Symbol s) = false
-is_big (Pair a d) = is_big a || is_big d
 
 abbrev pub clamp_all : List Object → List Object
 clamp_all [] = []
@@ -57,10 +52,23 @@ abbrev pub clamp_lexeme : Lexeme → Lexeme
 clamp_lexeme (Atom o x) = Atom o (clamp x)
 clamp_lexeme l = l
 
+-- are labelled objects such?
+abbrev pub some_big : Option Object → Bool
+some_big None = false
+some_big (Some x) = is_out_of_range x
+
+abbrev pub labels_big : Labels → Bool
+labels_big Unused = false
+labels_big (Label n x ls) = some_big x || labels_big ls
+
+abbrev pub lexeme_big : Lexeme → Bool
+lexeme_big (Atom o x) = is_out_of_range x
+lexeme_big l = false
+
 -- the flag: something open holds such a natural
 abbrev pub any_big : List Object → Bool
 any_big [] = false
-any_big (x ∷ xs) = is_big x || any_big xs
+any_big (x ∷ xs) = is_out_of_range x || any_big xs
 
 abbrev pub frame_big : Frame → Bool
 frame_big (Members xs) = any_big xs
@@ -75,7 +83,7 @@ frames_big (f ∷ s) = frame_big f || frames_big s
 abbrev pub state_big : State → Bool
 state_big Idle = false
 state_big (Within f s ls) = frame_big f || frames_big s
-state_big (Full xs x s ls) = is_big x || (any_big xs || frames_big s)
+state_big (Full xs x s ls) = is_out_of_range x || (any_big xs || frames_big s)
 state_big (Broken f) = false
 
 -- the flag of a turn: of its event, if there is one, and else of what is open

@@ -5,3 +5,4 @@ pub mod Codes
 pub mod Runs
 pub mod Named
 pub mod Piles
+pub mod Stacks

@@ -1,5 +1,5 @@
 -- The reader as a machine that takes a byte at a time.
-use Rattle.std.specs.Prelude.{ℕ, suc, ◌+◌, eqb, ltb, List, [], ◌∷◌, ◌++◌, length, Option, Some, None, if◌then◌else◌}
+use Rattle.std.specs.Prelude.{ℕ, suc, ◌+◌, Bool, true, false, eqb, ltb, List, [], ◌∷◌, ◌++◌, length, Option, Some, None, if◌then◌else◌}
 use Rattle.mw_model.specs.Object.{Object, Symbol, Pair, NIL, is_name_byte, name_of_bytes}
 use Rattle.mw_model.specs.Lexemes.{Lexeme, Atom, Open, Close, Dot, Quote, Mark, Ref, Wrong, Stray, End, Fault, fault, SyntaxKind, END, CLOSE, DOT, TOKEN, BYTE, LABEL, Ending, Ends, Goes, is_constituent, is_digit, token_form, token, barred, hashed, atom, glued_bar, Class, White, Semicolon, Opening, Closing, Apostrophe, Bar, Hash, Constituent, Other, class}
 use Rattle.mw_model.specs.Grammar.{Labels, Unused, Label, is_begun, labelled, complete, quoted}
@@ -20,12 +20,37 @@ pub data State : Type 0 where
   Full : List Object → Object → List Frame → Labels → State
   Broken : Fault → State
 
+abbrev pub labels_of : State → Labels
+labels_of Idle = Unused
+labels_of (Within f s ls) = ls
+labels_of (Full xs x s ls) = ls
+labels_of (Broken f) = Unused
+
+abbrev pub IsSound : State → Type 0
+IsSound (Broken f) = ⊥
+IsSound t = Unit {0}
+
+-- behind a dot and its datum nothing may begin
+abbrev pub is_full : State → Bool
+is_full Idle = false
+is_full (Within f s ls) = false
+is_full (Full xs x s ls) = true
+is_full (Broken f) = false
+
+-- a dot may stand behind a member of a list
+abbrev pub is_behind_member : State → Bool
+is_behind_member (Within (Members (x ∷ xs)) s ls) = true
+is_behind_member t = false
+
 pub record Turn : Type 0 where
   pub events : List Object
   pub state : State
 
 abbrev pub quiet : State → Turn
 quiet s = record { events = []; state = s }
+
+abbrev pub event : Object → Turn
+event x = record { events = x ∷ []; state = Idle }
 
 abbrev pub broken : SyntaxKind → ℕ → Turn
 broken k o = quiet (Broken (fault k o))
@@ -36,7 +61,7 @@ fill (x ∷ xs) y = fill xs (Pair x y)
 
 -- a datum is complete
 abbrev pub given : Object → List Frame → Labels → Turn
-given x [] ls = record { events = x ∷ []; state = Idle }
+given x [] ls = event x
 given x (Members xs ∷ s) ls = quiet (Within (Members (x ∷ xs)) s ls)
 given x (Tailed xs ∷ s) ls = quiet (Full xs x s ls)
 given x (Quoting ∷ s) ls = given (quoted x) s ls
@@ -47,24 +72,24 @@ refer o (Some x) s ls = given x s ls
 refer o None s ls = broken LABEL o
 
 -- a lexeme where a datum may begin
-abbrev pub take : List Frame → Labels → Lexeme → Turn
-take s ls (Atom o x) = given x s ls
-take s ls (Open o) = quiet (Within (Members []) s ls)
-take s ls (Close o) = broken CLOSE o
-take s ls (Dot o) = broken DOT o
-take s ls (Quote o) = quiet (Within Quoting s ls)
-take s ls (Mark o n) = if is_begun n ls then broken LABEL o else quiet (Within (Marking n) s (Label n None ls))
-take s ls (Ref o n) = refer o (labelled n ls) s ls
-take s ls (Wrong o (Some f)) = quiet (Broken f)
-take s ls (Wrong o None) = quiet Idle
-take s ls (Stray f) = quiet (Broken f)
-take s ls (End f) = quiet Idle
+abbrev pub taken : List Frame → Labels → Lexeme → Turn
+taken s ls (Atom o x) = given x s ls
+taken s ls (Open o) = quiet (Within (Members []) s ls)
+taken s ls (Close o) = broken CLOSE o
+taken s ls (Dot o) = broken DOT o
+taken s ls (Quote o) = quiet (Within Quoting s ls)
+taken s ls (Mark o n) = if is_begun n ls then broken LABEL o else quiet (Within (Marking n) s (Label n None ls))
+taken s ls (Ref o n) = refer o (labelled n ls) s ls
+taken s ls (Wrong o (Some f)) = quiet (Broken f)
+taken s ls (Wrong o None) = quiet Idle
+taken s ls (Stray f) = quiet (Broken f)
+taken s ls (End f) = quiet Idle
 
 abbrev pub within : Frame → List Frame → Labels → Lexeme → Turn
 within (Members xs) s ls (Close o) = given (fill xs NIL) s ls
 within (Members (x ∷ xs)) s ls (Dot o) = quiet (Within (Tailed (x ∷ xs)) s ls)
 within (Tailed xs) s ls (Close o) = broken DOT o
-within f s ls l = take (f ∷ s) ls l
+within f s ls l = taken (f ∷ s) ls l
 
 abbrev pub offset : Lexeme → ℕ
 offset (Atom o x) = o
@@ -84,7 +109,7 @@ filled xs x s ls (Stray f) = quiet (Broken f)
 filled xs x s ls l = broken DOT (offset l)
 
 abbrev pub on : State → Lexeme → Turn
-on Idle l = take [] Unused l
+on Idle l = taken [] Unused l
 on (Within f s ls) l = within f s ls l
 on (Full xs x s ls) l = filled xs x s ls l
 on (Broken f) l = quiet (Broken f)

@@ -1,11 +1,11 @@
 -- What the reader's stack stands for.
-use Rattle.std.specs.Prelude.{◌≡◌, ℕ, ◌<◌, List, [], ◌∷◌, length, Option, IfSome}
+use Rattle.std.specs.Prelude.{◌≡◌, ℕ, ◌<◌, Bool, true, false, List, [], ◌∷◌, ◌++◌, length, Option, IfSome}
 use Rattle.std.specs.BTreeMap.{BTreeMap, get}
 use Rattle.std.specs.Ordering.{nat_cmp}
 use Rattle.mw_model.specs.Object.{Object}
 use Rattle.mw_model.specs.Grammar.{Labels, Unused}
 use Rattle.mw_read.specs.Named.{Agree, IsListed}
-use Rattle.mw_read.specs.Machine.{Frame, Members, Tailed, Quoting, Marking, State, Idle, Within, Full, Broken, Turn, given, quiet, fill}
+use Rattle.mw_read.specs.Machine.{Frame, Members, Tailed, Quoting, Marking, State, Idle, Within, Full, Broken, Turn, event, given, quiet, fill}
 use Rattle.mw_heap.specs.Objects.{object_at, IsIn, Grows}
 use Rattle.mw_model.specs.Lexemes as lex
 use Rattle.mw_read.specs.declared.step.Fault as code
@@ -27,7 +27,7 @@ piled os (Frames s) layers.Quote = Frames (Quoting ∷ s)
 piled os (Frames s) (layers.Mark n) = Frames (Marking n ∷ s)
 piled os (Frames (Members xs ∷ s)) (layers.Item r) = Frames (Members (object_at os r ∷ xs) ∷ s)
 piled os (Frames (Members xs ∷ s)) layers.Dot = Frames (Tailed xs ∷ s)
-piled os (Frames (Tailed xs ∷ s)) (layers.Last r) = Ready xs (object_at os r) s
+piled os (Frames (Members xs ∷ s)) (layers.Last r) = Ready xs (object_at os r) s
 piled os t l = t
 
 -- may the layer lie there?
@@ -37,7 +37,7 @@ MayLie (Frames s) layers.Quote = Unit {0}
 MayLie (Frames s) (layers.Mark n) = Unit {0}
 MayLie (Frames (Members xs ∷ s)) (layers.Item r) = Unit {0}
 MayLie (Frames (Members (x ∷ xs) ∷ s)) layers.Dot = Unit {0}
-MayLie (Frames (Tailed xs ∷ s)) (layers.Last r) = Unit {0}
+MayLie (Frames (Members (x ∷ xs) ∷ s)) (layers.Last r) = Unit {0}
 MayLie t l = ⊥
 
 abbrev pub pile_on : List Object → Pile → List Layer → Pile
@@ -91,7 +91,7 @@ fault_of f = lex.fault (kind_of f.kind) f.offset
 -- the outcome is that of the turn
 abbrev pub Does : List Object → List Layer → BTreeMap ℕ (Option ℕ) → Outcome → Turn → Type 0
 Does os ls m outcomes.Pending t = ([] ≡ t.events) × Shows os (pile_of os ls) m t.state
-Does os ls m (outcomes.Datum r) t = (object_at os r ∷ [] ≡ t.events) × Shows os (pile_of os ls) m t.state
+Does os ls m (outcomes.Datum r) t = (t ≡ event (object_at os r)) × Shows os (pile_of os ls) m Idle
 Does os ls m (outcomes.Fault f) t = t ≡ quiet (Broken (fault_of f))
 
 -- its datum is of the heap
@@ -116,6 +116,31 @@ members_of t y = y
 abbrev pub frames_round : Pile → List Frame
 frames_round (Frames (Members xs ∷ s)) = s
 frames_round t = []
+
+-- the turn where the innermost list ends in y
+abbrev pub closed_with : Pile → Object → Labels → Turn
+closed_with p y ls = given (members_of p y) (frames_round p) ls
+
+abbrev pub is_last : Layer → Bool
+is_last (layers.Last r) = true
+is_last l = false
+
+abbrev pub is_item : Layer → Bool
+is_item (layers.Item r) = true
+is_item l = false
+
+-- has the innermost list the datum behind its dot?
+abbrev pub is_ready : Pile → Bool
+is_ready (Frames s) = false
+is_ready (Ready xs x s) = true
+
+-- does a member of a list stand directly before?
+abbrev pub has_member : Pile → Bool
+has_member (Frames (Members (x ∷ xs) ∷ s)) = true
+has_member p = false
+
+abbrev pub EndsWith : List Layer → Layer → Type 0
+EndsWith ls l = (rest : List Layer) × (ls ≡ rest ++ l ∷ [])
 
 -- what giving a datum keeps
 pub record Gives (old : List Object) (before : List Layer) (labels : BTreeMap ℕ (Option ℕ)) (first : ℕ) (os : List Object) (ls : List Layer) (m : BTreeMap ℕ (Option ℕ)) (x : ℕ) : Type 0 where

@@ -24,16 +24,16 @@ loop-layer-preserved c =
 pub returns-in-Dot-clause-pile : goal.returns-in-Dot-clause-pile
 returns-in-Dot-clause-pile c =
     (give_last c.args.heap.now c.args.layers.now.items c.args.labels.now c.args.x c.loop-layer.heap
-    c.loop-layer.layers.items c.pop.new.self.items c.push-in-Dot.new.self.items c.loop-layer.labels c.loop-layer.x c.loop-layer.invariant
+    c.loop-layer.layers.items c.pop.new.self.items c.push.new.self.items c.loop-layer.labels c.loop-layer.x c.loop-layer.invariant
     (c.in-Some.ensures.items ∙ ap (λ u. c.pop.new.self.items ++ u ∷ []) c.in-Dot.is)
-    (c.in_ok-push-in-Dot-2.ensures.items ∙ ap (λ u. u ++ layers.Last c.loop-layer.x ∷ []) c.in_ok-push-in-Dot.ensures.items)).0
+    c.in_ok-push-in-Dot.ensures.items).0
 
 pub returns-in-Dot-clause-turn : goal.returns-in-Dot-clause-turn
 returns-in-Dot-clause-turn c =
     (give_last c.args.heap.now c.args.layers.now.items c.args.labels.now c.args.x c.loop-layer.heap
-    c.loop-layer.layers.items c.pop.new.self.items c.push-in-Dot.new.self.items c.loop-layer.labels c.loop-layer.x c.loop-layer.invariant
+    c.loop-layer.layers.items c.pop.new.self.items c.push.new.self.items c.loop-layer.labels c.loop-layer.x c.loop-layer.invariant
     (c.in-Some.ensures.items ∙ ap (λ u. c.pop.new.self.items ++ u ∷ []) c.in-Dot.is)
-    (c.in_ok-push-in-Dot-2.ensures.items ∙ ap (λ u. u ++ layers.Last c.loop-layer.x ∷ []) c.in_ok-push-in-Dot.ensures.items)).1
+    c.in_ok-push-in-Dot.ensures.items).1
 
 pub returns-in_default-layer-clause-pile : goal.returns-in_default-layer-clause-pile
 returns-in_default-layer-clause-pile c =
