@@ -1,5 +1,5 @@
 -- The machine on clamped objects is the clamped machine.
-use Rattle.std.proofs.Common.{◌≡◌, ℕ, Bool, true, false, ◌||◌, List, [], ◌∷◌, Option, Some, None, refl, sym, ap, ◌∙◌, if◌then◌else◌, eqb, ◌⊎◌, inl, inr, true≢false}
+use Rattle.std.proofs.Common.{◌≡◌, ℕ, Bool, true, false, ◌||◌, List, [], ◌∷◌, Option, Some, None, refl, sym, ap, ◌∙◌, if◌then◌else◌, eqb, true≢false}
 use Rattle.mw_model.specs.Object.{Object, Pair, NIL}
 use Rattle.mw_model.specs.Lexemes.{Lexeme, Atom, Open, Close, Dot, Quote, Mark, Ref, Wrong, Stray, End, LABEL}
 use Rattle.mw_model.specs.Grammar.{Labels, Unused, Label, is_begun, labelled, complete, quoted}
@@ -134,24 +134,26 @@ or_left a b h = ap (λ u. u || b) h
 or_right : (a b : Bool) → b ≡ true → (a || b) ≡ true
 or_right a b h = or_comm a b ∙ or_left b a h
 
-or_cases : (a b : Bool) → (a || b) ≡ true → (a ≡ true) ⊎ (b ≡ true)
-or_cases true b h = inl refl
-or_cases false b h = inr h
+or_either : {P : Type 0} (a b : Bool) → (a ≡ true → P) → (b ≡ true → P) → (a || b) ≡ true → P
+or_either true b f g h = f refl
+or_either false b f g h = g h
 
 complete_big : (n : ℕ) (x : Object) (ls : Labels) → labels_big (complete n x ls) ≡ true → (is_out_of_range x || labels_big ls) ≡ true
 complete_big n x Unused h = absurd (true≢false (sym h))
 complete_big n x (Label m y ls) h = go (complete_big n x ls) (eqb n m) h
   where
+    here : is_out_of_range x ≡ true → (is_out_of_range x || (some_big y || labels_big ls)) ≡ true
+    here p = or_left (is_out_of_range x) (some_big y || labels_big ls) p
+
+    there : labels_big ls ≡ true → (is_out_of_range x || (some_big y || labels_big ls)) ≡ true
+    there p = or_right (is_out_of_range x) (some_big y || labels_big ls) (or_right (some_big y) (labels_big ls) p)
+
     go : (labels_big (complete n x ls) ≡ true → (is_out_of_range x || labels_big ls) ≡ true) → (b : Bool) → labels_big (if b then Label m (Some x) ls else Label m y (complete n x ls)) ≡ true →
         (is_out_of_range x || (some_big y || labels_big ls)) ≡ true
-    go f true h = elim (or_cases (is_out_of_range x) (labels_big ls) h) [
-      inl p ↦ or_left (is_out_of_range x) (some_big y || labels_big ls) p
-    | inr p ↦ or_right (is_out_of_range x) (some_big y || labels_big ls) (or_right (some_big y) (labels_big ls) p) ]
-    go f false h = elim (or_cases (some_big y) (labels_big (complete n x ls)) h) [
-      inl p ↦ or_right (is_out_of_range x) (some_big y || labels_big ls) (or_left (some_big y) (labels_big ls) p)
-    | inr p ↦ elim (or_cases (is_out_of_range x) (labels_big ls) (f p)) [
-        inl q ↦ or_left (is_out_of_range x) (some_big y || labels_big ls) q
-      | inr q ↦ or_right (is_out_of_range x) (some_big y || labels_big ls) (or_right (some_big y) (labels_big ls) q) ] ]
+    go f true h = or_either (is_out_of_range x) (labels_big ls) here there h
+    go f false h =
+        or_either (some_big y) (labels_big (complete n x ls)) (λ p. or_right (is_out_of_range x) (some_big y || labels_big ls) (or_left (some_big y) (labels_big ls) p))
+        (λ p. or_either (is_out_of_range x) (labels_big ls) here there (f p)) h
 
 -- of the state after a datum is given
 given_covers : (x : Object) (s : List Frame) (ls : Labels) → Covers (is_out_of_range x || frames_big s) ls → Covers (is_out_of_range x || frames_big s) (labels_of (given x s ls).state)
@@ -162,7 +164,7 @@ given_covers x (Quoting ∷ s) ls c h =
     ap (λ u. u || frames_big s) (sym (or_false (is_out_of_range x))) ∙ given_covers (quoted x) s ls (λ k. ap (λ u. u || frames_big s) (or_false (is_out_of_range x)) ∙ c k) h
 given_covers x (Marking n ∷ s) ls c h =
     given_covers x s (complete n x ls)
-    (λ k. elim (or_cases (is_out_of_range x) (labels_big ls) (complete_big n x ls k)) [ inl p ↦ or_left (is_out_of_range x) (frames_big s) p | inr p ↦ c p ]) h
+    (λ k. or_either (is_out_of_range x) (labels_big ls) (or_left (is_out_of_range x) (frames_big s)) c (complete_big n x ls k)) h
 
 -- the flag of a turn, where the state's flag and that of the lexeme come together
 abbrev pub Flags : Bool → Turn → Type 0

@@ -8,3 +8,6 @@ pub mod Named
 pub mod Piles
 pub mod Folding
 pub mod Turns
+pub mod Holding
+pub mod Digits
+pub mod Constituents

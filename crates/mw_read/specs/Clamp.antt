@@ -2,7 +2,8 @@
 use Rattle.std.specs.Prelude.{ℕ, ◌^◌, Bool, false, ◌||◌, not, ltb, List, [], ◌∷◌, Option, Some, None, if◌then◌else◌}
 use Rattle.mw_model.specs.Object.{Object, Natural, Symbol, Pair}
 use Rattle.mw_model.specs.Lexemes.{Lexeme, Atom}
-use Rattle.mw_model.specs.Fate.{is_out_of_range, range}
+use Rattle.mw_model.specs.Fate.{is_out_of_range}
+use Rattle.mw_model.specs.Evaluation.{range}
 use Rattle.mw_model.specs.Grammar.{Labels, Unused, Label}
 use Rattle.mw_read.specs.Machine.{Frame, Members, Tailed, Quoting, Marking, State, Idle, Within, Full, Broken, Turn}
 

@@ -6,3 +6,6 @@ pub mod Runs
 pub mod Named
 pub mod Piles
 pub mod Stacks
+pub mod Held
+pub mod Forms
+pub mod Lexing

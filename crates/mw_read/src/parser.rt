@@ -1,4 +1,12 @@
 //! A reader that is handed each piece of a book in turn.
+ghost use Rattle.std.specs.Prelude.{◌≡◌, ℕ, ◌+◌, ◌-◌, ◌*◌, ◌<◌, ◌≤◌, ◌^◌, Bool, true, false, List, [], ◌∷◌, ◌++◌, length, map, take, drop, IfOk, OnOk, IfSome, Option, Some, None, vec_len};
+ghost use Rattle.mw_model.specs.Object.{Object, is_name, is_name_byte, name_of_bytes, Symbol};
+ghost use Rattle.mw_model.specs.Lexemes.{all_are, is_constituent, raised, token_form, Atom};
+ghost use Rattle.mw_heap.specs.Objects.{object_at, IsIn, Grows};
+ghost use Rattle.mw_read.specs.Machine.{State, on, is_full};
+ghost use Rattle.mw_read.specs.Stacks.{IsStack};
+ghost use Rattle.mw_read.specs.Held.{Holds, Took};
+ghost use Rattle.mw_read.specs.Lexing.{token_lexeme};
 use crate::class::{
     Class, classify, constituents, digits, glued_to_bar, glued_to_token, line_bytes, name_bytes,
     raise,
@@ -46,6 +54,17 @@ pub(crate) struct Parser {
     pub(crate) name: Vec<u8>,
 }
 
+// The bytes, with letters raised, in place of what the vector had.
+fn raise_all(name: &mut Vec<u8>, token: &[u8]) -> Result<(), Memory>
+    ensures { OnOk result (name.new.items ≡ map raised token.now) }
+{
+    name.clear();
+    for b in token {
+        name.push(raise(*b))?;
+    }
+    Ok(())
+}
+
 // A token without bars ends: `glued` says whether what stands behind it may not stand there.
 fn end_token(
     stack: &mut Stack,
@@ -54,7 +73,14 @@ fn end_token(
     token: &[u8],
     start: u64,
     glued: bool,
-) -> Result<Outcome, Memory> {
+) -> Result<Outcome, Memory>
+    requires stack { IsStack heap.old stack.old }
+    requires token { all_are is_constituent token.now ≡ true }
+    requires room { start < 2 ^ 50 }
+    ensures grows { Grows heap.old heap.new }
+    ensures took { IfOk result (λ r. (t : State) → Holds heap.old stack.old t → is_full t ≡ false →
+        Took heap.new stack.new r (on t (token_lexeme start glued (token_form token.now)))) }
+{
     match form_of(token) {
         Form::Natural(n) => {
             let x = heap.nat(n)?;
@@ -66,10 +92,7 @@ fn end_token(
             stack.atom(heap, x, start)
         }
         Form::Name => {
-            name.clear();
-            for b in token {
-                name.push(raise(*b))?;
-            }
+            raise_all(name, token)?;
             let x = heap.symbol(name)?;
             stack.atom(heap, x, start)
         }
