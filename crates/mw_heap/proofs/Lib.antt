@@ -1,0 +1,10 @@
+pub mod Objects
+pub mod Lists
+pub mod Inserts
+pub mod Counts
+pub mod Growth
+pub mod Sound
+pub mod Numbered
+pub mod NameSet
+pub mod Shown
+pub mod NameOrder

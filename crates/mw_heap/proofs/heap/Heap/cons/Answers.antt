@@ -1,0 +1,28 @@
+-- The cell of a pair is inserted.
+use Rattle.std.proofs.Common.{◌≡◌, ◌<◌, length, refl, sym, ap, ap₂, ◌∙◌, arith}
+use Rattle.mw_model.specs.Object.{Pair}
+use Rattle.mw_heap.specs.Objects.{object_at}
+use Rattle.mw_heap.proofs.Growth.{length-objects}
+use Rattle.mw_heap.proofs.Sound.{plain_sound, plain_grows, plain_made}
+use Rattle.mw_heap.proofs.heap.Heap.cons.Goals as goal
+
+parts_in : (c : goal.After-insert_cell) → (c.short_index.result < length c.self.inside.cells.keys) × (c.short_index-2.result < length c.self.inside.cells.keys)
+parts_in c =
+    let n : length c.args.self.now ≡ length c.self.inside.cells.keys = sym (ap length c.self.view_is) ∙ length-objects _ _ c.self.inside.cells.keys in
+    (omega (arith, n, c.requires.first_in, c.short_index.ensures), omega (arith, n, c.requires.second_in, c.short_index-2.ensures))
+
+pub invariant_of-self : goal.invariant_of-self
+invariant_of-self c =
+    let e = c.insert_cell.ensures in
+    plain_sound _ _ _ c.self.invariant _ (refl, refl) (parts_in c) _ c.self.view_is _ e.few _ e.inserted e.distinct e.err
+
+pub returns-clause-grows : goal.returns-clause-grows
+returns-clause-grows c =
+    let e = c.insert_cell.ensures in
+    plain_grows _ _ _ c.self.invariant _ (refl, refl) (parts_in c) _ c.self.view_is _ e.few _ e.inserted e.distinct e.err
+
+pub returns-clause-made : goal.returns-clause-made
+returns-clause-made c =
+    let e = c.insert_cell.ensures in
+    let parts = ap₂ Pair (ap (object_at c.args.self.now) c.short_index.ensures) (ap (object_at c.args.self.now) c.short_index-2.ensures) in
+    plain_made _ _ _ c.self.invariant _ (refl, refl) (parts_in c) _ c.self.view_is _ e.few _ parts _ e.inserted e.distinct

@@ -1,0 +1,18 @@
+-- A name is found by its bytes.
+use Rattle.std.proofs.Common.{refl, inl}
+use Rattle.mw_heap.proofs.NameSet.{IsInjective-bytes_of, found_name, inserted_name}
+use Rattle.mw_heap.proofs.sets.insert_name.Goals as goal
+
+pub returns-in-Some-clause-inserted : goal.returns-in-Some-clause-inserted
+returns-in-Some-clause-inserted c = record { stands = found_name c.args.names.now.keys _ _ c.in-Some.ensures.index; change = inl refl }
+
+pub returns-in-Some-clause-distinct : goal.returns-in-Some-clause-distinct
+returns-in-Some-clause-distinct c = IsInjective-bytes_of _ c.len.ensures.unique
+
+pub returns-clause-inserted : goal.returns-clause-inserted
+returns-clause-inserted c =
+    let e = c.in_ok-index.ensures in
+    inserted_name c.args.names.now.keys _ c.in_ok-owned.owned _ _ c.in_ok-owned.ensures.items e.keys e.stored
+
+pub returns-clause-distinct : goal.returns-clause-distinct
+returns-clause-distinct c = IsInjective-bytes_of _ c.in_ok-index.ensures.unique

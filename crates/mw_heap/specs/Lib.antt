@@ -1,0 +1,4 @@
+pub mod Objects
+pub mod Cells
+pub mod Code
+pub mod Inserted

@@ -1,0 +1,183 @@
+//! The heap.
+ghost use Rattle.std.specs.Prelude.{◌≡◌, ℕ, ◌+◌, ◌<◌, ◌≤◌, ◌^◌, List, [], true, false, length, take, IfOk, OnErr, IsTrue};
+ghost use Rattle.mw_model.specs.Object.{Symbol, Natural, Pair, name_of_bytes, is_name, same_object, is_before_bytes};
+ghost use Rattle.mw_model.specs.Primitive.{is_symbol, name_of};
+ghost use Rattle.mw_model.specs.Fate.{is_out_of_range};
+ghost use Rattle.mw_heap.specs.Objects.{object_at, IsIn, Grows, Shows, NamesOlder, AreDistinct};
+
+use crate::cell::Cell;
+use crate::sets::{cell_at, counts_from, insert_cell, insert_name, insert_natural};
+use crate::{Mark, Memory, Ref, View};
+use indexmap::IndexSet;
+use std::alloc::Global;
+use std::marker::Model;
+
+/// Objects, each kept once: equal objects have equal references, so that equality is one comparison. A heap only grows, but for
+/// `cut_back`, and holds fewer than 2^32 objects.
+#[derive(Drop)]
+pub struct Heap {
+    cells: IndexSet<Cell>,
+    naturals: IndexSet<u128>,
+    names: IndexSet<Vec<u8>>,
+    alloc: Global,
+}
+
+impl Model for Heap {
+    ghost use Rattle.std.specs.Prelude.{List};
+    ghost use Rattle.std.specs.Coded.{coded_list};
+    ghost use Rattle.mw_model.specs.Object.{Object};
+    ghost use Rattle.mw_heap.specs.Code.{coded_object};
+
+    ghost Value = { List Object };
+
+    ghost coded = { coded_list coded_object };
+
+    ghost use Rattle.mw_heap.specs.Cells.{objects, bytes_of, IsSound};
+
+    ghost view = { λ h. objects h.naturals.keys (bytes_of h.names.keys) h.cells.keys };
+
+    ghost invariant = { λ h. IsSound h.naturals.keys (bytes_of h.names.keys) h.cells.keys };
+}
+
+impl Heap {
+    /// A heap with no objects.
+    pub fn new(alloc: Global) -> Result<Heap, Memory>
+        ensures empty { IfOk result (λ h. h ≡ []) }
+    {
+        Ok(Heap {
+            cells: IndexSet::new(alloc),
+            naturals: IndexSet::new(alloc),
+            names: IndexSet::new(alloc),
+            alloc,
+        })
+    }
+
+    /// The natural `n`.
+    pub fn nat(&mut self, n: u128) -> Result<Ref, Memory>
+        ensures grows { Grows self.old self.new }
+        ensures made { IfOk result (λ r. IsIn self.new r × (object_at self.new r ≡ Natural n)) }
+        ensures err { OnErr result (self.new ≡ self.old) }
+    {
+        if let Ok(small) = u32::try_from(n) {
+            return insert_cell(&mut self.cells, Cell::Small(small));
+        }
+        let had = self.naturals.len();
+        let index = insert_natural(&mut self.naturals, n)?;
+        match insert_cell(&mut self.cells, Cell::Large(index as u32)) {
+            Ok(made) => Ok(made),
+            Err(refusal) => {
+                self.naturals.truncate(had);
+                Err(refusal)
+            }
+        }
+    }
+
+    /// The symbol of this name.
+    pub fn symbol(&mut self, name: &[u8]) -> Result<Ref, Memory>
+        requires { is_name name.now ≡ true }
+        ensures grows { Grows self.old self.new }
+        ensures made { IfOk result (λ r. IsIn self.new r × (object_at self.new r ≡ Symbol (name_of_bytes name.now))) }
+        ensures err { OnErr result (self.new ≡ self.old) }
+    {
+        let had = self.names.len();
+        let index = insert_name(&mut self.names, self.alloc, name)?;
+        match insert_cell(&mut self.cells, Cell::Symbol(index as u32)) {
+            Ok(made) => Ok(made),
+            Err(refusal) => {
+                self.names.truncate(had);
+                Err(refusal)
+            }
+        }
+    }
+
+    /// The pair of these parts.
+    pub fn cons(&mut self, first: Ref, second: Ref) -> Result<Ref, Memory>
+        requires first_in { IsIn self.old first }
+        requires second_in { IsIn self.old second }
+        ensures grows { Grows self.old self.new }
+        ensures made { IfOk result (λ r. IsIn self.new r × (object_at self.new r ≡ Pair (object_at self.old first) (object_at self.old second))) }
+        ensures err { OnErr result (self.new ≡ self.old) }
+    {
+        insert_cell(
+            &mut self.cells,
+            Cell::Pair(first.short_index(), second.short_index()),
+        )
+    }
+
+    /// What an object is made of. A pair's parts stand before it.
+    pub fn view(&self, x: Ref) -> View
+        requires { IsIn self.now x }
+        ensures shows { Shows self.now result (object_at self.now x) }
+        ensures below { NamesOlder result x }
+        ensures in_range { is_out_of_range (object_at self.now x) ≡ false }
+    {
+        match cell_at(&self.cells, x) {
+            Cell::Small(n) => View::Nat(n as u128),
+            Cell::Large(i) => View::Nat(self.naturals.as_slice()[i as usize]),
+            Cell::Symbol(_) => View::Symbol,
+            Cell::Pair(a, b) => View::Pair(Ref::new(a), Ref::new(b)),
+        }
+    }
+
+    /// The name of a symbol.
+    pub fn name_of(&self, x: Ref) -> &[u8]
+        requires within { IsIn self.now x }
+        requires symbol { is_symbol (object_at self.now x) ≡ true }
+        ensures { (name_of (object_at self.now x)).bytes ≡ result.now }
+    {
+        match cell_at(&self.cells, x) {
+            Cell::Symbol(i) => self.names.as_slice()[i as usize].as_slice(),
+            _ => unreachable!(),
+        }
+    }
+
+    /// Whether two references have equal objects, which are those of equal references.
+    pub fn same(&self, x: Ref, y: Ref) -> bool
+        requires first_in { IsIn self.now x }
+        requires second_in { IsIn self.now y }
+        ensures same { result ≡ same_object (object_at self.now x) (object_at self.now y) }
+        ensures distinct { AreDistinct self.now }
+    {
+        let _ = &self.cells;
+        x == y
+    }
+
+    /// Whether the name of the symbol `x` is before that of the symbol `y`: byte by byte, a proper prefix first.
+    pub fn symbol_less(&self, x: Ref, y: Ref) -> bool
+        requires first_in { IsIn self.now x }
+        requires second_in { IsIn self.now y }
+        requires first_symbol { is_symbol (object_at self.now x) ≡ true }
+        requires second_symbol { is_symbol (object_at self.now y) ≡ true }
+        ensures { result ≡ is_before_bytes (name_of (object_at self.now x)).bytes (name_of (object_at self.now y)).bytes }
+    {
+        self.name_of(x) < self.name_of(y)
+    }
+
+    /// The number of objects, to go back to.
+    pub fn mark(&self) -> Mark
+        ensures { result ≡ length self.now }
+    {
+        Mark::new(self.cells.len())
+    }
+
+    /// The object at this index, in the order in which objects came.
+    pub fn nth(&self, index: usize) -> Ref
+        requires { index < length self.now }
+        ensures { result ≡ index }
+    {
+        let _ = &self.cells;
+        Ref::new(index as u32)
+    }
+
+    /// Forgets each object that came after the mark. References to those that stay keep their meaning. It takes time in proportion
+    /// to what goes.
+    pub fn cut_back(&mut self, to: Mark)
+        requires { to ≤ length self.old }
+        ensures { self.new ≡ take to self.old }
+    {
+        let (naturals, names) = counts_from(&self.cells, to.cells());
+        self.naturals.truncate(self.naturals.len() - naturals);
+        self.names.truncate(self.names.len() - names);
+        self.cells.truncate(to.cells());
+    }
+}

@@ -1,0 +1,91 @@
+//! The sets that a heap is made of: a value's place in each is its index.
+ghost use Rattle.std.specs.Prelude.{◌≡◌, ◌<◌, ◌≤◌, ◌^◌, ℕ, List, length, drop, slice_get, Some, IfOk, OnOk, OnErr};
+ghost use Rattle.mw_heap.specs.Cells.{natural_count, name_count, bytes_of, IsInjective};
+ghost use Rattle.mw_heap.specs.Inserted.{Inserts};
+
+use crate::cell::Cell;
+use crate::{Memory, Ref};
+use indexmap::IndexSet;
+use std::alloc::Global;
+
+// The cells that a heap can have.
+const LIMIT: usize = u32::MAX as usize;
+
+// The index of the cell, which goes last if it is new.
+pub(crate) fn insert_cell(cells: &mut IndexSet<Cell>, cell: Cell) -> Result<Ref, Memory>
+    requires { length cells.old.keys < 2 ^ 32 }
+    ensures inserted { IfOk result (λ r. Inserts cells.old.keys cells.new.keys cell r) }
+    ensures distinct { OnOk result (IsInjective cells.new.keys) }
+    ensures few { length cells.new.keys < 2 ^ 32 }
+    ensures err { OnErr result (cells.new.keys ≡ cells.old.keys) }
+{
+    let (index, _) = cells.insert_full(cell)?;
+    if index < LIMIT {
+        return Ok(Ref::new(index as u32));
+    }
+    cells.truncate(LIMIT);
+    Err(Memory)
+}
+
+// The index of the natural, which goes last if it is new.
+pub(crate) fn insert_natural(naturals: &mut IndexSet<u128>, n: u128) -> Result<usize, Memory>
+    ensures inserted { IfOk result (λ i. Inserts naturals.old.keys naturals.new.keys n i) }
+    ensures distinct { OnOk result (IsInjective naturals.new.keys) }
+    ensures err { OnErr result (naturals.new.keys ≡ naturals.old.keys) }
+{
+    let (index, _) = naturals.insert_full(n)?;
+    Ok(index)
+}
+
+// The index of the name, which goes last, in memory of its own, if it is new.
+pub(crate) fn insert_name(
+    names: &mut IndexSet<Vec<u8>>,
+    alloc: Global,
+    name: &[u8],
+) -> Result<usize, Memory>
+    ensures inserted { IfOk result (λ i. Inserts (bytes_of names.old.keys) (bytes_of names.new.keys) name.now i) }
+    ensures distinct { OnOk result (IsInjective (bytes_of names.new.keys)) }
+    ensures err { OnErr result (names.new.keys ≡ names.old.keys) }
+{
+    if let Some(index) = names.get_index_of(name) {
+        let _ = names.len();
+        return Ok(index);
+    }
+    let owned = Vec::from_slice(alloc, name)?;
+    let (index, _) = names.insert_full(owned)?;
+    Ok(index)
+}
+
+// The cell of a reference.
+pub(crate) fn cell_at(cells: &IndexSet<Cell>, x: Ref) -> Cell
+    requires { x < length cells.now.keys }
+    ensures { slice_get cells.now.keys x ≡ Some result }
+{
+    cells.as_slice()[x.index()]
+}
+
+// How many of the cells from this index on are large naturals, and how many are symbols.
+pub(crate) fn counts_from(cells: &IndexSet<Cell>, start: usize) -> (usize, usize)
+    requires { start ≤ length cells.now.keys }
+    ensures naturals { result.0 ≡ natural_count (drop start cells.now.keys) }
+    ensures names { result.1 ≡ name_count (drop start cells.now.keys) }
+{
+    let all = cells.as_slice();
+    counts_of(&all[start..])
+}
+
+fn counts_of(cells: &[Cell]) -> (usize, usize)
+    ensures naturals { result.0 ≡ natural_count cells.now }
+    ensures names { result.1 ≡ name_count cells.now }
+{
+    let mut naturals = 0;
+    let mut names = 0;
+    for cell in cells {
+        match cell {
+            Cell::Large(_) => naturals += 1,
+            Cell::Symbol(_) => names += 1,
+            _ => {}
+        }
+    }
+    (naturals, names)
+}
