@@ -251,13 +251,13 @@ token_keeps e x s o b c t h =
     ends g = ap (resume s) (token_lexemes e x o b c t h.0 h.1 g) ∙ settle_keeps e x s (o + length (c ∷ t)) b l (token_solid o (c ∷ t) (token_form (c ∷ t)) b)
 
 -- a bar opens, up to a byte that no name may hold
-bar_lexemes : (e : Ending) (x : List ℕ) (o b : ℕ) (n : List ℕ) → all_are is_name_byte n ≡ true → is_name_byte b ≡ false →
+pub bar_lexemes : (e : Ending) (x : List ℕ) (o b : ℕ) (n : List ℕ) → all_are is_name_byte n ≡ true → is_name_byte b ≡ false →
     lexemes_from e o 0 (124 ∷ (n ++ b ∷ x)) ≡ barred e o n (b ∷ x) ++ lexemes_from e (suc o) (suc (length n)) (n ++ b ∷ x)
 bar_lexemes e x o b n h f =
     let y = n ++ b ∷ x in
     ap₂ (λ u v. barred e o u v ++ lexemes_from e (suc o) (suc (length u)) y) (run_all is_name_byte n b x h f) (after_all is_name_byte n b x h f)
 
-barred_fault : (e : Ending) (x : List ℕ) (o b : ℕ) (n : List ℕ) → eqb b 124 ≡ false → barred e o n (b ∷ x) ≡ Wrong o (Some (fault BYTE (o + 1 + length n))) ∷ []
+pub barred_fault : (e : Ending) (x : List ℕ) (o b : ℕ) (n : List ℕ) → eqb b 124 ≡ false → barred e o n (b ∷ x) ≡ Wrong o (Some (fault BYTE (o + 1 + length n))) ∷ []
 barred_fault e x o b [] h = ap (λ v. if v then Wrong o (Some (fault TOKEN o)) ∷ [] else Wrong o (Some (fault BYTE (o + 1 + 0))) ∷ []) h
 barred_fault e x o b (c ∷ n) h =
     ap (λ v. if v then atom e glued_bar o (Symbol (name_of_bytes (c ∷ n))) (o + 2 + length (c ∷ n)) x else Wrong o (Some (fault BYTE (o + 1 + length (c ∷ n)))) ∷ []) h
@@ -309,7 +309,7 @@ barred_keeps e x s o b c n h =
     ∙ settle_keeps e x s (o + 2 + length (c ∷ n)) b (atom Goes glued_bar o (Symbol (name_of_bytes (c ∷ n))) (o + 2 + length (c ∷ n)) (b ∷ [])) (atom_solid glued_bar o (Symbol (name_of_bytes (c ∷ n))) (o + 2 + length (c ∷ n)) b)
 
 -- a # and its digits
-run_more : (p : ℕ → Bool) (t y : List ℕ) → all_are p t ≡ true → run_of p (t ++ y) ≡ t ++ run_of p y
+pub run_more : (p : ℕ → Bool) (t y : List ℕ) → all_are p t ≡ true → run_of p (t ++ y) ≡ t ++ run_of p y
 run_more p [] y h = refl
 run_more p (c ∷ t) y h =
     let a = and_parts (p c) (all_are p t) h in
@@ -328,7 +328,7 @@ long_lexemes e x o b d h g l =
     ∙ lt-ltb 9 (length (d ++ b ∷ run_of is_digit x)) (omega (arith, length_both d b (run_of is_digit x))) in
     ap (λ v. if v then Wrong o (Some (fault LABEL o)) ∷ [] else label e o (run_of is_digit y) (after_run is_digit y)) long
 
-hash_lexemes : (e : Ending) (x : List ℕ) (o b : ℕ) (d : List ℕ) → all_are is_digit d ≡ true → is_digit b ≡ false →
+pub hash_lexemes : (e : Ending) (x : List ℕ) (o b : ℕ) (d : List ℕ) → all_are is_digit d ≡ true → is_digit b ≡ false →
     lexemes_from e o 0 (35 ∷ (d ++ b ∷ x)) ≡ hashed Goes o d (b ∷ []) ++ lexemes_from e (o + 2 + length d) 0 x
 hash_lexemes e x o b d h f =
     let y = d ++ b ∷ x in

@@ -1,8 +1,8 @@
 -- A token's bytes, raised, are a name's.
-use Rattle.std.proofs.Common.{◌≡◌, ℕ, zero, suc, ◌<◌, ◌≤◌, Bool, true, false, ◌&&◌, ◌||◌, not, eqb, leb, List, [], ◌∷◌, map, refl, sym, ap, ◌∙◌, arith, true≢false, eqb-true, leb-true, if◌then◌else◌}
-use Rattle.std.proofs.lemmas.Bool.{and_parts, and_from}
+use Rattle.std.proofs.Common.{◌≡◌, ℕ, zero, suc, ◌<◌, ◌≤◌, Bool, true, false, ◌&&◌, ◌||◌, not, eqb, leb, List, [], ◌∷◌, map, refl, sym, ap, ◌∙◌, arith, true≢false, eqb-true, leb-true}
+use Rattle.std.proofs.lemmas.Bool.{and_parts, and_from, eqb-false}
 use Rattle.mw_model.specs.Object.{is_name, is_name_byte, are_name_bytes, Symbol, Name}
-use Rattle.mw_model.specs.Lexemes.{one_of, is_digit, is_capital, is_small, is_mark, is_constituent, raised, all_are, token_form, TokenForm, Whole}
+use Rattle.mw_model.specs.Lexemes.{one_of, is_digit, is_capital, is_small, is_mark, is_constituent, raised, all_are, token_form, Whole}
 
 either : {P : Type 0} (a b : Bool) → (a ≡ true → P) → (b ≡ true → P) → (a || b) ≡ true → P
 either true b f g h = f refl
@@ -22,12 +22,16 @@ one_below (c ∷ cs) b h o =
 range_below : (a z b : ℕ) → z ≤ 126 → (leb a b && leb b z) ≡ true → b ≤ 126
 range_below a z b h e = let l = leb-true b z (and_parts (leb a b) (leb b z) e).1 in omega (arith, l)
 
+-- those of is_mark
+abbrev marks : List ℕ
+marks = 33 ∷ 36 ∷ 37 ∷ 38 ∷ 42 ∷ 43 ∷ 45 ∷ 46 ∷ 47 ∷ 60 ∷ 61 ∷ 62 ∷ 63 ∷ 64 ∷ 91 ∷ 93 ∷ 94 ∷ 95 ∷ 123 ∷ 125 ∷ 126 ∷ []
+
 below : (b : ℕ) → is_constituent b ≡ true → b ≤ 126
 unfolding are_below
 below b =
     either (is_digit b) (is_capital b || (is_small b || is_mark b)) (range_below 48 57 b (omega arith))
     (either (is_capital b) (is_small b || is_mark b) (range_below 65 90 b (omega arith))
-    (either (is_small b) (is_mark b) (range_below 97 122 b (omega arith)) (one_below _ b refl)))
+    (either (is_small b) (is_mark b) (range_below 97 122 b (omega arith)) (one_below marks b refl)))
 
 test : ℕ → Bool
 test b = not (is_constituent b) || is_name_byte (raised b)
@@ -39,16 +43,22 @@ tests (suc n) = test n && tests n
 test_at : (n b : ℕ) → tests n ≡ true → b < n → test b ≡ true
 unfolding tests
 test_at zero b h l = absurd (omega arith)
-test_at (suc n) b h l = go (eqb b n) refl
+test_at (suc n) b h l = go (test_at n b (and_parts (test n) (tests n) h).1) (eqb b n) refl
   where
     k : (test n ≡ true) × (tests n ≡ true)
     k = and_parts (test n) (tests n) h
 
-    go : (v : Bool) → eqb b n ≡ v → test b ≡ true
-    go v e = ?
+    go : (b < n → test b ≡ true) → (v : Bool) → eqb b n ≡ v → test b ≡ true
+    go f true e = ap test (eqb-true b n e) ∙ k.0
+    go f false e = let d : b ≡ n → ⊥ = eqb-false b n e in f (omega arith)
+
+all_tests : tests 127 ≡ true
+unfolding tests test
+all_tests = refl
 
 raised_name : (b : ℕ) → is_constituent b ≡ true → is_name_byte (raised b) ≡ true
-raised_name b h = ?
+unfolding test
+raised_name b h = let l = below b h in either (not (is_constituent b)) (is_name_byte (raised b)) (λ e. absurd (true≢false (sym e ∙ ap not h))) (λ e. e) (test_at 127 b all_tests (omega (arith, l)))
 
 are_names : (t : List ℕ) → all_are is_constituent t ≡ true → are_name_bytes (map raised t) ≡ true
 are_names [] h = refl

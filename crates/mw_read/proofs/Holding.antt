@@ -1,19 +1,20 @@
 -- What a lexeme makes of what a stack holds.
-use Rattle.std.proofs.Common.{◌≡◌, ℕ, Bool, true, false, ◌||◌, List, [], ◌∷◌, length, not, Option, Some, None, Result, Ok, Err, IfOk, ◌<◌, ◌≤◌, ◌^◌, if◌then◌else◌, lt-ltb, le-ltb, refl, sym, ap, ap₂, ◌∙◌, subst, arith, true≢false}
+use Rattle.std.proofs.Common.{◌≡◌, ℕ, Bool, true, false, ◌||◌, List, [], ◌∷◌, length, not, Result, Ok, Err, IfOk, ◌<◌, ◌≤◌, ◌^◌, if◌then◌else◌, lt-ltb, le-ltb, refl, sym, ap, ap₂, ◌∙◌, subst}
 use Rattle.mw_model.specs.Object.{Object, Natural}
 use Rattle.mw_model.specs.Lexemes.{Lexeme, Atom, Fault}
 use Rattle.mw_model.specs.Fate.{is_out_of_range}
-use Rattle.mw_heap.specs.Objects.{object_at, IsIn, Grows}
-use Rattle.mw_read.specs.Machine.{State, Idle, Within, Full, Broken, Turn, quiet, event, on, labels_of, IsSound}
-use Rattle.mw_read.specs.Clamp.{clamp, clamp_all, clamp_state, clamp_turn, clamp_lexeme, state_big, labels_big, lexeme_big, turn_big, any_big}
-use Rattle.mw_read.specs.Piles.{Shows, Does, HoldsDatum, pile_of, fault_of, Frames}
+use Rattle.mw_heap.specs.Objects.{object_at, Grows}
+use Rattle.mw_read.specs.Machine.{State, Idle, Within, Full, Broken, Turn, on, labels_of, IsSound, is_full}
+use Rattle.mw_read.specs.Clamp.{clamp, clamp_all, clamp_state, clamp_turn, clamp_lexeme, state_big, lexeme_big, any_big}
+use Rattle.mw_read.specs.Piles.{Does, HoldsDatum, pile_of, fault_of, is_ready}
 use Rattle.mw_read.specs.Stacks.{IsStack, Means}
-use Rattle.mw_read.specs.Held.{Holds, Completes, Took}
+use Rattle.mw_read.specs.Held.{Holds, Took}
 use Rattle.mw_read.specs.declared.stack.Stack.{Stack}
 use Rattle.mw_read.specs.declared.step.Outcome.{Outcome}
 use Rattle.mw_read.specs.declared.step.Outcome.TheVariants as outcomes
 use Rattle.mw_read.proofs.Growth.{length_grows}
 use Rattle.mw_read.proofs.Piles.{pile_grows, is_pile_grows, agree_grows, listed_grows}
+use Rattle.mw_read.proofs.Turns.{full_is}
 use Rattle.mw_read.proofs.Clamp.{on_clamp, on_flags, IsWhole, Flags}
 
 none_clamp : (xs : List Object) → [] ≡ clamp_all xs → xs ≡ []
@@ -37,7 +38,7 @@ broken_clamp (Within g s ls) f h = absurd cc
 broken_clamp (Full xs x s ls) f h = absurd cc
 broken_clamp (Broken g) f h = h
 
-sound_clamp : (os : List Object) (s : Stack) (t : State) → Means os s (clamp_state t) → IsSound t
+pub sound_clamp : (os : List Object) (s : Stack) (t : State) → Means os s (clamp_state t) → IsSound t
 sound_clamp os s Idle h = tt
 sound_clamp os s (Within f r ls) h = tt
 sound_clamp os s (Full xs x r ls) h = tt
@@ -135,3 +136,12 @@ or_large a false c e h = h ∙ sym e
 pub if_ok_all : {T E : Type 0} (P Q R S : T → Type 0) {V : T → Type 0} (r : Result T E) → ((x : T) → P x → Q x → R x → S x → V x) → IfOk r P → IfOk r Q → IfOk r R → IfOk r S → IfOk r V
 if_ok_all P Q R S (Ok x) f p q s v = f x p q s v
 if_ok_all P Q R S (Err e) f p q s v = p
+
+pub holds_full : (os : List Object) (s : Stack) (t : State) → Holds os s t → is_ready (pile_of os s.layers.items) ≡ is_full t
+holds_full os s t h = full_is os (pile_of os s.layers.items) s.labels (clamp_state t) h.means ∙ full_clamp t
+  where
+    full_clamp : (t : State) → is_full (clamp_state t) ≡ is_full t
+    full_clamp Idle = refl
+    full_clamp (Within f r ls) = refl
+    full_clamp (Full xs x r ls) = refl
+    full_clamp (Broken f) = refl

@@ -11,3 +11,7 @@ pub mod Turns
 pub mod Holding
 pub mod Digits
 pub mod Constituents
+pub mod Parsing
+pub mod Bare
+pub mod Advancing
+pub mod Hashes

@@ -3,7 +3,7 @@ use Rattle.std.proofs.Common.{◌≡◌, ℕ, ◌<◌, ◌≤◌, List, [], ◌�
 use Rattle.mw_model.specs.Object.{Object}
 use Rattle.mw_model.specs.Grammar.{Labels, quoted, complete}
 use Rattle.mw_read.specs.Machine.{Members, Tailed, Quoting, Marking, Turn}
-use Rattle.mw_heap.specs.Objects.{object_at, IsIn, Grows}
+use Rattle.mw_heap.specs.Objects.{object_at, Grows}
 use Rattle.mw_read.specs.Piles.{Pile, Frames, Ready, piled, MayLie, pile_on, LieOn, IsUnder, AreUnder, pile_of, IsPile, give_to, Shows, Does, IsFrames, Gives}
 use Rattle.mw_read.specs.Named.{Agree, seen, IsListed}
 use Rattle.mw_read.specs.declared.step.Outcome.TheVariants as outcomes

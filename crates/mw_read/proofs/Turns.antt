@@ -1,13 +1,13 @@
 -- What a layer more or less makes of the state that a stack stands for.
-use Rattle.std.proofs.Common.{◌≡◌, ℕ, zero, suc, ◌-◌, ◌<◌, Bool, true, false, List, [], ◌∷◌, ◌++◌, length, Option, Some, None, Result, Ok, Err, IfOk, refl, sym, ap, ap₂, ◌∙◌, subst, arith, true≢false, MatchBool, if◌then◌else◌, ◌⊎◌, inl, inr, take, length-append}
+use Rattle.std.proofs.Common.{◌≡◌, ℕ, zero, suc, ◌-◌, Bool, true, false, List, [], ◌∷◌, ◌++◌, length, Option, Some, None, Result, Ok, Err, IfOk, refl, sym, ap, ◌∙◌, subst, arith, true≢false, MatchBool, if◌then◌else◌, ◌⊎◌, inl, inr, take, length-append}
 use Rattle.std.specs.BTreeMap.{BTreeMap}
 use Rattle.mw_model.specs.Object.{Object, NIL}
 use Rattle.mw_model.specs.Lexemes.{Lexeme, Atom, Open, Close, Dot, Quote, Mark, Ref, DOT, CLOSE, LABEL}
 use Rattle.mw_model.specs.Grammar.{Labels, Unused, Label, is_begun, labelled}
-use Rattle.mw_heap.specs.Objects.{object_at, IsIn, Grows}
+use Rattle.mw_heap.specs.Objects.{object_at, IsIn}
 use Rattle.mw_read.specs.Machine.{Frame, Members, Tailed, Quoting, Marking, State, Idle, Within, Full, Broken, Turn, quiet, broken, fill, given, refer, taken, on, labels_of, IsSound, is_full, is_behind_member}
 use Rattle.mw_read.specs.Named.{Agree, seen_at}
-use Rattle.mw_read.specs.Piles.{Pile, Frames, Ready, piled, MayLie, pile_of, IsPile, Shows, Does, IsFrames, give_to, IsInList, members_of, frames_round, closed_with, is_last, is_item, is_ready, has_member, EndsWith, IsUnder}
+use Rattle.mw_read.specs.Piles.{Pile, Frames, Ready, piled, MayLie, pile_of, IsPile, Shows, IsFrames, give_to, IsInList, closed_with, is_last, is_item, is_ready, has_member, EndsWith, IsUnder}
 use Rattle.mw_read.specs.declared.stack.Layer.{Layer}
 use Rattle.mw_read.specs.declared.stack.Layer.TheVariants as layers
 use Rattle.mw_read.proofs.Piles.{pile_top, layer_lies, more_layer, less_layer}

@@ -1,5 +1,5 @@
 -- Naturals past 128 bits: the code puts 0 in their place and remembers that it did.
-use Rattle.std.specs.Prelude.{ℕ, ◌^◌, Bool, false, ◌||◌, not, ltb, List, [], ◌∷◌, Option, Some, None, if◌then◌else◌}
+use Rattle.std.specs.Prelude.{ℕ, Bool, false, ◌||◌, ltb, List, [], ◌∷◌, Option, Some, None, if◌then◌else◌}
 use Rattle.mw_model.specs.Object.{Object, Natural, Symbol, Pair}
 use Rattle.mw_model.specs.Lexemes.{Lexeme, Atom}
 use Rattle.mw_model.specs.Fate.{is_out_of_range}

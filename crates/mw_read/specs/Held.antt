@@ -1,5 +1,5 @@
 -- What a stack holds: a state of the machine, with its naturals cut.
-use Rattle.std.specs.Prelude.{◌≡◌, ℕ, Bool, true, List, [], ◌∷◌}
+use Rattle.std.specs.Prelude.{◌≡◌, ℕ, true, List, []}
 use Rattle.mw_model.specs.Object.{Object}
 use Rattle.mw_model.specs.Fate.{is_out_of_range}
 use Rattle.mw_heap.specs.Objects.{object_at, IsIn}

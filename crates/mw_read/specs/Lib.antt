@@ -9,3 +9,4 @@ pub mod Stacks
 pub mod Held
 pub mod Forms
 pub mod Lexing
+pub mod Parsing

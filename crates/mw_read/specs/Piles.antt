@@ -1,7 +1,6 @@
 -- What the reader's stack stands for.
-use Rattle.std.specs.Prelude.{◌≡◌, ℕ, ◌<◌, Bool, true, false, List, [], ◌∷◌, ◌++◌, length, Option, IfSome}
-use Rattle.std.specs.BTreeMap.{BTreeMap, get}
-use Rattle.std.specs.Ordering.{nat_cmp}
+use Rattle.std.specs.Prelude.{◌≡◌, ℕ, ◌<◌, Bool, true, false, List, [], ◌∷◌, ◌++◌, length, Option}
+use Rattle.std.specs.BTreeMap.{BTreeMap}
 use Rattle.mw_model.specs.Object.{Object}
 use Rattle.mw_model.specs.Grammar.{Labels, Unused}
 use Rattle.mw_read.specs.Named.{Agree, IsListed}

@@ -1,5 +1,5 @@
 -- A stack as a state of the machine.
-use Rattle.std.specs.Prelude.{ℕ, List, length}
+use Rattle.std.specs.Prelude.{List, length}
 use Rattle.mw_model.specs.Object.{Object}
 use Rattle.mw_read.specs.Machine.{State}
 use Rattle.mw_read.specs.Named.{IsListed}

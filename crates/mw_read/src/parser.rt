@@ -1,23 +1,20 @@
 //! A reader that is handed each piece of a book in turn.
-ghost use Rattle.std.specs.Prelude.{◌≡◌, ℕ, ◌+◌, ◌-◌, ◌*◌, ◌<◌, ◌≤◌, ◌^◌, Bool, true, false, List, [], ◌∷◌, ◌++◌, length, map, take, drop, IfOk, OnOk, IfSome, Option, Some, None, vec_len};
+ghost use Rattle.std.specs.Prelude.{◌≡◌, ℕ, ◌+◌, ◌-◌, ◌*◌, ◌<◌, ◌≤◌, ◌^◌, ◌⊎◌, Bool, true, false, List, [], ◌∷◌, ◌++◌, length, map, take, drop, IfOk, OnOk, IfSome, Option, Some, None, vec_len};
 ghost use Rattle.mw_model.specs.Object.{Object, is_name, is_name_byte, name_of_bytes, Symbol};
-ghost use Rattle.mw_model.specs.Lexemes.{all_are, is_constituent, raised, token_form, Atom};
+ghost use Rattle.mw_model.specs.Lexemes.{all_are, is_constituent, is_digit, raised, token_form, Atom, Ending};
 ghost use Rattle.mw_heap.specs.Objects.{object_at, IsIn, Grows};
 ghost use Rattle.mw_read.specs.Machine.{State, on, is_full};
 ghost use Rattle.mw_read.specs.Stacks.{IsStack};
 ghost use Rattle.mw_read.specs.Held.{Holds, Took};
-ghost use Rattle.mw_read.specs.Lexing.{token_lexeme};
-use crate::class::{
-    Class, classify, constituents, digits, glued_to_bar, glued_to_token, line_bytes, name_bytes,
-    raise,
-};
-use crate::shown::shown;
+ghost use Rattle.mw_read.specs.Parsing.{IsParser, Advances, EndsHash, meaning_of};
+ghost use Rattle.mw_read.specs.Runs.{StartsWith};
+ghost use Rattle.mw_read.specs.Lexing.{token_lexeme, label_lexeme};
+
+use crate::class::{constituents, digits, glued_to_token, line_bytes, name_bytes, raise};
 use crate::stack::{Stack, fault};
 use crate::step::{Outcome, Step, SyntaxKind};
 use crate::token::{Form, form_of, label};
-use mw_heap::{Heap, Memory, Ref};
-use std::alloc::Global;
-use std::collections::BTreeMap;
+use mw_heap::{Heap, Memory};
 
 /// The piece of text that has begun and not ended, or what stands directly before.
 #[derive(Clone, Copy, Debug, PartialEq, Eq)]
@@ -36,9 +33,6 @@ pub(crate) enum Begun {
     /// Behind a closing bar whose datum is complete.
     AfterBar,
 }
-
-/// The longest book.
-const LIMIT: u64 = 1 << 40;
 
 #[derive(Drop)]
 pub(crate) struct Parser {
@@ -107,42 +101,26 @@ fn end_token(
 }
 
 impl Parser {
-    pub(crate) fn new(alloc: Global) -> Parser {
-        Parser {
-            stack: Stack {
-                layers: Vec::new(alloc),
-                labels: BTreeMap::new(alloc),
-                big: false,
-            },
-            begun: Begun::Nothing,
-            token: Vec::new(alloc),
-            start: 0,
-            finished: false,
-            ended: None,
-            name: Vec::new(alloc),
-        }
-    }
-
-    // The number of bytes taken.
-    fn offset(&self) -> u64 {
-        let n = self.token.len() as u64;
-        match self.begun {
-            Begun::Nothing | Begun::AfterToken | Begun::AfterBar => self.start,
-            Begun::Comment => self.start + 1,
-            Begun::Token => self.start + n,
-            Begun::Bars | Begun::Hash => self.start + n + 1,
-            Begun::Barred => self.start + n + 2,
-        }
-    }
-
     // The text that has begun goes on in the next piece.
-    fn pause(&mut self, bytes: &[u8]) -> Result<(Outcome, usize), Memory> {
+    fn pause(&mut self, bytes: &[u8]) -> Result<(Outcome, usize), Memory>
+        ensures paused { IfOk result (λ r. (r.0 ≡ Outcome.Pending) × (r.1 ≡ length bytes.now)) }
+        ensures token { IfOk result (λ r. self.new.token.items ≡ self.old.token.items ++ bytes.now) }
+        ensures same { (self.new.stack ≡ self.old.stack) × ((self.new.begun ≡ self.old.begun) × (self.new.start ≡ self.old.start)) }
+    {
         self.token.extend_from_slice(bytes)?;
         Ok((Outcome::Pending, bytes.len()))
     }
 
     // A token goes on, and ends where a byte follows it.
-    fn in_token(&mut self, heap: &mut Heap, rest: &[u8]) -> Result<(Outcome, usize), Memory> {
+    fn in_token(&mut self, heap: &mut Heap, rest: &[u8]) -> Result<(Outcome, usize), Memory>
+        requires parser { IsParser heap.old self.old }
+        requires begun { self.old.begun ≡ Begun.Token }
+        requires some { (0 < length self.old.token.items) ⊎ StartsWith is_constituent rest.now }
+        requires room { self.old.start + (length self.old.token.items + length rest.now) < 2 ^ 50 }
+        ensures grows { Grows heap.old heap.new }
+        ensures taken { IfOk result (λ r. r.1 ≤ length rest.now) }
+        ensures advances { IfOk result (λ r. (t : State) → Holds heap.old self.old.stack t → Advances heap.new t self.old rest.now r.0 r.1 self.new) }
+    {
         let n = constituents(rest);
         if n == rest.len() {
             return self.pause(rest);
@@ -152,7 +130,16 @@ impl Parser {
     }
 
     // A token ends behind these bytes.
-    fn end_token(&mut self, heap: &mut Heap, bytes: &[u8], glued: bool) -> Result<Outcome, Memory> {
+    fn end_token(&mut self, heap: &mut Heap, bytes: &[u8], glued: bool) -> Result<Outcome, Memory>
+        requires parser { IsParser heap.old self.old }
+        requires token { all_are is_constituent (self.old.token.items ++ bytes.now) ≡ true }
+        requires room { self.old.start + (length self.old.token.items + length bytes.now) < 2 ^ 50 }
+        ensures grows { Grows heap.old heap.new }
+        ensures took { IfOk result (λ r. (t : State) → Holds heap.old self.old.stack t → is_full t ≡ false →
+            Took heap.new self.new.stack r (on t (token_lexeme self.old.start glued (token_form (self.old.token.items ++ bytes.now))))) }
+        ensures begun { self.new.begun ≡ Begun.AfterToken }
+        ensures start { self.new.start ≡ self.old.start + length (self.old.token.items ++ bytes.now) }
+    {
         let start = self.start;
         self.begun = Begun::AfterToken;
         self.start += (self.token.len() + bytes.len()) as u64;
@@ -171,7 +158,14 @@ impl Parser {
     }
 
     // A name between bars goes on, up to the closing bar.
-    fn in_bars(&mut self, heap: &mut Heap, rest: &[u8]) -> Result<(Outcome, usize), Memory> {
+    fn in_bars(&mut self, heap: &mut Heap, rest: &[u8]) -> Result<(Outcome, usize), Memory>
+        requires parser { IsParser heap.old self.old }
+        requires begun { self.old.begun ≡ Begun.Bars }
+        requires room { self.old.start + (length self.old.token.items + length rest.now) < 2 ^ 50 }
+        ensures grows { Grows heap.old heap.new }
+        ensures taken { IfOk result (λ r. r.1 ≤ length rest.now) }
+        ensures advances { IfOk result (λ r. (t : State) → Holds heap.old self.old.stack t → Advances heap.new t self.old rest.now r.0 r.1 self.new) }
+    {
         let n = name_bytes(rest);
         if n == rest.len() {
             return self.pause(rest);
@@ -193,7 +187,17 @@ impl Parser {
     }
 
     // A name between bars ends behind these bytes.
-    fn end_bars(&mut self, heap: &mut Heap, bytes: &[u8]) -> Result<Outcome, Memory> {
+    fn end_bars(&mut self, heap: &mut Heap, bytes: &[u8]) -> Result<Outcome, Memory>
+        requires parser { IsParser heap.old self.old }
+        requires name { all_are is_name_byte (self.old.token.items ++ bytes.now) ≡ true }
+        requires some { 0 < length (self.old.token.items ++ bytes.now) }
+        requires room { self.old.start + (length self.old.token.items + length bytes.now) < 2 ^ 50 }
+        ensures grows { Grows heap.old heap.new }
+        ensures took { IfOk result (λ r. (t : State) → Holds heap.old self.old.stack t →
+            Took heap.new self.new.stack r (on t (Atom self.old.start (Symbol (name_of_bytes (self.old.token.items ++ bytes.now)))))) }
+        ensures begun { self.new.begun ≡ Begun.AfterBar }
+        ensures start { self.new.start ≡ self.old.start + 2 + length (self.old.token.items ++ bytes.now) }
+    {
         let start = self.start;
         self.begun = Begun::AfterBar;
         self.start += (self.token.len() + bytes.len()) as u64 + 2;
@@ -207,7 +211,14 @@ impl Parser {
     }
 
     // The digits behind a `#` go on, up to what ends them.
-    fn in_hash(&mut self, heap: &mut Heap, rest: &[u8]) -> Result<(Outcome, usize), Memory> {
+    fn in_hash(&mut self, heap: &mut Heap, rest: &[u8]) -> Result<(Outcome, usize), Memory>
+        requires parser { IsParser heap.old self.old }
+        requires begun { self.old.begun ≡ Begun.Hash }
+        requires room { self.old.start + (length self.old.token.items + length rest.now) < 2 ^ 50 }
+        ensures grows { Grows heap.old heap.new }
+        ensures taken { IfOk result (λ r. r.1 ≤ length rest.now) }
+        ensures advances { IfOk result (λ r. (t : State) → Holds heap.old self.old.stack t → Advances heap.new t self.old rest.now r.0 r.1 self.new) }
+    {
         let n = digits(rest);
         let length = self.token.len() + n;
         if length > 9 {
@@ -222,23 +233,50 @@ impl Parser {
     }
 
     // A label or a reference ends with this byte.
-    fn end_hash(&mut self, heap: &mut Heap, b: u8) -> Result<Outcome, Memory> {
+    fn end_hash(&mut self, heap: &mut Heap, b: u8) -> Result<Outcome, Memory>
+        requires parser { IsParser heap.old self.old }
+        requires digits { all_are is_digit self.old.token.items ≡ true }
+        requires few { length self.old.token.items ≤ 9 }
+        requires room { self.old.start < 2 ^ 50 }
+        ensures grows { Grows heap.old heap.new }
+        ensures took { IfOk result (λ r. (t : State) → Holds heap.old self.old.stack t → is_full t ≡ false →
+            Took heap.new self.new.stack r (on t (label_lexeme self.old.start self.old.token.items b))) }
+        ensures ended { IfOk result (λ r. EndsHash r self.old self.new) }
+    {
         let start = self.start;
-        if self.token.is_empty() || (b != b'=' && b != b'#') {
+        if self.token.is_empty() {
             return Ok(fault(SyntaxKind::Label, start));
         }
         let n = label(&self.token);
+        if b == b'=' {
+            self.end_label();
+            return self.stack.mark(n, start);
+        }
+        if b == b'#' {
+            self.end_label();
+            return self.stack.refer(heap, n, start);
+        }
+        Ok(fault(SyntaxKind::Label, start))
+    }
+
+    fn end_label(&mut self)
+        requires { self.old.start + length self.old.token.items < 2 ^ 60 }
+        ensures { self.new ≡ record self.old { begun = Begun.Nothing; start = self.old.start + 2 + length self.old.token.items } }
+    {
         self.begun = Begun::Nothing;
         self.start += self.token.len() as u64 + 2;
-        if b == b'=' {
-            self.stack.mark(n, start)
-        } else {
-            self.stack.refer(heap, n, start)
-        }
     }
 
     // A comment goes on, up to the end of the line.
-    fn in_comment(&mut self, rest: &[u8]) -> (Outcome, usize) {
+    fn in_comment(&mut self, rest: &[u8]) -> (Outcome, usize)
+        requires begun { self.old.begun ≡ Begun.Comment }
+        requires room { self.old.start + length rest.now < 2 ^ 50 }
+        ensures pending { result.0 ≡ Outcome.Pending }
+        ensures taken { result.1 ≤ length rest.now }
+        ensures stack { self.new.stack ≡ self.old.stack }
+        ensures begun { (self.new.begun ≡ Begun.Nothing) ⊎ (self.new.begun ≡ Begun.Comment) }
+        ensures passes { (e : Ending) (t : State) (z : List ℕ) → meaning_of e t self.old (take result.1 rest.now ++ z) ≡ meaning_of e t self.new z }
+    {
         let n = line_bytes(rest);
         self.start += n as u64;
         if n == rest.len() {
@@ -247,163 +285,5 @@ impl Parser {
         self.start += 2;
         self.begun = Begun::Nothing;
         (Outcome::Pending, n + 1)
-    }
-
-    // A byte where no text has begun.
-    fn fresh(&mut self, heap: &mut Heap, rest: &[u8]) -> Result<(Outcome, usize), Memory> {
-        let at = self.start;
-        match classify(rest[0]) {
-            Class::White => {
-                self.start += 1;
-                Ok((Outcome::Pending, 1))
-            }
-            Class::Semicolon => {
-                self.begun = Begun::Comment;
-                Ok((Outcome::Pending, 1))
-            }
-            Class::Opening => {
-                self.start += 1;
-                Ok((self.stack.open(at)?, 1))
-            }
-            Class::Closing => {
-                self.start += 1;
-                Ok((self.stack.close(heap, at)?, 1))
-            }
-            Class::Apostrophe => {
-                self.start += 1;
-                Ok((self.stack.quote(at)?, 1))
-            }
-            Class::Other => Ok((fault(SyntaxKind::Byte, at), 0)),
-            class => {
-                if self.stack.is_full() {
-                    return Ok((fault(SyntaxKind::Dot, at), 0));
-                }
-                self.begin(heap, class, rest)
-            }
-        }
-    }
-
-    // A text of more than one byte begins.
-    fn begin(
-        &mut self,
-        heap: &mut Heap,
-        class: Class,
-        rest: &[u8],
-    ) -> Result<(Outcome, usize), Memory> {
-        self.token.clear();
-        match class {
-            Class::Bar => {
-                self.begun = Begun::Bars;
-                let (outcome, n) = self.in_bars(heap, &rest[1..])?;
-                Ok((outcome, n + 1))
-            }
-            Class::Hash => {
-                self.begun = Begun::Hash;
-                let (outcome, n) = self.in_hash(heap, &rest[1..])?;
-                Ok((outcome, n + 1))
-            }
-            _ => {
-                self.begun = Begun::Token;
-                self.in_token(heap, rest)
-            }
-        }
-    }
-
-    // What the next bytes say: at least one is taken, or what has begun ends.
-    fn advance(&mut self, heap: &mut Heap, rest: &[u8]) -> Result<(Outcome, usize), Memory> {
-        match self.begun {
-            Begun::Comment => Ok(self.in_comment(rest)),
-            Begun::Token => self.in_token(heap, rest),
-            Begun::Bars => self.in_bars(heap, rest),
-            Begun::Hash => self.in_hash(heap, rest),
-            Begun::Barred => Ok((self.end_bars(heap, &[])?, 0)),
-            Begun::AfterToken if glued_to_token(rest[0]) => {
-                Ok((fault(SyntaxKind::Token, self.start), 0))
-            }
-            Begun::AfterBar if glued_to_bar(rest[0]) => {
-                Ok((fault(SyntaxKind::Token, self.start), 0))
-            }
-            _ => {
-                self.begun = Begun::Nothing;
-                self.fresh(heap, rest)
-            }
-        }
-    }
-
-    // The end of the input, for the text that has begun.
-    fn last(&mut self, heap: &mut Heap) -> Result<Outcome, Memory> {
-        let at = self.offset();
-        let outcome = match self.begun {
-            Begun::Token => self.end_token(heap, &[], false)?,
-            Begun::Barred => self.end_bars(heap, &[])?,
-            Begun::Bars | Begun::Hash => fault(SyntaxKind::End, at),
-            _ => Outcome::Pending,
-        };
-        self.begun = Begun::Nothing;
-        self.start = at;
-        Ok(outcome)
-    }
-
-    fn end(&mut self, step: Step) -> Step {
-        self.ended = Some(step);
-        step
-    }
-
-    fn datum(&mut self, heap: &Heap, x: Ref) -> Step {
-        if !self.stack.big {
-            return Step::Datum(x);
-        }
-        self.stack.big = false;
-        let (word, label) = shown(heap, x);
-        Step::TooBig(word, label)
-    }
-
-    fn finish_step(&mut self, heap: &mut Heap) -> Step {
-        match self.last(heap) {
-            Ok(Outcome::Datum(x)) => self.datum(heap, x),
-            Ok(Outcome::Pending) => {
-                if self.stack.layers.is_empty() {
-                    return Step::End;
-                }
-                let start = self.start;
-                self.end(Step::Syntax(SyntaxKind::End, start))
-            }
-            Ok(Outcome::Fault(f)) => self.end(Step::Syntax(f.kind, f.offset)),
-            Err(_) => self.end(Step::Memory),
-        }
-    }
-
-    fn steps(&mut self, heap: &mut Heap, piece: &[u8]) -> (Step, usize) {
-        let mut at = 0;
-        while at < piece.len() {
-            match self.advance(heap, &piece[at..]) {
-                Ok((Outcome::Pending, n)) => at += n,
-                Ok((Outcome::Datum(x), n)) => return (self.datum(heap, x), at + n),
-                Ok((Outcome::Fault(f), _)) => return (self.end(Step::Syntax(f.kind, f.offset)), 0),
-                Err(_) => return (self.end(Step::Memory), 0),
-            }
-        }
-        (Step::More, at)
-    }
-
-    pub(crate) fn step(&mut self, heap: &mut Heap, piece: &[u8]) -> (Step, usize) {
-        if let Some(step) = self.ended {
-            return (step, 0);
-        }
-        if self.finished {
-            return (self.finish_step(heap), 0);
-        }
-        let room = (LIMIT - self.offset()) as usize;
-        if piece.len() <= room {
-            return self.steps(heap, piece);
-        }
-        match self.steps(heap, &piece[..room]) {
-            (Step::More, _) => (self.end(Step::Syntax(SyntaxKind::Length, LIMIT)), 0),
-            answer => answer,
-        }
-    }
-
-    pub(crate) fn finish(&mut self) {
-        self.finished = true;
     }
 }

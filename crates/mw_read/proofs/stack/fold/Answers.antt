@@ -1,8 +1,8 @@
-use Rattle.std.proofs.Common.{◌++◌, ◌∷◌, [], ◌∙◌, ap, subst, length, arith}
+use Rattle.std.proofs.Common.{◌++◌, ◌∷◌, [], ◌∙◌, ap, subst}
 use Rattle.mw_read.specs.Piles.{IsPile}
 use Rattle.mw_read.specs.declared.stack.Layer.TheVariants as layers
 use Rattle.mw_read.proofs.Piles.{layer_lies}
-use Rattle.mw_read.proofs.Folding.{fold_start, fold_item, fold_end, fold_none}
+use Rattle.mw_read.proofs.Folding.{fold_start, fold_item, fold_end}
 use Rattle.mw_read.proofs.stack.fold.Goals as goal
 
 pub loop-layer-init : goal.loop-layer-init

@@ -1,5 +1,4 @@
-use Rattle.std.proofs.Common.{◌≡◌, ◌∙◌, ◌+◌, ◌-◌, ◌*◌, ◌≤◌, ap, arith, get_or, take, length}
-use Rattle.mw_model.specs.Lexemes.{decimal_value}
+use Rattle.std.proofs.Common.{◌+◌, arith}
 use Rattle.mw_read.proofs.Digits.{decimal_next, decimal_take}
 use Rattle.mw_read.proofs.token.decimal.Goals as goal
 

@@ -1,5 +1,5 @@
-use Rattle.std.proofs.Common.{◌+◌, ◌-◌, ◌*◌, ◌<◌, ◌≤◌, arith, get_or, length, Fits, w32}
-use Rattle.mw_read.proofs.Digits.{decimal_next, power, power_more, power_next, power_small}
+use Rattle.std.proofs.Common.{arith}
+use Rattle.mw_read.proofs.Digits.{decimal_next, power_more, power_next, power_small}
 use Rattle.mw_read.proofs.token.label.Goals as goal
 
 pub overflow_mul-n : goal.overflow_mul-n

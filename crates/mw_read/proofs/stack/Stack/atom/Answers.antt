@@ -1,5 +1,4 @@
-use Rattle.std.proofs.Common.{◌∙◌, sym, subst, length, refl}
-use Rattle.mw_model.specs.Lexemes.{Atom}
+use Rattle.std.proofs.Common.{◌∙◌, sym, subst}
 use Rattle.mw_heap.specs.Objects.{object_at}
 use Rattle.mw_read.specs.Machine.{Turn, labels_of}
 use Rattle.mw_read.specs.Piles.{pile_of, Does}

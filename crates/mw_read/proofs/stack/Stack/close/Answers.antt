@@ -1,12 +1,10 @@
-use Rattle.std.proofs.Common.{◌∙◌, ap, ap₂, subst, sym, length, vec_len}
+use Rattle.std.proofs.Common.{◌∙◌, ap₂, subst, sym, length, vec_len}
 use Rattle.mw_model.specs.Lexemes.{Close}
-use Rattle.mw_heap.specs.Objects.{object_at}
 use Rattle.mw_read.specs.Machine.{Turn, on, labels_of}
-use Rattle.mw_read.specs.Stacks.{IsStack}
 use Rattle.mw_read.specs.Piles.{pile_of, Does, IsInList, closed_with}
 use Rattle.mw_read.proofs.Growth.{length_grows}
 use Rattle.mw_read.proofs.Piles.{pile_grows, is_pile_grows, agree_grows, listed_grows}
-use Rattle.mw_read.proofs.Turns.{opens_list, ends_none, ends_dot, ends_waiting, ends_last, under_last, close_list, on_close, shows_agree, if_ok_map}
+use Rattle.mw_read.proofs.Turns.{opens_list, ends_dot, ends_waiting, ends_last, under_last, close_list, on_close, shows_agree, if_ok_map}
 use Rattle.mw_read.proofs.stack.Stack.close.Goals as goal
 
 pub close_with-requires-clause-stack : goal.close_with-requires-clause-stack

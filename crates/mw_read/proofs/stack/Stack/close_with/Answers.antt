@@ -1,7 +1,6 @@
-use Rattle.std.proofs.Common.{◌∙◌, sym, ap, ap₂, subst, arith, length}
-use Rattle.mw_heap.specs.Objects.{object_at}
+use Rattle.std.proofs.Common.{sym, ap₂, subst, length}
 use Rattle.mw_read.specs.Machine.{Turn}
-use Rattle.mw_read.specs.Piles.{pile_of, Does, Frames, frames_round, IsFrames, give_to}
+use Rattle.mw_read.specs.Piles.{Does, IsFrames, give_to}
 use Rattle.mw_read.proofs.Growth.{length_grows}
 use Rattle.mw_read.proofs.Piles.{agree_grows, listed_grows}
 use Rattle.mw_read.proofs.Turns.{if_ok_map}

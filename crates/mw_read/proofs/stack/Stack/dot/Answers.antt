@@ -1,4 +1,4 @@
-use Rattle.std.proofs.Common.{◌∙◌, refl, sym, subst, []}
+use Rattle.std.proofs.Common.{◌∙◌, sym}
 use Rattle.mw_read.specs.Piles.{pile_of}
 use Rattle.mw_read.specs.declared.stack.Layer.TheVariants as layers
 use Rattle.mw_read.proofs.Turns.{member_is, member_may, stack_more, push_dot}

@@ -1,6 +1,6 @@
 use Rattle.std.proofs.Common.{◌∙◌, refl, sym, subst, []}
 use Rattle.mw_model.specs.Lexemes.{Open}
-use Rattle.mw_read.specs.Machine.{Turn, Members, Quoting, labels_of}
+use Rattle.mw_read.specs.Machine.{Turn, Members, labels_of}
 use Rattle.mw_read.specs.Piles.{pile_of, Does}
 use Rattle.mw_read.specs.declared.step.Outcome.TheVariants as outcomes
 use Rattle.mw_read.specs.declared.stack.Layer.TheVariants as layers

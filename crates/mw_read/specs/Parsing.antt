@@ -1,0 +1,90 @@
+-- What a parser stands for: what is open, and the text that has begun.
+use Rattle.std.specs.Prelude.{◌≡◌, ℕ, ◌+◌, ◌<◌, ◌≤◌, Bool, true, false, List, [], ◌∷◌, ◌++◌, length, take, Some, if◌then◌else◌}
+use Rattle.mw_model.specs.Object.{Object, is_name_byte}
+use Rattle.mw_model.specs.Lexemes.{Lexeme, Stray, fault, TOKEN, Ending, Ends, Goes, all_are, is_constituent, is_digit, glued, glued_bar, lexemes_from}
+use Rattle.mw_model.specs.Grammar.{Book, book, and_events}
+use Rattle.mw_read.specs.Machine.{State, Idle}
+use Rattle.mw_read.specs.Resume.{resume}
+use Rattle.mw_read.specs.Piles.{pile_of, is_ready, fault_of}
+use Rattle.mw_read.specs.Stacks.{IsStack}
+use Rattle.mw_read.specs.Held.{Holds, Completes}
+use Rattle.mw_read.specs.declared.parser.Begun.{Begun}
+use Rattle.mw_read.specs.declared.parser.Begun.TheVariants.{Nothing, Comment, Token, Bars, Barred, Hash, AfterToken, AfterBar}
+use Rattle.mw_read.specs.declared.parser.Parser.{Parser}
+use Rattle.mw_read.specs.declared.step.Outcome.{Outcome}
+use Rattle.mw_read.specs.declared.step.Outcome.TheVariants as outcomes
+
+-- the bytes of the text that has begun; of a comment its first byte is enough
+abbrev pub text_of : Begun → List ℕ → List ℕ
+text_of Nothing t = []
+text_of Comment t = 59 ∷ []
+text_of Token t = t
+text_of Bars t = 124 ∷ t
+text_of Barred t = 124 ∷ (t ++ 124 ∷ [])
+text_of Hash t = 35 ∷ t
+text_of AfterToken t = []
+text_of AfterBar t = []
+
+-- the lexemes of these bytes at o, directly behind an atom
+abbrev pub behind : (ℕ → Bool) → Ending → ℕ → List ℕ → List Lexeme
+behind bad e o [] = lexemes_from e o 0 []
+behind bad e o (b ∷ x) = if bad b then Stray (fault TOKEN o) ∷ lexemes_from e o 0 (b ∷ x) else lexemes_from e o 0 (b ∷ x)
+
+-- the lexemes of the text that has begun and the bytes behind it
+abbrev pub ahead : Ending → Begun → List ℕ → ℕ → List ℕ → List Lexeme
+ahead e AfterToken t o x = behind glued e o x
+ahead e AfterBar t o x = behind glued_bar e o x
+ahead e Nothing t o x = lexemes_from e o 0 x
+ahead e Comment t o x = lexemes_from e o 0 (59 ∷ x)
+ahead e Token t o x = lexemes_from e o 0 (t ++ x)
+ahead e Bars t o x = lexemes_from e o 0 (124 ∷ (t ++ x))
+ahead e Barred t o x = lexemes_from e o 0 (124 ∷ (t ++ 124 ∷ x))
+ahead e Hash t o x = lexemes_from e o 0 (35 ∷ (t ++ x))
+
+-- what the book comes to where these bytes follow
+abbrev pub meaning_of : Ending → State → Parser → List ℕ → Book
+meaning_of e s p x = resume s (ahead e p.begun p.token.items p.start x)
+
+-- Behind a datum that is complete something follows, or the end; a token does not go on.
+abbrev pub Fits : Begun → Ending → List ℕ → Type 0
+Fits AfterToken e (b ∷ x) = is_constituent b ≡ false
+Fits AfterToken Goes [] = ⊥
+Fits AfterToken Ends [] = Unit {0}
+Fits AfterBar e (b ∷ x) = Unit {0}
+Fits AfterBar Goes [] = ⊥
+Fits AfterBar Ends [] = Unit {0}
+Fits m e x = Unit {0}
+
+-- the bytes that begin or go on with a text
+abbrev pub IsText : Begun → List ℕ → Type 0
+IsText Token t = all_are is_constituent t ≡ true
+IsText Bars t = all_are is_name_byte t ≡ true
+IsText Barred t = (all_are is_name_byte t ≡ true) × (0 < length t)
+IsText Hash t = (all_are is_digit t ≡ true) × (length t ≤ 9)
+IsText m t = Unit {0}
+
+-- a datum has begun
+abbrev pub is_inside : Begun → Bool
+is_inside Token = true
+is_inside Bars = true
+is_inside Barred = true
+is_inside Hash = true
+is_inside m = false
+
+pub record IsParser (os : List Object) (p : Parser) : Type 0 where
+  pub stack : IsStack os p.stack
+  pub text : IsText p.begun p.token.items
+  pub ready : is_inside p.begun ≡ true → is_ready (pile_of os p.stack.layers.items) ≡ false
+
+-- What a parser does with the first n bytes of the rest, or with all that it saw of it.
+abbrev pub Advances : List Object → State → Parser → List ℕ → Outcome → ℕ → Parser → Type 0
+Advances os t old rest outcomes.Pending n new =
+    (u : State) × Holds os new.stack u × IsParser os new × ((e : Ending) (z : List ℕ) → Fits new.begun e z → meaning_of e t old (take n rest ++ z) ≡ meaning_of e u new z)
+Advances os t old rest (outcomes.Datum r) n new =
+    (x : Object) × Completes os new.stack r x × IsParser os new × ((e : Ending) (z : List ℕ) → Fits new.begun e z → meaning_of e t old (take n rest ++ z) ≡ and_events x (meaning_of e Idle new z))
+Advances os t old rest (outcomes.Fault f) n new = (e : Ending) (x : List ℕ) → meaning_of e t old (rest ++ x) ≡ book [] (Some (fault_of f))
+
+-- the label has ended, unless it is a fault
+abbrev pub EndsHash : Outcome → Parser → Parser → Type 0
+EndsHash (outcomes.Fault f) old new = Unit {0}
+EndsHash r old new = (new.begun ≡ Nothing) × (new.start ≡ old.start + 2 + length old.token.items)
