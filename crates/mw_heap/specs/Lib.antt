@@ -2,3 +2,4 @@ pub mod Objects
 pub mod Cells
 pub mod Code
 pub mod Inserted
+pub mod Variants

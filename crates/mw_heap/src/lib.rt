@@ -1,16 +1,23 @@
-//! Objects in memory: naturals, symbols and pairs, each kept once and named by its index.
+//! Objects in memory: naturals, symbols and pairs, each kept once and named by its index. And the words that the layers above share:
+//! want of memory, the primitives, the profiles and the reasons of refusal.
 #![tactic(auto)]
 
 mod cell;
 mod heap;
 mod mark;
 mod memory;
+mod primitive;
+mod profile;
 mod reference;
+mod refusal;
 mod sets;
 mod view;
 
 pub use heap::Heap;
 pub use mark::Mark;
 pub use memory::Memory;
+pub use primitive::Prim;
+pub use profile::Profile;
 pub use reference::Ref;
+pub use refusal::Refusal;
 pub use view::View;

@@ -10,8 +10,48 @@ pub mod Unchanged
 pub mod Collects
 pub mod SameTerms
 pub mod ReadBack
+pub mod Readable
 pub mod Read
+pub mod SubstituteObject
+pub mod EqualityExact
 pub mod Follows
 pub mod Judging
+pub mod RulesExact
+pub mod BaseEvalExact
+pub mod PremisesObject
+pub mod InductionExact
 pub mod Older
+pub mod FunctionNames
 pub mod Evaluates
+pub mod BuiltInValue
+pub mod BuiltInFalls
+pub mod BuiltInCalls
+pub mod BuiltInBodies
+pub mod BuiltInAnswers
+pub mod SomeValue
+pub mod Begins
+pub mod Defined
+pub mod BuiltInTotal
+pub mod BytesOrder
+pub mod Examples
+mod ExamplesProofs
+mod ExamplesDefinitions
+mod ExamplesObligations
+mod ExamplesBlocks
+mod ExamplesRuns
+mod ExamplesSwitch
+mod ExamplesEvents
+mod ExamplesProfile
+mod ExamplesText
+mod ExamplesSyntax
+mod ExamplesTrial
+mod ExamplesVersion
+mod ExamplesLong
+pub mod Numerals
+pub mod Lexing
+pub mod TextReadBack
+pub mod Acyclic
+pub mod Finite
+pub mod CallDepth
+pub mod NewNames
+pub mod CodeStays

@@ -1,0 +1,8 @@
+//! The profiles of the language.
+
+/// Which primitive functions there are: profile Two has a product, and One has none.
+#[derive(Clone, Copy, Debug, PartialEq, Eq)]
+pub enum Profile {
+    One,
+    Two,
+}

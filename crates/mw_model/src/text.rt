@@ -1,0 +1,34 @@
+//! Laws on text.
+ghost use Rattle.std.specs.Prelude.{◌≡◌, ℕ, ◌≤◌, ◌<◌, ◌^◌, List, [], ◌∷◌, ◌++◌, length, map, reverse, Some, None};
+ghost use Rattle.std.specs.Fmt.{decimal};
+ghost use Rattle.mw_model.specs.Object.{Object};
+ghost use Rattle.mw_model.specs.Term.{formula_object};
+ghost use Rattle.mw_model.specs.Primitive.{Profile};
+ghost use Rattle.mw_model.specs.Axioms.{primitive_axioms};
+ghost use Rattle.mw_model.specs.AxiomsText.{axioms_text};
+ghost use Rattle.mw_model.specs.BuiltIn.{built_in};
+ghost use Rattle.mw_model.specs.BuiltInReading.{blocks_of};
+ghost use Rattle.mw_model.specs.BuiltInText.{built_in_text};
+ghost use Rattle.mw_model.specs.Lexemes.{Ends, decimal_value};
+ghost use Rattle.mw_model.specs.Grammar.{book, limit, reading, trees};
+ghost use Rattle.mw_model.specs.Printing.{numeral, text_lines, text_of};
+
+/// What is printed is read back: an object alone, an object on a line, and any objects, each on a line.
+pub fn text_read_back()
+    ensures alone { (x : Object) → length (text_of x) ≤ limit → trees (text_of x) ≡ book (x ∷ []) None }
+    ensures line { (x : Object) → length (text_of x ++ 10 ∷ []) ≤ limit → trees (text_of x ++ 10 ∷ []) ≡ book (x ∷ []) None }
+    ensures lines { (xs : List Object) → length (text_lines xs) ≤ limit → trees (text_lines xs) ≡ book xs None }
+{}
+
+/// A numeral is read as its number, and below 10^64 it is what std writes.
+pub fn numerals()
+    ensures read { (n : ℕ) → decimal_value (numeral n) ≡ n }
+    ensures as_std { (n : ℕ) → n < 10 ^ 64 → numeral n ≡ decimal n }
+{}
+
+/// The built-in definitions are what their text gives when it is read and expanded. The axioms of the primitives are what
+/// their text gives.
+pub fn built_in_text_read()
+    ensures definitions { (P : Profile) → blocks_of (reading Ends (built_in_text P)).events ≡ Some (reverse (built_in P)) }
+    ensures axioms { (P : Profile) → map formula_object (primitive_axioms P) ≡ (reading Ends (axioms_text P)).events }
+{}

@@ -1,0 +1,20 @@
+//! Laws on proofs and events.
+ghost use Rattle.std.specs.Prelude.{◌≡◌, ◌↔◌, ℕ, Some};
+ghost use Rattle.mw_model.specs.Object.{Object};
+ghost use Rattle.mw_model.specs.Term.{Formula, ArityTable};
+ghost use Rattle.mw_model.specs.Primitive.{Profile};
+ghost use Rattle.mw_model.specs.Proof.{Proves};
+ghost use Rattle.mw_model.specs.Judgment.{judge};
+ghost use Rattle.mw_model.specs.Theory.{Theory};
+ghost use Rattle.mw_model.specs.Refusal.{Refusal, Refused};
+ghost use Rattle.mw_model.specs.Fate.{fate, next};
+
+/// The test on an object answers a formula exactly where the object is a proof of that formula.
+pub fn judging()
+    ensures { (axioms theorems : Object) (A : ArityTable) (P : Profile) (p : Object) (F : Formula) → (judge axioms theorems A P p ≡ Some F) ↔ Proves axioms theorems A P p F }
+{}
+
+/// A refused event leaves the theory as it was.
+pub fn refusals()
+    ensures { (t : Theory) (N : ℕ) (e : Object) (r : Refusal) → fate t e N ≡ Refused r → next t e N ≡ t }
+{}

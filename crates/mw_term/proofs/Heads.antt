@@ -1,0 +1,100 @@
+-- The head of a lambda call, by its parts.
+use Rattle.std.proofs.Common.{◌≡◌, ℕ, Bool, true, false, ◌&&◌, ◌||◌, not, cond, List, length, Option, Some, None, refl, sym, ap, ap₂, ◌∙◌, subst}
+use Rattle.std.proofs.lemmas.Bool.{and_parts, not-true}
+use Rattle.mw_model.specs.Object.{Name, Object, Symbol, Pair, named, symbol, same_name, same_object, NIL}
+use Rattle.mw_model.specs.Term.{Term, Terms, Variable, Constant, If, Call, Lambda, NoTerms, More, ArityTable, term_object, terms_object, are_formals, is_closed, are_closed, is_term}
+use Rattle.mw_model.specs.Reading.{names_of, term_of, when, that}
+use Rattle.mw_model.specs.Definition.{is_present}
+use Rattle.mw_model.specs.Rules.{is_term_object}
+use Rattle.mw_model.proofs.Formed.{Formed, AreFormed, formed}
+use Rattle.mw_model.proofs.ReadBack.{term_back, some_one}
+use Rattle.mw_term.specs.Parts.{if_formals, formals_of, is_closed_object, are_closed_objects}
+use Rattle.mw_term.specs.Marking.{head_count, formal_count}
+
+and_true : (a : Bool) → (a && true) ≡ a
+and_true true = refl
+and_true false = refl
+
+-- on the object of a term, closed is what it is on the term
+module _ (A : ArityTable) (xs : List Name) where
+  mutual
+    closed-term_object : (t : Term) → Formed A t → is_closed_object xs (term_object t) ≡ is_closed xs t
+    closed-term_object (Variable x) i = refl
+    closed-term_object (Constant c) i = refl
+    closed-term_object (If a b c) i = ap₂ (λ p q. p && q) (closed-term_object a i.1) (ap₂ (λ p q. p && q) (closed-term_object b i.2) (and_true (is_closed_object xs (term_object c)) ∙ closed-term_object c i.3))
+    closed-term_object (Call f ts) i =
+        let p = and_parts (not (same_name f (named "QUOTE"))) (not (same_name f (named "IF"))) i.0 in
+        ap (λ b. b || are_closed_objects xs (terms_object ts)) (not-true (same_name f (named "QUOTE")) p.0) ∙ closed-terms_object ts i.2
+    closed-term_object (Lambda ys b ts) i = closed-terms_object ts i.5
+
+    closed-terms_object : (ts : Terms) → AreFormed A ts → are_closed_objects xs (terms_object ts) ≡ are_closed xs ts
+    closed-terms_object NoTerms i = refl
+    closed-terms_object (More t ts) i = ap₂ (λ p q. p && q) (closed-term_object t i.0) (closed-terms_object ts i.1)
+
+  pub closed-object : (x : Object) (t : Term) → term_of x ≡ Some t → is_term A t ≡ true → is_closed_object xs x ≡ is_closed xs t
+  closed-object x t h i = ap (is_closed_object xs) (sym (term_back x t h)) ∙ closed-term_object t (formed A t i)
+
+formals_are : (o : Option (List Name)) (xs : List Name) → if_formals o ≡ Some xs → (o ≡ Some xs) × (are_formals xs ≡ true)
+formals_are None xs h = cc
+formals_are (Some ys) xs h = go (are_formals ys) refl h
+  where
+    go : (b : Bool) → are_formals ys ≡ b → cond b (Some ys) None ≡ Some xs → (Some ys ≡ Some xs) × (are_formals xs ≡ true)
+    go true e k = (k, subst (λ l. are_formals l ≡ true) (some_one k) e)
+    go false e k = cc
+
+-- of a term object, the term
+term_is : (A : ArityTable) (x : Object) → is_term_object A x ≡ true → (t : Term) × (term_of x ≡ Some t) × (is_term A t ≡ true)
+term_is A x h = go (term_of x) refl h
+  where
+    go : (o : Option Term) → term_of x ≡ o → is_present (that (is_term A) o) ≡ true → (t : Term) × (term_of x ≡ Some t) × (is_term A t ≡ true)
+    go None e k = cc
+    go (Some t) e k = (t, e, given (is_term A t) k)
+      where
+        given : (b : Bool) → is_present (when b (Some t)) ≡ true → b ≡ true
+        given true q = refl
+        given false q = cc
+
+head-no_term : (A : ArityTable) (o : Option (List Name)) (p : Option Term) → is_present (that (is_term A) p) ≡ false → head_count A o p ≡ None
+head-no_term A None p h = refl
+head-no_term A (Some xs) None h = refl
+head-no_term A (Some xs) (Some b) h = go (are_formals xs) (is_closed xs b) (is_term A b) h
+  where
+    go : (f c t : Bool) → is_present (when t (Some b)) ≡ false → cond (f && (c && t)) (Some (length xs)) None ≡ None
+    go true true true k = cc
+    go true true false k = refl
+    go true false t k = refl
+    go false c t k = refl
+
+module _ (A : ArityTable) (f : Name) (x l b z : Object) (shape : x ≡ Pair l (Pair b z)) where
+  count_is : formal_count A (Pair (Symbol f) x) ≡ when (same_name f (named "LAMBDA") && same_object z NIL) (head_count A (names_of l) (term_of b))
+  count_is = ap (λ y. formal_count A (Pair (Symbol f) y)) shape
+
+  none_when : {X : Type 0} (t : Bool) (o : Option X) → o ≡ None → when t o ≡ None
+  none_when true o h = h
+  none_when false o h = refl
+
+  pub formal_count-long : same_object z NIL ≡ false → formal_count A (Pair (Symbol f) x) ≡ None
+  formal_count-long h = count_is ∙ (ap (λ e. when (same_name f (named "LAMBDA") && e) (head_count A (names_of l) (term_of b))) h ∙ never (same_name f (named "LAMBDA")))
+    where
+      never : (t : Bool) → when (t && false) (head_count A (names_of l) (term_of b)) ≡ None
+      never true = refl
+      never false = refl
+
+  pub formal_count-no_term : is_term_object A b ≡ false → formal_count A (Pair (Symbol f) x) ≡ None
+  formal_count-no_term h = count_is ∙ none_when (same_name f (named "LAMBDA") && same_object z NIL) (head_count A (names_of l) (term_of b)) (head-no_term A (names_of l) (term_of b) h)
+
+  -- where there are formals and a body
+  module _ (xs : List Name) (formals : formals_of l ≡ Some xs) (body : is_term_object A b ≡ true) where
+    head_is : head_count A (names_of l) (term_of b) ≡ cond (is_closed_object xs b) (Some (length xs)) None
+    head_is =
+        let p = formals_are (names_of l) xs formals in
+        let t = term_is A b body in
+        ap₂ (head_count A) p.0 t.1
+        ∙ (ap₂ (λ g h. cond (g && (is_closed xs t.0 && h)) (Some (length xs)) None) p.1 t.2
+        ∙ ap (λ c. cond c (Some (length xs)) None) (and_true (is_closed xs t.0) ∙ sym (closed-object A xs b t.0 t.1 t.2)))
+
+    pub formal_count-free : is_closed_object xs b ≡ false → formal_count A (Pair (Symbol f) x) ≡ None
+    formal_count-free h = count_is ∙ none_when (same_name f (named "LAMBDA") && same_object z NIL) (head_count A (names_of l) (term_of b)) (head_is ∙ ap (λ c. cond c (Some (length xs)) None) h)
+
+    pub formal_count-closed : same_name f (named "LAMBDA") ≡ true → same_object z NIL ≡ true → is_closed_object xs b ≡ true → formal_count A (Pair (Symbol f) x) ≡ Some (length xs)
+    formal_count-closed n e h = count_is ∙ (ap₂ (λ s t. when (s && t) (head_count A (names_of l) (term_of b))) n e ∙ (head_is ∙ ap (λ c. cond c (Some (length xs)) None) h))

@@ -1,0 +1,29 @@
+-- A formula is tested by its shape and the marks of its parts.
+use Rattle.std.proofs.Common.{◌≡◌, ◌∙◌, ap, sym, arith}
+use Rattle.mw_model.specs.Object.{Pair, name_of_bytes}
+use Rattle.mw_heap.specs.Objects.{object_at}
+use Rattle.mw_term.proofs.ListMarks.{mark_at, is_formula-binary_list, is_formula-negation_list}
+use Rattle.mw_term.proofs.list.is_formula_list.Goals as goal
+
+pub returns-then-is_symbol_of : goal.returns-then-is_symbol_of
+returns-then-is_symbol_of c = λ A marked.
+    let os = c.args.heap.now in
+    let a = c.in-Pair.a in
+    let b = c.in-Pair-view.b in
+    let shape = c.in-Pair.ensures.shows.2 ∙ ap (Pair (object_at os a)) c.in-Pair-view.ensures.shows.2 in
+    c.is_binary_of.ensures
+    ∙ sym
+    (is_formula-binary_list A (name_of_bytes c.args.name.now) (object_at os c.args.rest) (object_at os a) (object_at os b) (object_at os c.in-Pair-view.end) _ _ shape
+    (mark_at A os c.args.marks.now marked _ a c.index.ensures (omega (arith, c.in-Pair.ensures.below)) _)
+    (mark_at A os c.args.marks.now marked _ b c.index-then-is_symbol_of.ensures (omega (arith, c.in-Pair.ensures.below, c.in-Pair-view.ensures.below)) _)
+    (sym c.is_symbol_of.ensures ∙ c.if-is_symbol_of.true))
+
+pub returns-then-is_symbol_of-2 : goal.returns-then-is_symbol_of-2
+returns-then-is_symbol_of-2 c = λ A marked.
+    let os = c.args.heap.now in
+    let a = c.in-Pair.a in
+    c.is_negation_of.ensures
+    ∙ sym
+    (is_formula-negation_list A (name_of_bytes c.args.name.now) (object_at os c.args.rest) (object_at os a) (object_at os c.in-Pair.more) _ c.in-Pair.ensures.shows.2
+    (mark_at A os c.args.marks.now marked _ a c.index.ensures (omega (arith, c.in-Pair.ensures.below)) _)
+    (sym c.is_symbol_of-in_default-view.ensures ∙ c.if-is_symbol_of-2.true))

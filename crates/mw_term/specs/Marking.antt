@@ -1,0 +1,50 @@
+-- What the marks of objects say under an arity table.
+use Rattle.std.specs.Prelude.{◌≡◌, ℕ, ◌+◌, ◌<◌, ◌≤◌, Bool, true, false, ◌&&◌, cond, List, length, slice_get, Option, Some, None}
+use Rattle.mw_model.specs.Object.{Name, Object, Natural, Symbol, Pair, named, symbol, same_name, same_object, NIL}
+use Rattle.mw_model.specs.Term.{Term, Terms, ArityTable, count, are_formals, is_closed, is_term, are_terms}
+use Rattle.mw_model.specs.Reading.{names_of, term_of, terms_of, when}
+use Rattle.mw_model.specs.Rules.{is_term_object, is_formula_object}
+use Rattle.mw_heap.specs.Objects.{object_at}
+use Rattle.mw_term.specs.Parts.{takes}
+use Rattle.mw_term.specs.declared.cell_mark.CellMark.{CellMark}
+
+-- how many terms x has, where it is a proper list of terms
+abbrev pub counted : ArityTable → Option Terms → Option ℕ
+counted A None = None
+counted A (Some ts) = cond (are_terms A ts) (Some (count ts)) None
+
+abbrev pub term_count : ArityTable → Object → Option ℕ
+term_count A x = counted A (terms_of x)
+
+-- how many formals x has, where it is the head of a lambda call
+abbrev pub head_count : ArityTable → Option (List Name) → Option Term → Option ℕ
+head_count A (Some xs) (Some b) = cond (are_formals xs && (is_closed xs b && is_term A b)) (Some (length xs)) None
+head_count A _ _ = None
+
+abbrev pub formal_count : ArityTable → Object → Option ℕ
+formal_count A (Pair l (Pair xs (Pair b z))) = when (same_object l (symbol "LAMBDA") && same_object z NIL) (head_count A (names_of xs) (term_of b))
+formal_count A _ = None
+
+abbrev pub mark_of_object : ArityTable → Object → CellMark
+mark_of_object A x = record { is_term = is_term_object A x; terms = term_count A x; is_formula = is_formula_object A x; formals = formal_count A x }
+
+-- how many terms there are with one more object at the front
+abbrev pub one_more : Bool → Option ℕ → Option ℕ
+one_more true (Some n) = Some (n + 1)
+one_more true None = None
+one_more false n = None
+
+-- a pair by the marks of its parts: a lambda call, (pnot* f), and (pequal* a b) or (por* f g)
+abbrev pub is_lambda : CellMark → CellMark → Bool
+is_lambda head actuals = takes head.formals actuals.terms
+
+abbrev pub is_negation : Name → CellMark → Bool
+is_negation f part = same_name f (named "PNOT*") && part.is_formula
+
+abbrev pub is_binary : Name → CellMark → CellMark → Bool
+is_binary f first second = cond (same_name f (named "PEQUAL*")) (first.is_term && second.is_term) (same_name f (named "POR*") && (first.is_formula && second.is_formula))
+
+-- these are the marks of the first objects of a heap
+pub record AreMarks (A : ArityTable) (os : List Object) (ms : List CellMark) : Type 0 where
+  pub within : length ms ≤ length os
+  pub each : (i : ℕ) → i < length ms → slice_get ms i ≡ Some (mark_of_object A (object_at os i))

@@ -1,0 +1,67 @@
+//! Formals as sets of symbols.
+ghost use Rattle.std.specs.Prelude.{◌≡◌, true, [], ◌∷◌, ◌++◌, IfOk, IfSome, option_map, nat_eq, if◌then◌else◌};
+ghost use Rattle.std.specs.List.{list_any};
+ghost use Rattle.mw_model.specs.Primitive.{is_symbol, name_of};
+ghost use Rattle.mw_model.specs.Term.{is_among};
+ghost use Rattle.mw_heap.specs.Objects.{object_at, IsIn};
+ghost use Rattle.mw_term.specs.Parts.{formals_of, names_at, AreSymbols, is_new_variable};
+
+use crate::names::{is_symbol_of, is_variable_name};
+use indexmap::IndexSet;
+use mw_heap::{Heap, Memory, Ref, View};
+use std::alloc::Global;
+
+// Whether the symbol x is among these.
+pub(crate) fn is_among_symbols(heap: &Heap, symbols: &IndexSet<Ref>, x: Ref) -> bool
+    requires within { IsIn heap.now x }
+    requires symbol { is_symbol (object_at heap.now x) ≡ true }
+    requires symbols { AreSymbols heap.now symbols.now.keys }
+    ensures among { result ≡ is_among (name_of (object_at heap.now x)) (names_at heap.now symbols.now.keys) }
+    ensures held { result ≡ list_any (nat_eq x) symbols.now.keys }
+{
+    heap.same(x, x) && symbols.contains(&x)
+}
+
+// Adds x where it is a variable that is not there yet, and says whether it is.
+fn add_formal(heap: &Heap, formals: &mut IndexSet<Ref>, x: Ref) -> Result<bool, Memory>
+    requires within { IsIn heap.now x }
+    requires symbols { AreSymbols heap.now formals.old.keys }
+    ensures new { IfOk result (λ b. b ≡ is_new_variable (names_at heap.now formals.old.keys) (object_at heap.now x)) }
+    ensures added { IfOk result (λ b. formals.new.keys ≡ (if b then formals.old.keys ++ x ∷ [] else formals.old.keys)) }
+{
+    match heap.view(x) {
+        View::Symbol => {
+            if !is_variable_name(heap.name_of(x)) || is_among_symbols(heap, formals, x) {
+                return Ok(false);
+            }
+            formals.insert(x)?;
+            Ok(true)
+        }
+        _ => Ok(false),
+    }
+}
+
+// The formals of which x is the list, where it is one of distinct variables.
+pub(crate) fn formal_set(
+    heap: &Heap,
+    x: Ref,
+    alloc: Global,
+) -> Result<Option<IndexSet<Ref>>, Memory>
+    requires { IsIn heap.now x }
+    ensures formals { IfOk result (λ o. option_map (λ s. names_at heap.now s.keys) o ≡ formals_of (object_at heap.now x)) }
+    ensures symbols { IfOk result (λ o. IfSome o (λ s. AreSymbols heap.now s.keys)) }
+{
+    let mut formals = IndexSet::new(alloc);
+    let mut rest = x;
+    while let View::Pair(first, more) = heap.view(rest) {
+        if !add_formal(heap, &mut formals, first)? {
+            return Ok(None);
+        }
+        rest = more;
+    }
+    if is_symbol_of(heap, rest, b"NIL") {
+        Ok(Some(formals))
+    } else {
+        Ok(None)
+    }
+}

@@ -1,0 +1,207 @@
+//! Marks of objects.
+ghost use Rattle.std.specs.Prelude.{◌≡◌, ◌<◌, ◌≤◌, true, List, [], length, take, IfOk, OnOk, OnErr};
+ghost use Rattle.mw_model.specs.Object.{Object, Symbol, Pair, is_name, name_of_bytes};
+ghost use Rattle.mw_model.specs.Term.{ArityTable};
+ghost use Rattle.mw_model.specs.Rules.{is_term_object, is_formula_object};
+ghost use Rattle.mw_heap.specs.Objects.{object_at, IsIn};
+ghost use Rattle.mw_term.specs.Marking.{AreMarks, mark_of_object};
+
+use crate::Arity;
+use crate::cell_mark::CellMark;
+use crate::head::count_formals;
+use crate::list::{count_more, is_call, is_formula_list, is_lambda_call};
+use crate::names::{is_variable_name, is_word};
+use mw_heap::{Heap, Mark, Memory, Ref, View};
+use std::alloc::Global;
+use std::marker::Model;
+
+// The mark of the symbol of this name.
+fn mark_symbol(name: &[u8]) -> CellMark
+    requires { is_name name.now ≡ true }
+    ensures { (A : ArityTable) → result ≡ mark_of_object A (Symbol (name_of_bytes name.now)) }
+{
+    CellMark {
+        is_term: is_variable_name(name),
+        terms: if is_word(name, b"NIL") { Some(0) } else { None },
+        is_formula: false,
+        formals: None,
+    }
+}
+
+// The mark of the pair of first and rest, whose marks stand.
+fn mark_pair(
+    heap: &Heap,
+    arity: &Arity,
+    marks: &[CellMark],
+    first: Ref,
+    rest: Ref,
+    alloc: Global,
+) -> Result<CellMark, Memory>
+    requires marked { AreMarks arity.now heap.now marks.now }
+    requires first { first < length marks.now }
+    requires rest { rest < length marks.now }
+    ensures { IfOk result (λ m. m ≡ mark_of_object arity.now (Pair (object_at heap.now first) (object_at heap.now rest))) }
+{
+    let head = marks[first.index()];
+    let actuals = marks[rest.index()];
+    let terms = count_more(head.is_term, actuals.terms)?;
+    match heap.view(first) {
+        View::Nat(_) => Ok(CellMark {
+            is_term: false,
+            terms,
+            is_formula: false,
+            formals: None,
+        }),
+        View::Symbol => {
+            let name = heap.name_of(first);
+            Ok(CellMark {
+                is_term: is_call(heap, arity, name, rest, actuals.terms),
+                terms,
+                is_formula: is_formula_list(heap, marks, name, rest),
+                formals: count_formals(heap, marks, name, rest, alloc)?,
+            })
+        }
+        View::Pair(_, _) => Ok(CellMark {
+            is_term: is_lambda_call(head, actuals),
+            terms,
+            is_formula: false,
+            formals: None,
+        }),
+    }
+}
+
+// The mark of x, where the marks of the objects before it stand.
+fn mark_cell(
+    heap: &Heap,
+    arity: &Arity,
+    marks: &[CellMark],
+    x: Ref,
+    alloc: Global,
+) -> Result<CellMark, Memory>
+    requires within { IsIn heap.now x }
+    requires marked { AreMarks arity.now heap.now marks.now }
+    requires before { x ≤ length marks.now }
+    ensures { IfOk result (λ m. m ≡ mark_of_object arity.now (object_at heap.now x)) }
+{
+    match heap.view(x) {
+        View::Nat(_) => Ok(CellMark {
+            is_term: false,
+            terms: None,
+            is_formula: false,
+            formals: None,
+        }),
+        View::Symbol => Ok(mark_symbol(heap.name_of(x))),
+        View::Pair(first, rest) => mark_pair(heap, arity, marks, first, rest, alloc),
+    }
+}
+
+// Adds the marks of the objects up to an index. What stood stays, whatever comes.
+fn mark_up_to(
+    cells: &mut Vec<CellMark>,
+    heap: &Heap,
+    arity: &Arity,
+    end: usize,
+    alloc: Global,
+) -> Result<(), Memory>
+    requires marked { AreMarks arity.now heap.now cells.old.items }
+    requires from { length cells.old.items ≤ end }
+    requires to { end ≤ length heap.now }
+    ensures marked { OnOk result (AreMarks arity.now heap.now cells.new.items) }
+    ensures length { OnOk result (length cells.new.items ≡ end) }
+    ensures kept { take (length cells.old.items) cells.new.items ≡ cells.old.items }
+{
+    for i in cells.len()..end {
+        let mark = mark_cell(heap, arity, cells.as_slice(), heap.nth(i), alloc)?;
+        cells.push(mark)?;
+    }
+    Ok(())
+}
+
+/// What the first objects of a heap are under an arity table: terms, formulas or neither. Seen as a list of marks, of which `AreMarks`
+/// says for which heap and table they hold: as the heap grows they stay right, and `extend` adds those of the new objects.
+#[derive(Drop)]
+pub struct Marks {
+    cells: Vec<CellMark>,
+    alloc: Global,
+}
+
+impl Model for Marks {
+    ghost use Rattle.std.specs.Prelude.{List};
+    ghost use Rattle.mw_term.specs.declared.cell_mark.CellMark.{CellMark};
+
+    ghost Value = { List CellMark };
+
+    ghost view = { λ m. m.cells.items };
+}
+
+/// The marks of the objects of the heap below a mark. It takes time in proportion to them, and to the size of each distinct head of
+/// a lambda call.
+pub fn mark_terms(alloc: Global, heap: &Heap, arity: &Arity, below: Mark) -> Result<Marks, Memory>
+    requires { below ≤ length heap.now }
+    ensures marked { IfOk result (AreMarks arity.now heap.now) }
+    ensures length { IfOk result (λ m. length m ≡ below) }
+{
+    let mut marks = Marks::new(alloc);
+    marks.extend(heap, arity, below)?;
+    Ok(marks)
+}
+
+impl Marks {
+    /// The marks of no objects.
+    pub fn new(alloc: Global) -> Marks
+        ensures { result ≡ [] }
+    {
+        Marks {
+            cells: Vec::new(alloc),
+            alloc,
+        }
+    }
+
+    /// The number of objects that have marks.
+    pub fn len(&self) -> usize
+        ensures { result ≡ length self.now }
+    {
+        self.cells.len()
+    }
+
+    /// Adds the marks of the objects of the heap below a mark. Where memory is refused nothing changes.
+    pub fn extend(&mut self, heap: &Heap, arity: &Arity, below: Mark) -> Result<(), Memory>
+        requires marked { AreMarks arity.now heap.now self.old }
+        requires from { length self.old ≤ below }
+        requires to { below ≤ length heap.now }
+        ensures marked { OnOk result (AreMarks arity.now heap.now self.new) }
+        ensures length { OnOk result (length self.new ≡ below) }
+        ensures err { OnErr result (self.new ≡ self.old) }
+    {
+        let had = self.cells.len();
+        let done = mark_up_to(&mut self.cells, heap, arity, below.cells(), self.alloc);
+        if done.is_err() {
+            self.cells.truncate(had);
+        }
+        done
+    }
+
+    /// Forgets the marks of the objects from a mark on.
+    pub fn cut(&mut self, to: Mark)
+        requires { to ≤ length self.old }
+        ensures { self.new ≡ take to self.old }
+    {
+        self.cells.truncate(to.cells());
+    }
+
+    /// Whether an object is a term.
+    pub fn is_term(&self, x: Ref) -> bool
+        requires { x < length self.now }
+        ensures { (A : ArityTable) (os : List Object) → AreMarks A os self.now → result ≡ is_term_object A (object_at os x) }
+    {
+        self.cells.as_slice()[x.index()].is_term
+    }
+
+    /// Whether an object is a formula.
+    pub fn is_formula(&self, x: Ref) -> bool
+        requires { x < length self.now }
+        ensures { (A : ArityTable) (os : List Object) → AreMarks A os self.now → result ≡ is_formula_object A (object_at os x) }
+    {
+        self.cells.as_slice()[x.index()].is_formula
+    }
+}
