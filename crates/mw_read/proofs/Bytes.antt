@@ -205,6 +205,9 @@ fresh_keeps e x s o b Other q = on_step s (Stray (fault BYTE o)) tt (lexemes_fro
 between_keeps : (e : Ending) (x : List ℕ) (s : State) (o b : ℕ) → Keeps e x (resume s (lexemes_from e o 0 (b ∷ x))) (fresh (class b) s o b)
 between_keeps e x s o b = fresh_keeps e x s o b (class b) refl
 
+pub between_at : (e : Ending) (x : List ℕ) (s : State) (o b : ℕ) (k : Class) → class b ≡ k → resume s (lexemes_from e o 0 (b ∷ x)) ≡ (let m = fresh k s o b in onward m.events (meaning e m.reader x))
+between_at e x s o b k q = between_keeps e x s o b ∙ ap (λ c. let m = fresh c s o b in onward m.events (meaning e m.reader x)) q
+
 -- lexemes, and then a byte where no piece has begun
 settle_keeps : (e : Ending) (x : List ℕ) (s : State) (o b : ℕ) (l : List Lexeme) → AllSolid l →
     Keeps e x (resume s (l ++ lexemes_from e o 0 (b ∷ x))) (settle (on_all s l) o b)

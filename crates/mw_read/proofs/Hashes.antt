@@ -101,7 +101,7 @@ pub label_ref : (o : ℕ) (d : List ℕ) (b : ℕ) → 0 < length d → b ≡ 35
 label_ref o [] b l h = absurd (omega arith)
 label_ref o (c ∷ d) b l h = ap (λ u. if eqb u 61 then Mark o (decimal_value (c ∷ d)) else (if eqb u 35 then Ref o (decimal_value (c ∷ d)) else Wrong o (Some (fault LABEL o)))) h
 
-free_parser : (os : List Object) (p : Parser) → p.begun ≡ Nothing → IsStack os p.stack → IsParser os p
+pub free_parser : (os : List Object) (p : Parser) → p.begun ≡ Nothing → IsStack os p.stack → IsParser os p
 free_parser os p e k = record {
   stack = k;
   text = subst (λ u. IsText u p.token.items) (sym e) tt;

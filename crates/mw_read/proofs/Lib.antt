@@ -15,3 +15,4 @@ pub mod Parsing
 pub mod Bare
 pub mod Advancing
 pub mod Hashes
+pub mod Beginning

@@ -1,7 +1,8 @@
 -- What a parser stands for: what is open, and the text that has begun.
-use Rattle.std.specs.Prelude.{◌≡◌, ℕ, ◌+◌, ◌<◌, ◌≤◌, Bool, true, false, List, [], ◌∷◌, ◌++◌, length, take, Some, if◌then◌else◌}
+use Rattle.std.specs.Prelude.{◌≡◌, ℕ, ◌+◌, ◌*◌, ◌<◌, ◌≤◌, Bool, true, false, List, [], ◌∷◌, ◌++◌, length, take, drop, Some, if◌then◌else◌}
 use Rattle.mw_model.specs.Object.{Object, is_name_byte}
-use Rattle.mw_model.specs.Lexemes.{Lexeme, Stray, fault, TOKEN, Ending, Ends, Goes, all_are, is_constituent, is_digit, glued, glued_bar, lexemes_from}
+use Rattle.mw_model.specs.Lexemes as lex
+use Rattle.mw_model.specs.Lexemes.{class, Lexeme, Stray, fault, TOKEN, Ending, Ends, Goes, all_are, is_constituent, is_digit, glued, glued_bar, lexemes_from}
 use Rattle.mw_model.specs.Grammar.{Book, book, and_events}
 use Rattle.mw_read.specs.Machine.{State, Idle}
 use Rattle.mw_read.specs.Resume.{resume}
@@ -88,3 +89,59 @@ Advances os t old rest (outcomes.Fault f) n new = (e : Ending) (x : List ℕ) �
 abbrev pub EndsHash : Outcome → Parser → Parser → Type 0
 EndsHash (outcomes.Fault f) old new = Unit {0}
 EndsHash r old new = (new.begun ≡ Nothing) × (new.start ≡ old.start + 2 + length old.token.items)
+
+-- the number of bytes taken, where a text of n bytes has begun at o
+abbrev pub offset_at : Begun → ℕ → ℕ → ℕ
+offset_at Nothing n o = o
+offset_at Comment n o = o + 1
+offset_at Token n o = o + n
+offset_at Bars n o = o + n + 1
+offset_at Barred n o = o + n + 2
+offset_at Hash n o = o + n + 1
+offset_at AfterToken n o = o
+offset_at AfterBar n o = o
+
+abbrev pub offset_of : Parser → ℕ
+offset_of p = offset_at p.begun (length p.token.items) p.start
+
+-- a text that may end with no further byte
+abbrev pub weight : Begun → ℕ
+weight Token = 1
+weight Barred = 1
+weight m = 0
+
+-- a token that has begun has a byte
+abbrev pub IsStarted : Begun → List ℕ → Type 0
+IsStarted Token t = 0 < length t
+IsStarted m t = Unit {0}
+
+-- n bytes of the rest were taken, and what is left may follow
+pub record Moved (old : Parser) (rest : List ℕ) (n : ℕ) (new : Parser) : Type 0 where
+  pub offset : offset_of new ≡ offset_of old + n
+  pub left : Fits new.begun Goes (drop n rest)
+  pub started : IsStarted new.begun new.token.items
+  -- a byte was taken, or a text has ended
+  pub less : 0 < length rest → weight new.begun < weight old.begun + 2 * n
+
+abbrev pub Moves : Outcome → Parser → List ℕ → ℕ → Parser → Type 0
+Moves (outcomes.Fault f) old rest n new = Unit {0}
+Moves r old rest n new = Moved old rest n new
+
+-- Does g say whether byte b may not stand behind what was read?
+abbrev pub IsBehind : Begun → Bool → ℕ → Type 0
+IsBehind Nothing g b = g ≡ false
+IsBehind AfterToken g b = g ≡ glued b
+IsBehind AfterBar g b = g ≡ glued_bar b
+IsBehind m g b = ⊥
+
+-- the first byte is of this class
+abbrev pub IsFirst : lex.Class → List ℕ → Type 0
+IsFirst k [] = ⊥
+IsFirst k (b ∷ x) = class b ≡ k
+
+-- these bytes begin such a text
+abbrev pub Begins : Begun → List ℕ → Type 0
+Begins Bars x = IsFirst lex.Bar x
+Begins Hash x = IsFirst lex.Hash x
+Begins Token x = IsFirst lex.Constituent x
+Begins m x = ⊥

@@ -1,18 +1,22 @@
 //! A reader that is handed each piece of a book in turn.
-ghost use Rattle.std.specs.Prelude.{◌≡◌, ℕ, ◌+◌, ◌-◌, ◌*◌, ◌<◌, ◌≤◌, ◌^◌, ◌⊎◌, Bool, true, false, List, [], ◌∷◌, ◌++◌, length, map, take, drop, IfOk, OnOk, IfSome, Option, Some, None, vec_len};
+ghost use Rattle.std.specs.Prelude.{◌≡◌, ℕ, ◌+◌, ◌-◌, ◌*◌, ◌<◌, ◌≤◌, ◌^◌, ◌⊎◌, Bool, true, false, List, [], ◌∷◌, ◌++◌, length, map, take, drop, IfOk, OnOk, IfSome, Option, Some, None, vec_len, get_or};
 ghost use Rattle.mw_model.specs.Object.{Object, is_name, is_name_byte, name_of_bytes, Symbol};
-ghost use Rattle.mw_model.specs.Lexemes.{all_are, is_constituent, is_digit, raised, token_form, Atom, Ending};
+ghost use Rattle.mw_model.specs.Lexemes.{all_are, is_constituent, is_digit, raised, token_form, Atom, Ending, class};
 ghost use Rattle.mw_heap.specs.Objects.{object_at, IsIn, Grows};
 ghost use Rattle.mw_read.specs.Machine.{State, on, is_full};
 ghost use Rattle.mw_read.specs.Stacks.{IsStack};
 ghost use Rattle.mw_read.specs.Held.{Holds, Took};
-ghost use Rattle.mw_read.specs.Parsing.{IsParser, Advances, EndsHash, meaning_of};
+ghost use Rattle.mw_read.specs.Parsing.{IsParser, Advances, EndsHash, meaning_of, offset_of, Moves, IsBehind, Begins, IsStarted};
 ghost use Rattle.mw_read.specs.Runs.{StartsWith};
 ghost use Rattle.mw_read.specs.Lexing.{token_lexeme, label_lexeme};
+ghost use Rattle.mw_read.specs.Codes.{class_of};
 
-use crate::class::{constituents, digits, glued_to_token, line_bytes, name_bytes, raise};
+use crate::class::{
+    Class, classify, constituents, digits, glued_to_bar, glued_to_token, line_bytes, name_bytes,
+    raise,
+};
 use crate::stack::{Stack, fault};
-use crate::step::{Outcome, Step, SyntaxKind};
+use crate::step::{Outcome, SyntaxKind};
 use crate::token::{Form, form_of, label};
 use mw_heap::{Heap, Memory};
 
@@ -42,9 +46,6 @@ pub(crate) struct Parser {
     pub(crate) token: Vec<u8>,
     // the offset where that text begins
     pub(crate) start: u64,
-    pub(crate) finished: bool,
-    // the answer from now on
-    pub(crate) ended: Option<Step>,
     pub(crate) name: Vec<u8>,
 }
 
@@ -119,6 +120,8 @@ impl Parser {
         requires room { self.old.start + (length self.old.token.items + length rest.now) < 2 ^ 50 }
         ensures grows { Grows heap.old heap.new }
         ensures taken { IfOk result (λ r. r.1 ≤ length rest.now) }
+        ensures starts { IfOk result (λ r. StartsWith is_constituent rest.now → 0 < r.1) }
+        ensures moves { IfOk result (λ r. Moves r.0 self.old rest.now r.1 self.new) }
         ensures advances { IfOk result (λ r. (t : State) → Holds heap.old self.old.stack t → Advances heap.new t self.old rest.now r.0 r.1 self.new) }
     {
         let n = constituents(rest);
@@ -164,6 +167,7 @@ impl Parser {
         requires room { self.old.start + (length self.old.token.items + length rest.now) < 2 ^ 50 }
         ensures grows { Grows heap.old heap.new }
         ensures taken { IfOk result (λ r. r.1 ≤ length rest.now) }
+        ensures moves { IfOk result (λ r. Moves r.0 self.old rest.now r.1 self.new) }
         ensures advances { IfOk result (λ r. (t : State) → Holds heap.old self.old.stack t → Advances heap.new t self.old rest.now r.0 r.1 self.new) }
     {
         let n = name_bytes(rest);
@@ -217,6 +221,7 @@ impl Parser {
         requires room { self.old.start + (length self.old.token.items + length rest.now) < 2 ^ 50 }
         ensures grows { Grows heap.old heap.new }
         ensures taken { IfOk result (λ r. r.1 ≤ length rest.now) }
+        ensures moves { IfOk result (λ r. Moves r.0 self.old rest.now r.1 self.new) }
         ensures advances { IfOk result (λ r. (t : State) → Holds heap.old self.old.stack t → Advances heap.new t self.old rest.now r.0 r.1 self.new) }
     {
         let n = digits(rest);
@@ -275,6 +280,7 @@ impl Parser {
         ensures taken { result.1 ≤ length rest.now }
         ensures stack { self.new.stack ≡ self.old.stack }
         ensures begun { (self.new.begun ≡ Begun.Nothing) ⊎ (self.new.begun ≡ Begun.Comment) }
+        ensures moves { Moves result.0 self.old rest.now result.1 self.new }
         ensures passes { (e : Ending) (t : State) (z : List ℕ) → meaning_of e t self.old (take result.1 rest.now ++ z) ≡ meaning_of e t self.new z }
     {
         let n = line_bytes(rest);
@@ -285,5 +291,125 @@ impl Parser {
         self.start += 2;
         self.begun = Begun::Nothing;
         (Outcome::Pending, n + 1)
+    }
+
+    // A byte where no text has begun.
+    fn fresh(&mut self, heap: &mut Heap, rest: &[u8]) -> Result<(Outcome, usize), Memory>
+        requires parser { IsParser heap.old self.old }
+        requires begun { self.old.begun ≡ Begun.Nothing }
+        requires some { 0 < length rest.now }
+        requires room { self.old.start + length rest.now < 2 ^ 49 }
+        ensures grows { Grows heap.old heap.new }
+        ensures taken { IfOk result (λ r. r.1 ≤ length rest.now) }
+        ensures moves { IfOk result (λ r. Moves r.0 self.old rest.now r.1 self.new) }
+        ensures advances { IfOk result (λ r. (t : State) → Holds heap.old self.old.stack t → Advances heap.new t self.old rest.now r.0 r.1 self.new) }
+    {
+        let at = self.start;
+        match classify(rest[0]) {
+            Class::White => {
+                self.start += 1;
+                Ok((Outcome::Pending, 1))
+            }
+            Class::Semicolon => {
+                self.begun = Begun::Comment;
+                Ok((Outcome::Pending, 1))
+            }
+            Class::Opening => {
+                self.start += 1;
+                Ok((self.stack.open(at)?, 1))
+            }
+            Class::Closing => {
+                self.start += 1;
+                Ok((self.stack.close(heap, at)?, 1))
+            }
+            Class::Apostrophe => {
+                self.start += 1;
+                Ok((self.stack.quote(at)?, 1))
+            }
+            Class::Other => Ok((fault(SyntaxKind::Byte, at), 0)),
+            Class::Bar => self.begin(heap, Begun::Bars, rest),
+            Class::Hash => self.begin(heap, Begun::Hash, rest),
+            Class::Constituent => self.begin(heap, Begun::Token, rest),
+        }
+    }
+
+    // A text of more than one byte begins.
+    fn begin(
+        &mut self,
+        heap: &mut Heap,
+        begun: Begun,
+        rest: &[u8],
+    ) -> Result<(Outcome, usize), Memory>
+        requires parser { IsParser heap.old self.old }
+        requires begun { self.old.begun ≡ Begun.Nothing }
+        requires begins { Begins begun rest.now }
+        requires room { self.old.start + length rest.now < 2 ^ 49 }
+        ensures grows { Grows heap.old heap.new }
+        ensures taken { IfOk result (λ r. r.1 ≤ length rest.now) }
+        ensures moves { IfOk result (λ r. Moves r.0 self.old rest.now r.1 self.new) }
+        ensures advances { IfOk result (λ r. (t : State) → Holds heap.old self.old.stack t → Advances heap.new t self.old rest.now r.0 r.1 self.new) }
+    {
+        if self.stack.is_full() {
+            return Ok((fault(SyntaxKind::Dot, self.start), 0));
+        }
+        self.token.clear();
+        self.begun = begun;
+        match begun {
+            Begun::Bars => {
+                let (outcome, n) = self.in_bars(heap, &rest[1..])?;
+                Ok((outcome, n + 1))
+            }
+            Begun::Hash => {
+                let (outcome, n) = self.in_hash(heap, &rest[1..])?;
+                Ok((outcome, n + 1))
+            }
+            _ => self.in_token(heap, rest),
+        }
+    }
+
+    // The next bytes behind what was read: `glued` says whether the first may not stand there.
+    fn behind(
+        &mut self,
+        heap: &mut Heap,
+        rest: &[u8],
+        glued: bool,
+    ) -> Result<(Outcome, usize), Memory>
+        requires parser { IsParser heap.old self.old }
+        requires some { 0 < length rest.now }
+        requires behind { IsBehind self.old.begun glued (get_or rest.now 0 0) }
+        requires room { self.old.start + length rest.now < 2 ^ 49 }
+        ensures grows { Grows heap.old heap.new }
+        ensures taken { IfOk result (λ r. r.1 ≤ length rest.now) }
+        ensures moves { IfOk result (λ r. Moves r.0 self.old rest.now r.1 self.new) }
+        ensures advances { IfOk result (λ r. (t : State) → Holds heap.old self.old.stack t → Advances heap.new t self.old rest.now r.0 r.1 self.new) }
+    {
+        if glued {
+            return Ok((fault(SyntaxKind::Token, self.start), 0));
+        }
+        self.begun = Begun::Nothing;
+        self.fresh(heap, rest)
+    }
+
+    // What the next bytes say: at least one is taken, or what has begun ends.
+    fn advance(&mut self, heap: &mut Heap, rest: &[u8]) -> Result<(Outcome, usize), Memory>
+        requires parser { IsParser heap.old self.old }
+        requires started { IsStarted self.old.begun self.old.token.items }
+        requires some { 0 < length rest.now }
+        requires room { offset_of self.old + length rest.now < 2 ^ 49 }
+        ensures grows { Grows heap.old heap.new }
+        ensures taken { IfOk result (λ r. r.1 ≤ length rest.now) }
+        ensures moves { IfOk result (λ r. Moves r.0 self.old rest.now r.1 self.new) }
+        ensures advances { IfOk result (λ r. (t : State) → Holds heap.old self.old.stack t → Advances heap.new t self.old rest.now r.0 r.1 self.new) }
+    {
+        match self.begun {
+            Begun::Comment => Ok(self.in_comment(rest)),
+            Begun::Token => self.in_token(heap, rest),
+            Begun::Bars => self.in_bars(heap, rest),
+            Begun::Hash => self.in_hash(heap, rest),
+            Begun::Barred => Ok((self.end_bars(heap, &[])?, 0)),
+            Begun::AfterToken => self.behind(heap, rest, glued_to_token(rest[0])),
+            Begun::AfterBar => self.behind(heap, rest, glued_to_bar(rest[0])),
+            Begun::Nothing => self.behind(heap, rest, false),
+        }
     }
 }
