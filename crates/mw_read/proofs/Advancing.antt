@@ -120,19 +120,19 @@ module _ (os : List Object) (t : State) (old new : Parser) (rest : List ℕ) (n 
     point_datum r true q = no_event _ q.0 (wrong_quiet old.start (old.start + 1) f k) q.1
     point_datum r false q = no_event _ q.0 (dot_quiet t old.start) q.1
 
-    pending : (v : TokenForm) → token_form whole ≡ v → Took os new.stack outcomes.Pending (on t (token_lexeme old.start g v)) → Advances os t old rest outcomes.Pending n new
-    pending (Whole y) v q = whole_pending y v q
-    pending Point v q = point_pending g v q
-    pending Bad v q = absurd (bad_holds old.start f k q.1)
+    pub token_pending : (v : TokenForm) → token_form whole ≡ v → Took os new.stack outcomes.Pending (on t (token_lexeme old.start g v)) → Advances os t old rest outcomes.Pending n new
+    token_pending (Whole y) v q = whole_pending y v q
+    token_pending Point v q = point_pending g v q
+    token_pending Bad v q = absurd (bad_holds old.start f k q.1)
 
-    datum : (r : ℕ) (v : TokenForm) → token_form whole ≡ v → Took os new.stack (outcomes.Datum r) (on t (token_lexeme old.start g v)) → Advances os t old rest (outcomes.Datum r) n new
-    datum r (Whole y) v q = whole_datum r y v q
-    datum r Point v q = absurd (point_datum r g q)
-    datum r Bad v q = absurd (no_event _ q.0 (wrong_quiet old.start old.start f k) q.1)
+    pub token_datum : (r : ℕ) (v : TokenForm) → token_form whole ≡ v → Took os new.stack (outcomes.Datum r) (on t (token_lexeme old.start g v)) → Advances os t old rest (outcomes.Datum r) n new
+    token_datum r (Whole y) v q = whole_datum r y v q
+    token_datum r Point v q = absurd (point_datum r g q)
+    token_datum r Bad v q = absurd (no_event _ q.0 (wrong_quiet old.start old.start f k) q.1)
 
     pub token_advances : (r : Outcome) → rest ≡ take n rest ++ b ∷ x → is_constituent b ≡ false → glued b ≡ g → Took os new.stack r (on t (token_lexeme old.start g (token_form whole))) → Advances os t old rest r n new
-    token_advances outcomes.Pending e c h q = pending (token_form whole) refl q
-    token_advances (outcomes.Datum r) e c h q = datum r (token_form whole) refl q
+    token_advances outcomes.Pending e c h q = token_pending (token_form whole) refl q
+    token_advances (outcomes.Datum r) e c h q = token_datum r (token_form whole) refl q
     token_advances (outcomes.Fault j) e c h q = λ e' z.
         ap (λ u. meaning_of e' t old (u ++ z)) e
         ∙ ap (meaning_of e' t old) (append_assoc (take n rest) (b ∷ x) z)
@@ -140,7 +140,7 @@ module _ (os : List Object) (t : State) (old new : Parser) (rest : List ℕ) (n 
         ∙ token_faults e' t old.start b g whole (x ++ z) (fault_of j) l a c h q
 
 -- an atom between bars
-pub bars_advance : (os : List Object) (t : State) (old new : Parser) (rest : List ℕ) (n b end : ℕ) (x : List ℕ) (y : Object) (r : Outcome) → rest ≡ take n rest ++ b ∷ x →
+pub bars_advance : (os : List Object) (t : State) (old new : Parser) (rest : List ℕ) (n b end : ℕ) (x : List ℕ) (y : Object) (r : Outcome) → ((f : code.Fault) → r ≡ outcomes.Fault f → rest ≡ take n rest ++ b ∷ x) →
     ((e : Ending) (z : List ℕ) → Fits AfterBar e z → meaning_of e t old (take n rest ++ z) ≡ resume t (Atom old.start y ∷ behind glued_bar e end z)) →
     Took os new.stack r (on t (Atom old.start y)) → new.begun ≡ AfterBar → new.start ≡ end → Advances os t old rest r n new
 bars_advance os t old new rest n b end x y outcomes.Pending e m q i s =
@@ -167,7 +167,7 @@ bars_advance os t old new rest n b end x y (outcomes.Datum r) e m q i s = (
       ∙ ap (and_events q.0) (sym (ap (λ u. resume Idle (ahead e' u new.token.items new.start z)) i)),
 )
 bars_advance os t old new rest n b end x y (outcomes.Fault f) e m q i s = λ e' z.
-    ap (λ u. meaning_of e' t old (u ++ z)) e
+    ap (λ u. meaning_of e' t old (u ++ z)) (e f refl)
     ∙ ap (meaning_of e' t old) (append_assoc (take n rest) (b ∷ x) z)
     ∙ m e' (b ∷ (x ++ z)) tt
     ∙ on_step t (Atom old.start y) tt (behind glued_bar e' end (b ∷ (x ++ z)))

@@ -7,7 +7,7 @@ use Rattle.std.proofs.lemmas.List.{length-take-le, take-append-drop}
 use Rattle.mw_model.specs.Object.{is_name, is_name_byte, are_name_bytes}
 use Rattle.mw_read.proofs.Classes.{take_more}
 
-pub empty_is : (xs : List ℕ) (n : ℕ) → n ≡ length xs → true ≡ (n == 0) → xs ≡ []
+pub empty_is : {A : Type 0} (xs : List A) (n : ℕ) → n ≡ length xs → true ≡ (n == 0) → xs ≡ []
 empty_is [] n h e = refl
 empty_is (x ∷ xs) n h e = let k = eqb-true n 0 (sym e) in absurd (omega (arith, k, h))
 
@@ -67,7 +67,7 @@ is_name_of (b ∷ bytes) l h = are_names (b ∷ bytes) h
 pub take_run : (xs : List ℕ) (n : ℕ) → n ≤ length xs → length (take n xs) ≡ n
 take_run xs n h = length-take-le n xs h
 
-pub not_empty : (xs : List ℕ) (n : ℕ) → n ≡ length xs → false ≡ (n == 0) → 0 < length xs
+pub not_empty : {A : Type 0} (xs : List A) (n : ℕ) → n ≡ length xs → false ≡ (n == 0) → 0 < length xs
 not_empty [] n h e = absurd (true≢false (sym (ap (λ k. k == 0) h) ∙ sym e))
 not_empty (x ∷ xs) n h e = omega arith
 

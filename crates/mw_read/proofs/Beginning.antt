@@ -164,7 +164,7 @@ token_begin os t old mid new rest r n h i j s q = carry os t old mid new rest re
         ∙ ap (λ o. resume t (lexemes_from e o 0 y)) (sym s)
         ∙ sym (ap (λ m. resume t (ahead e m mid.token.items mid.start y)) i ∙ ap (λ u. resume t (lexemes_from e mid.start 0 (u ++ y))) j)
 
-offset_is : (p : Parser) (m : Begun) (n o : ℕ) → p.begun ≡ m → length p.token.items ≡ n → p.start ≡ o → offset_of p ≡ offset_at m n o
+pub offset_is : (p : Parser) (m : Begun) (n o : ℕ) → p.begun ≡ m → length p.token.items ≡ n → p.start ≡ o → offset_of p ≡ offset_at m n o
 offset_is p m n o h i j = ap (λ u. offset_at u (length p.token.items) p.start) h ∙ ap (λ u. offset_at m u p.start) i ∙ ap (offset_at m n) j
 
 module _ (old mid : Parser) (h : old.begun ≡ Nothing) (j : mid.token.items ≡ []) (s : mid.start ≡ old.start) where

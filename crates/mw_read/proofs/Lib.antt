@@ -16,3 +16,7 @@ pub mod Bare
 pub mod Advancing
 pub mod Hashes
 pub mod Beginning
+pub mod Scanning
+pub mod Ending
+pub mod Emptied
+pub mod Telling

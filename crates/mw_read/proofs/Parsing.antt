@@ -12,7 +12,7 @@ use Rattle.mw_read.specs.declared.parser.Begun.TheVariants.{AfterToken, AfterBar
 use Rattle.mw_read.proofs.Resuming.{on_step, IsSolid}
 use Rattle.mw_read.proofs.Bytes.{token_lexemes, last_are, barred_lexemes, bar_lexemes, barred_fault}
 
-constituent_class : (b : ℕ) → is_constituent b ≡ true → class b ≡ Constituent
+pub constituent_class : (b : ℕ) → is_constituent b ≡ true → class b ≡ Constituent
 constituent_class b h = ap (λ v. if v then Constituent else class_else b) h
 
 if_append : (v : Bool) (a b c : List Lexeme) → (if v then a else b) ++ c ≡ (if v then a ++ c else b ++ c)
@@ -40,7 +40,7 @@ token_first o g t Point b h = ([], ap (λ v. if v then Wrong o (Some (fault TOKE
     one false l k = refl
 token_first o g t Bad b h = ([], refl)
 
-token_solid : (o : ℕ) (g : Bool) (f : TokenForm) → IsSolid (token_lexeme o g f)
+pub token_solid : (o : ℕ) (g : Bool) (f : TokenForm) → IsSolid (token_lexeme o g f)
 token_solid o g (Whole y) = tt
 token_solid o true Point = tt
 token_solid o false Point = tt

@@ -10,3 +10,5 @@ pub mod Held
 pub mod Forms
 pub mod Lexing
 pub mod Parsing
+pub mod Shown
+pub mod Standing

@@ -1,12 +1,13 @@
 //! A reader that is handed each piece of a book in turn.
 ghost use Rattle.std.specs.Prelude.{◌≡◌, ℕ, ◌+◌, ◌-◌, ◌*◌, ◌<◌, ◌≤◌, ◌^◌, ◌⊎◌, Bool, true, false, List, [], ◌∷◌, ◌++◌, length, map, take, drop, IfOk, OnOk, IfSome, Option, Some, None, vec_len, get_or};
 ghost use Rattle.mw_model.specs.Object.{Object, is_name, is_name_byte, name_of_bytes, Symbol};
-ghost use Rattle.mw_model.specs.Lexemes.{all_are, is_constituent, is_digit, raised, token_form, Atom, Ending, class};
+ghost use Rattle.mw_model.specs.Lexemes.{all_are, is_constituent, is_digit, raised, token_form, Atom, Ending, Goes, class};
 ghost use Rattle.mw_heap.specs.Objects.{object_at, IsIn, Grows};
 ghost use Rattle.mw_read.specs.Machine.{State, on, is_full};
 ghost use Rattle.mw_read.specs.Stacks.{IsStack};
 ghost use Rattle.mw_read.specs.Held.{Holds, Took};
-ghost use Rattle.mw_read.specs.Parsing.{IsParser, Advances, EndsHash, meaning_of, offset_of, Moves, IsBehind, Begins, IsStarted};
+ghost use Rattle.mw_read.specs.Parsing.{IsParser, Advances, EndsHash, meaning_of, offset_of, Moves, IsBehind, Begins, IsStarted, Fits};
+ghost use Rattle.mw_read.specs.Standing.{Reaches, Stands, IsStanding, IsFree, Follows, Lasts, Tells, Says, Finishes};
 ghost use Rattle.mw_read.specs.Runs.{StartsWith};
 ghost use Rattle.mw_read.specs.Lexing.{token_lexeme, label_lexeme};
 ghost use Rattle.mw_read.specs.Codes.{class_of};
@@ -15,10 +16,13 @@ use crate::class::{
     Class, classify, constituents, digits, glued_to_bar, glued_to_token, line_bytes, name_bytes,
     raise,
 };
+use crate::members::shown;
 use crate::stack::{Stack, fault};
-use crate::step::{Outcome, SyntaxKind};
+use crate::step::{Outcome, Step, SyntaxKind};
 use crate::token::{Form, form_of, label};
-use mw_heap::{Heap, Memory};
+use mw_heap::{Heap, Memory, Ref};
+use std::alloc::Global;
+use std::collections::BTreeMap;
 
 /// The piece of text that has begun and not ended, or what stands directly before.
 #[derive(Clone, Copy, Debug, PartialEq, Eq)]
@@ -38,8 +42,12 @@ pub(crate) enum Begun {
     AfterBar,
 }
 
+// The longest book.
+const LIMIT: u64 = 1 << 40;
+
+/// A reader of a book that comes in pieces.
 #[derive(Drop)]
-pub(crate) struct Parser {
+pub struct Parser {
     pub(crate) stack: Stack,
     pub(crate) begun: Begun,
     // of the text that has begun the bytes that earlier pieces had, without bars and `#`
@@ -410,6 +418,146 @@ impl Parser {
             Begun::AfterToken => self.behind(heap, rest, glued_to_token(rest[0])),
             Begun::AfterBar => self.behind(heap, rest, glued_to_bar(rest[0])),
             Begun::Nothing => self.behind(heap, rest, false),
+        }
+    }
+
+    // The number of bytes taken.
+    fn offset(&self) -> u64
+        requires { offset_of self.now < 2 ^ 49 }
+        ensures { result ≡ offset_of self.now }
+    {
+        let n = self.token.len() as u64;
+        match self.begun {
+            Begun::Nothing => self.start,
+            Begun::Comment => self.start + 1,
+            Begun::Token => self.start + n,
+            Begun::Bars => self.start + n + 1,
+            Begun::Barred => self.start + n + 2,
+            Begun::Hash => self.start + n + 1,
+            Begun::AfterToken => self.start,
+            Begun::AfterBar => self.start,
+        }
+    }
+
+    // The piece, up to the first datum that is complete, or a fault.
+    fn scan(&mut self, heap: &mut Heap, piece: &[u8]) -> Result<(Outcome, usize), Memory>
+        requires parser { IsParser heap.old self.old }
+        requires started { IsStarted self.old.begun self.old.token.items }
+        requires held { (t : State) × Holds heap.old self.old.stack t }
+        requires follows { Fits self.old.begun Goes piece.now }
+        requires room { offset_of self.old + length piece.now < 2 ^ 49 }
+        ensures grows { Grows heap.old heap.new }
+        ensures taken { IfOk result (λ r. r.1 ≤ length piece.now) }
+        ensures whole { IfOk result (λ r. r.0 ≡ Outcome.Pending → r.1 ≡ length piece.now) }
+        ensures reaches { IfOk result (λ r. Reaches r.0 self.old piece.now r.1 self.new) }
+        ensures advances { IfOk result (λ r. (t : State) → Holds heap.old self.old.stack t → Advances heap.new t self.old piece.now r.0 r.1 self.new) }
+    {
+        let mut at = 0;
+        while at < piece.len() {
+            let (outcome, n) = self.advance(heap, &piece[at..])?;
+            at += n;
+            match outcome {
+                Outcome::Pending => {}
+                outcome => return Ok((outcome, at)),
+            }
+        }
+        Ok((Outcome::Pending, at))
+    }
+
+    // The end of the book, for the text that has begun.
+    fn last(&mut self, heap: &mut Heap) -> Result<Outcome, Memory>
+        requires parser { IsParser heap.old self.old }
+        requires started { IsStarted self.old.begun self.old.token.items }
+        requires room { offset_of self.old < 2 ^ 49 }
+        ensures grows { Grows heap.old heap.new }
+        ensures lasts { IfOk result (λ r. (t : State) → Holds heap.old self.old.stack t → Lasts heap.new t self.old r self.new) }
+    {
+        match self.begun {
+            Begun::Token => self.end_token(heap, &[], false),
+            Begun::Barred => self.end_bars(heap, &[]),
+            Begun::Bars => Ok(fault(SyntaxKind::End, self.offset())),
+            Begun::Hash => Ok(fault(SyntaxKind::End, self.offset())),
+            _ => Ok(Outcome::Pending),
+        }
+    }
+
+    // The step of a datum.
+    fn datum(&mut self, heap: &Heap, x: Ref) -> Step
+        requires { IsIn heap.now x }
+        ensures tells { Tells heap.now self.old.stack.big x result }
+        ensures new { self.new ≡ record self.old { stack = record self.old.stack { big = false } } }
+    {
+        if !self.stack.big {
+            return Step::Datum(x);
+        }
+        self.stack.big = false;
+        let (word, label) = shown(heap, x);
+        Step::TooBig(word, label)
+    }
+
+    /// A reader that was handed nothing.
+    pub fn new(alloc: Global) -> Parser
+        ensures stands { (os : List Object) → Stands os result [] [] }
+        ensures free { IsFree result }
+    {
+        Parser {
+            stack: Stack {
+                layers: Vec::new(alloc),
+                labels: BTreeMap::new(alloc),
+                big: false,
+            },
+            begun: Begun::Nothing,
+            token: Vec::new(alloc),
+            start: 0,
+            name: Vec::new(alloc),
+        }
+    }
+
+    /// What comes next in a piece of the book, and how many of its bytes that takes. Behind a datum the rest of the piece comes next, and
+    /// behind `More` the next piece.
+    pub fn step(&mut self, heap: &mut Heap, piece: &[u8]) -> (Step, usize)
+        requires stands { IsStanding heap.old self.old }
+        requires follows { Follows self.old piece.now }
+        ensures grows { Grows heap.old heap.new }
+        ensures says { (g : List ℕ) (given : List Object) → Stands heap.old self.old g given → Says heap.new g given piece.now result.0 result.1 self.new }
+    {
+        let room = (LIMIT - self.offset()) as usize;
+        let length = piece.len().min(room);
+        let (outcome, n) = match self.scan(heap, &piece[..length]) {
+            Ok(found) => found,
+            Err(_) => return (Step::Memory, 0),
+        };
+        match outcome {
+            Outcome::Datum(x) => (self.datum(heap, x), n),
+            Outcome::Fault(f) => (Step::Syntax(f.kind, f.offset), 0),
+            Outcome::Pending => {
+                if n < piece.len() {
+                    return (Step::Syntax(SyntaxKind::Length, LIMIT), 0);
+                }
+                (Step::More, n)
+            }
+        }
+    }
+
+    /// What comes next where the book has ended.
+    pub fn finish(&mut self, heap: &mut Heap) -> Step
+        requires stands { IsStanding heap.old self.old }
+        ensures grows { Grows heap.old heap.new }
+        ensures finishes { (g : List ℕ) (given : List Object) → Stands heap.old self.old g given → Finishes heap.new g given result self.new }
+    {
+        let outcome = match self.last(heap) {
+            Ok(outcome) => outcome,
+            Err(_) => return Step::Memory,
+        };
+        match outcome {
+            Outcome::Datum(x) => self.datum(heap, x),
+            Outcome::Fault(f) => Step::Syntax(f.kind, f.offset),
+            Outcome::Pending => {
+                if self.stack.layers.is_empty() {
+                    return Step::End;
+                }
+                Step::Syntax(SyntaxKind::End, self.offset())
+            }
         }
     }
 }

@@ -61,7 +61,7 @@ returns-clause-advances c t h =
     let l = both_length a.token.items rest n run.within in
     let some : 0 < length whole = omega (arith, l, c.len.ensures, a.token.ok.0, c.if-length-eq0.false) in
     bars_advance c.end_bars.new.heap t a c.end_bars.new.self rest (n + 1) (get_or rest (n + 1) 0) (a.start + 2 + length whole) (drop (suc (n + 1)) rest) (Symbol (name_of_bytes whole)) c.in_ok-outcome.outcome
-    (split_at rest (n + 1) lt2)
+    (λ f e. split_at rest (n + 1) lt2)
     (λ e z fit.
     ap (λ m. resume t (ahead e m a.token.items a.start (take (n + 1) rest ++ z))) c.requires.begun
     ∙ ap (λ y. resume t (lexemes_from e a.start 0 (124 ∷ y))) (go_on_past a.token.items rest n z lt ∙ ap (λ b. whole ++ b ∷ z) c.if-rest-n-ne124.false)
