@@ -9,7 +9,7 @@ use Rattle.mw_read.specs.Resume.{resume, following}
 use Rattle.mw_read.specs.Lexing.{token_lexeme}
 use Rattle.mw_read.specs.Held.{Took}
 use Rattle.mw_read.specs.Piles.{fault_of}
-use Rattle.mw_read.specs.Parsing.{ahead, meaning_of, is_inside, offset_of, offset_at, IsStarted, Fits, behind}
+use Rattle.mw_read.specs.Parsing.{ahead, meaning_of, is_inside, offset_of, offset_at, IsStarted, Fits, behind, weight}
 use Rattle.mw_read.specs.Standing.{Lasts}
 use Rattle.mw_read.specs.declared.parser.Begun.TheVariants.{Token, Bars, Barred, Hash, AfterToken, AfterBar}
 use Rattle.mw_read.specs.declared.parser.Parser.{Parser}
@@ -54,6 +54,7 @@ module _ (os : List Object) (t : State) (old new : Parser) (f : is_full t ≡ fa
       token_datum os t old new [] 0 0 false [] i f k (subst (λ u. 0 < length u) (sym n) l) (subst (λ u. all_are is_constituent u ≡ true) (sym n) a) m s x (token_form (old.token.items ++ [])) refl q,
       subst (λ u. IsStarted u new.token.items) (sym m) tt,
       here,
+      omega (arith, ap weight m, ap weight i),
     )
     token_lasts (outcomes.Fault x) q =
         ap (λ u. resume t (ahead Ends u old.token.items old.start [])) i
@@ -91,6 +92,7 @@ module _ (os : List Object) (t : State) (old new : Parser) (f : is_full t ≡ fa
       bars_advance os t old new [] 0 0 end [] y (outcomes.Datum x) (λ x e. absurd cc) bars_mean (took_is (outcomes.Datum x) q) m ends_at,
       subst (λ u. IsStarted u new.token.items) (sym m) tt,
       bars_here,
+      omega (arith, ap weight m, ap weight i),
     )
     bars_lasts (outcomes.Fault x) q =
         bars_mean Ends [] tt

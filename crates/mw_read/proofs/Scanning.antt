@@ -27,7 +27,7 @@ pub scan_start : (os : List Object) (old : Parser) (piece : List ℕ) → Fits o
 scan_start os old piece f s k = record {
   kept = grows_refl os;
   within = omega arith;
-  reached = record { offset = (let e : offset_of old ≡ offset_of old + 0 = omega arith in e); left = f; started = s; fits = λ e x h. h };
+  reached = record { offset = (let e : offset_of old ≡ offset_of old + 0 = omega arith in e); left = f; started = s; fits = λ e x h. h; less = omega arith };
   advances = λ t h. (t, h, k, λ e z fit. refl);
 }
 
@@ -82,11 +82,12 @@ module _ (first : List Object) (old : Parser) (piece : List ℕ) (os : List Obje
     fits = λ e x h.
         subst (λ u. Fits old.begun e u) (sym (ap (λ y. y ++ x) (take_both at n piece) ∙ append_assoc (take at piece) (take n rest) x))
         (s.reached.fits e (take n rest ++ x) (fits_take mid.begun e rest x n (weight new.begun) s.reached.left (m.less some_rest)));
+    less = omega (arith, m.less some_rest, s.reached.less);
   }
 
   pub scan_reaches : (r : Outcome) (n : ℕ) → Moves r mid rest n new → Reaches r old piece (at + n) new
   scan_reaches outcomes.Pending n m = both n m
-  scan_reaches (outcomes.Datum x) n m = both n m
+  scan_reaches (outcomes.Datum x) n m = (both n m, omega (arith, m.less some_rest, s.reached.less))
   scan_reaches (outcomes.Fault f) n m = tt
 
   on_again : (t u : State) (n : ℕ) → ((e : Ending) (z : List ℕ) → Fits mid.begun e z → meaning_of e t old (take at piece ++ z) ≡ meaning_of e u mid z) → Moved mid rest n new →

@@ -6,13 +6,14 @@ use Rattle.std.proofs.Math.Nat.{min-le_left, min-le_right}
 use Rattle.mw_model.specs.Object.{Object}
 use Rattle.mw_model.specs.Lexemes.{Fault, fault, END, LENGTH, Ending, Ends, Goes, lexemes_from, all_are, is_constituent}
 use Rattle.mw_model.specs.Grammar.{Book, book, and_events, reading, limit, cut_short, trees}
+use Rattle.mw_heap.specs.Objects.{Grows}
 use Rattle.mw_read.specs.Machine.{State, Idle, Within, Full, Broken, IsSound, is_full, end_fault, InToken, InBars, Barred as BarredMode, InHash, Mode, Machine}
 use Rattle.mw_read.specs.Machine as machine
 use Rattle.mw_read.specs.Resume.{resume, onward}
 use Rattle.mw_read.specs.Piles.{fault_of, kind_of}
 use Rattle.mw_read.specs.Held.{Holds, Completes}
 use Rattle.mw_read.specs.Parsing.{ahead, meaning_of, Fits, IsText, IsParser, IsStarted, Advances, is_inside, offset_of, offset_at}
-use Rattle.mw_read.specs.Standing.{Reached, Reaches, Stands, Follows, IsFree, Lasts, Gives, GivesBehind, Says, Finishes}
+use Rattle.mw_read.specs.Standing.{Reached, Reaches, Stands, Follows, IsFree, Lasts, Gives, GivesBehind, GivesLast, Says, Finishes}
 use Rattle.mw_read.specs.declared.parser.Begun.{Begun}
 use Rattle.mw_read.specs.declared.parser.Begun.TheVariants.{Nothing, Comment, Token, Bars, Barred, Hash, AfterToken, AfterBar}
 use Rattle.mw_read.specs.declared.parser.Parser.{Parser}
@@ -23,7 +24,7 @@ use Rattle.mw_read.specs.declared.step.Step.{Step}
 use Rattle.mw_read.specs.declared.step.Step.TheVariants as steps
 use Rattle.mw_read.proofs.Bytes.{onward_book, ended, ended_at, more_is, IsReady}
 use Rattle.mw_read.proofs.Resuming.{onward_append}
-use Rattle.mw_read.proofs.Holding.{holds_full, sound_clamp}
+use Rattle.mw_read.proofs.Holding.{holds_full, holds_grows, sound_clamp}
 use Rattle.mw_read.proofs.Bare.{take_cut}
 use Rattle.mw_read.proofs.Parsing.{constituent_class}
 use Rattle.mw_read.proofs.Scanning.{fits_more}
@@ -146,6 +147,20 @@ stands_goes os p g given s h =
     ∙ onward_book given [] None
     ∙ ap (λ u. book u None) (append-nil given)
 
+-- the heap may grow
+pub stands_grows : (os more : List Object) (p : Parser) (g : List ℕ) (given : List Object) → Grows os more → Stands os p g given → Stands more p g given
+stands_grows os more p g given h s =
+    let k = holds_grows os more p.stack s.state h s.holds in
+    record {
+      state = s.state;
+      holds = k;
+      parser = record { stack = k.stack; text = s.parser.text; ready = λ i. holds_full more p.stack s.state k ∙ sym (holds_full os p.stack s.state s.holds) ∙ s.parser.ready i };
+      started = s.started;
+      offset = s.offset;
+      short = s.short;
+      means = s.means;
+    }
+
 -- a parser on whose stack no part was cut
 abbrev pub uncut : Parser → Parser
 uncut p = record p { stack = record p.stack { big = false } }
@@ -185,21 +200,21 @@ module _ (os0 os : List Object) (old mid : Parser) (g : List ℕ) (given : List 
     means = λ e z fit. ap (reading e) (append_assoc g w z) ∙ s.means e (w ++ z) (f e z fit) ∙ ap (onward given) (m e z fit);
   }
 
-pub finishes_of : (os : List Object) (g : List ℕ) (given : List Object) (p : Parser) (y : Object) (t : Step) → Gives os y t → ((any : List Object) → Stands any p g (given ++ y ∷ [])) → Finishes os g given t p
-finishes_of os g given p y (steps.Datum r) h s = (y, h, s)
-finishes_of os g given p y (steps.TooBig w l) h s = (y, h, s)
-finishes_of os g given p y steps.More h s = absurd h
-finishes_of os g given p y steps.End h s = absurd h
-finishes_of os g given p y (steps.Syntax k o) h s = absurd h
-finishes_of os g given p y steps.Memory h s = absurd h
+pub finishes_of : (os : List Object) (old : Parser) (g : List ℕ) (given : List Object) (p : Parser) (y : Object) (t : Step) → Gives os y t → GivesLast old g given y p → Finishes os old g given t p
+finishes_of os old g given p y (steps.Datum r) h s = (y, h, s)
+finishes_of os old g given p y (steps.TooBig w l) h s = (y, h, s)
+finishes_of os old g given p y steps.More h s = absurd h
+finishes_of os old g given p y steps.End h s = absurd h
+finishes_of os old g given p y (steps.Syntax k o) h s = absurd h
+finishes_of os old g given p y steps.Memory h s = absurd h
 
-pub says_of : (os : List Object) (g : List ℕ) (given : List Object) (piece : List ℕ) (n : ℕ) (p : Parser) (y : Object) (t : Step) → Gives os y t → GivesBehind g given piece y n p → Says os g given piece t n p
-says_of os g given piece n p y (steps.Datum r) h s = (y, h, s)
-says_of os g given piece n p y (steps.TooBig w l) h s = (y, h, s)
-says_of os g given piece n p y steps.More h s = absurd h
-says_of os g given piece n p y steps.End h s = absurd h
-says_of os g given piece n p y (steps.Syntax k o) h s = absurd h
-says_of os g given piece n p y steps.Memory h s = absurd h
+pub says_of : (os : List Object) (old : Parser) (g : List ℕ) (given : List Object) (piece : List ℕ) (n : ℕ) (p : Parser) (y : Object) (t : Step) → Gives os y t → GivesBehind old g given piece y n p → Says os old g given piece t n p
+says_of os old g given piece n p y (steps.Datum r) h s = (y, h, s)
+says_of os old g given piece n p y (steps.TooBig w l) h s = (y, h, s)
+says_of os old g given piece n p y steps.More h s = absurd h
+says_of os old g given piece n p y steps.End h s = absurd h
+says_of os old g given piece n p y (steps.Syntax k o) h s = absurd h
+says_of os old g given piece n p y steps.Memory h s = absurd h
 
 -- the part of a piece that a book may have
 module _ (os0 os : List Object) (old mid : Parser) (g : List ℕ) (given : List Object) (s : Stands os0 old g given) (piece : List ℕ) (k : ℕ) (e : k ≡ min (length piece) (limit - offset_of old)) where
@@ -237,7 +252,8 @@ module _ (os0 os : List Object) (old mid : Parser) (g : List ℕ) (given : List 
       ∙ same_take (k - n) (limit - offset_of mid) (drop n piece) (omega (arith, e, m.offset, length-drop n piece, l, part_length)))
       m.left
 
-  pub datum_behind : (x : ℕ) (n : ℕ) → n ≤ length part → Reached old part n mid → Advances os s.state old part (outcomes.Datum x) n mid → (y : Object) × Completes os mid.stack x y × GivesBehind g given piece y n (uncut mid)
+  pub datum_behind : (x : ℕ) (n : ℕ) → n ≤ length part → Reaches (outcomes.Datum x) old part n mid → Advances os s.state old part (outcomes.Datum x) n mid →
+      (y : Object) × Completes os mid.stack x y × GivesBehind old g given piece y n (uncut mid)
   datum_behind x n l m q = (
     q.0,
     q.1,
@@ -245,8 +261,9 @@ module _ (os0 os : List Object) (old mid : Parser) (g : List ℕ) (given : List 
       taken = (let j : n ≤ length piece = omega (arith, l, part_length, k_within) in j);
       stands = λ any.
           subst (λ u. Stands any (uncut mid) (g ++ u) (given ++ q.0 ∷ [])) (take-take n k piece (omega (arith, l, part_length)))
-          (given_stands os0 os old mid g given s x q.0 (take n part) q.1 q.2 m.started (reached_offset n l m) (reached_short n l) m.fits q.3 any);
-      left = reached_left n l m;
+          (given_stands os0 os old mid g given s x q.0 (take n part) q.1 q.2 m.0.started (reached_offset n l m.0) (reached_short n l) m.0.fits q.3 any);
+      left = reached_left n l m.0;
+      less = omega (arith, m.1, length-drop n piece, l, part_length, k_within);
     },
   )
 
@@ -261,7 +278,7 @@ module _ (os0 os : List Object) (old mid : Parser) (g : List ℕ) (given : List 
         subst (λ u. Fits mid.begun Goes u) (drop_all n part (omega (arith, h))) m.left,
       )
 
-  pub all_says : (n : ℕ) → n ≡ length part → (n < length piece → ⊥) → Reached old part n mid → Advances os s.state old part outcomes.Pending n mid → Says os g given piece steps.More n mid
+  pub all_says : (n : ℕ) → n ≡ length part → (n < length piece → ⊥) → Reached old part n mid → Advances os s.state old part outcomes.Pending n mid → Says os old g given piece steps.More n mid
   all_says n h f m q =
       let a = all_stands n h m q in
       let same : k ≡ length piece = omega (arith, f, h, part_length, k_within) in

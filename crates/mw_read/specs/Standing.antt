@@ -1,5 +1,5 @@
 -- What a reader has read: the bytes so far, and the data given of them.
-use Rattle.std.specs.Prelude.{◌≡◌, ℕ, ◌+◌, ◌-◌, ◌≤◌, Bool, true, false, List, [], ◌∷◌, ◌++◌, length, take, drop, Some, None}
+use Rattle.std.specs.Prelude.{◌≡◌, ℕ, ◌+◌, ◌-◌, ◌*◌, ◌<◌, ◌≤◌, Bool, true, false, List, [], ◌∷◌, ◌++◌, length, take, drop, Some, None}
 use Rattle.mw_model.specs.Object.{Object}
 use Rattle.mw_model.specs.Lexemes.{fault, Ending, Ends, Goes}
 use Rattle.mw_model.specs.Grammar.{book, reading, limit, trees}
@@ -10,7 +10,7 @@ use Rattle.mw_read.specs.Resume.{onward}
 use Rattle.mw_read.specs.Piles.{kind_of, fault_of}
 use Rattle.mw_read.specs.Held.{Holds}
 use Rattle.mw_read.specs.Shown.{ShowsEvent}
-use Rattle.mw_read.specs.Parsing.{meaning_of, Fits, IsParser, IsStarted, Advances, is_inside, offset_of}
+use Rattle.mw_read.specs.Parsing.{meaning_of, Fits, IsParser, IsStarted, Advances, is_inside, offset_of, weight}
 use Rattle.mw_read.specs.declared.parser.Parser.{Parser}
 use Rattle.mw_read.specs.declared.step.Outcome.{Outcome}
 use Rattle.mw_read.specs.declared.step.Outcome.TheVariants as outcomes
@@ -23,10 +23,12 @@ pub record Reached (old : Parser) (piece : List ℕ) (n : ℕ) (new : Parser) : 
   pub left : Fits new.begun Goes (drop n piece)
   pub started : IsStarted new.begun new.token.items
   pub fits : (e : Ending) (x : List ℕ) → Fits new.begun e x → Fits old.begun e (take n piece ++ x)
+  pub less : weight new.begun ≤ weight old.begun + 2 * n
 
 abbrev pub Reaches : Outcome → Parser → List ℕ → ℕ → Parser → Type 0
 Reaches (outcomes.Fault f) old piece n new = Unit {0}
-Reaches r old piece n new = Reached old piece n new
+Reaches outcomes.Pending old piece n new = Reached old piece n new
+Reaches (outcomes.Datum r) old piece n new = Reached old piece n new × (weight new.begun < weight old.begun + 2 * n)
 
 -- Bytes g were read, and these data of them given: whatever may follow, the book is those data and what is still to come.
 pub record Stands (os : List Object) (p : Parser) (g : List ℕ) (given : List Object) : Type 0 where
@@ -53,7 +55,7 @@ abbrev pub Lasts : List Object → State → Parser → Outcome → Parser → T
 Lasts os t old (outcomes.Fault f) new = meaning_of Ends t old [] ≡ book [] (Some (fault_of f))
 Lasts os t old outcomes.Pending new = Advances os t old [] outcomes.Pending 0 new × (is_inside new.begun ≡ false) × (offset_of new ≡ offset_of old)
 Lasts os t old (outcomes.Datum r) new =
-    (is_inside old.begun ≡ true) × Advances os t old [] (outcomes.Datum r) 0 new × IsStarted new.begun new.token.items × (offset_of new ≡ offset_of old)
+    (is_inside old.begun ≡ true) × Advances os t old [] (outcomes.Datum r) 0 new × IsStarted new.begun new.token.items × (offset_of new ≡ offset_of old) × (weight new.begun < weight old.begun)
 
 -- the step gives the datum of the reference, where the flag says whether a part was cut
 abbrev pub Tells : List Object → Bool → ℕ → Step → Type 0
@@ -67,26 +69,36 @@ Gives os y (steps.Datum r) = IsIn os r × (object_at os r ≡ y) × (is_out_of_r
 Gives os y (steps.TooBig w l) = (is_out_of_range y ≡ true) × ShowsEvent os w l y
 Gives os y s = ⊥
 
+-- what is left to do: two for each byte, and one where a text may end
+abbrev pub work : Parser → List ℕ → ℕ
+work p x = weight p.begun + 2 * length x
+
 -- Behind g and the first n bytes of the piece datum y was given. What stands then stands in any heap.
-pub record GivesBehind (g : List ℕ) (given : List Object) (piece : List ℕ) (y : Object) (n : ℕ) (p : Parser) : Type 0 where
+pub record GivesBehind (old : Parser) (g : List ℕ) (given : List Object) (piece : List ℕ) (y : Object) (n : ℕ) (p : Parser) : Type 0 where
   pub taken : n ≤ length piece
   pub stands : (os : List Object) → Stands os p (g ++ take n piece) (given ++ y ∷ [])
   pub left : Follows p (drop n piece)
+  pub less : work p (drop n piece) < work old piece
 
 -- what a step says of g, the data given of it, and a piece behind it
-abbrev pub Says : List Object → List ℕ → List Object → List ℕ → Step → ℕ → Parser → Type 0
-Says os g given piece (steps.Datum r) n p = (y : Object) × Gives os y (steps.Datum r) × GivesBehind g given piece y n p
-Says os g given piece (steps.TooBig w l) n p = (y : Object) × Gives os y (steps.TooBig w l) × GivesBehind g given piece y n p
-Says os g given piece steps.More n p = (n ≡ length piece) × Stands os p (g ++ piece) given × IsFree p × (reading Goes (g ++ piece) ≡ book given None)
-Says os g given piece steps.End n p = ⊥
-Says os g given piece (steps.Syntax k o) n p = (rest : List ℕ) → trees (g ++ (piece ++ rest)) ≡ book given (Some (fault (kind_of k) o))
-Says os g given piece steps.Memory n p = Unit {0}
+abbrev pub Says : List Object → Parser → List ℕ → List Object → List ℕ → Step → ℕ → Parser → Type 0
+Says os old g given piece (steps.Datum r) n p = (y : Object) × Gives os y (steps.Datum r) × GivesBehind old g given piece y n p
+Says os old g given piece (steps.TooBig w l) n p = (y : Object) × Gives os y (steps.TooBig w l) × GivesBehind old g given piece y n p
+Says os old g given piece steps.More n p = (n ≡ length piece) × Stands os p (g ++ piece) given × IsFree p × (reading Goes (g ++ piece) ≡ book given None)
+Says os old g given piece steps.End n p = ⊥
+Says os old g given piece (steps.Syntax k o) n p = (rest : List ℕ) → trees (g ++ (piece ++ rest)) ≡ book given (Some (fault (kind_of k) o))
+Says os old g given piece steps.Memory n p = Unit {0}
 
--- the same, where the book ends behind g
-abbrev pub Finishes : List Object → List ℕ → List Object → Step → Parser → Type 0
-Finishes os g given (steps.Datum r) p = (y : Object) × Gives os y (steps.Datum r) × ((heap : List Object) → Stands heap p g (given ++ y ∷ []))
-Finishes os g given (steps.TooBig w l) p = (y : Object) × Gives os y (steps.TooBig w l) × ((heap : List Object) → Stands heap p g (given ++ y ∷ []))
-Finishes os g given steps.More p = ⊥
-Finishes os g given steps.End p = trees g ≡ book given None
-Finishes os g given (steps.Syntax k o) p = trees g ≡ book given (Some (fault (kind_of k) o))
-Finishes os g given steps.Memory p = Unit {0}
+-- Where the book ends behind g, datum y was given. What stands then stands in any heap.
+pub record GivesLast (old : Parser) (g : List ℕ) (given : List Object) (y : Object) (p : Parser) : Type 0 where
+  pub stands : (os : List Object) → Stands os p g (given ++ y ∷ [])
+  pub less : work p [] < work old []
+
+-- what the end of the book says of g and the data given of it
+abbrev pub Finishes : List Object → Parser → List ℕ → List Object → Step → Parser → Type 0
+Finishes os old g given (steps.Datum r) p = (y : Object) × Gives os y (steps.Datum r) × GivesLast old g given y p
+Finishes os old g given (steps.TooBig w l) p = (y : Object) × Gives os y (steps.TooBig w l) × GivesLast old g given y p
+Finishes os old g given steps.More p = ⊥
+Finishes os old g given steps.End p = trees g ≡ book given None
+Finishes os old g given (steps.Syntax k o) p = trees g ≡ book given (Some (fault (kind_of k) o))
+Finishes os old g given steps.Memory p = Unit {0}

@@ -519,7 +519,7 @@ impl Parser {
         requires stands { IsStanding heap.old self.old }
         requires follows { Follows self.old piece.now }
         ensures grows { Grows heap.old heap.new }
-        ensures says { (g : List ℕ) (given : List Object) → Stands heap.old self.old g given → Says heap.new g given piece.now result.0 result.1 self.new }
+        ensures says { (g : List ℕ) (given : List Object) → Stands heap.old self.old g given → Says heap.new self.old g given piece.now result.0 result.1 self.new }
     {
         let room = (LIMIT - self.offset()) as usize;
         let length = piece.len().min(room);
@@ -543,7 +543,7 @@ impl Parser {
     pub fn finish(&mut self, heap: &mut Heap) -> Step
         requires stands { IsStanding heap.old self.old }
         ensures grows { Grows heap.old heap.new }
-        ensures finishes { (g : List ℕ) (given : List Object) → Stands heap.old self.old g given → Finishes heap.new g given result self.new }
+        ensures finishes { (g : List ℕ) (given : List Object) → Stands heap.old self.old g given → Finishes heap.new self.old g given result self.new }
     {
         let outcome = match self.last(heap) {
             Ok(outcome) => outcome,

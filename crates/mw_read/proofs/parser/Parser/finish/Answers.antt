@@ -1,4 +1,5 @@
-use Rattle.std.proofs.Common.{◌≡◌, ◌∙◌, ◌≤◌, [], ◌∷◌, ◌++◌, None, Some, length, ap, sym, subst, vec_len, append-nil, arith}
+use Rattle.std.proofs.Common.{◌≡◌, ◌∙◌, ◌≤◌, [], ◌∷◌, ◌++◌, None, Some, length, ap, sym, subst, vec_len, append-nil, arith, List}
+use Rattle.mw_model.specs.Object.{Object}
 use Rattle.mw_model.specs.Lexemes.{Ends, fault, END}
 use Rattle.mw_model.specs.Grammar.{book, limit}
 use Rattle.mw_read.specs.Piles.{fault_of}
@@ -29,10 +30,10 @@ returns-in-Datum-clause-finishes c g given s =
     let q = subst (λ r. Lasts os s.state a r p) c.in-Datum.is (c.in-Ok.ensures.lasts s.state s.holds) in
     let nil = append-nil g in
     let o : offset_of p ≡ length (g ++ []) = q.3 ∙ s.offset ∙ sym (ap length nil) in
-    subst (λ u. Finishes os g given c.datum.result u) (sym c.datum.ensures.new)
-    (finishes_of os g given (uncut p) q.1.0 c.datum.result (gives os p.stack x q.1.0 c.datum.result q.1.1 c.datum.ensures.tells)
-    (λ any. subst (λ u. Stands any (uncut p) u (given ++ q.1.0 ∷ [])) nil
-    (given_stands c.args.heap.now os a p g given s x q.1.0 [] q.1.1 q.1.2 q.2 o (subst (λ u. length u ≤ limit) (sym nil) s.short) (λ e z fit. fits_inside a.begun e z q.0) q.1.3 any)))
+    let stands : (any : List Object) → Stands any (uncut p) g (given ++ q.1.0 ∷ []) = λ any. subst (λ u. Stands any (uncut p) u (given ++ q.1.0 ∷ [])) nil
+    (given_stands c.args.heap.now os a p g given s x q.1.0 [] q.1.1 q.1.2 q.2 o (subst (λ u. length u ≤ limit) (sym nil) s.short) (λ e z fit. fits_inside a.begun e z q.0) q.1.3 any) in
+    subst (λ u. Finishes os a g given c.datum.result u) (sym c.datum.ensures.new)
+    (finishes_of os a g given (uncut p) q.1.0 c.datum.result (gives os p.stack x q.1.0 c.datum.result q.1.1 c.datum.ensures.tells) (record { stands = stands; less = omega (arith, q.4) }))
 
 pub returns-in-Fault-clause-finishes : goal.returns-in-Fault-clause-finishes
 returns-in-Fault-clause-finishes c g given s =

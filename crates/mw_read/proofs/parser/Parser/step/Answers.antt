@@ -30,8 +30,8 @@ returns-in-Datum-clause-says c g given s =
     let m = subst (λ r. Reaches r a (take k piece) n mid) c.in-Datum.is v.reaches in
     let q = subst (λ r. Advances os s.state a (take k piece) r n mid) c.in-Datum.is (v.advances s.state s.holds) in
     let d = datum_behind c.args.heap.now os a mid g given s piece k e x n v.taken m q in
-    subst (λ p. Says os g given piece c.datum.result n p) (sym c.datum.ensures.new)
-    (says_of os g given piece n (uncut mid) d.0 c.datum.result (gives os mid.stack x d.0 c.datum.result d.1 c.datum.ensures.tells) d.2)
+    subst (λ p. Says os a g given piece c.datum.result n p) (sym c.datum.ensures.new)
+    (says_of os a g given piece n (uncut mid) d.0 c.datum.result (gives os mid.stack x d.0 c.datum.result d.1 c.datum.ensures.tells) d.2)
 
 pub returns-in-Fault-clause-says : goal.returns-in-Fault-clause-says
 returns-in-Fault-clause-says c g given s rest =
