@@ -12,11 +12,11 @@ use Rattle.mw_read.specs.Machine as machine
 use Rattle.mw_read.specs.Resume.{resume, onward}
 use Rattle.mw_read.specs.Piles.{fault_of, kind_of}
 use Rattle.mw_read.specs.Held.{Holds, Completes}
-use Rattle.mw_read.specs.Parsing.{ahead, meaning_of, Fits, IsText, IsParser, IsStarted, Advances, is_inside, offset_of, offset_at}
+use Rattle.mw_read.specs.Parsing.{ahead, meaning_of, Fits, IsText, IsReader, IsStarted, Advances, is_inside, offset_of, offset_at}
 use Rattle.mw_read.specs.Standing.{Reached, Reaches, Stands, Follows, IsFree, Lasts, Gives, GivesBehind, GivesLast, Says, Finishes}
-use Rattle.mw_read.specs.declared.parser.Begun.{Begun}
-use Rattle.mw_read.specs.declared.parser.Begun.TheVariants.{Nothing, Comment, Token, Bars, Barred, Hash, AfterToken, AfterBar}
-use Rattle.mw_read.specs.declared.parser.Parser.{Parser}
+use Rattle.mw_read.specs.declared.reader.Begun.{Begun}
+use Rattle.mw_read.specs.declared.reader.Begun.TheVariants.{Nothing, Comment, Token, Bars, Barred, Hash, AfterToken, AfterBar}
+use Rattle.mw_read.specs.declared.reader.Reader.{Reader}
 use Rattle.mw_read.specs.declared.stack.Stack.{Stack}
 use Rattle.mw_read.specs.declared.step.Outcome.{Outcome}
 use Rattle.mw_read.specs.declared.step.Outcome.TheVariants as outcomes
@@ -130,7 +130,7 @@ long_trees h w given l s r =
         go true e = absurd (let c = leb-true a b e in omega (arith, c, k))
         go false e = e
 
-pub stands_ends : (os : List Object) (p : Parser) (g : List ℕ) (given : List Object) (s : Stands os p g given) (f : Option Fault) → meaning_of Ends s.state p [] ≡ book [] f → trees g ≡ book given f
+pub stands_ends : (os : List Object) (p : Reader) (g : List ℕ) (given : List Object) (s : Stands os p g given) (f : Option Fault) → meaning_of Ends s.state p [] ≡ book [] f → trees g ≡ book given f
 stands_ends os p g given s f h =
     trees_short g s.short
     ∙ ap (reading Ends) (sym (append-nil g))
@@ -139,7 +139,7 @@ stands_ends os p g given s f h =
     ∙ onward_book given [] f
     ∙ ap (λ u. book u f) (append-nil given)
 
-pub stands_goes : (os : List Object) (p : Parser) (g : List ℕ) (given : List Object) → Stands os p g given → Fits p.begun Goes [] → reading Goes g ≡ book given None
+pub stands_goes : (os : List Object) (p : Reader) (g : List ℕ) (given : List Object) → Stands os p g given → Fits p.begun Goes [] → reading Goes g ≡ book given None
 stands_goes os p g given s h =
     ap (reading Goes) (sym (append-nil g))
     ∙ s.means Goes [] h
@@ -148,7 +148,7 @@ stands_goes os p g given s h =
     ∙ ap (λ u. book u None) (append-nil given)
 
 -- the heap may grow
-pub stands_grows : (os more : List Object) (p : Parser) (g : List ℕ) (given : List Object) → Grows os more → Stands os p g given → Stands more p g given
+pub stands_grows : (os more : List Object) (p : Reader) (g : List ℕ) (given : List Object) → Grows os more → Stands os p g given → Stands more p g given
 stands_grows os more p g given h s =
     let k = holds_grows os more p.stack s.state h s.holds in
     record {
@@ -162,12 +162,12 @@ stands_grows os more p g given h s =
     }
 
 -- a parser on whose stack no part was cut
-abbrev pub uncut : Parser → Parser
+abbrev pub uncut : Reader → Reader
 uncut p = record p { stack = record p.stack { big = false } }
 
 -- a datum is given
-module _ (os0 os : List Object) (old mid : Parser) (g : List ℕ) (given : List Object) (s : Stands os0 old g given) where
-  pub given_stands : (x : ℕ) (y : Object) (w : List ℕ) → Completes os mid.stack x y → IsParser os mid → IsStarted mid.begun mid.token.items → offset_of mid ≡ length (g ++ w) → length (g ++ w) ≤ limit →
+module _ (os0 os : List Object) (old mid : Reader) (g : List ℕ) (given : List Object) (s : Stands os0 old g given) where
+  pub given_stands : (x : ℕ) (y : Object) (w : List ℕ) → Completes os mid.stack x y → IsReader os mid → IsStarted mid.begun mid.token.items → offset_of mid ≡ length (g ++ w) → length (g ++ w) ≤ limit →
       ((e : Ending) (z : List ℕ) → Fits mid.begun e z → Fits old.begun e (w ++ z)) →
       ((e : Ending) (z : List ℕ) → Fits mid.begun e z → meaning_of e s.state old (w ++ z) ≡ and_events y (meaning_of e Idle mid z)) → (any : List Object) → Stands any (uncut mid) (g ++ w) (given ++ y ∷ [])
   given_stands x y w q k st o l f m any =
@@ -187,7 +187,7 @@ module _ (os0 os : List Object) (old mid : Parser) (g : List ℕ) (given : List 
       }
 
   -- no datum is given
-  pub going_stands : (u : State) (w : List ℕ) → Holds os mid.stack u → IsParser os mid → IsStarted mid.begun mid.token.items → offset_of mid ≡ length (g ++ w) → length (g ++ w) ≤ limit →
+  pub going_stands : (u : State) (w : List ℕ) → Holds os mid.stack u → IsReader os mid → IsStarted mid.begun mid.token.items → offset_of mid ≡ length (g ++ w) → length (g ++ w) ≤ limit →
       ((e : Ending) (z : List ℕ) → Fits mid.begun e z → Fits old.begun e (w ++ z)) →
       ((e : Ending) (z : List ℕ) → Fits mid.begun e z → meaning_of e s.state old (w ++ z) ≡ meaning_of e u mid z) → Stands os mid (g ++ w) given
   going_stands u w h k st o l f m = record {
@@ -200,7 +200,7 @@ module _ (os0 os : List Object) (old mid : Parser) (g : List ℕ) (given : List 
     means = λ e z fit. ap (reading e) (append_assoc g w z) ∙ s.means e (w ++ z) (f e z fit) ∙ ap (onward given) (m e z fit);
   }
 
-pub finishes_of : (os : List Object) (old : Parser) (g : List ℕ) (given : List Object) (p : Parser) (y : Object) (t : Step) → Gives os y t → GivesLast old g given y p → Finishes os old g given t p
+pub finishes_of : (os : List Object) (old : Reader) (g : List ℕ) (given : List Object) (p : Reader) (y : Object) (t : Step) → Gives os y t → GivesLast old g given y p → Finishes os old g given t p
 finishes_of os old g given p y (steps.Datum r) h s = (y, h, s)
 finishes_of os old g given p y (steps.TooBig w l) h s = (y, h, s)
 finishes_of os old g given p y steps.More h s = absurd h
@@ -208,7 +208,7 @@ finishes_of os old g given p y steps.End h s = absurd h
 finishes_of os old g given p y (steps.Syntax k o) h s = absurd h
 finishes_of os old g given p y steps.Memory h s = absurd h
 
-pub says_of : (os : List Object) (old : Parser) (g : List ℕ) (given : List Object) (piece : List ℕ) (n : ℕ) (p : Parser) (y : Object) (t : Step) → Gives os y t → GivesBehind old g given piece y n p → Says os old g given piece t n p
+pub says_of : (os : List Object) (old : Reader) (g : List ℕ) (given : List Object) (piece : List ℕ) (n : ℕ) (p : Reader) (y : Object) (t : Step) → Gives os y t → GivesBehind old g given piece y n p → Says os old g given piece t n p
 says_of os old g given piece n p y (steps.Datum r) h s = (y, h, s)
 says_of os old g given piece n p y (steps.TooBig w l) h s = (y, h, s)
 says_of os old g given piece n p y steps.More h s = absurd h
@@ -217,7 +217,7 @@ says_of os old g given piece n p y (steps.Syntax k o) h s = absurd h
 says_of os old g given piece n p y steps.Memory h s = absurd h
 
 -- the part of a piece that a book may have
-module _ (os0 os : List Object) (old mid : Parser) (g : List ℕ) (given : List Object) (s : Stands os0 old g given) (piece : List ℕ) (k : ℕ) (e : k ≡ min (length piece) (limit - offset_of old)) where
+module _ (os0 os : List Object) (old mid : Reader) (g : List ℕ) (given : List Object) (s : Stands os0 old g given) (piece : List ℕ) (k : ℕ) (e : k ≡ min (length piece) (limit - offset_of old)) where
   abbrev part : List ℕ
   part = take k piece
 

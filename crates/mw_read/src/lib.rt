@@ -4,11 +4,14 @@
 mod class;
 mod labels;
 mod members;
-mod parser;
+mod reader;
 mod stack;
 mod step;
 mod token;
 
 pub use members::shown;
-pub use parser::Parser;
+pub use reader::Reader;
 pub use step::{Step, SyntaxKind};
+
+#[cfg(test)]
+mod tests;
