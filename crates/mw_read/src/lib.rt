@@ -12,6 +12,3 @@ mod token;
 pub use members::shown;
 pub use reader::Reader;
 pub use step::{Step, SyntaxKind};
-
-#[cfg(test)]
-mod tests;
