@@ -8,3 +8,7 @@ pub mod Numbered
 pub mod NameSet
 pub mod Shown
 pub mod NameOrder
+pub mod PrimitivesNamed
+pub mod BareNames
+pub mod Measures
+pub mod Measuring

@@ -3,11 +3,11 @@ use Rattle.std.proofs.Common.{◌≡◌, ℕ, zero, suc, ◌<◌, ◌≤◌, ◌
 use Rattle.std.proofs.lemmas.Bool.{both_ways}
 use Rattle.std.proofs.lemmas.List.{length-take}
 use Rattle.std.proofs.lemmas.Option.{slice_get_within, slice_get-get_or}
-use Rattle.mw_model.specs.Object.{Object, Natural, car, cdr, is_name, name_of_bytes, name_if, same_object}
+use Rattle.mw_model.specs.Object.{Object, Natural, car, cdr, is_name, same_object}
 use Rattle.mw_model.specs.Primitive.{is_symbol, name_of, number}
 use Rattle.mw_model.specs.Evaluation.{range}
 use Rattle.mw_model.specs.Fate.{is_out_of_range}
-use Rattle.mw_model.proofs.Names.{same_object-from, same_object-eq}
+use Rattle.mw_model.proofs.Names.{bytes-name_of_bytes, same_object-from, same_object-eq}
 use Rattle.mw_heap.specs.declared.cell.Cell.{Cell}
 use Rattle.mw_heap.specs.declared.cell.Cell.TheVariants.{Small, Large, Symbol as Named, Pair as Parts}
 use Rattle.mw_heap.specs.Objects.{object_at, IsIn, AreDistinct}
@@ -15,14 +15,6 @@ use Rattle.mw_heap.specs.Cells.{object, objects, MayFollow, is_large, is_named, 
 use Rattle.mw_heap.proofs.Lists.{slice_get-some}
 use Rattle.mw_heap.proofs.Counts.{count_of-take-lt}
 use Rattle.mw_heap.proofs.Growth.{length-objects, object_at-objects}
-
--- the bytes of a name are those that it is made of
-pub bytes-name_of_bytes : (b : List ℕ) → is_name b ≡ true → (name_of_bytes b).bytes ≡ b
-bytes-name_of_bytes b h = go (is_name b) refl
-  where
-    go : (t : Bool) (e : is_name b ≡ t) → (name_if b t e).bytes ≡ b
-    go true e = refl
-    go false e = absurd (both_ways (is_name b) e h)
 
 module _ (ns : List ℕ) (ss : List (List ℕ)) (cs : List Cell) (sound : IsSound ns ss cs) (os : List Object) (is : objects ns ss cs ≡ os) where
   pub length-cells : length cs ≡ length os

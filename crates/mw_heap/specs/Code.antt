@@ -1,20 +1,10 @@
 -- A code of objects, as a value that clauses see must have one: the tokens of a stack machine.
-use Rattle.std.specs.Prelude.{◌≡◌, ℕ, zero, suc, Bool, true, false, List, [], ◌∷◌, ◌++◌, IsTrue, refl}
+use Rattle.std.specs.Prelude.{◌≡◌, ℕ, zero, suc, List, [], ◌∷◌, ◌++◌, refl}
 use Rattle.std.specs.Coded.{Coded, code_by, coded_list, coded×, coded_ℕ}
 use mathlib.Core.Path.{sym, ap, ◌∙◌}
-use mathlib.Core.Bool.{Bool-set, true≢false}
 use mathlib.Core.List.{append_assoc, append-nil}
-use Rattle.mw_model.specs.Object.{Name, Object, Natural, Symbol, Pair, is_name, name_of_bytes, name_if, NIL}
-
-abbrev make_name : (b : List ℕ) → IsTrue (is_name b) → Name
-make_name b p = record { bytes = b; valid = p }
-
-pub name_of_bytes-bytes : (s : Name) → name_of_bytes s.bytes ≡ s
-name_of_bytes-bytes s = go (is_name s.bytes) refl
-  where
-    go : (t : Bool) (e : is_name s.bytes ≡ t) → name_if s.bytes t e ≡ s
-    go true e = ap (make_name s.bytes) (Bool-set (is_name s.bytes) true e s.valid)
-    go false e = absurd (true≢false (sym s.valid ∙ e))
+use Rattle.mw_model.specs.Object.{Object, Natural, Symbol, Pair, name_of_bytes, NIL}
+use Rattle.mw_model.proofs.Names.{name_of_bytes-bytes}
 
 -- a kind and its data
 abbrev pub Token : Type 0

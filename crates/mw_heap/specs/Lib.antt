@@ -1,5 +1,8 @@
 pub mod Objects
-pub mod Cells
-pub mod Code
 pub mod Inserted
+pub mod Cells
+pub mod Lengths
+pub mod Code
 pub mod Variants
+pub mod Parts
+pub mod PrimitiveNames

@@ -2,8 +2,8 @@
 use Rattle.std.specs.Prelude.{Option, Some, None}
 use Rattle.mw_model.specs.Primitive.{Primitive, Equality, IsPair, Cons, Car, Cdr, IsSymbol, SymbolLess, IsNatural, Less, Plus, Minus, Times, Profile, One, Two}
 use Rattle.mw_model.specs.Refusal.{Refusal, RANGE, EVENT, NAME, FORMALS, TERM, FORMULA, VARIABLES, NESTED, COUNT, CONCLUSION, PROOF, NILVALUE, STEPS, OVERFLOW, WITNESS, CLAIM, CHECKER, LONG, PROFILE}
-use Rattle.mw_heap.specs.declared.primitive.Prim.{Prim as Word}
-use Rattle.mw_heap.specs.declared.primitive.Prim.TheVariants as word
+use Rattle.mw_heap.specs.declared.primitive.Primitive.{Primitive as Word}
+use Rattle.mw_heap.specs.declared.primitive.Primitive.TheVariants as word
 use Rattle.mw_heap.specs.declared.profile.Profile.{Profile as Level}
 use Rattle.mw_heap.specs.declared.profile.Profile.TheVariants as level
 use Rattle.mw_heap.specs.declared.refusal.Refusal.{Refusal as Reason}

@@ -3,10 +3,12 @@ ghost use Rattle.std.specs.Prelude.{◌≡◌, ℕ, ◌+◌, ◌<◌, ◌≤◌,
 ghost use Rattle.mw_model.specs.Object.{Symbol, Natural, Pair, name_of_bytes, is_name, same_object, is_before_bytes};
 ghost use Rattle.mw_model.specs.Primitive.{is_symbol, name_of};
 ghost use Rattle.mw_model.specs.Fate.{is_out_of_range};
+ghost use Rattle.mw_heap.specs.Lengths.{text_length, tail_length};
 ghost use Rattle.mw_heap.specs.Objects.{object_at, IsIn, Grows, Shows, NamesOlder, AreDistinct};
 
 use crate::cell::Cell;
-use crate::sets::{cell_at, counts_from, insert_cell, insert_name, insert_natural};
+use crate::lengths::Lengths;
+use crate::sets::{cell_at, counts_from, insert_measured, insert_name, insert_natural};
 use crate::{Mark, Memory, Ref, View};
 use indexmap::IndexSet;
 use std::alloc::Global;
@@ -17,6 +19,7 @@ use std::marker::Model;
 #[derive(Drop)]
 pub struct Heap {
     cells: IndexSet<Cell>,
+    lengths: Vec<Lengths>,
     naturals: IndexSet<u128>,
     names: IndexSet<Vec<u8>>,
     alloc: Global,
@@ -32,11 +35,12 @@ impl Model for Heap {
 
     ghost coded = { coded_list coded_object };
 
-    ghost use Rattle.mw_heap.specs.Cells.{objects, bytes_of, IsSound};
+    ghost use Rattle.mw_heap.specs.Cells.{objects, bytes_of};
+    ghost use Rattle.mw_heap.specs.Lengths.{IsMeasured};
 
     ghost view = { λ h. objects h.naturals.keys (bytes_of h.names.keys) h.cells.keys };
 
-    ghost invariant = { λ h. IsSound h.naturals.keys (bytes_of h.names.keys) h.cells.keys };
+    ghost invariant = { λ h. IsMeasured h.naturals.keys (bytes_of h.names.keys) h.cells.keys h.lengths.items };
 }
 
 impl Heap {
@@ -46,10 +50,16 @@ impl Heap {
     {
         Ok(Heap {
             cells: IndexSet::new(alloc),
+            lengths: Vec::new(alloc),
             naturals: IndexSet::new(alloc),
             names: IndexSet::new(alloc),
             alloc,
         })
+    }
+
+    /// The allocator from which the heap has its memory.
+    pub fn alloc(&self) -> Global {
+        self.alloc
     }
 
     /// The natural `n`.
@@ -59,11 +69,23 @@ impl Heap {
         ensures err { OnErr result (self.new ≡ self.old) }
     {
         if let Ok(small) = u32::try_from(n) {
-            return insert_cell(&mut self.cells, Cell::Small(small));
+            return insert_measured(
+                &mut self.cells,
+                &mut self.lengths,
+                &self.naturals,
+                &self.names,
+                Cell::Small(small),
+            );
         }
         let had = self.naturals.len();
         let index = insert_natural(&mut self.naturals, n)?;
-        match insert_cell(&mut self.cells, Cell::Large(index as u32)) {
+        match insert_measured(
+            &mut self.cells,
+            &mut self.lengths,
+            &self.naturals,
+            &self.names,
+            Cell::Large(index as u32),
+        ) {
             Ok(made) => Ok(made),
             Err(refusal) => {
                 self.naturals.truncate(had);
@@ -81,7 +103,13 @@ impl Heap {
     {
         let had = self.names.len();
         let index = insert_name(&mut self.names, self.alloc, name)?;
-        match insert_cell(&mut self.cells, Cell::Symbol(index as u32)) {
+        match insert_measured(
+            &mut self.cells,
+            &mut self.lengths,
+            &self.naturals,
+            &self.names,
+            Cell::Symbol(index as u32),
+        ) {
             Ok(made) => Ok(made),
             Err(refusal) => {
                 self.names.truncate(had);
@@ -98,8 +126,11 @@ impl Heap {
         ensures made { IfOk result (λ r. IsIn self.new r × (object_at self.new r ≡ Pair (object_at self.old first) (object_at self.old second))) }
         ensures err { OnErr result (self.new ≡ self.old) }
     {
-        insert_cell(
+        insert_measured(
             &mut self.cells,
+            &mut self.lengths,
+            &self.naturals,
+            &self.names,
             Cell::Pair(first.short_index(), second.short_index()),
         )
     }
@@ -153,6 +184,17 @@ impl Heap {
         self.name_of(x) < self.name_of(y)
     }
 
+    /// The length of the object's text, and of what follows the first member in the text of a list of which the object is the rest,
+    /// less the closing parenthesis. Lengths over 65,537 are given as 65,537.
+    pub fn lengths(&self, x: Ref) -> (u64, u64)
+        requires { IsIn self.now x }
+        ensures text { result.0 ≡ text_length (object_at self.now x) }
+        ensures tail { result.1 ≡ tail_length (object_at self.now x) }
+    {
+        let lengths = self.lengths[x.index()];
+        (lengths.text as u64, lengths.tail as u64)
+    }
+
     /// The number of objects, to go back to.
     pub fn mark(&self) -> Mark
         ensures { result ≡ length self.now }
@@ -179,5 +221,37 @@ impl Heap {
         self.naturals.truncate(self.naturals.len() - naturals);
         self.names.truncate(self.names.len() - names);
         self.cells.truncate(to.cells());
+        self.lengths.truncate(to.cells());
+    }
+}
+
+#[cfg(test)]
+mod tests {
+    use super::*;
+
+    #[test]
+    fn keeps_a_pair_once(rt: HostRuntime) -> Result<(), Memory> {
+        let mut heap = Heap::new(rt.alloc())?;
+        let large = heap.nat(1 << 100)?;
+        assert_eq!(rt; heap.view(large), View::Nat(1 << 100));
+        let mark = heap.mark();
+        let pair = heap.cons(large, large)?;
+        assert_eq!(rt; heap.view(pair), View::Pair(large, large));
+        assert!(rt; heap.same(pair, pair));
+        heap.cut_back(mark);
+        assert_eq!(rt; heap.mark().cells(), 1);
+        Ok(())
+    }
+
+    #[test]
+    fn orders_names(rt: HostRuntime) -> Result<(), Memory> {
+        let mut heap = Heap::new(rt.alloc())?;
+        let car = heap.symbol(b"CAR")?;
+        assert!(rt; heap.name_of(car) == b"CAR".as_slice());
+        assert!(rt; !heap.symbol_less(car, car));
+        assert_eq!(rt; heap.nth(0), car);
+        assert_eq!(rt; car.index(), 0);
+        assert_eq!(rt; heap.lengths(car), (3, 6));
+        Ok(())
     }
 }

@@ -2,21 +2,26 @@
 //! want of memory, the primitives, the profiles and the reasons of refusal.
 #![tactic(auto)]
 
+mod bare;
 mod cell;
 mod heap;
+mod lengths;
 mod mark;
 mod memory;
+mod parts;
 mod primitive;
+mod primitive_name;
 mod profile;
 mod reference;
 mod refusal;
 mod sets;
 mod view;
 
+pub use bare::is_bare_name;
 pub use heap::Heap;
 pub use mark::Mark;
 pub use memory::Memory;
-pub use primitive::Prim;
+pub use primitive::Primitive;
 pub use profile::Profile;
 pub use reference::Ref;
 pub use refusal::Refusal;

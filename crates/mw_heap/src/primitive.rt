@@ -2,7 +2,7 @@
 
 /// A primitive function. `primitive_of` ties each but `If` to the logic's, where IF is a form of its own among terms.
 #[derive(Clone, Copy, Debug, PartialEq, Eq)]
-pub enum Prim {
+pub enum Primitive {
     /// IF
     If,
     /// EQUAL

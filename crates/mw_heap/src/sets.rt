@@ -1,9 +1,11 @@
 //! The sets that a heap is made of: a value's place in each is its index.
-ghost use Rattle.std.specs.Prelude.{◌≡◌, ◌<◌, ◌≤◌, ◌^◌, ℕ, List, length, drop, slice_get, Some, IfOk, OnOk, OnErr};
+ghost use Rattle.std.specs.Prelude.{◌≡◌, ◌<◌, ◌≤◌, ◌^◌, ℕ, List, length, vec_len, drop, slice_get, Some, IfOk, OnOk, OnErr};
 ghost use Rattle.mw_heap.specs.Cells.{natural_count, name_count, bytes_of, IsInjective};
 ghost use Rattle.mw_heap.specs.Inserted.{Inserts};
+ghost use Rattle.mw_heap.specs.Lengths.{IsMeasurable, Measures};
 
 use crate::cell::Cell;
+use crate::lengths::{Lengths, measure};
 use crate::{Memory, Ref};
 use indexmap::IndexSet;
 use std::alloc::Global;
@@ -25,6 +27,39 @@ pub(crate) fn insert_cell(cells: &mut IndexSet<Cell>, cell: Cell) -> Result<Ref,
     }
     cells.truncate(LIMIT);
     Err(Memory)
+}
+
+// The same, where the lengths of a new cell's object are put beside it.
+pub(crate) fn insert_measured(
+    cells: &mut IndexSet<Cell>,
+    lengths: &mut Vec<Lengths>,
+    naturals: &IndexSet<u128>,
+    names: &IndexSet<Vec<u8>>,
+    cell: Cell,
+) -> Result<Ref, Memory>
+    requires few { length cells.old.keys < 2 ^ 32 }
+    requires all { vec_len lengths.old ≡ length cells.old.keys }
+    requires measurable { IsMeasurable naturals.now.keys (bytes_of names.now.keys) lengths.old.items cell }
+    ensures inserted { IfOk result (λ r. Inserts cells.old.keys cells.new.keys cell r) }
+    ensures distinct { OnOk result (IsInjective cells.new.keys) }
+    ensures few { length cells.new.keys < 2 ^ 32 }
+    ensures measured { OnOk result (Measures naturals.now.keys (bytes_of names.now.keys) cells.old.keys cells.new.keys lengths.old.items lengths.new.items cell) }
+    ensures err { OnErr result (cells.new.keys ≡ cells.old.keys) }
+    ensures lengths_err { OnErr result (lengths.new.items ≡ lengths.old.items) }
+{
+    let had = lengths.len();
+    let made = insert_cell(cells, cell)?;
+    if cells.len() == had {
+        return Ok(made);
+    }
+    let measured = measure(cell, naturals, names, lengths);
+    match lengths.push(measured) {
+        Ok(()) => Ok(made),
+        Err(_) => {
+            cells.truncate(had);
+            Err(Memory)
+        }
+    }
 }
 
 // The index of the natural, which goes last if it is new.

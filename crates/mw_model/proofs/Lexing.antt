@@ -1,8 +1,8 @@
 -- A token, or a name in bars, with a delimiter or the end behind it is one lexeme.
+pub use Rattle.mw_model.proofs.Names.{name_of_bytes-bytes}
 use Rattle.std.proofs.Common.{◌≡◌, ℕ, suc, ◌+◌, Bool, true, false, ◌||◌, ◌&&◌, List, [], ◌∷◌, ◌++◌, length, refl, sym, ap, ap₂, ◌∙◌, if◌then◌else◌, arith, append_assoc, length-append}
 use Rattle.std.proofs.lemmas.Bool.{and_parts, both_ways}
-use mathlib.Core.Bool.{Bool-set}
-use Rattle.mw_model.specs.Object.{Object, Symbol, Name, is_name, is_name_byte, are_name_bytes, name_of_bytes, name_if}
+use Rattle.mw_model.specs.Object.{Object, Symbol, Name, is_name, is_name_byte, are_name_bytes, name_of_bytes}
 use Rattle.mw_model.specs.Lexemes.{Atom, Stray, fault, TOKEN, Ending, Ends, Goes, lexemes_from, class_else, Constituent, piece, extent, token, atom, barred, glued, glued_bar, all_are, run_of, after_run, is_constituent, Whole, token_form}
 
 -- nothing, or a byte that is not of the class
@@ -81,13 +81,6 @@ lexemes_from-token e o c t z x h f d =
 are_name_bytes-all : (n : List ℕ) → are_name_bytes n ≡ all_are is_name_byte n
 are_name_bytes-all [] = refl
 are_name_bytes-all (c ∷ n) = ap (λ v. is_name_byte c && v) (are_name_bytes-all n)
-
-pub name_of_bytes-bytes : (s : Name) → name_of_bytes s.bytes ≡ s
-name_of_bytes-bytes s = go (is_name s.bytes) refl
-  where
-    go : (v : Bool) (q : is_name s.bytes ≡ v) → name_if s.bytes v q ≡ s
-    go true q = ap (λ p. record { bytes = s.bytes; valid = p }) (Bool-set (is_name s.bytes) true q s.valid)
-    go false q = absurd (both_ways (is_name s.bytes) q s.valid)
 
 length-more : (n : List ℕ) (b : ℕ) → suc (length n) ≡ length (n ++ b ∷ [])
 length-more n b = omega (arith, length-append n (b ∷ []))

@@ -1,4 +1,5 @@
 pub mod Names
+pub mod SameObject
 pub mod Order
 pub mod Formed
 pub mod Values

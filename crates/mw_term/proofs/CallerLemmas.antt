@@ -1,9 +1,9 @@
 -- What a caller cites of marks: of no objects, as the heap grows, and after a cut.
-use Rattle.std.proofs.Common.{◌≡◌, ℕ, ◌<◌, ◌≤◌, List, [], ◌++◌, length, take, Some, refl, sym, ap, ◌∙◌, subst, length-append, arith}
+use Rattle.std.proofs.Common.{◌≡◌, ℕ, ◌≤◌, List, [], length, take, Some, sym, ap, ◌∙◌, arith}
 use Rattle.std.proofs.lemmas.List.{length-take-le}
 use Rattle.mw_model.specs.Object.{Object}
 use Rattle.mw_model.specs.Term.{ArityTable}
-use Rattle.mw_heap.specs.Objects.{object_at, Grows}
+use Rattle.mw_heap.specs.Objects.{Grows}
 use Rattle.mw_heap.proofs.Lists.{slice_get-take}
 use Rattle.mw_heap.proofs.Objects.{length-Grows, object_at-Grows, object_at-take}
 use Rattle.mw_term.specs.declared.cell_mark.CellMark.{CellMark}

@@ -1,12 +1,12 @@
 -- The table of a map of arities as the map changes, and what is found in it.
-use Rattle.std.proofs.Common.{◌≡◌, ℕ, zero, suc, ◌+◌, ◌-◌, ◌≤◌, Bool, true, false, cond, List, [], ◌∷◌, ◌++◌, length, take, drop, Vec, Option, Some, None, refl, sym, ap, ap₂, ◌∙◌, subst, nat_eq, arith}
+use Rattle.std.proofs.Common.{◌≡◌, ℕ, zero, suc, ◌+◌, ◌-◌, ◌≤◌, Bool, true, false, cond, List, [], ◌∷◌, ◌++◌, length, take, drop, Vec, Option, Some, None, refl, sym, ap, ◌∙◌, subst, nat_eq, arith}
 use Rattle.std.specs.Map.{keys_of, lookup}
 use Rattle.std.specs.List.{IsDistinct, AllByRecursion}
 use Rattle.std.specs.Cmp.Lexicographic.{pointwise}
 use Rattle.std.proofs.lemmas.List.{drop-drop}
 use Rattle.std.proofs.lemmas.Map.Keys.{IsDistinct-head, IsDistinct-tail}
 use Rattle.std.proofs.lemmas.Slice.Eq.{bytes_eq-Decides}
-use Rattle.mw_model.specs.Object.{Name, is_name, name_of_bytes, same_name}
+use Rattle.mw_model.specs.Object.{Name, is_name, name_of_bytes}
 use Rattle.mw_model.specs.Term.{ArityTable, arity_of}
 use Rattle.mw_term.specs.Tables.{entries_before, table_of, AreNamed, same_key}
 use Rattle.mw_term.proofs.NamedBytes.{same_name-bytes}

@@ -1,7 +1,7 @@
 -- The head of a lambda call, by its parts.
-use Rattle.std.proofs.Common.{◌≡◌, ℕ, Bool, true, false, ◌&&◌, ◌||◌, not, cond, List, length, Option, Some, None, refl, sym, ap, ap₂, ◌∙◌, subst}
+use Rattle.std.proofs.Common.{◌≡◌, Bool, true, false, ◌&&◌, ◌||◌, not, cond, List, length, Option, Some, None, refl, sym, ap, ap₂, ◌∙◌, subst}
 use Rattle.std.proofs.lemmas.Bool.{and_parts, not-true}
-use Rattle.mw_model.specs.Object.{Name, Object, Symbol, Pair, named, symbol, same_name, same_object, NIL}
+use Rattle.mw_model.specs.Object.{Name, Object, Symbol, Pair, named, same_name, same_object, NIL}
 use Rattle.mw_model.specs.Term.{Term, Terms, Variable, Constant, If, Call, Lambda, NoTerms, More, ArityTable, term_object, terms_object, are_formals, is_closed, are_closed, is_term}
 use Rattle.mw_model.specs.Reading.{names_of, term_of, when, that}
 use Rattle.mw_model.specs.Definition.{is_present}

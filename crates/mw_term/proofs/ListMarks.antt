@@ -7,7 +7,7 @@ use Rattle.mw_model.specs.Term.{ArityTable, arity_of}
 use Rattle.mw_model.proofs.Names.{same_object-eq}
 use Rattle.mw_model.specs.Rules.{is_term_object, is_formula_object}
 use Rattle.mw_heap.specs.Objects.{object_at}
-use Rattle.mw_heap.specs.Code.{name_of_bytes-bytes}
+use Rattle.mw_model.proofs.Names.{name_of_bytes-bytes}
 use Rattle.mw_term.specs.declared.cell_mark.CellMark.{CellMark}
 use Rattle.mw_term.specs.Parts.{is_single, takes, allows_if}
 use Rattle.mw_term.specs.Marking.{AreMarks, mark_of_object, term_count, formal_count, one_more, is_lambda, is_negation, is_binary}

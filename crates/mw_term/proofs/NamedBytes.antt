@@ -1,10 +1,10 @@
 -- Names by their bytes.
-use Rattle.std.proofs.Common.{◌≡◌, ℕ, Bool, true, false, List, refl, sym, ap, ap₂, ◌∙◌, subst, true≢false, nat_eq}
+use Rattle.std.proofs.Common.{◌≡◌, ℕ, true, List, sym, ap₂, ◌∙◌, subst, nat_eq}
 use Rattle.std.specs.Cmp.Lexicographic.{pointwise}
 use Rattle.std.proofs.lemmas.Slice.Eq.{bytes_eq-Decides}
 use Rattle.std.proofs.lemmas.Bool.Decides.{same_from_decides}
-use Rattle.mw_model.specs.Object.{Name, is_name, same_bytes, same_name, name_of_bytes, name_if}
-use Rattle.mw_heap.proofs.Shown.{bytes-name_of_bytes}
+use Rattle.mw_model.specs.Object.{is_name, same_bytes, same_name, name_of_bytes}
+use Rattle.mw_model.proofs.Names.{bytes-name_of_bytes}
 use Rattle.mw_model.proofs.Names.{same_bytes-eq, same_bytes-refl}
 
 same_bytes-from : (a b : List ℕ) → b ≡ a → same_bytes a b ≡ true

@@ -1,5 +1,5 @@
 -- A set of parts, as parts are put into it.
-use Rattle.std.proofs.Common.{◌≡◌, ℕ, ◌+◌, ◌*◌, ◌<◌, ◌≤◌, Bool, true, false, ◌||◌, eqb, List, [], ◌∷◌, ◌++◌, length, map, Contains, ◌⊎◌, inl, inr, refl, sym, ap, ◌∙◌, subst, eqb-true, eq-eqb, if◌then◌else◌, arith, append-nil}
+use Rattle.std.proofs.Common.{◌≡◌, ℕ, ◌+◌, ◌*◌, ◌<◌, ◌≤◌, Bool, true, false, ◌||◌, eqb, List, [], ◌∷◌, ◌++◌, length, map, Contains, inl, inr, refl, sym, ap, ◌∙◌, subst, eqb-true, eq-eqb, if◌then◌else◌, arith, append-nil}
 use Rattle.std.specs.List.{list_any, IsDistinct, AllByRecursion}
 use Rattle.std.proofs.lemmas.List.Elements.{Contains-push, Contains-push_cases, Contains-append_left, Contains-append_right}
 use Rattle.std.proofs.lemmas.List.{length-map}
@@ -8,7 +8,6 @@ use Rattle.std.proofs.lemmas.Map.Steps.{length-le_from_distinct_below}
 use Rattle.indexmap.specs.IndexSet.{insert_key}
 use Rattle.indexmap.proofs.CallerLemmas.{Contains-insert_key}
 use Rattle.mw_model.specs.Object.{Object}
-use Rattle.mw_heap.specs.Objects.{IsIn}
 use Rattle.mw_term.specs.declared.part.Part.{Part}
 use Rattle.mw_term.specs.declared.part.Part.TheVariants.{Term, Terms}
 use Rattle.mw_term.specs.contracts.part.PartPartialEq.TheImpl.{ghosts}

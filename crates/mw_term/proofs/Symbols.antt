@@ -1,8 +1,8 @@
 -- Symbols by their references: equal names have equal references.
-use Rattle.std.proofs.Common.{◌≡◌, ℕ, Bool, true, false, ◌||◌, eqb, List, [], ◌∷◌, refl, sym, ap, ap₂, ◌∙◌, subst, eqb-true, eq-eqb}
+use Rattle.std.proofs.Common.{◌≡◌, ℕ, true, ◌||◌, eqb, List, [], ◌∷◌, refl, sym, ap, ap₂, ◌∙◌, eqb-true, eq-eqb}
 use Rattle.std.specs.List.{list_any}
 use Rattle.std.proofs.lemmas.Bool.Decides.{same_from_decides}
-use Rattle.mw_model.specs.Object.{Name, Object, Natural, Symbol, Pair, same_name}
+use Rattle.mw_model.specs.Object.{Object, Natural, Symbol, Pair, same_name}
 use Rattle.mw_model.specs.Term.{is_among}
 use Rattle.mw_model.specs.Primitive.{is_symbol, name_of}
 use Rattle.mw_model.proofs.Names.{same_name-eq, same_name-from}

@@ -1,6 +1,6 @@
 -- What the marks of objects say under an arity table.
 use Rattle.std.specs.Prelude.{◌≡◌, ℕ, ◌+◌, ◌<◌, ◌≤◌, Bool, true, false, ◌&&◌, cond, List, length, slice_get, Option, Some, None}
-use Rattle.mw_model.specs.Object.{Name, Object, Natural, Symbol, Pair, named, symbol, same_name, same_object, NIL}
+use Rattle.mw_model.specs.Object.{Name, Object, Pair, named, symbol, same_name, same_object, NIL}
 use Rattle.mw_model.specs.Term.{Term, Terms, ArityTable, count, are_formals, is_closed, is_term, are_terms}
 use Rattle.mw_model.specs.Reading.{names_of, term_of, terms_of, when}
 use Rattle.mw_model.specs.Rules.{is_term_object, is_formula_object}

@@ -1,5 +1,5 @@
 -- Objects by their parts: formals as symbols, and which variables are free in an object that stands for a term.
-use Rattle.std.specs.Prelude.{◌≡◌, ℕ, ◌<◌, Bool, true, false, ◌&&◌, ◌||◌, not, cond, eqb, List, [], ◌∷◌, ◌++◌, slice_get, Contains, Option, Some, None, ◌⊎◌}
+use Rattle.std.specs.Prelude.{◌≡◌, ℕ, Bool, true, false, ◌&&◌, ◌||◌, not, cond, eqb, List, [], ◌∷◌, ◌++◌, Contains, Option, Some, None, ◌⊎◌}
 use Rattle.mw_model.specs.Object.{Name, Object, Natural, Symbol, Pair, symbol, same_name, same_object, nil_name}
 use Rattle.mw_model.specs.Term.{are_formals, has_arity, is_among, is_variable}
 use Rattle.mw_model.specs.Reading.{names_of}

@@ -6,7 +6,7 @@ use Rattle.std.specs.Map.{keys_of}
 use Rattle.std.specs.Cmp.Lexicographic.{pointwise}
 use Rattle.mw_model.specs.Object.{Name, is_name, name_of_bytes}
 use Rattle.mw_model.specs.Term.{ArityTable}
-use Rattle.mw_heap.specs.Code.{name_of_bytes-bytes}
+use Rattle.mw_model.proofs.Names.{name_of_bytes-bytes}
 
 abbrev pub coded_name : Coded Name
 coded_name = code_by (List ℕ) (coded_list coded_ℕ) (λ s. s.bytes) name_of_bytes name_of_bytes-bytes

@@ -1,6 +1,5 @@
 -- A new symbol goes last.
-use Rattle.std.proofs.Common.{◌≡◌, ◌∷◌, [], ◌++◌, true, false, sym, ap, ◌∙◌, eqb, if◌then◌else◌}
-use Rattle.mw_term.proofs.Symbols.{is_among-symbols}
+use Rattle.std.proofs.Common.{◌∷◌, [], ◌++◌, sym, ap, ◌∙◌, if◌then◌else◌}
 use Rattle.mw_term.proofs.formals.add_formal.Goals as goal
 
 pub returns-in_ok-insert-in-Symbol-clause-added : goal.returns-in_ok-insert-in-Symbol-clause-added

@@ -1,5 +1,5 @@
 -- Formals are read one by one.
-use Rattle.std.proofs.Common.{◌≡◌, ◌∷◌, [], ◌++◌, sym, ap, ◌∙◌, if◌then◌else◌}
+use Rattle.std.proofs.Common.{◌∷◌, [], ◌++◌, sym, ap, ◌∙◌, if◌then◌else◌}
 use Rattle.mw_term.proofs.FormalList.{before-step, before-refused}
 use Rattle.mw_term.proofs.formals.formal_set.Goals as goal
 

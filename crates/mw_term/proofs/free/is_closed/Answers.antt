@@ -1,5 +1,5 @@
 -- Each part is looked at once, and there are few.
-use Rattle.std.proofs.Common.{◌≡◌, ◌*◌, ◌≤◌, length, get_or, refl, sym, ap, ◌∙◌, subst, arith}
+use Rattle.std.proofs.Common.{length, get_or, refl, sym, ap, ◌∙◌, subst, arith}
 use Rattle.std.proofs.lemmas.Option.{slice_get_read}
 use Rattle.mw_term.specs.Parts.{names_at, IsSpread}
 use Rattle.mw_term.proofs.PartSet.{few_parts}

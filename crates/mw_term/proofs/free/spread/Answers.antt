@@ -1,5 +1,5 @@
 -- What is put among the parts.
-use Rattle.std.proofs.Common.{◌≡◌, sym, ap, ◌∙◌, subst}
+use Rattle.std.proofs.Common.{sym, ◌∙◌, subst}
 use Rattle.mw_term.specs.declared.part.Part.TheVariants.{Term, Terms}
 use Rattle.mw_term.specs.Parts.{names_at}
 use Rattle.mw_term.proofs.PartSet.{IsPut, IsPut-insert_key}

@@ -1,7 +1,6 @@
 -- A head counts its formals where it has a body that is a term with no other variables.
 use Rattle.std.proofs.Common.{◌≡◌, ◌<◌, Some, length, option_map, sym, ap, ◌∙◌, arith}
 use Rattle.mw_model.specs.Object.{Pair, name_of_bytes}
-use Rattle.mw_model.specs.Rules.{is_term_object}
 use Rattle.mw_heap.specs.Objects.{object_at}
 use Rattle.mw_term.specs.Parts.{names_at, formals_of}
 use Rattle.mw_term.proofs.ListMarks.{term_at}

@@ -1,6 +1,6 @@
 -- A pair's mark comes from its parts' marks.
-use Rattle.std.proofs.Common.{◌≡◌, false, None, sym, ap, ◌∙◌}
-use Rattle.mw_model.specs.Object.{Symbol, Pair, name_of_bytes}
+use Rattle.std.proofs.Common.{false, None, sym, ap, ◌∙◌}
+use Rattle.mw_model.specs.Object.{Pair}
 use Rattle.mw_model.specs.Rules.{is_term_object, is_formula_object}
 use Rattle.mw_heap.specs.Objects.{object_at}
 use Rattle.mw_term.specs.Marking.{mark_of_object, term_count, formal_count}

@@ -4,4 +4,4 @@ use Rattle.mw_heap.proofs.Shown.{length-cells}
 use Rattle.mw_heap.proofs.heap.Heap.mark.Goals as goal
 
 pub returns : goal.returns
-returns c = c.new.ensures ∙ (c.len.ensures.len ∙ length-cells _ _ _ c.self.invariant _ c.self.view_is)
+returns c = c.new.ensures ∙ (c.len.ensures.len ∙ length-cells _ _ _ c.self.invariant.sound _ c.self.view_is)

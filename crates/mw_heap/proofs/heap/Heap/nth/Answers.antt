@@ -4,4 +4,4 @@ use Rattle.mw_heap.proofs.Shown.{length-cells}
 use Rattle.mw_heap.proofs.heap.Heap.nth.Goals as goal
 
 pub overflow_cast-index : goal.overflow_cast-index
-overflow_cast-index c = omega (arith, c.requires, length-cells _ _ _ c.self.invariant _ c.self.view_is, c.self.invariant.are_cells.few)
+overflow_cast-index c = omega (arith, c.requires, length-cells _ _ _ c.self.invariant.sound _ c.self.view_is, c.self.invariant.sound.are_cells.few)

@@ -1,5 +1,5 @@
-use Rattle.std.proofs.Common.{◌≡◌, [], length, drop, ◌-◌, ◌≤◌, sym, ap, ◌∙◌, subst, arith, ap₂}
-use Rattle.mw_term.specs.Tables.{AreArities, AreNamed, table_of}
+use Rattle.std.proofs.Common.{◌≡◌, [], length, drop, ◌-◌, sym, ap, ◌∙◌, subst, arith, ap₂}
+use Rattle.mw_term.specs.Tables.{AreNamed, table_of}
 use Rattle.mw_term.proofs.Entries.{named-take, entries_before-take, length-entries_before}
 use Rattle.mw_term.proofs.arity.Arity.cut.Goals as goal
 

@@ -1,4 +1,4 @@
-use Rattle.std.proofs.Common.{◌≡◌, [], ◌+◌, length, ap, sym, ◌∙◌, arith}
+use Rattle.std.proofs.Common.{[], length, ap, arith}
 use Rattle.mw_term.proofs.Entries.{length-entries_before}
 use Rattle.mw_term.proofs.arity.Arity.len.Goals as goal
 

@@ -1,0 +1,28 @@
+-- The machine makes what the table means, and this is the axioms.
+use Rattle.std.proofs.Common.{sym, ap, ap₂, ◌∙◌}
+use Rattle.std.specs.Prelude.{map, reverse}
+use Rattle.mw_model.specs.Term.{formula_object}
+use Rattle.mw_model.specs.Axioms.{primitive_axioms}
+use Rattle.mw_heap.specs.Variants.{profile_of}
+use Rattle.mw_heap.specs.declared.profile.Profile.{Profile}
+use Rattle.mw_axioms.specs.declared.table.TheConstants.{SHARED, OF_TIMES}
+use Rattle.mw_axioms.specs.Pieces.{run}
+use Rattle.mw_axioms.specs.Stacks.{stack_of}
+use Rattle.mw_axioms.proofs.OnStack.{map-stack_of}
+use Rattle.mw_axioms.proofs.TableMeans.{run-shared, run-both}
+use Rattle.mw_axioms.proofs.axioms.build.Goals as goal
+use Rattle.mw_axioms.proofs.axioms.build.Goals.{in-One, in-Two+in_ok-run-in-Two}
+
+pub returns-clause-axioms : goal.returns-clause-axioms
+returns-clause-axioms c =
+    let heap = c.match-profile.heap in
+    let axioms = λ (p : Profile). map formula_object (primitive_axioms (profile_of p)) in
+    let empty = ap (stack_of c.args.heap.now) c.new-formulas.ensures.items in
+    let shared = c.in_ok-run.ensures.made ∙ ap (λ s. run s SHARED) empty in
+    map-stack_of heap c.match-profile.formulas.items
+    ∙ elim c.match-profile.branch [
+      | in-One w ↦
+          ap reverse (ap₂ (λ os v. stack_of os v.items) w.heap-is w.formulas-is ∙ shared) ∙ (run-shared ∙ ap axioms (sym w.in-One.is))
+      | in-Two+in_ok-run-in-Two w ↦
+          ap reverse (ap₂ (λ os v. stack_of os v.items) w.heap-is w.formulas-is ∙ (w.in_ok-run-in-Two.ensures.made ∙ ap (λ s. run s OF_TIMES) shared)) ∙ (run-both ∙ ap axioms (sym w.in-Two.is))
+    ]

@@ -1,0 +1,50 @@
+//! The axioms of the primitives in a heap.
+ghost use Rattle.std.specs.Prelude.{◌≡◌, IfOk, map};
+ghost use Rattle.mw_model.specs.Term.{formula_object};
+ghost use Rattle.mw_model.specs.Axioms.{primitive_axioms};
+ghost use Rattle.mw_heap.specs.Objects.{object_at, Grows};
+ghost use Rattle.mw_heap.specs.Variants.{profile_of};
+ghost use Rattle.mw_axioms.specs.Stacks.{AreIn};
+
+use crate::machine::run;
+use crate::table::{OF_TIMES, SHARED};
+use mw_heap::{Heap, Memory, Profile, Ref};
+use std::marker::Model;
+
+/// The axioms of the primitives, in order, as references to the objects of their formulas.
+#[derive(Drop)]
+pub struct Axioms {
+    formulas: Vec<Ref>,
+}
+
+impl Model for Axioms {
+    ghost use Rattle.std.specs.Prelude.{List, ℕ};
+
+    ghost Value = { List ℕ };
+
+    ghost view = { λ a. a.formulas.items };
+}
+
+impl Axioms {
+    /// The references, in order.
+    pub fn as_slice(&self) -> &[Ref]
+        ensures { result.now ≡ self.now }
+    {
+        self.formulas.as_slice()
+    }
+}
+
+/// Makes the axioms of the profile's primitives.
+pub fn build(heap: &mut Heap, profile: Profile) -> Result<Axioms, Memory>
+    ensures grows { Grows heap.old heap.new }
+    ensures within { IfOk result (λ a. AreIn heap.new a) }
+    ensures axioms { IfOk result (λ a. map (object_at heap.new) a ≡ map formula_object (primitive_axioms (profile_of profile))) }
+{
+    let mut formulas = Vec::new(heap.alloc());
+    run(heap, &mut formulas, &SHARED)?;
+    match profile {
+        Profile::One => {}
+        Profile::Two => run(heap, &mut formulas, &OF_TIMES)?,
+    }
+    Ok(Axioms { formulas })
+}

@@ -1,0 +1,2 @@
+pub mod ConstantTests
+pub mod PrimitiveValues

@@ -1,0 +1,14 @@
+-- What is left of the list tells.
+use Rattle.std.proofs.Common.{◌≡◌}
+use Rattle.mw_model.specs.Rules.{are_constant_objects}
+use Rattle.mw_heap.specs.Objects.{object_at, IsIn}
+use Rattle.mw_base.proofs.constants.are_constants.Given as goal
+
+abbrev pub invariant-loop-first : goal.invariant-loop-first
+invariant-loop-first l = record {
+  within : IsIn l.heap l.rest;
+  tells : are_constant_objects (object_at l.heap l.rest) ≡ are_constant_objects (object_at l.heap l.fn.x);
+}
+
+abbrev pub decreases-loop-first : goal.decreases-loop-first
+decreases-loop-first l = l.rest

@@ -1,0 +1,47 @@
+//! Objects of constants.
+ghost use Rattle.std.specs.Prelude.{◌≡◌};
+ghost use Rattle.mw_model.specs.Object.{second_of};
+ghost use Rattle.mw_model.specs.Rules.{is_constant_object, are_constant_objects};
+ghost use Rattle.mw_heap.specs.Objects.{object_at, IsIn};
+ghost use Rattle.mw_heap.specs.Parts.{part_at, IsPart};
+
+use mw_heap::{Heap, Ref, View};
+
+// Whether it is (quote c).
+#[tactic(auto, using(crate::proofs::ConstantTests::is_constant_object_at))]
+pub(crate) fn is_constant(heap: &Heap, x: Ref) -> bool
+    requires { IsIn heap.now x }
+    ensures { result ≡ is_constant_object (object_at heap.now x) }
+{
+    let View::Pair(head, rest) = heap.view(x) else {
+        return false;
+    };
+    match heap.view(rest) {
+        View::Pair(_, end) => heap.is_named(Some(head), b"QUOTE") && heap.is_nil(Some(end)),
+        _ => false,
+    }
+}
+
+// Whether it is a proper list of constants.
+pub(crate) fn are_constants(heap: &Heap, x: Ref) -> bool
+    requires { IsIn heap.now x }
+    ensures { result ≡ are_constant_objects (object_at heap.now x) }
+{
+    let mut rest = x;
+    while let View::Pair(first, others) = heap.view(rest) {
+        if !is_constant(heap, first) {
+            return false;
+        }
+        rest = others;
+    }
+    heap.is_nil(Some(rest))
+}
+
+// What the constant is of; nothing where there is no constant.
+pub(crate) fn unquoted(heap: &Heap, x: Option<Ref>) -> Option<Ref>
+    requires { IsPart heap.now x }
+    ensures within { IsPart heap.now result }
+    ensures value { part_at heap.now result ≡ second_of (part_at heap.now x) }
+{
+    heap.second_of(x?)
+}

@@ -1,0 +1,14 @@
+//! The values of the primitive functions, and the rule of proof that computes them.
+#![tactic(auto)]
+
+mod answers;
+mod application;
+mod applied;
+mod compare;
+mod constants;
+mod rule;
+mod values;
+
+pub use application::apply;
+pub use applied::Applied;
+pub use rule::base_eval;

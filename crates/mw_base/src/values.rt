@@ -1,0 +1,78 @@
+//! What an object counts as where a primitive function takes a number, a name or a part.
+ghost use Rattle.std.specs.Prelude.{◌≡◌};
+ghost use Rattle.mw_model.specs.Object.{is_before_bytes};
+ghost use Rattle.mw_model.specs.Primitive.{number, name_of, is_symbol, is_natural, is_pair};
+ghost use Rattle.mw_heap.specs.Parts.{part_at, IsPart};
+
+use mw_heap::{Heap, Ref, View};
+
+// The number; 0 of what is no natural.
+pub(crate) fn number(heap: &Heap, x: Option<Ref>) -> u128
+    requires { IsPart heap.now x }
+    ensures { result ≡ number (part_at heap.now x) }
+{
+    let Some(x) = x else {
+        return 0;
+    };
+    match heap.view(x) {
+        View::Nat(n) => n,
+        _ => 0,
+    }
+}
+
+// The bytes of the name; those of NIL of what is no symbol.
+pub(crate) fn name(heap: &Heap, x: Option<Ref>) -> &[u8]
+    requires { IsPart heap.now x }
+    ensures { (name_of (part_at heap.now x)).bytes ≡ result.now }
+{
+    let Some(x) = x else {
+        return b"NIL";
+    };
+    match heap.view(x) {
+        View::Symbol => heap.name_of(x),
+        _ => b"NIL",
+    }
+}
+
+// Whether it is a symbol.
+pub(crate) fn is_symbol(heap: &Heap, x: Option<Ref>) -> bool
+    requires { IsPart heap.now x }
+    ensures { result ≡ is_symbol (part_at heap.now x) }
+{
+    match x {
+        Some(x) => matches!(heap.view(x), View::Symbol),
+        None => true,
+    }
+}
+
+// Whether it is a natural.
+pub(crate) fn is_natural(heap: &Heap, x: Option<Ref>) -> bool
+    requires { IsPart heap.now x }
+    ensures { result ≡ is_natural (part_at heap.now x) }
+{
+    match x {
+        Some(x) => matches!(heap.view(x), View::Nat(_)),
+        None => false,
+    }
+}
+
+// Whether it is a pair.
+pub(crate) fn is_pair(heap: &Heap, x: Option<Ref>) -> bool
+    requires { IsPart heap.now x }
+    ensures { result ≡ is_pair (part_at heap.now x) }
+{
+    match x {
+        Some(x) => matches!(heap.view(x), View::Pair(_, _)),
+        None => false,
+    }
+}
+
+// Whether the name of the first is before that of the second.
+
+pub(crate) fn is_before(heap: &Heap, x: Option<Ref>, y: Option<Ref>) -> bool
+    requires x_within { IsPart heap.now x }
+    requires y_within { IsPart heap.now y }
+    ensures { result ≡ is_before_bytes (name_of (part_at heap.now x)).bytes (name_of (part_at heap.now y)).bytes }
+{
+    name(heap, x) < name(heap, y)
+}

@@ -1,0 +1,157 @@
+//! Parts of objects by their place, and tests of what a part is. A part is a reference, or nothing where the object has no such
+//! part, which counts as NIL: so each call here has an answer for each object.
+ghost use Rattle.std.specs.Prelude.{◌≡◌, true};
+ghost use Rattle.mw_model.specs.Object.{Symbol, Pair, name_of_bytes, is_name, same_object, car, cdr, second_of, third_of, NIL, list1, list2, list3};
+ghost use Rattle.mw_heap.specs.Objects.{object_at, IsIn};
+ghost use Rattle.mw_heap.specs.Parts.{part_at, IsPart};
+
+use crate::{Heap, Ref, View};
+
+impl Heap {
+    /// The first part of a pair; nothing of what is no pair.
+    pub fn car(&self, x: Ref) -> Option<Ref>
+        requires { IsIn self.now x }
+        ensures within { IsPart self.now result }
+        ensures value { part_at self.now result ≡ car (object_at self.now x) }
+    {
+        match self.view(x) {
+            View::Pair(first, _) => Some(first),
+            _ => None,
+        }
+    }
+
+    /// The second part of a pair; nothing of what is no pair.
+    pub fn cdr(&self, x: Ref) -> Option<Ref>
+        requires { IsIn self.now x }
+        ensures within { IsPart self.now result }
+        ensures value { part_at self.now result ≡ cdr (object_at self.now x) }
+    {
+        match self.view(x) {
+            View::Pair(_, second) => Some(second),
+            _ => None,
+        }
+    }
+
+    /// The second member of a list; nothing where there is none.
+    pub fn second_of(&self, x: Ref) -> Option<Ref>
+        requires { IsIn self.now x }
+        ensures within { IsPart self.now result }
+        ensures value { part_at self.now result ≡ second_of (object_at self.now x) }
+    {
+        self.car(self.cdr(x)?)
+    }
+
+    /// The third member of a list; nothing where there is none.
+    pub fn third_of(&self, x: Ref) -> Option<Ref>
+        requires { IsIn self.now x }
+        ensures within { IsPart self.now result }
+        ensures value { part_at self.now result ≡ third_of (object_at self.now x) }
+    {
+        self.second_of(self.cdr(x)?)
+    }
+
+    /// Whether it is the symbol of this name.
+    pub fn is_named(&self, x: Option<Ref>, name: &[u8]) -> bool
+        requires within { IsPart self.now x }
+        requires name { is_name name.now ≡ true }
+        ensures { result ≡ same_object (part_at self.now x) (Symbol (name_of_bytes name.now)) }
+    {
+        match x {
+            Some(x) => match self.view(x) {
+                View::Symbol => self.name_of(x) == name,
+                _ => false,
+            },
+            None => name == b"NIL".as_slice(),
+        }
+    }
+
+    /// Whether it is NIL.
+    pub fn is_nil(&self, x: Option<Ref>) -> bool
+        requires { IsPart self.now x }
+        ensures { result ≡ same_object (part_at self.now x) NIL }
+    {
+        self.is_named(x, b"NIL")
+    }
+
+    /// Whether two parts are equal.
+    pub fn is_same(&self, x: Option<Ref>, y: Option<Ref>) -> bool
+        requires first_within { IsPart self.now x }
+        requires second_within { IsPart self.now y }
+        ensures { result ≡ same_object (part_at self.now x) (part_at self.now y) }
+    {
+        match (x, y) {
+            (Some(x), Some(y)) => self.same(x, y),
+            (Some(x), None) => self.is_nil(Some(x)),
+            (None, y) => self.is_nil(y),
+        }
+    }
+
+    /// Whether its first part is the symbol of this name.
+    pub fn is_headed(&self, x: Ref, name: &[u8]) -> bool
+        requires within { IsIn self.now x }
+        requires name { is_name name.now ≡ true }
+        ensures { result ≡ same_object (car (object_at self.now x)) (Symbol (name_of_bytes name.now)) }
+    {
+        self.is_named(self.car(x), name)
+    }
+
+    /// Whether it is the list (NAME a), where NAME is the symbol of this name.
+    pub fn is_list2(&self, x: Option<Ref>, name: &[u8], a: Option<Ref>) -> bool
+        requires within { IsPart self.now x }
+        requires name { is_name name.now ≡ true }
+        requires member_within { IsPart self.now a }
+        ensures { result ≡ same_object (part_at self.now x) (list2 (Symbol (name_of_bytes name.now)) (part_at self.now a)) }
+    {
+        let Some(x) = x else {
+            return false;
+        };
+        match self.view(x) {
+            View::Pair(head, rest) => self.is_named(Some(head), name)
+                && self.is_list_of_one(rest, a),
+            _ => false,
+        }
+    }
+
+    /// Whether it is the list (NAME a b), where NAME is the symbol of this name.
+    pub fn is_list3(&self, x: Option<Ref>, name: &[u8], a: Option<Ref>, b: Option<Ref>) -> bool
+        requires within { IsPart self.now x }
+        requires name { is_name name.now ≡ true }
+        requires first_within { IsPart self.now a }
+        requires second_within { IsPart self.now b }
+        ensures { result ≡ same_object (part_at self.now x) (list3 (Symbol (name_of_bytes name.now)) (part_at self.now a) (part_at self.now b)) }
+    {
+        let Some(x) = x else {
+            return false;
+        };
+        match self.view(x) {
+            View::Pair(head, rest) => self.is_named(Some(head), name)
+                && self.is_list_of_two(rest, a, b),
+            _ => false,
+        }
+    }
+
+    // Whether it is the list (a).
+    fn is_list_of_one(&self, x: Ref, a: Option<Ref>) -> bool
+        requires within { IsIn self.now x }
+        requires member_within { IsPart self.now a }
+        ensures { result ≡ same_object (object_at self.now x) (list1 (part_at self.now a)) }
+    {
+        match self.view(x) {
+            View::Pair(first, rest) => self.is_same(Some(first), a) && self.is_nil(Some(rest)),
+            _ => false,
+        }
+    }
+
+    // Whether it is the list (a b).
+    fn is_list_of_two(&self, x: Ref, a: Option<Ref>, b: Option<Ref>) -> bool
+        requires within { IsIn self.now x }
+        requires first_within { IsPart self.now a }
+        requires second_within { IsPart self.now b }
+        ensures { result ≡ same_object (object_at self.now x) (Pair (part_at self.now a) (list1 (part_at self.now b))) }
+    {
+        match self.view(x) {
+            View::Pair(first, rest) => self.is_same(Some(first), a) && self.is_list_of_one(rest, b),
+            _ => false,
+        }
+    }
+}

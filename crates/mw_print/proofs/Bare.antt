@@ -1,0 +1,11 @@
+-- The text of a symbol is that of its name.
+use Rattle.std.proofs.Common.{◌≡◌, ℕ, true, List, sym, ap, ◌∙◌}
+use Rattle.mw_model.specs.Primitive.{is_symbol, name_of}
+use Rattle.mw_model.specs.Object.{Object, Natural, Symbol, Pair, name_of_bytes}
+use Rattle.mw_model.specs.Printing.{name_text, text_of}
+use Rattle.mw_model.proofs.Names.{name_of_bytes-bytes}
+
+pub text_of-symbol : (x : Object) (t : List ℕ) → is_symbol x ≡ true → (name_of x).bytes ≡ t → text_of x ≡ name_text (name_of_bytes t)
+text_of-symbol (Symbol s) t h e = ap name_text (sym (name_of_bytes-bytes s) ∙ ap name_of_bytes e)
+text_of-symbol (Natural n) t h e = cc
+text_of-symbol (Pair a b) t h e = cc

@@ -1,0 +1,50 @@
+//! Printing, up to a bound.
+ghost use Rattle.std.specs.Prelude.{◌≡◌, ◌+◌, length, min};
+ghost use Rattle.mw_model.specs.Fate.{longest};
+ghost use Rattle.mw_model.specs.Printing.{text_of};
+ghost use Rattle.mw_heap.specs.Objects.{IsIn, object_at};
+ghost use Rattle.mw_print.specs.Printing.{Prints};
+
+use crate::text::text;
+use mw_heap::{Heap, Ref};
+
+// The longest text that is shown, in bytes.
+const LONGEST: u64 = 65536;
+
+/// What printing did.
+#[derive(Clone, Copy, Debug, PartialEq, Eq)]
+pub enum Printed {
+    /// The text was written.
+    Ok,
+    /// The text has more than 65,536 bytes.
+    Long,
+    /// Memory was refused.
+    Memory,
+}
+
+/// The number of bytes in an object's text, or 65,537 if there are more than 65,536. It takes no time to speak of, however long the
+/// text is.
+pub fn text_len(heap: &Heap, x: Ref) -> u64
+    requires { IsIn heap.now x }
+    ensures { result ≡ min (length (text_of (object_at heap.now x))) (longest + 1) }
+{
+    heap.lengths(x).0
+}
+
+/// Writes the text of an object behind what `out` has, if it has at most 65,536 bytes. Else, and where memory is refused, `out` keeps
+/// its bytes.
+pub fn print(heap: &Heap, x: Ref, out: &mut Vec<u8>) -> Printed
+    requires { IsIn heap.now x }
+    ensures { Prints (text_of (object_at heap.now x)) result out.old.items out.new.items }
+{
+    if text_len(heap, x) > LONGEST {
+        return Printed::Long;
+    }
+    let Ok(text) = text(heap, *out.allocator(), x) else {
+        return Printed::Memory;
+    };
+    match out.extend_from_slice(text.as_slice()) {
+        Ok(()) => Printed::Ok,
+        Err(_) => Printed::Memory,
+    }
+}

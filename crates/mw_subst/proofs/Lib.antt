@@ -1,0 +1,4 @@
+pub mod SigmaObject
+pub mod Made
+pub mod Path
+pub mod CallerLemmas

@@ -1,0 +1,25 @@
+-- A list of terms is made from its first and the rest.
+use Rattle.std.proofs.Common.{sym, ap, ap₂, ◌∙◌}
+use Rattle.mw_model.specs.Object.{Pair}
+use Rattle.mw_model.specs.Rules.{substitute_object, substitute_each_object}
+use Rattle.mw_subst.specs.Sigma.{sigma_object}
+use Rattle.mw_subst.proofs.Made.{result_found}
+use Rattle.mw_subst.proofs.walk.step_terms.Goals as goal
+
+pub cons-requires-clause-first_in : goal.cons-requires-clause-first_in
+cons-requires-clause-first_in c =
+    let os = c.args.heap.now in
+    (result_found os (substitute_object (sigma_object os c.args.sigma.now)) c.in-Pair.first c.in-Some.a c.args.memo.now.terms.entries c.requires.made.0 (sym c.find.ensures ∙ c.in-Some.is)).0
+
+pub cons-requires-clause-second_in : goal.cons-requires-clause-second_in
+cons-requires-clause-second_in c =
+    let os = c.args.heap.now in
+    (result_found os (substitute_each_object (sigma_object os c.args.sigma.now)) c.in-Pair.rest c.in-Some-find.d c.args.memo.now.lists.entries c.requires.made.1 (sym c.find-2.ensures ∙ c.in-Some-find.is)).0
+
+pub returns-clause-step : goal.returns-clause-step
+returns-clause-step c =
+    let os = c.args.heap.now in
+    let s = sigma_object os c.args.sigma.now in
+    let first = result_found os (substitute_object s) c.in-Pair.first c.in-Some.a c.args.memo.now.terms.entries c.requires.made.0 (sym c.find.ensures ∙ c.in-Some.is) in
+    let rest = result_found os (substitute_each_object s) c.in-Pair.rest c.in-Some-find.d c.args.memo.now.lists.entries c.requires.made.1 (sym c.find-2.ensures ∙ c.in-Some-find.is) in
+    (c.in_ok-cons.ensures.made.0, c.in_ok-cons.ensures.made.1 ∙ (ap₂ Pair first.1 rest.1 ∙ ap (substitute_each_object s) (sym c.in-Pair.ensures.shows.2)))

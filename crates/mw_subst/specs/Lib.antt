@@ -1,0 +1,3 @@
+pub mod Sigma
+pub mod Memo
+pub mod Steps

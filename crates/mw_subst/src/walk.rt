@@ -1,0 +1,150 @@
+//! Substitution in a term.
+ghost use Rattle.std.specs.Prelude.{◌≡◌, true, None, IfOk, OnOk};
+ghost use Rattle.mw_model.specs.Object.{symbol, is_name, name_of_bytes, same_name, same_object};
+ghost use Rattle.mw_model.specs.Rules.{substitute_object, image_object};
+ghost use Rattle.mw_heap.specs.Objects.{object_at, IsIn, Grows};
+ghost use Rattle.mw_subst.specs.Sigma.{sigma_object, AreIn};
+ghost use Rattle.mw_subst.specs.Memo.{AreMade, AreUnique, IsPartIn, found};
+ghost use Rattle.mw_subst.specs.Steps.{IsStep, Advances};
+ghost use Rattle.mw_subst.specs.declared.part.Part.TheVariants.{Term, Terms};
+
+use crate::Sigma;
+use crate::memo::Memo;
+use crate::part::Part;
+use mw_heap::{Heap, Memory, Ref, View};
+
+// What is made of a part, or a part of it that has to come first.
+enum Progress {
+    Made(Ref),
+    Wants(Part),
+}
+
+fn is_same_name(name: &[u8], word: &[u8]) -> bool
+    requires name { is_name name.now ≡ true }
+    requires word { is_name word.now ≡ true }
+    ensures { result ≡ same_name (name_of_bytes name.now) (name_of_bytes word.now) }
+{
+    name == word
+}
+
+fn is_quote(heap: &Heap, x: Ref) -> bool
+    requires { IsIn heap.now x }
+    ensures { result ≡ same_object (object_at heap.now x) (symbol "QUOTE") }
+{
+    match heap.view(x) {
+        View::Symbol => is_same_name(heap.name_of(x), b"QUOTE"),
+        _ => false,
+    }
+}
+
+// What stands for an object that is no pair.
+fn image(heap: &Heap, sigma: &Sigma, x: Ref) -> Ref
+    requires within { IsIn heap.now x }
+    requires sigma { AreIn heap.now sigma.now }
+    ensures within { IsIn heap.now result }
+    ensures image { object_at heap.now result ≡ image_object (sigma_object heap.now sigma.now) (object_at heap.now x) }
+{
+    let _ = heap.same(x, x);
+    match sigma.find(x) {
+        Some(term) => term,
+        None => x,
+    }
+}
+
+fn step_term(heap: &mut Heap, sigma: &Sigma, memo: &Memo, x: Ref) -> Result<Progress, Memory>
+    requires within { IsIn heap.old x }
+    requires sigma { AreIn heap.old sigma.now }
+    requires made { AreMade heap.old (sigma_object heap.old sigma.now) memo.now.terms.entries memo.now.lists.entries }
+    ensures grows { Grows heap.old heap.new }
+    ensures step { IfOk result (λ s. IsStep heap.old heap.new (sigma_object heap.old sigma.now) memo.now.terms.entries memo.now.lists.entries (Term x) s) }
+{
+    let View::Pair(head, actuals) = heap.view(x) else {
+        return Ok(Progress::Made(image(heap, sigma, x)));
+    };
+    if is_quote(heap, head) {
+        return Ok(Progress::Made(x));
+    }
+    match memo.find(Part::Terms(actuals)) {
+        Some(rest) => Ok(Progress::Made(heap.cons(head, rest)?)),
+        None => Ok(Progress::Wants(Part::Terms(actuals))),
+    }
+}
+
+fn step_terms(heap: &mut Heap, sigma: &Sigma, memo: &Memo, x: Ref) -> Result<Progress, Memory>
+    requires within { IsIn heap.old x }
+    requires made { AreMade heap.old (sigma_object heap.old sigma.now) memo.now.terms.entries memo.now.lists.entries }
+    ensures grows { Grows heap.old heap.new }
+    ensures step { IfOk result (λ s. IsStep heap.old heap.new (sigma_object heap.old sigma.now) memo.now.terms.entries memo.now.lists.entries (Terms x) s) }
+{
+    let View::Pair(first, rest) = heap.view(x) else {
+        return Ok(Progress::Made(heap.symbol(b"NIL")?));
+    };
+    let Some(a) = memo.find(Part::Term(first)) else {
+        return Ok(Progress::Wants(Part::Term(first)));
+    };
+    let Some(d) = memo.find(Part::Terms(rest)) else {
+        return Ok(Progress::Wants(Part::Terms(rest)));
+    };
+    Ok(Progress::Made(heap.cons(a, d)?))
+}
+
+fn take_step(heap: &mut Heap, sigma: &Sigma, memo: &Memo, part: &Part) -> Result<Progress, Memory>
+    requires within { IsPartIn heap.old part.now }
+    requires sigma { AreIn heap.old sigma.now }
+    requires made { AreMade heap.old (sigma_object heap.old sigma.now) memo.now.terms.entries memo.now.lists.entries }
+    ensures grows { Grows heap.old heap.new }
+    ensures step { IfOk result (λ s. IsStep heap.old heap.new (sigma_object heap.old sigma.now) memo.now.terms.entries memo.now.lists.entries part.now s) }
+{
+    match *part {
+        Part::Term(x) => step_term(heap, sigma, memo, x),
+        Part::Terms(x) => step_terms(heap, sigma, memo, x),
+    }
+}
+
+// Looks at a part: puts it away with what it wants first on top, or keeps what was made of it.
+fn advance(
+    heap: &mut Heap,
+    sigma: &Sigma,
+    memo: &mut Memo,
+    path: &mut Vec<Part>,
+    part: Part,
+) -> Result<(), Memory>
+    requires within { IsPartIn heap.old part }
+    requires sigma { AreIn heap.old sigma.now }
+    requires made { AreMade heap.old (sigma_object heap.old sigma.now) memo.old.terms.entries memo.old.lists.entries }
+    requires new { found memo.old.terms.entries memo.old.lists.entries part ≡ None }
+    requires unique { AreUnique memo.old.terms.entries memo.old.lists.entries }
+    ensures grows { Grows heap.old heap.new }
+    ensures unique { OnOk result (AreUnique memo.new.terms.entries memo.new.lists.entries) }
+    ensures advanced { OnOk result (Advances heap.old heap.new (sigma_object heap.old sigma.now) memo.old memo.new path.old.items path.new.items part) }
+{
+    let progress = take_step(heap, sigma, memo, &part)?;
+    match progress {
+        Progress::Wants(inner) => {
+            path.push(part)?;
+            path.push(inner)?;
+        }
+        Progress::Made(made) => memo.add(part, made)?,
+    }
+    Ok(())
+}
+
+/// The term x with the terms of a substitution for its variables. Each part of the term is looked at once.
+pub fn substitute(heap: &mut Heap, x: Ref, sigma: &Sigma) -> Result<Ref, Memory>
+    requires within { IsIn heap.old x }
+    requires sigma { AreIn heap.old sigma.now }
+    ensures grows { Grows heap.old heap.new }
+    ensures within { IfOk result (λ r. IsIn heap.new r) }
+    ensures made { IfOk result (λ r. object_at heap.new r ≡ substitute_object (sigma_object heap.old sigma.now) (object_at heap.old x)) }
+{
+    let mut memo = Memo::new(sigma.alloc());
+    let mut path = Vec::new(sigma.alloc());
+    path.push(Part::Term(x))?;
+    while let Some(part) = path.pop() {
+        advance(heap, sigma, &mut memo, &mut path, part)?;
+    }
+    match memo.find(Part::Term(x)) {
+        Some(made) => Ok(made),
+        None => unreachable!(),
+    }
+}
