@@ -1,0 +1,259 @@
+-- What a byte makes of a parser where no text has begun.
+use Rattle.std.proofs.Common.{◌≡◌, ℕ, zero, suc, ◌+◌, ◌-◌, ◌*◌, ◌<◌, ◌≤◌, Bool, true, false, List, [], ◌∷◌, ◌++◌, length, take, drop, get_or, Some, Result, Ok, Err, IfOk, refl, sym, ap, ◌∙◌, subst, arith, true≢false, if◌then◌else◌, ◌⊎◌, inl, inr, length-append}
+use Rattle.std.proofs.lemmas.List.{take_all, length-drop, drop_all}
+use Rattle.mw_model.specs.Object.{Object}
+use Rattle.mw_model.specs.Lexemes.{Lexeme, Stray, Fault, fault, DOT, TOKEN, BYTE, Ending, Goes, glued, glued_bar, is_constituent, Class, class, lexemes_from}
+use Rattle.mw_model.specs.Lexemes as lex
+use Rattle.mw_model.specs.Grammar.{Book, book, and_events}
+use Rattle.mw_read.specs.Machine.{State, Idle, Within, Full, Broken, Turn, quiet, on, Between, Move, turned, fresh, is_full, IsSound}
+use Rattle.mw_read.specs.Resume.{resume, onward, following}
+use Rattle.mw_read.specs.Held.{Took}
+use Rattle.mw_read.specs.Piles.{fault_of}
+use Rattle.mw_read.specs.Runs.{StartsWith}
+use Rattle.mw_read.specs.Stacks.{IsStack}
+use Rattle.mw_read.specs.Parsing.{ahead, meaning_of, Fits, IsReader, Advances, IsBehind, Begins, Moves, Moved, IsStarted, offset_of, offset_at, weight}
+use Rattle.mw_read.specs.declared.reader.Begun.{Begun}
+use Rattle.mw_read.specs.declared.reader.Begun.TheVariants.{Nothing, Comment, Token, Bars, Barred, Hash, AfterToken, AfterBar}
+use Rattle.mw_read.specs.declared.reader.Reader.{Reader}
+use Rattle.mw_read.specs.declared.step.Outcome.{Outcome}
+use Rattle.mw_read.specs.declared.step.Outcome.TheVariants as outcomes
+use Rattle.mw_read.proofs.Resuming.{on_step}
+use Rattle.mw_read.proofs.Bytes.{between_at, meaning}
+use Rattle.mw_read.proofs.Bare.{take_cut}
+use Rattle.mw_read.proofs.Classes as classes
+use Rattle.mw_read.proofs.Hashes.{free_parser}
+use Rattle.mw_read.proofs.Parsing.{stray_breaks, following_event}
+
+-- what is left behind n bytes, as a slice says it
+pub rest_is : (n : ℕ) (xs : List ℕ) → take (length xs - n) (drop n xs) ≡ drop n xs
+rest_is n xs = take_all (length xs - n) (drop n xs) (omega (arith, length-drop n xs))
+
+pub if_ok_more : {T E : Type 0} (P Q : T → Type 0) (r : Result T E) → ((x : T) → P x → Q x) → IfOk r P → IfOk r Q
+if_ok_more P Q (Ok x) f p = f x p
+if_ok_more P Q (Err e) f p = p
+
+pub if_ok_both : {T E : Type 0} (P Q R : T → Type 0) (r : Result T E) → ((x : T) → P x → Q x → R x) → IfOk r P → IfOk r Q → IfOk r R
+if_ok_both P Q R (Ok x) f p q = f x p q
+if_ok_both P Q R (Err e) f p q = p
+
+-- what is read from one parser is read from another
+pub carry : (os : List Object) (t : State) (old mid new : Reader) (rest more : List ℕ) (r : Outcome) (n m : ℕ) →
+    ((e : Ending) (z : List ℕ) → meaning_of e t old (take m more ++ z) ≡ meaning_of e t mid (take n rest ++ z)) →
+    ((e : Ending) (z : List ℕ) → meaning_of e t old (more ++ z) ≡ meaning_of e t mid (rest ++ z)) →
+    Advances os t mid rest r n new → Advances os t old more r m new
+carry os t old mid new rest more outcomes.Pending n m f g q = (q.0, q.1, q.2, λ e z fit. f e z ∙ q.3 e z fit)
+carry os t old mid new rest more (outcomes.Datum r) n m f g q = (q.0, q.1, q.2, λ e z fit. f e z ∙ q.3 e z fit)
+carry os t old mid new rest more (outcomes.Fault r) n m f g q = λ e z. g e z ∙ q e z
+
+-- a lexeme that ends where no text has begun
+ends_free : (os : List Object) (t : State) (old new : Reader) (rest : List ℕ) (n : ℕ) (l : Lexeme) (r : Outcome) → new.begun ≡ Nothing →
+    ((e : Ending) (z : List ℕ) → meaning_of e t old (take n rest ++ z) ≡ following (on t l) (lexemes_from e new.start 0 z)) → Took os new.stack r (on t l) → Advances os t old rest r n new
+ends_free os t old new rest n l outcomes.Pending i m q =
+    let w = on t l in (
+      w.state,
+      q.1,
+      free_parser os new i q.1.stack,
+      λ e z fit.
+          m e z
+          ∙ ap (λ (u : List Object). onward u (resume w.state (lexemes_from e new.start 0 z))) q.0
+          ∙ sym (ap (λ u. resume w.state (ahead e u new.token.items new.start z)) i),
+    )
+ends_free os t old new rest n l (outcomes.Datum r) i m q = (
+  q.0,
+  q.2,
+  free_parser os new i q.2.stack,
+  λ e z fit.
+      m e z
+      ∙ following_event (on t l) q.0 (lexemes_from e new.start 0 z) q.1
+      ∙ ap (and_events q.0) (sym (ap (λ u. resume Idle (ahead e u new.token.items new.start z)) i)),
+)
+ends_free os t old new rest n l (outcomes.Fault f) i m q = λ e z.
+    ap (meaning_of e t old) (take_cut [] rest n z)
+    ∙ m e (drop n rest ++ z)
+    ∙ ap (λ (u : Turn). following u (lexemes_from e new.start 0 (drop n rest ++ z))) q
+
+at_nothing : (e : Ending) (t : State) (p : Reader) (x : List ℕ) → p.begun ≡ Nothing → meaning_of e t p x ≡ resume t (lexemes_from e p.start 0 x)
+at_nothing e t p x h = ap (λ m. resume t (ahead e m p.token.items p.start x)) h
+
+-- a lexeme of one byte
+pub lexeme_advances : (os : List Object) (t : State) (old new : Reader) (rest : List ℕ) (r : Outcome) (k : Class) (l : Lexeme) → 0 < length rest → old.begun ≡ Nothing → new.begun ≡ Nothing →
+    new.start ≡ old.start + 1 → class (get_or rest 0 0) ≡ k → ((b : ℕ) → fresh k t old.start b ≡ turned (on t l) Between (suc old.start)) → Took os new.stack r (on t l) → Advances os t old rest r 1 new
+lexeme_advances os t old new [] r k l some h i s c f q = absurd (omega arith)
+lexeme_advances os t old new (b ∷ rest) r k l some h i s c f q =
+    ends_free os t old new (b ∷ rest) 1 l r i
+    (λ e z.
+    at_nothing e t old (b ∷ z) h
+    ∙ between_at e z t old.start b k c
+    ∙ ap (λ (m : Move). onward m.events (meaning e m.reader z)) (f b)
+    ∙ ap (λ o. following (on t l) (lexemes_from e o 0 z)) (let o : suc old.start ≡ new.start = omega (arith, s) in o))
+    q
+
+-- a byte that may not stand here
+pub byte_faults : (e : Ending) (t : State) (old : Reader) (rest z : List ℕ) → 0 < length rest → old.begun ≡ Nothing → class (get_or rest 0 0) ≡ lex.Other → IsSound t →
+    meaning_of e t old (rest ++ z) ≡ book [] (Some (fault BYTE old.start))
+byte_faults e t old [] z some h c k = absurd (omega arith)
+byte_faults e t old (b ∷ rest) z some h c k =
+    at_nothing e t old (b ∷ (rest ++ z)) h
+    ∙ between_at e (rest ++ z) t old.start b lex.Other c
+    ∙ ap (λ (u : Turn). following u (lexemes_from e (suc old.start) 0 (rest ++ z))) (stray_breaks t (fault BYTE old.start) k)
+
+-- behind a dot's datum no text may begin
+pub begun_full : (m : Begun) (e : Ending) (t : State) (o : ℕ) (rest z : List ℕ) → Begins m rest → is_full t ≡ true → resume t (lexemes_from e o 0 (rest ++ z)) ≡ book [] (Some (fault DOT o))
+begun_full Bars e (Full xs y s ls) o (b ∷ rest) z h f = between_at e (rest ++ z) (Full xs y s ls) o b lex.Bar h
+begun_full Hash e (Full xs y s ls) o (b ∷ rest) z h f = between_at e (rest ++ z) (Full xs y s ls) o b lex.Hash h
+begun_full Token e (Full xs y s ls) o (b ∷ rest) z h f = between_at e (rest ++ z) (Full xs y s ls) o b lex.Constituent h
+begun_full m e Idle o rest z h f = absurd (true≢false (sym f))
+begun_full m e (Within g s ls) o rest z h f = absurd (true≢false (sym f))
+begun_full m e (Broken g) o rest z h f = absurd (true≢false (sym f))
+begun_full m e (Full xs y s ls) o rest z h f = absurd h
+
+begun_bars : (e : Ending) (t : State) (o b : ℕ) (x : List ℕ) → class b ≡ lex.Bar → is_full t ≡ false → IsSound t → resume t (lexemes_from e o 0 (b ∷ x)) ≡ resume t (lexemes_from e o 0 (124 ∷ x))
+begun_bars e Idle o b x h f k = between_at e x Idle o b lex.Bar h
+begun_bars e (Within g s ls) o b x h f k = between_at e x (Within g s ls) o b lex.Bar h
+begun_bars e (Full xs y s ls) o b x h f k = absurd (true≢false f)
+begun_bars e (Broken g) o b x h f k = absurd k
+
+begun_hash : (e : Ending) (t : State) (o b : ℕ) (x : List ℕ) → class b ≡ lex.Hash → is_full t ≡ false → IsSound t → resume t (lexemes_from e o 0 (b ∷ x)) ≡ resume t (lexemes_from e o 0 (35 ∷ x))
+begun_hash e Idle o b x h f k = between_at e x Idle o b lex.Hash h
+begun_hash e (Within g s ls) o b x h f k = between_at e x (Within g s ls) o b lex.Hash h
+begun_hash e (Full xs y s ls) o b x h f k = absurd (true≢false f)
+begun_hash e (Broken g) o b x h f k = absurd k
+
+take_next : (b : ℕ) (rest : List ℕ) (n : ℕ) → take (n + 1) (b ∷ rest) ≡ b ∷ take n rest
+take_next b rest n = ap (λ k. take k (b ∷ rest)) (let o : n + 1 ≡ suc n = omega arith in o)
+
+drop_next : (rest : List ℕ) (n : ℕ) → drop n (drop 1 rest) ≡ drop (n + 1) rest
+drop_next [] n = drop_all n [] (omega arith) ∙ sym (drop_all (n + 1) [] (omega arith))
+drop_next (b ∷ rest) n = ap (λ k. drop k (b ∷ rest)) (let o : suc n ≡ n + 1 = omega arith in o)
+
+-- a name between bars or a label begins
+pub bars_begin : (os : List Object) (t : State) (old mid new : Reader) (rest : List ℕ) (r : Outcome) (n : ℕ) → old.begun ≡ Nothing → mid.begun ≡ Bars → mid.token.items ≡ [] → mid.start ≡ old.start → Begins Bars rest →
+    is_full t ≡ false → IsSound t → Advances os t mid (drop 1 rest) r n new → Advances os t old rest r (n + 1) new
+bars_begin os t old mid new [] r n h i j s c f k q = absurd c
+bars_begin os t old mid new (b ∷ rest) r n h i j s c f k q =
+    carry os t old mid new rest (b ∷ rest) r n (n + 1) (λ e z. ap (λ u. meaning_of e t old (u ++ z)) (take_next b rest n) ∙ same e (take n rest ++ z)) (λ e z. same e (rest ++ z)) q
+  where
+    same : (e : Ending) (y : List ℕ) → meaning_of e t old (b ∷ y) ≡ meaning_of e t mid y
+    same e y =
+        at_nothing e t old (b ∷ y) h
+        ∙ begun_bars e t old.start b y c f k
+        ∙ ap (λ o. resume t (lexemes_from e o 0 (124 ∷ y))) (sym s)
+        ∙ sym (ap (λ m. resume t (ahead e m mid.token.items mid.start y)) i ∙ ap (λ u. resume t (lexemes_from e mid.start 0 (124 ∷ (u ++ y)))) j)
+
+pub hash_begin : (os : List Object) (t : State) (old mid new : Reader) (rest : List ℕ) (r : Outcome) (n : ℕ) → old.begun ≡ Nothing → mid.begun ≡ Hash → mid.token.items ≡ [] → mid.start ≡ old.start → Begins Hash rest →
+    is_full t ≡ false → IsSound t → Advances os t mid (drop 1 rest) r n new → Advances os t old rest r (n + 1) new
+hash_begin os t old mid new [] r n h i j s c f k q = absurd c
+hash_begin os t old mid new (b ∷ rest) r n h i j s c f k q =
+    carry os t old mid new rest (b ∷ rest) r n (n + 1) (λ e z. ap (λ u. meaning_of e t old (u ++ z)) (take_next b rest n) ∙ same e (take n rest ++ z)) (λ e z. same e (rest ++ z)) q
+  where
+    same : (e : Ending) (y : List ℕ) → meaning_of e t old (b ∷ y) ≡ meaning_of e t mid y
+    same e y =
+        at_nothing e t old (b ∷ y) h
+        ∙ begun_hash e t old.start b y c f k
+        ∙ ap (λ o. resume t (lexemes_from e o 0 (35 ∷ y))) (sym s)
+        ∙ sym (ap (λ m. resume t (ahead e m mid.token.items mid.start y)) i ∙ ap (λ u. resume t (lexemes_from e mid.start 0 (35 ∷ (u ++ y)))) j)
+
+-- a token begins
+pub token_begin : (os : List Object) (t : State) (old mid new : Reader) (rest : List ℕ) (r : Outcome) (n : ℕ) → old.begun ≡ Nothing → mid.begun ≡ Token → mid.token.items ≡ [] → mid.start ≡ old.start →
+    Advances os t mid rest r n new → Advances os t old rest r n new
+token_begin os t old mid new rest r n h i j s q = carry os t old mid new rest rest r n n (λ e z. same e (take n rest ++ z)) (λ e z. same e (rest ++ z)) q
+  where
+    same : (e : Ending) (y : List ℕ) → meaning_of e t old y ≡ meaning_of e t mid y
+    same e y =
+        at_nothing e t old y h
+        ∙ ap (λ o. resume t (lexemes_from e o 0 y)) (sym s)
+        ∙ sym (ap (λ m. resume t (ahead e m mid.token.items mid.start y)) i ∙ ap (λ u. resume t (lexemes_from e mid.start 0 (u ++ y))) j)
+
+pub offset_is : (p : Reader) (m : Begun) (n o : ℕ) → p.begun ≡ m → length p.token.items ≡ n → p.start ≡ o → offset_of p ≡ offset_at m n o
+offset_is p m n o h i j = ap (λ u. offset_at u (length p.token.items) p.start) h ∙ ap (λ u. offset_at m u p.start) i ∙ ap (offset_at m n) j
+
+module _ (old mid : Reader) (h : old.begun ≡ Nothing) (j : mid.token.items ≡ []) (s : mid.start ≡ old.start) where
+  pub bars_offset : mid.begun ≡ Bars → offset_of mid ≡ offset_of old + 1
+  bars_offset i =
+      offset_is mid Bars 0 old.start i (ap length j) s ∙ (let e : old.start + 0 + 1 ≡ old.start + 1 = omega arith in e) ∙ sym (ap (λ n. n + 1) (offset_is old Nothing (length old.token.items) old.start h refl refl))
+
+  pub hash_offset : mid.begun ≡ Hash → offset_of mid ≡ offset_of old + 1
+  hash_offset i =
+      offset_is mid Hash 0 old.start i (ap length j) s ∙ (let e : old.start + 0 + 1 ≡ old.start + 1 = omega arith in e) ∙ sym (ap (λ n. n + 1) (offset_is old Nothing (length old.token.items) old.start h refl refl))
+
+  pub token_offset : mid.begun ≡ Token → offset_of mid ≡ offset_of old
+  token_offset i = offset_is mid Token 0 old.start i (ap length j) s ∙ (let e : old.start + 0 ≡ old.start = omega arith in e) ∙ sym (offset_is old Nothing (length old.token.items) old.start h refl refl)
+
+pub weight_small : (m : Begun) → weight m ≤ 1
+weight_small Nothing = omega arith
+weight_small Comment = omega arith
+weight_small Token = omega arith
+weight_small Bars = omega arith
+weight_small Barred = omega arith
+weight_small Hash = omega arith
+weight_small AfterToken = omega arith
+weight_small AfterBar = omega arith
+
+moved_past : (old mid new : Reader) (rest : List ℕ) (n : ℕ) → offset_of mid ≡ offset_of old + 1 → Moved mid (drop 1 rest) n new → Moved old rest (n + 1) new
+moved_past old mid new rest n o m = record {
+  offset = (let k : offset_of new ≡ offset_of old + (n + 1) = omega (arith, o, m.offset) in k);
+  left = subst (λ u. Fits new.begun Goes u) (drop_next rest n) m.left;
+  started = m.started;
+  less = λ l. omega (arith, weight_small new.begun);
+}
+
+pub moves_past : (r : Outcome) (old mid new : Reader) (rest : List ℕ) (n : ℕ) → offset_of mid ≡ offset_of old + 1 → Moves r mid (drop 1 rest) n new → Moves r old rest (n + 1) new
+moves_past outcomes.Pending old mid new rest n o m = moved_past old mid new rest n o m
+moves_past (outcomes.Datum x) old mid new rest n o m = moved_past old mid new rest n o m
+moves_past (outcomes.Fault f) old mid new rest n o m = tt
+
+moved_on : (old mid new : Reader) (rest : List ℕ) (n : ℕ) → offset_of mid ≡ offset_of old → 0 < n → Moved mid rest n new → Moved old rest n new
+moved_on old mid new rest n o s m = record {
+  offset = (let k : offset_of new ≡ offset_of old + n = omega (arith, o, m.offset) in k);
+  left = m.left;
+  started = m.started;
+  less = λ l. omega (arith, weight_small new.begun);
+}
+
+pub moves_on : (r : Outcome) (old mid new : Reader) (rest : List ℕ) (n : ℕ) → offset_of mid ≡ offset_of old → 0 < n → Moves r mid rest n new → Moves r old rest n new
+moves_on outcomes.Pending old mid new rest n o s m = moved_on old mid new rest n o s m
+moves_on (outcomes.Datum x) old mid new rest n o s m = moved_on old mid new rest n o s m
+moves_on (outcomes.Fault f) old mid new rest n o s m = tt
+
+pub is_token : (m : Begun) (rest : List ℕ) → Begins m rest → (m ≡ Bars → ⊥) → (m ≡ Hash → ⊥) → (m ≡ Token) × StartsWith is_constituent rest
+is_token Token (b ∷ rest) h f g = (refl, classes.constituent_class b h)
+is_token Bars rest h f g = absurd (f refl)
+is_token Hash rest h f g = absurd (g refl)
+is_token m rest h f g = absurd h
+
+-- what stands directly behind
+behind_is : (m : Begun) (g : Bool) (e : Ending) (t : List ℕ) (o b : ℕ) (y : List ℕ) → IsBehind m g b →
+    ahead e m t o (b ∷ y) ≡ (if g then Stray (fault TOKEN o) ∷ lexemes_from e o 0 (b ∷ y) else lexemes_from e o 0 (b ∷ y))
+behind_is Nothing g e t o b y h = sym (ap (λ v. if v then Stray (fault TOKEN o) ∷ lexemes_from e o 0 (b ∷ y) else lexemes_from e o 0 (b ∷ y)) h)
+behind_is AfterToken g e t o b y h = sym (ap (λ v. if v then Stray (fault TOKEN o) ∷ lexemes_from e o 0 (b ∷ y) else lexemes_from e o 0 (b ∷ y)) h)
+behind_is AfterBar g e t o b y h = sym (ap (λ v. if v then Stray (fault TOKEN o) ∷ lexemes_from e o 0 (b ∷ y) else lexemes_from e o 0 (b ∷ y)) h)
+behind_is m g e t o b y h = absurd h
+
+pub glued_faults : (e : Ending) (t : State) (old : Reader) (rest z : List ℕ) → 0 < length rest → IsBehind old.begun true (get_or rest 0 0) → IsSound t → meaning_of e t old (rest ++ z) ≡ book [] (Some (fault TOKEN old.start))
+glued_faults e t old [] z some h k = absurd (omega arith)
+glued_faults e t old (b ∷ rest) z some h k =
+    let r = lexemes_from e old.start 0 (b ∷ (rest ++ z)) in
+    ap (resume t) (behind_is old.begun true e old.token.items old.start b (rest ++ z) h)
+    ∙ on_step t (Stray (fault TOKEN old.start)) tt r
+    ∙ ap (λ (u : Turn). following u r) (stray_breaks t (fault TOKEN old.start) k)
+
+-- nothing is glued
+module _ (os : List Object) (t : State) (old mid new : Reader) (i : mid.begun ≡ Nothing) (s : mid.start ≡ old.start) where
+  same_behind : (b : ℕ) → IsBehind old.begun false b → (e : Ending) (y : List ℕ) → meaning_of e t old (b ∷ y) ≡ meaning_of e t mid (b ∷ y)
+  same_behind b h e y =
+      ap (resume t) (behind_is old.begun false e old.token.items old.start b y h)
+      ∙ ap (λ o. resume t (lexemes_from e o 0 (b ∷ y))) (sym s)
+      ∙ sym (at_nothing e t mid (b ∷ y) i)
+
+  some_taken : (rest : List ℕ) (n : ℕ) → 0 < length rest → Moved mid rest n new → 0 < n
+  some_taken rest n l m = let w : weight mid.begun ≡ 0 = ap weight i in omega (arith, m.less l, w)
+
+  same_take : (b : ℕ) (rest : List ℕ) (n : ℕ) → 0 < n → IsBehind old.begun false b → (e : Ending) (z : List ℕ) → meaning_of e t old (take n (b ∷ rest) ++ z) ≡ meaning_of e t mid (take n (b ∷ rest) ++ z)
+  same_take b rest zero l h e z = absurd (omega arith)
+  same_take b rest (suc n) l h e z = same_behind b h e (take n rest ++ z)
+
+  pub behind_advances : (rest : List ℕ) (r : Outcome) (n : ℕ) → 0 < length rest → IsBehind old.begun false (get_or rest 0 0) → Moves r mid rest n new → Advances os t mid rest r n new → Advances os t old rest r n new
+  behind_advances [] r n l h m q = absurd (omega arith)
+  behind_advances (b ∷ rest) outcomes.Pending n l h m q = (q.0, q.1, q.2, λ e z fit. same_take b rest n (some_taken (b ∷ rest) n l m) h e z ∙ q.3 e z fit)
+  behind_advances (b ∷ rest) (outcomes.Datum x) n l h m q = (q.0, q.1, q.2, λ e z fit. same_take b rest n (some_taken (b ∷ rest) n l m) h e z ∙ q.3 e z fit)
+  behind_advances (b ∷ rest) (outcomes.Fault f) n l h m q = λ e z. same_behind b h e (rest ++ z) ∙ q e z

@@ -1,0 +1,91 @@
+-- Labels and what the map says of them.
+use Rattle.std.proofs.Common.{◌≡◌, ℕ, Bool, true, false, cond, List, Option, Some, None, is_some, refl, sym, ap, true≢false, eqb-true, ◌∙◌, if◌then◌else◌, eqb}
+use Rattle.std.proofs.Common.{arith}
+use Rattle.std.proofs.lemmas.Grind.{common_steps}
+use Rattle.std.specs.BTreeMap.{BTreeMap, get, is_at}
+use Rattle.std.specs.Ordering.{nat_cmp}
+use Rattle.mw_model.specs.Object.{Object}
+use Rattle.mw_model.specs.Grammar.{Labels, Unused, Label, is_begun, labelled, complete}
+use Rattle.mw_read.specs.Named.{status, seen, seen_at, Agree}
+
+abbrev pub join : Option (Option Object) → Option Object
+join None = None
+join (Some o) = o
+
+pub begun_is : (n : ℕ) (ls : Labels) → is_begun n ls ≡ is_some (status n ls)
+begun_is n Unused = refl
+begun_is n (Label m x ls) = go (begun_is n ls) (eqb n m)
+  where
+    go : is_begun n ls ≡ is_some (status n ls) → (b : Bool) → (if b then true else is_begun n ls) ≡ is_some (if b then Some x else status n ls)
+    go h true = refl
+    go h false = h
+
+pub named_is : (n : ℕ) (ls : Labels) → labelled n ls ≡ join (status n ls)
+named_is n Unused = refl
+named_is n (Label m x ls) = go (named_is n ls) (eqb n m)
+  where
+    go : labelled n ls ≡ join (status n ls) → (b : Bool) → (if b then x else labelled n ls) ≡ join (if b then Some x else status n ls)
+    go h true = refl
+    go h false = h
+
+-- the map's test of keys is that of the labels
+is_at_eqb : (n q : ℕ) → is_at (nat_cmp n) q ≡ eqb q n
+is_at_eqb n q = grind (arith, common_steps)
+
+seen_cond : (os : List Object) (b : Bool) (o : Option ℕ) (g : Option (Option ℕ)) → seen os (cond b (Some o) g) ≡ (if b then Some (seen_at os o) else seen os g)
+seen_cond os true o g = refl
+seen_cond os false o g = refl
+
+pub insert_is : (os : List Object) (old new : BTreeMap ℕ (Option ℕ)) (n q : ℕ) (o : Option ℕ) → get nat_cmp new q ≡ cond (is_at (nat_cmp n) q) (Some o) (get nat_cmp old q) →
+    seen os (get nat_cmp new q) ≡ (if eqb q n then Some (seen_at os o) else seen os (get nat_cmp old q))
+insert_is os old new n q o h =
+    ap (seen os) h ∙ seen_cond os (is_at (nat_cmp n) q) o (get nat_cmp old q) ∙ ap (λ b. if b then Some (seen_at os o) else seen os (get nat_cmp old q)) (is_at_eqb n q)
+
+seen_some : (os : List Object) (g : Option (Option ℕ)) → is_some (seen os g) ≡ is_some g
+seen_some os None = refl
+seen_some os (Some o) = refl
+
+pub known : (os : List Object) (m : BTreeMap ℕ (Option ℕ)) (ls : Labels) (n : ℕ) → Agree os m ls → is_begun n ls ≡ is_some (get nat_cmp m n)
+known os m ls n h = begun_is n ls ∙ ap is_some (sym (h n)) ∙ seen_some os (get nat_cmp m n)
+
+pub names : (os : List Object) (m : BTreeMap ℕ (Option ℕ)) (ls : Labels) (n : ℕ) → Agree os m ls → join (seen os (get nat_cmp m n)) ≡ labelled n ls
+names os m ls n h = ap join (h n) ∙ sym (named_is n ls)
+
+-- a label that is begun becomes complete, and all others stay
+pub complete_is : (n q : ℕ) (x : Object) (ls : Labels) → is_begun n ls ≡ true → status q (complete n x ls) ≡ (if eqb q n then Some (Some x) else status q ls)
+complete_is n q x Unused h = absurd (true≢false (sym h))
+complete_is n q x (Label m y ls) h = go (λ k. complete_is n q x ls k) (eqb n m) refl
+  where
+    at_m : eqb n m ≡ true → eqb q m ≡ eqb q n
+    at_m e = ap (eqb q) (sym (eqb-true n m e))
+
+    later : is_begun n ls ≡ true → (b c : Bool) → eqb q m ≡ b → eqb q n ≡ c → eqb n m ≡ false →
+        (if b then Some y else (if c then Some (Some x) else status q ls)) ≡ (if c then Some (Some x) else (if b then Some y else status q ls))
+    later k true true u v w = absurd (true≢false (sym (ap (λ z. eqb z m) (sym (eqb-true q n v)) ∙ u) ∙ w))
+    later k true false u v w = refl
+    later k false c u v w = refl
+
+    go : (is_begun n ls ≡ true → status q (complete n x ls) ≡ (if eqb q n then Some (Some x) else status q ls)) → (b : Bool) → eqb n m ≡ b → status q (complete n x (Label m y ls)) ≡ (if eqb q n then Some (Some x) else status q (Label m y ls))
+    go f true e =
+        ap (λ (v : Bool). status q (if v then Label m (Some x) ls else Label m y (complete n x ls))) e
+        ∙ ap (λ v. if v then Some (Some x) else status q ls) (at_m e)
+        ∙ twice (eqb q n) (eqb q m) (sym (at_m e))
+      where
+        twice : (c d : Bool) → c ≡ d → (if c then Some (Some x) else status q ls) ≡ (if c then Some (Some x) else (if d then Some y else status q ls))
+        twice true d u = refl
+        twice false d u = ap (λ v. if v then Some y else status q ls) u
+    go f false e =
+        let k : is_begun n ls ≡ true = sym (ap (λ v. if v then true else is_begun n ls) e) ∙ h in
+        ap (λ (v : Bool). status q (if v then Label m (Some x) ls else Label m y (complete n x ls))) e
+        ∙ ap (λ v. if eqb q m then Some y else v) (f k)
+        ∙ later k (eqb q m) (eqb q n) refl refl e
+
+pub complete_not : (n : ℕ) (x : Object) (ls : Labels) → is_begun n ls ≡ false → complete n x ls ≡ ls
+complete_not n x Unused h = refl
+complete_not n x (Label m y ls) h = go (λ k. complete_not n x ls k) (eqb n m) refl
+  where
+    go : (is_begun n ls ≡ false → complete n x ls ≡ ls) → (b : Bool) → eqb n m ≡ b → complete n x (Label m y ls) ≡ Label m y ls
+    go f true e = absurd (true≢false (sym (ap (λ v. if v then true else is_begun n ls) e) ∙ h))
+    go f false e =
+        ap (λ v. if v then Label m (Some x) ls else Label m y (complete n x ls)) e
+        ∙ ap (Label m y) (f (sym (ap (λ v. if v then true else is_begun n ls) e) ∙ h))

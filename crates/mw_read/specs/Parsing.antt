@@ -1,0 +1,147 @@
+-- What a parser stands for: what is open, and the text that has begun.
+use Rattle.std.specs.Prelude.{◌≡◌, ℕ, ◌+◌, ◌*◌, ◌<◌, ◌≤◌, Bool, true, false, List, [], ◌∷◌, ◌++◌, length, take, drop, Some, if◌then◌else◌}
+use Rattle.mw_model.specs.Object.{Object, is_name_byte}
+use Rattle.mw_model.specs.Lexemes as lex
+use Rattle.mw_model.specs.Lexemes.{class, Lexeme, Stray, fault, TOKEN, Ending, Ends, Goes, all_are, is_constituent, is_digit, glued, glued_bar, lexemes_from}
+use Rattle.mw_model.specs.Grammar.{Book, book, and_events}
+use Rattle.mw_read.specs.Machine.{State, Idle}
+use Rattle.mw_read.specs.Resume.{resume}
+use Rattle.mw_read.specs.Piles.{pile_of, is_ready, fault_of}
+use Rattle.mw_read.specs.Stacks.{IsStack}
+use Rattle.mw_read.specs.Held.{Holds, Completes}
+use Rattle.mw_read.specs.declared.reader.Begun.{Begun}
+use Rattle.mw_read.specs.declared.reader.Begun.TheVariants.{Nothing, Comment, Token, Bars, Barred, Hash, AfterToken, AfterBar}
+use Rattle.mw_read.specs.declared.reader.Reader.{Reader}
+use Rattle.mw_read.specs.declared.step.Outcome.{Outcome}
+use Rattle.mw_read.specs.declared.step.Outcome.TheVariants as outcomes
+
+-- the bytes of the text that has begun; of a comment its first byte is enough
+abbrev pub text_of : Begun → List ℕ → List ℕ
+text_of Nothing t = []
+text_of Comment t = 59 ∷ []
+text_of Token t = t
+text_of Bars t = 124 ∷ t
+text_of Barred t = 124 ∷ (t ++ 124 ∷ [])
+text_of Hash t = 35 ∷ t
+text_of AfterToken t = []
+text_of AfterBar t = []
+
+-- the lexemes of these bytes at o, directly behind an atom
+abbrev pub behind : (ℕ → Bool) → Ending → ℕ → List ℕ → List Lexeme
+behind bad e o [] = lexemes_from e o 0 []
+behind bad e o (b ∷ x) = if bad b then Stray (fault TOKEN o) ∷ lexemes_from e o 0 (b ∷ x) else lexemes_from e o 0 (b ∷ x)
+
+-- the lexemes of the text that has begun and the bytes behind it
+abbrev pub ahead : Ending → Begun → List ℕ → ℕ → List ℕ → List Lexeme
+ahead e AfterToken t o x = behind glued e o x
+ahead e AfterBar t o x = behind glued_bar e o x
+ahead e Nothing t o x = lexemes_from e o 0 x
+ahead e Comment t o x = lexemes_from e o 0 (59 ∷ x)
+ahead e Token t o x = lexemes_from e o 0 (t ++ x)
+ahead e Bars t o x = lexemes_from e o 0 (124 ∷ (t ++ x))
+ahead e Barred t o x = lexemes_from e o 0 (124 ∷ (t ++ 124 ∷ x))
+ahead e Hash t o x = lexemes_from e o 0 (35 ∷ (t ++ x))
+
+-- what the book comes to where these bytes follow
+abbrev pub meaning_of : Ending → State → Reader → List ℕ → Book
+meaning_of e s p x = resume s (ahead e p.begun p.token.items p.start x)
+
+-- Behind a datum that is complete something follows, or the end; a token does not go on.
+abbrev pub Fits : Begun → Ending → List ℕ → Type 0
+Fits AfterToken e (b ∷ x) = is_constituent b ≡ false
+Fits AfterToken Goes [] = ⊥
+Fits AfterToken Ends [] = Unit {0}
+Fits AfterBar e (b ∷ x) = Unit {0}
+Fits AfterBar Goes [] = ⊥
+Fits AfterBar Ends [] = Unit {0}
+Fits m e x = Unit {0}
+
+-- the bytes that begin or go on with a text
+abbrev pub IsText : Begun → List ℕ → Type 0
+IsText Token t = all_are is_constituent t ≡ true
+IsText Bars t = all_are is_name_byte t ≡ true
+IsText Barred t = (all_are is_name_byte t ≡ true) × (0 < length t)
+IsText Hash t = (all_are is_digit t ≡ true) × (length t ≤ 9)
+IsText m t = Unit {0}
+
+-- a datum has begun
+abbrev pub is_inside : Begun → Bool
+is_inside Token = true
+is_inside Bars = true
+is_inside Barred = true
+is_inside Hash = true
+is_inside m = false
+
+pub record IsReader (os : List Object) (p : Reader) : Type 0 where
+  pub stack : IsStack os p.stack
+  pub text : IsText p.begun p.token.items
+  pub ready : is_inside p.begun ≡ true → is_ready (pile_of os p.stack.layers.items) ≡ false
+
+-- What a parser does with the first n bytes of the rest, or with all that it saw of it.
+abbrev pub Advances : List Object → State → Reader → List ℕ → Outcome → ℕ → Reader → Type 0
+Advances os t old rest outcomes.Pending n new =
+    (u : State) × Holds os new.stack u × IsReader os new × ((e : Ending) (z : List ℕ) → Fits new.begun e z → meaning_of e t old (take n rest ++ z) ≡ meaning_of e u new z)
+Advances os t old rest (outcomes.Datum r) n new =
+    (x : Object) × Completes os new.stack r x × IsReader os new × ((e : Ending) (z : List ℕ) → Fits new.begun e z → meaning_of e t old (take n rest ++ z) ≡ and_events x (meaning_of e Idle new z))
+Advances os t old rest (outcomes.Fault f) n new = (e : Ending) (x : List ℕ) → meaning_of e t old (rest ++ x) ≡ book [] (Some (fault_of f))
+
+-- the label has ended, unless it is a fault
+abbrev pub EndsHash : Outcome → Reader → Reader → Type 0
+EndsHash (outcomes.Fault f) old new = Unit {0}
+EndsHash r old new = (new.begun ≡ Nothing) × (new.start ≡ old.start + 2 + length old.token.items)
+
+-- the number of bytes taken, where a text of n bytes has begun at o
+abbrev pub offset_at : Begun → ℕ → ℕ → ℕ
+offset_at Nothing n o = o
+offset_at Comment n o = o + 1
+offset_at Token n o = o + n
+offset_at Bars n o = o + n + 1
+offset_at Barred n o = o + n + 2
+offset_at Hash n o = o + n + 1
+offset_at AfterToken n o = o
+offset_at AfterBar n o = o
+
+abbrev pub offset_of : Reader → ℕ
+offset_of p = offset_at p.begun (length p.token.items) p.start
+
+-- a text that may end with no further byte
+abbrev pub weight : Begun → ℕ
+weight Token = 1
+weight Barred = 1
+weight m = 0
+
+-- a token that has begun has a byte
+abbrev pub IsStarted : Begun → List ℕ → Type 0
+IsStarted Token t = 0 < length t
+IsStarted m t = Unit {0}
+
+-- n bytes of the rest were taken, and what is left may follow
+pub record Moved (old : Reader) (rest : List ℕ) (n : ℕ) (new : Reader) : Type 0 where
+  pub offset : offset_of new ≡ offset_of old + n
+  pub left : Fits new.begun Goes (drop n rest)
+  pub started : IsStarted new.begun new.token.items
+  -- a byte was taken, or a text has ended
+  pub less : 0 < length rest → weight new.begun < weight old.begun + 2 * n
+
+abbrev pub Moves : Outcome → Reader → List ℕ → ℕ → Reader → Type 0
+Moves (outcomes.Fault f) old rest n new = Unit {0}
+Moves r old rest n new = Moved old rest n new
+
+-- Does g say whether byte b may not stand behind what was read?
+abbrev pub IsBehind : Begun → Bool → ℕ → Type 0
+IsBehind Nothing g b = g ≡ false
+IsBehind AfterToken g b = g ≡ glued b
+IsBehind AfterBar g b = g ≡ glued_bar b
+IsBehind m g b = ⊥
+
+-- the first byte is of this class
+abbrev pub IsFirst : lex.Class → List ℕ → Type 0
+IsFirst k [] = ⊥
+IsFirst k (b ∷ x) = class b ≡ k
+
+-- these bytes begin such a text
+abbrev pub Begins : Begun → List ℕ → Type 0
+Begins Bars x = IsFirst lex.Bar x
+Begins Hash x = IsFirst lex.Hash x
+Begins Token x = IsFirst lex.Constituent x
+Begins m x = ⊥

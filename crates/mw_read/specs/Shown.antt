@@ -1,0 +1,21 @@
+-- The members of an event that its line shows.
+use Rattle.std.specs.Prelude.{◌≡◌, ℕ, List, Option, Some, None}
+use Rattle.mw_model.specs.Object.{Object}
+use Rattle.mw_model.specs.Report.{dash, symbol_text, word_text, label_text}
+use Rattle.mw_heap.specs.Objects.{object_at, IsIn}
+
+-- the text of a member, a dash where there is none to show
+abbrev pub shown_text : List Object → Option ℕ → List ℕ
+shown_text os None = dash
+shown_text os (Some r) = symbol_text (object_at os r)
+
+abbrev pub IsShown : List Object → Option ℕ → Type 0
+IsShown os None = Unit {0}
+IsShown os (Some r) = IsIn os r
+
+-- these are shown as the word and the label of the event
+pub record ShowsEvent (os : List Object) (word label : Option ℕ) (e : Object) : Type 0 where
+  pub word_in : IsShown os word
+  pub label_in : IsShown os label
+  pub word_shown : shown_text os word ≡ word_text e
+  pub label_shown : shown_text os label ≡ label_text e

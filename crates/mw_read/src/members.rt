@@ -1,0 +1,50 @@
+//! The members of an event that its line shows.
+ghost use Rattle.std.specs.Prelude.{◌≡◌, true, Option};
+ghost use Rattle.mw_model.specs.Object.{Pair};
+ghost use Rattle.mw_model.specs.Primitive.{is_symbol, name_of};
+ghost use Rattle.mw_model.specs.Term.{is_among};
+ghost use Rattle.mw_model.specs.Report.{labelled_words, symbol_text, label_text};
+ghost use Rattle.mw_heap.specs.Objects.{object_at, IsIn};
+ghost use Rattle.mw_read.specs.Shown.{shown_text, IsShown, ShowsEvent};
+
+use mw_heap::{Heap, Ref, View};
+
+// The object, where it is a symbol.
+fn symbol(heap: &Heap, x: Ref) -> Option<Ref>
+    requires { IsIn heap.now x }
+    ensures within { IsShown heap.now result }
+    ensures shown { shown_text heap.now result ≡ symbol_text (object_at heap.now x) }
+{
+    match heap.view(x) {
+        View::Symbol => Some(x),
+        _ => None,
+    }
+}
+
+// Whether the line of an event that begins with this word shows the second member.
+fn is_labelled(heap: &Heap, word: Ref) -> bool
+    requires within { IsIn heap.now word }
+    requires symbol { is_symbol (object_at heap.now word) ≡ true }
+    ensures { result ≡ is_among (name_of (object_at heap.now word)) labelled_words }
+{
+    let name = heap.name_of(word);
+    name == b"VERIFY".as_slice()
+        || name == b"DEFINE".as_slice()
+        || name == b"SKOLEM".as_slice()
+        || name == b"SWITCH".as_slice()
+}
+
+/// The word and the label of an event, each where the line shows it.
+pub fn shown(heap: &Heap, event: Ref) -> (Option<Ref>, Option<Ref>)
+    requires { IsIn heap.now event }
+    ensures { ShowsEvent heap.now result.0 result.1 (object_at heap.now event) }
+{
+    let View::Pair(word, rest) = heap.view(event) else {
+        return (None, None);
+    };
+    let label = match (heap.view(word), heap.view(rest)) {
+        (View::Symbol, View::Pair(x, _)) if is_labelled(heap, word) => symbol(heap, x),
+        _ => None,
+    };
+    (symbol(heap, word), label)
+}

@@ -1,0 +1,291 @@
+//! What is open: the lists, quotes and labels round the place that is read.
+ghost use Rattle.std.specs.Prelude.{◌≡◌, ℕ, List, [], length, IfOk, MatchOption};
+ghost use Rattle.mw_model.specs.Object.{Object};
+ghost use Rattle.mw_model.specs.Lexemes.{Atom, Open, Close, Dot, Quote, Mark, Ref as Refers};
+ghost use Rattle.mw_model.specs.Grammar.{Labels, quoted};
+ghost use Rattle.mw_heap.specs.Objects.{object_at, IsIn, Grows};
+ghost use Rattle.mw_read.specs.Machine.{State, on};
+ghost use Rattle.mw_read.specs.Named.{Agree, IsListed};
+ghost use Rattle.mw_read.specs.Piles.{IsPile, pile_of, give_to, Does, IsFrames, IsInList, members_of, frames_round, Frames, HoldsDatum, closed_with, is_last, is_item, is_ready, has_member, EndsWith};
+ghost use Rattle.mw_read.specs.Stacks.{IsStack, Means};
+
+use crate::labels::{begin, end, look};
+use crate::step::{Fault, Outcome, SyntaxKind};
+use mw_heap::{Heap, Memory, Ref};
+use std::collections::BTreeMap;
+
+/// A part of what is open.
+#[derive(Clone, Copy, Debug, PartialEq, Eq)]
+pub(crate) enum Layer {
+    /// A list begins.
+    Opening,
+    /// A member of the list.
+    Item(Ref),
+    /// A dot behind the members, whose datum has not come.
+    Dot,
+    /// In place of the dot the datum behind it.
+    Last(Ref),
+    /// A quote that waits for its datum.
+    Quote,
+    /// A label that waits for its datum.
+    Mark(u32),
+}
+
+impl Layer {
+    fn is_last(self) -> bool
+        ensures { result ≡ is_last self }
+    {
+        matches!(self, Layer::Last(_))
+    }
+
+    fn is_item(self) -> bool
+        ensures { result ≡ is_item self }
+    {
+        matches!(self, Layer::Item(_))
+    }
+}
+
+/// What is open, the innermost last, and the labels begun in it.
+#[derive(Drop)]
+pub(crate) struct Stack {
+    pub(crate) layers: Vec<Layer>,
+    pub(crate) labels: BTreeMap<u32, Option<Ref>>,
+    // whether a part is a natural of 2^128 or more, which is kept as 0
+    pub(crate) big: bool,
+}
+
+// `(quote x)`.
+fn quote(heap: &mut Heap, x: Ref) -> Result<Ref, Memory>
+    requires { IsIn heap.old x }
+    ensures grows { Grows heap.old heap.new }
+    ensures made { IfOk result (λ r. IsIn heap.new r × (object_at heap.new r ≡ quoted (object_at heap.old x))) }
+{
+    let word = heap.symbol(b"QUOTE")?;
+    let nil = heap.symbol(b"NIL")?;
+    let tail = heap.cons(x, nil)?;
+    heap.cons(word, tail)
+}
+
+// A datum is complete: quotes and labels that wait for it take it, and then it is a member of what is open, or an event.
+fn give(
+    layers: &mut Vec<Layer>,
+    labels: &mut BTreeMap<u32, Option<Ref>>,
+    heap: &mut Heap,
+    x: Ref,
+) -> Result<Outcome, Memory>
+    requires object { IsIn heap.old x }
+    requires pile { IsPile heap.old layers.old.items }
+    requires waits { IsFrames (pile_of heap.old layers.old.items) }
+    requires listed { IsListed (length heap.old) labels.old }
+    ensures grows { Grows heap.old heap.new }
+    ensures datum { IfOk result (λ r. HoldsDatum heap.new r) }
+    ensures pile { IfOk result (λ r. IsPile heap.new layers.new.items) }
+    ensures listed { IfOk result (λ r. IsListed (length heap.new) labels.new) }
+    ensures turn { IfOk result (λ r. (ks : Labels) → Agree heap.old labels.old ks →
+        Does heap.new layers.new.items labels.new r (give_to (pile_of heap.old layers.old.items) (object_at heap.old x) ks)) }
+{
+    let mut x = x;
+    while let Some(layer) = layers.pop() {
+        match layer {
+            Layer::Quote => x = quote(heap, x)?,
+            Layer::Mark(n) => end(labels, n, x)?,
+            Layer::Dot => {
+                layers.push(Layer::Last(x))?;
+                return Ok(Outcome::Pending);
+            }
+            layer => {
+                layers.push(layer)?;
+                layers.push(Layer::Item(x))?;
+                return Ok(Outcome::Pending);
+            }
+        }
+    }
+    labels.clear();
+    Ok(Outcome::Datum(x))
+}
+
+// The innermost list ends: its members become pairs, the last first.
+fn fold(layers: &mut Vec<Layer>, heap: &mut Heap, last: Ref) -> Result<Ref, Memory>
+    requires object { IsIn heap.old last }
+    requires pile { IsPile heap.old layers.old.items }
+    requires list { IsInList (pile_of heap.old layers.old.items) }
+    ensures grows { Grows heap.old heap.new }
+    ensures pile { IfOk result (λ r. IsPile heap.new layers.new.items) }
+    ensures rest { IfOk result (λ r. pile_of heap.new layers.new.items ≡ Frames (frames_round (pile_of heap.old layers.old.items))) }
+    ensures made { IfOk result (λ r. IsIn heap.new r × (object_at heap.new r ≡ members_of (pile_of heap.old layers.old.items) (object_at heap.old last))) }
+{
+    let mut list = last;
+    while let Some(layer) = layers.pop() {
+        match layer {
+            Layer::Item(x) => list = heap.cons(x, list)?,
+            _ => return Ok(list),
+        }
+    }
+    Ok(list)
+}
+
+pub(crate) fn fault(kind: SyntaxKind, offset: u64) -> Outcome
+    ensures { result ≡ Outcome.Fault (record { kind = kind; offset = offset }) }
+{
+    Outcome::Fault(Fault { kind, offset })
+}
+
+impl Stack {
+    // The innermost layer.
+    fn top(&self) -> Option<Layer>
+        ensures { MatchOption result (self.now.layers.items ≡ []) (λ l. EndsWith self.now.layers.items l) }
+    {
+        self.layers.last().copied()
+    }
+
+    // Has the innermost list the datum behind its dot, so that nothing may begin?
+    pub(crate) fn is_full(&self) -> bool
+        ensures { (os : List Object) → IsStack os self.now → result ≡ is_ready (pile_of os self.now.layers.items) }
+    {
+        match self.top() {
+            Some(layer) => layer.is_last(),
+            None => false,
+        }
+    }
+
+    // A datum without parts.
+    pub(crate) fn atom(&mut self, heap: &mut Heap, x: Ref, offset: u64) -> Result<Outcome, Memory>
+        requires object { IsIn heap.old x }
+        requires stack { IsStack heap.old self.old }
+        ensures grows { Grows heap.old heap.new }
+        ensures stack { IfOk result (λ r. IsStack heap.new self.new) }
+        ensures datum { IfOk result (λ r. HoldsDatum heap.new r) }
+        ensures turn { IfOk result (λ r. (t : State) → Means heap.old self.old t → Does heap.new self.new.layers.items self.new.labels r (on t (Atom offset (object_at heap.old x)))) }
+        ensures big { IfOk result (λ r. self.new.big ≡ self.old.big) }
+    {
+        if self.is_full() {
+            return Ok(fault(SyntaxKind::Dot, offset));
+        }
+        give(&mut self.layers, &mut self.labels, heap, x)
+    }
+
+    // A list begins.
+    pub(crate) fn open(&mut self, offset: u64) -> Result<Outcome, Memory>
+        ensures turn { IfOk result (λ r. (os : List Object) → IsStack os self.old →
+            IsStack os self.new × HoldsDatum os r × ((t : State) → Means os self.old t → Does os self.new.layers.items self.new.labels r (on t (Open offset)))) }
+        ensures big { IfOk result (λ r. self.new.big ≡ self.old.big) }
+    {
+        if self.is_full() {
+            return Ok(fault(SyntaxKind::Dot, offset));
+        }
+        self.layers.push(Layer::Opening)?;
+        Ok(Outcome::Pending)
+    }
+
+    // A quote.
+    pub(crate) fn quote(&mut self, offset: u64) -> Result<Outcome, Memory>
+        ensures turn { IfOk result (λ r. (os : List Object) → IsStack os self.old →
+            IsStack os self.new × HoldsDatum os r × ((t : State) → Means os self.old t → Does os self.new.layers.items self.new.labels r (on t (Quote offset)))) }
+        ensures big { IfOk result (λ r. self.new.big ≡ self.old.big) }
+    {
+        if self.is_full() {
+            return Ok(fault(SyntaxKind::Dot, offset));
+        }
+        self.layers.push(Layer::Quote)?;
+        Ok(Outcome::Pending)
+    }
+
+    // Does a member of a list stand directly before?
+    fn is_behind_member(&self) -> bool
+        ensures { (os : List Object) → IsStack os self.now → result ≡ has_member (pile_of os self.now.layers.items) }
+    {
+        match self.top() {
+            Some(layer) => layer.is_item(),
+            None => false,
+        }
+    }
+
+    // A dot.
+    pub(crate) fn dot(&mut self, offset: u64) -> Result<Outcome, Memory>
+        ensures turn { IfOk result (λ r. (os : List Object) → IsStack os self.old →
+            IsStack os self.new × HoldsDatum os r × ((t : State) → Means os self.old t → Does os self.new.layers.items self.new.labels r (on t (Dot offset)))) }
+        ensures big { IfOk result (λ r. self.new.big ≡ self.old.big) }
+    {
+        if !self.is_behind_member() {
+            return Ok(fault(SyntaxKind::Dot, offset));
+        }
+        self.layers.push(Layer::Dot)?;
+        Ok(Outcome::Pending)
+    }
+
+    // A label.
+    pub(crate) fn mark(&mut self, n: u32, offset: u64) -> Result<Outcome, Memory>
+        ensures turn { IfOk result (λ r. (os : List Object) → IsStack os self.old →
+            IsStack os self.new × HoldsDatum os r × ((t : State) → Means os self.old t → Does os self.new.layers.items self.new.labels r (on t (Mark offset n)))) }
+        ensures big { IfOk result (λ r. self.new.big ≡ self.old.big) }
+    {
+        if self.is_full() {
+            return Ok(fault(SyntaxKind::Dot, offset));
+        }
+        if !begin(&mut self.labels, n)? {
+            return Ok(fault(SyntaxKind::Label, offset));
+        }
+        self.layers.push(Layer::Mark(n))?;
+        Ok(Outcome::Pending)
+    }
+
+    // A reference to a label.
+    pub(crate) fn refer(&mut self, heap: &mut Heap, n: u32, offset: u64) -> Result<Outcome, Memory>
+        requires stack { IsStack heap.old self.old }
+        ensures grows { Grows heap.old heap.new }
+        ensures stack { IfOk result (λ r. IsStack heap.new self.new) }
+        ensures datum { IfOk result (λ r. HoldsDatum heap.new r) }
+        ensures turn { IfOk result (λ r. (t : State) → Means heap.old self.old t → Does heap.new self.new.layers.items self.new.labels r (on t (Refers offset n))) }
+        ensures big { IfOk result (λ r. self.new.big ≡ self.old.big) }
+    {
+        if self.is_full() {
+            return Ok(fault(SyntaxKind::Dot, offset));
+        }
+        match look(&self.labels, n) {
+            Some(x) => give(&mut self.layers, &mut self.labels, heap, x),
+            None => Ok(fault(SyntaxKind::Label, offset)),
+        }
+    }
+
+    // A closing parenthesis.
+    pub(crate) fn close(&mut self, heap: &mut Heap, offset: u64) -> Result<Outcome, Memory>
+        requires stack { IsStack heap.old self.old }
+        ensures grows { Grows heap.old heap.new }
+        ensures stack { IfOk result (λ r. IsStack heap.new self.new) }
+        ensures datum { IfOk result (λ r. HoldsDatum heap.new r) }
+        ensures turn { IfOk result (λ r. (t : State) → Means heap.old self.old t → Does heap.new self.new.layers.items self.new.labels r (on t (Close offset))) }
+        ensures big { IfOk result (λ r. self.new.big ≡ self.old.big) }
+    {
+        let Some(top) = self.top() else {
+            return Ok(fault(SyntaxKind::Close, offset));
+        };
+        match top {
+            Layer::Opening | Layer::Item(_) => {
+                let nil = heap.symbol(b"NIL")?;
+                self.close_with(heap, nil)
+            }
+            Layer::Last(x) => {
+                self.layers.pop();
+                self.close_with(heap, x)
+            }
+            Layer::Dot => Ok(fault(SyntaxKind::Dot, offset)),
+            Layer::Quote | Layer::Mark(_) => Ok(fault(SyntaxKind::Close, offset)),
+        }
+    }
+
+    // The innermost list ends in this object.
+    fn close_with(&mut self, heap: &mut Heap, last: Ref) -> Result<Outcome, Memory>
+        requires object { IsIn heap.old last }
+        requires stack { IsStack heap.old self.old }
+        requires list { IsInList (pile_of heap.old self.old.layers.items) }
+        ensures grows { Grows heap.old heap.new }
+        ensures stack { IfOk result (λ r. IsStack heap.new self.new) }
+        ensures datum { IfOk result (λ r. HoldsDatum heap.new r) }
+        ensures turn { IfOk result (λ r. (ks : Labels) → Agree heap.old self.old.labels ks → Does heap.new self.new.layers.items self.new.labels r
+            (closed_with (pile_of heap.old self.old.layers.items) (object_at heap.old last) ks)) }
+        ensures big { IfOk result (λ r. self.new.big ≡ self.old.big) }
+    {
+        let list = fold(&mut self.layers, heap, last)?;
+        give(&mut self.layers, &mut self.labels, heap, list)
+    }
+}

@@ -1,0 +1,102 @@
+//! What tokens stand for.
+ghost use Rattle.std.specs.Prelude.{◌≡◌, ◌<◌, ◌≤◌, ◌^◌, true, length, MatchOption};
+ghost use Rattle.mw_model.specs.Lexemes.{all_are, is_digit, is_dot, like_number, decimal_value};
+ghost use Rattle.mw_read.specs.Forms.{IsForm};
+
+use crate::class::{digit, sign};
+
+/// What a token stands for.
+#[derive(Clone, Copy, Debug, PartialEq, Eq)]
+pub(crate) enum Form {
+    Natural(u128),
+    /// A natural of 2^128 or more.
+    Large,
+    /// A symbol, whose name is the token with its letters raised.
+    Name,
+    Dot,
+    Bad,
+}
+
+// The number of these digits, where it is below 2^128.
+fn decimal(digits: &[u8]) -> Option<u128>
+    requires { all_are is_digit digits.now ≡ true }
+    ensures { MatchOption result (2 ^ 128 ≤ decimal_value digits.now) (λ n. (n ≡ decimal_value digits.now) × (n < 2 ^ 128)) }
+{
+    let mut n: u128 = 0;
+    for d in digits {
+        let value = (*d - 48) as u128;
+        if n > (u128::MAX - value) / 10 {
+            return None;
+        }
+        n = 10 * n + value;
+    }
+    Some(n)
+}
+
+// The number of at most nine digits.
+pub(crate) fn label(digits: &[u8]) -> u32
+    requires digits { all_are is_digit digits.now ≡ true }
+    requires few { length digits.now ≤ 9 }
+    ensures { result ≡ decimal_value digits.now }
+{
+    let mut n: u32 = 0;
+    for d in digits {
+        n = 10 * n + (*d - 48) as u32;
+    }
+    n
+}
+
+fn all_digits(token: &[u8]) -> bool
+    ensures { result ≡ all_are is_digit token.now }
+{
+    for b in token {
+        if !digit(*b) {
+            return false;
+        }
+    }
+    true
+}
+
+fn all_dots(token: &[u8]) -> bool
+    ensures { result ≡ all_are is_dot token.now }
+{
+    for b in token {
+        if *b != 46 {
+            return false;
+        }
+    }
+    true
+}
+
+// Does the token begin as a number does?
+fn like_number(token: &[u8]) -> bool
+    ensures { result ≡ like_number token.now }
+{
+    match token {
+        [] => false,
+        [b] => digit(*b),
+        [b, c, ..] => digit(*b) || (sign(*b) && digit(*c)),
+    }
+}
+
+// What the token stands for.
+pub(crate) fn form_of(token: &[u8]) -> Form
+    ensures { IsForm token.now result }
+{
+    if all_digits(token) {
+        match decimal(token) {
+            Some(n) => Form::Natural(n),
+            None => Form::Large,
+        }
+    } else if like_number(token) {
+        Form::Bad
+    } else if all_dots(token) {
+        if token.len() == 1 {
+            Form::Dot
+        } else {
+            Form::Bad
+        }
+    } else {
+        Form::Name
+    }
+}
