@@ -13,3 +13,6 @@ mod part;
 
 pub use arity::Arity;
 pub use marks::{Marks, mark_terms};
+
+#[cfg(test)]
+mod tests;
