@@ -8,3 +8,6 @@ mod walk;
 
 pub use sigma::Sigma;
 pub use walk::substitute;
+
+#[cfg(test)]
+mod tests;
