@@ -10,3 +10,6 @@ mod walk;
 pub use read::sigma_of;
 pub use sigma::Sigma;
 pub use walk::substitute;
+
+#[cfg(test)]
+mod tests;

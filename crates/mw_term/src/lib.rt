@@ -15,3 +15,6 @@ mod substitutions;
 pub use arity::Arity;
 pub use marks::{Marks, mark_terms};
 pub use substitutions::is_substitution;
+
+#[cfg(test)]
+mod tests;

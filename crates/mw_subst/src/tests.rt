@@ -1,0 +1,88 @@
+//! Each call once, with ample memory.
+ghost use Rattle.std.specs.Prelude.{◌≡◌, true};
+ghost use Rattle.mw_model.specs.Object.{is_name};
+
+use crate::{Sigma, substitute};
+use mw_heap::{Heap, Memory, Ref};
+use std::alloc::Global;
+use std::process::Abort;
+
+fn finds_the_first(rt: &impl Abort, sigma: &mut Sigma, x: Ref, y: Ref) -> Result<(), Memory> {
+    sigma.put(x, y)?;
+    sigma.put(x, x)?;
+    assert_eq!(rt; sigma.find(x), Some(y));
+    assert_eq!(rt; sigma.find(y), None);
+    Ok(())
+}
+
+#[test]
+fn the_first_pair_counts(rt: HostRuntime) -> Result<(), Memory> {
+    let mut heap = Heap::new(rt.alloc())?;
+    let x = heap.symbol(b"X")?;
+    let y = heap.symbol(b"Y")?;
+    finds_the_first(&rt, &mut Sigma::new(rt.alloc()), x, y)
+}
+
+fn pair(rt: &impl Abort, heap: &mut Heap, first: Ref, second: Ref) -> Result<Ref, Memory> {
+    let count = heap.mark().cells();
+    assert!(rt; first.index() < count);
+    assert!(rt; second.index() < count);
+    heap.cons(first, second)
+}
+
+fn list(rt: &impl Abort, heap: &mut Heap, members: &[Ref]) -> Result<Ref, Memory> {
+    let mut all = heap.symbol(b"NIL")?;
+    for member in members.iter().rev() {
+        all = pair(rt, heap, *member, all)?;
+    }
+    Ok(all)
+}
+
+// The object x with the term for one variable.
+fn with_term(
+    rt: &impl Abort,
+    heap: &mut Heap,
+    alloc: Global,
+    x: Ref,
+    variable: Ref,
+    term: Ref,
+) -> Result<Ref, Memory> {
+    let count = heap.mark().cells();
+    assert!(rt; x.index() < count);
+    assert!(rt; variable.index() < count);
+    assert!(rt; term.index() < count);
+    let mut sigma = Sigma::new(alloc);
+    sigma.put(variable, term)?;
+    substitute(heap, x, &sigma)
+}
+
+fn quoted(rt: &impl Abort, heap: &mut Heap, name: &[u8]) -> Result<Ref, Memory>
+    requires { is_name name.now ≡ true }
+{
+    let quote = heap.symbol(b"QUOTE")?;
+    let x = heap.symbol(name)?;
+    list(rt, heap, &[quote, x])
+}
+
+// The call of F on these.
+fn call(rt: &impl Abort, heap: &mut Heap, first: Ref, second: Ref) -> Result<Ref, Memory> {
+    let f = heap.symbol(b"F")?;
+    list(rt, heap, &[f, first, second])
+}
+
+// (F X 'X) with 'A for X is (F 'A 'X).
+fn substitutes(rt: &impl Abort, heap: &mut Heap, alloc: Global) -> Result<(), Memory> {
+    let x = heap.symbol(b"X")?;
+    let quoted_x = quoted(rt, heap, b"X")?;
+    let quoted_a = quoted(rt, heap, b"A")?;
+    let before = call(rt, heap, x, quoted_x)?;
+    let after = call(rt, heap, quoted_a, quoted_x)?;
+    assert_eq!(rt; with_term(rt, heap, alloc, before, x, quoted_a)?, after);
+    Ok(())
+}
+
+#[test]
+fn variables_become_terms(rt: HostRuntime) -> Result<(), Memory> {
+    let mut heap = Heap::new(rt.alloc())?;
+    substitutes(&rt, &mut heap, rt.alloc())
+}
