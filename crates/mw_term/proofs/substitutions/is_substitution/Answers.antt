@@ -10,20 +10,19 @@ pub returns-then-not-is_pair_of_substitution : goal.returns-then-not-is_pair_of_
 returns-then-not-is_pair_of_substitution c =
     let o = object_at c.args.heap.now in
     λ A marks.
-        sym (c.loop-pair.invariant.2 A marks
-        ∙ (is_substitution_object-pair A (o c.loop-pair.rest) (o c.in-Pair.pair) (o c.in-Pair.more) c.in-Pair.ensures.shows.2
-        ∙ ap (λ b. b && is_substitution_object A (o c.in-Pair.more)) (sym (c.is_pair_of_substitution.ensures A marks) ∙ c.if-not-is_pair_of_substitution.true)))
+    sym (c.loop-pair.invariant.2 A marks
+    ∙ (is_substitution_object-pair A (o c.loop-pair.rest) (o c.in-Pair.pair) (o c.in-Pair.more) c.in-Pair.ensures.shows.2
+    ∙ ap (λ b. b && is_substitution_object A (o c.in-Pair.more)) (sym (c.is_pair_of_substitution.ensures A marks) ∙ c.if-not-is_pair_of_substitution.true)))
 
 pub loop-pair-preserved : goal.loop-pair-preserved
 loop-pair-preserved c =
-    let o = object_at c.args.heap.now in
-    (
-        c.in-Pair.ensures.shows.1,
-        omega (arith, c.in-Pair.ensures.below.1, c.loop-pair.invariant.1),
-        λ A marks.
-            c.loop-pair.invariant.2 A marks
-            ∙ (is_substitution_object-pair A (o c.loop-pair.rest) (o c.in-Pair.pair) (o c.in-Pair.more) c.in-Pair.ensures.shows.2
-            ∙ ap (λ b. b && is_substitution_object A (o c.in-Pair.more)) (sym (c.is_pair_of_substitution.ensures A marks) ∙ c.if-not-is_pair_of_substitution.false)),
+    let o = object_at c.args.heap.now in (
+      c.in-Pair.ensures.shows.1,
+      omega (arith, c.in-Pair.ensures.below.1, c.loop-pair.invariant.1),
+      λ A marks.
+          c.loop-pair.invariant.2 A marks
+          ∙ (is_substitution_object-pair A (o c.loop-pair.rest) (o c.in-Pair.pair) (o c.in-Pair.more) c.in-Pair.ensures.shows.2
+          ∙ ap (λ b. b && is_substitution_object A (o c.in-Pair.more)) (sym (c.is_pair_of_substitution.ensures A marks) ∙ c.if-not-is_pair_of_substitution.false)),
     )
 
 pub returns : goal.returns
