@@ -1,5 +1,5 @@
 -- What a primitive function, or IF, answers at references of a heap.
-use Rattle.std.specs.Prelude.{◌≡◌, ℕ, Bool, true, false, List, [], ◌∷◌, Option, Some, None}
+use Rattle.std.specs.Prelude.{◌≡◌, ℕ, Bool, true, false, List, Option, Some, None}
 use Rattle.mw_model.specs.Object.{Object}
 use Rattle.mw_model.specs.Primitive.{Primitive, primitive_arity, apply, choose, first_value, second_value}
 use Rattle.mw_model.specs.Evaluation.{is_past_range}
