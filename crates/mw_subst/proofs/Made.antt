@@ -1,13 +1,11 @@
 -- Results so far: what is found among them, and how they stay.
-use Rattle.std.proofs.Common.{◌≡◌, ℕ, Bool, true, false, cond, nat_eq, List, [], ◌∷◌, ◌++◌, Option, Some, None, refl, sym, ap, ◌∙◌, subst, eqb-true}
+use Rattle.std.proofs.Common.{◌≡◌, ℕ, Bool, true, false, cond, nat_eq, List, [], ◌∷◌, ◌++◌, Some, refl, sym, ap, ◌∙◌, subst, eqb-true}
 use Rattle.std.specs.Map.{lookup}
-use Rattle.mw_model.specs.Object.{Object, Natural, Symbol, Pair, symbol, same_object}
+use Rattle.mw_model.specs.Object.{Object, Pair, symbol, same_object}
 use Rattle.mw_model.specs.Rules.{substitute_object, substitute_each_object}
 use Rattle.mw_heap.specs.Objects.{object_at, IsIn, Grows}
 use Rattle.mw_heap.proofs.Objects.{object_at-Grows, IsIn-Grows}
-use Rattle.mw_subst.specs.declared.part.Part.{Part}
-use Rattle.mw_subst.specs.declared.part.Part.TheVariants.{Term, Terms}
-use Rattle.mw_subst.specs.Memo.{cell_of, substituted, found, AreResults, AreMade, Adds}
+use Rattle.mw_subst.specs.Memo.{AreResults}
 
 module _ (os : List Object) (f : Object → Object) where
   -- what is found is what f gives

@@ -1,5 +1,5 @@
 -- The parts that wait for one another on the path of a substitution, and what was made so far.
-use Rattle.std.proofs.Common.{◌≡◌, ◌≢◌, ℕ, zero, suc, ◌+◌, ◌*◌, ◌-◌, ◌<◌, ◌≤◌, Bool, true, false, cond, nat_eq, List, [], ◌∷◌, ◌++◌, length, slice_get, Option, Some, None, ◌||◌, ◌⊎◌, inl, inr, refl, sym, ap, ap₂, ◌∙◌, subst, eqb-true, eq-eqb, append_assoc, length-append, suc-mul, arith}
+use Rattle.std.proofs.Common.{◌≡◌, ℕ, zero, suc, ◌+◌, ◌*◌, ◌-◌, ◌<◌, ◌≤◌, Bool, true, false, cond, nat_eq, List, [], ◌∷◌, ◌++◌, length, slice_get, Some, None, ◌||◌, ◌⊎◌, inl, inr, refl, sym, ap, ap₂, ◌∙◌, subst, eqb-true, eq-eqb, length-append, suc-mul, arith}
 use Rattle.std.specs.Map.{lookup, keys_of}
 use Rattle.std.specs.List.{IsDistinct, list_any}
 use Rattle.std.proofs.lemmas.Option.{slice_get_within}
@@ -10,14 +10,13 @@ use Rattle.mw_model.specs.Rules.{substitute_object, substitute_each_object}
 use Rattle.mw_model.proofs.ReadBack.{some_one}
 use Rattle.mw_heap.specs.Objects.{object_at, IsIn, Grows}
 use Rattle.mw_heap.proofs.Lists.{slice_get-append, slice_get-seam, slice_get-push}
-use Rattle.mw_heap.proofs.Objects.{object_at-Grows, IsIn-Grows, length-Grows, Grows-trans}
-use Rattle.mw_subst.specs.declared.memo.Memo.{Memo}
+use Rattle.mw_heap.proofs.Objects.{object_at-Grows, IsIn-Grows, Grows-trans}
 use Rattle.mw_subst.specs.declared.part.Part.{Part}
 use Rattle.mw_subst.specs.declared.part.Part.TheVariants.{Term, Terms}
 use Rattle.mw_subst.specs.Sigma.{sigma_object, AreIn, term_or}
 use Rattle.mw_subst.specs.Memo.{cell_of, IsPartIn, substituted, found, AreResults, AreMade, AreUnique, Adds}
 use Rattle.mw_subst.proofs.SigmaObject.{sigma_object-Grows, lookup-push}
-use Rattle.mw_subst.proofs.Made.{result_found, results-push, results-Grows}
+use Rattle.mw_subst.proofs.Made.{results-push, results-Grows}
 
 -- each entry is of an object below n
 abbrev pub AreSmall : ℕ → List (ℕ × ℕ) → Type 0

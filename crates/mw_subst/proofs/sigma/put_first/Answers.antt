@@ -3,7 +3,6 @@ use Rattle.std.proofs.Common.{◌≡◌, false, Option, None, Some, Bor, is_some
 use Rattle.std.specs.Map.{lookup}
 use Rattle.std.specs.Option.{option_copied}
 use Rattle.indexmap.proofs.CallerLemmas.{insert_entry-new}
-use Rattle.mw_subst.specs.Sigma.{HasOneMore}
 use Rattle.mw_subst.proofs.SigmaObject.{lookup-push}
 use Rattle.mw_subst.proofs.sigma.put_first.Goals as goal
 

@@ -1,5 +1,5 @@
 -- The first pair for a variable counts.
-use Rattle.std.proofs.Common.{◌≡◌, sym, ap, ◌∙◌}
+use Rattle.std.proofs.Common.{sym, ap, ◌∙◌}
 use Rattle.mw_heap.specs.Objects.{object_at}
 use Rattle.mw_subst.proofs.SigmaObject.{image_of, image_of-term_for, term_for-in}
 use Rattle.mw_subst.proofs.walk.image.Goals as goal

@@ -1,5 +1,5 @@
 -- A call is made from its actuals.
-use Rattle.std.proofs.Common.{◌≡◌, sym, ap, ap₂, ◌∙◌}
+use Rattle.std.proofs.Common.{sym, ap, ◌∙◌}
 use Rattle.mw_model.specs.Object.{Pair}
 use Rattle.mw_model.specs.Rules.{substitute_object, substitute_each_object}
 use Rattle.mw_heap.specs.Objects.{object_at}

@@ -1,7 +1,7 @@
 -- Each part is made after the parts that it wants.
-use Rattle.std.proofs.Common.{◌≡◌, ◌+◌, ◌<◌, ◌∷◌, [], ◌++◌, inl, inr, sym, ap, ap₂, ◌∙◌, subst, append_assoc, arith}
+use Rattle.std.proofs.Common.{◌+◌, ◌∷◌, [], inl, inr, sym, ap, ap₂, ◌∙◌, subst, append_assoc, arith}
 use Rattle.mw_model.specs.Rules.{substitute_object}
-use Rattle.mw_heap.specs.Objects.{object_at, IsIn}
+use Rattle.mw_heap.specs.Objects.{IsIn}
 use Rattle.mw_heap.proofs.Objects.{object_at-Grows, length-Grows}
 use Rattle.mw_subst.specs.Sigma.{sigma_object}
 use Rattle.mw_subst.specs.Memo.{cell_of}

@@ -2,7 +2,6 @@
 use Rattle.std.proofs.Common.{◌≡◌, None, sym, ap, ◌∙◌, refl, subst, nat_eq}
 use Rattle.std.specs.Map.{lookup}
 use Rattle.indexmap.proofs.CallerLemmas.{insert_entry-new}
-use Rattle.mw_subst.specs.declared.part.Part.TheVariants.{Term, Terms}
 use Rattle.mw_subst.specs.Memo.{Adds, found}
 use Rattle.mw_subst.proofs.memo.Memo.add.Goals as goal
 

@@ -1,5 +1,5 @@
 -- The first pairs, with one more at the end.
-use Rattle.std.proofs.Common.{◌≡◌, sym, ap, ◌∙◌, ◌++◌, ◌∷◌, [], None, Some, cond, nat_eq}
+use Rattle.std.proofs.Common.{sym, ap, ◌∙◌, ◌++◌, ◌∷◌, [], None, Some, cond, nat_eq}
 use Rattle.mw_subst.specs.Sigma.{term_for, term_or}
 use Rattle.mw_subst.proofs.SigmaObject.{term_for-push}
 use Rattle.mw_subst.proofs.sigma.Sigma.put.Goals as goal
