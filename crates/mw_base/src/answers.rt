@@ -1,15 +1,12 @@
 //! Answers from what was found.
-ghost use Rattle.std.specs.Prelude.{◌≡◌, ◌+◌, ◌*◌, ◌-◌, true, false, ltb, not, MatchOption};
+ghost use Rattle.std.specs.Prelude.{◌≡◌, true, false, MatchOption};
 ghost use Rattle.mw_model.specs.Object.{Natural, Symbol, Pair, is_name, name_of_bytes, truth_of};
-ghost use Rattle.mw_model.specs.Primitive.{number};
-ghost use Rattle.mw_model.specs.Evaluation.{range};
 ghost use Rattle.mw_heap.specs.Objects.{object_at, IsIn, Grows};
 ghost use Rattle.mw_heap.specs.Parts.{part_at, IsPart};
 ghost use Rattle.mw_base.specs.declared.applied.Applied.TheVariants.{Overflow};
 ghost use Rattle.mw_base.specs.Answers.{Answers};
 
 use crate::Applied;
-use crate::values::number;
 use mw_heap::{Heap, Memory, Ref};
 
 // The symbol of this name.

@@ -5,7 +5,7 @@ ghost use Rattle.mw_base.specs.Answers.{Answers, arity, value_of, overflows};
 
 use crate::Applied;
 use crate::answers::{natural, pair, part, truth};
-use crate::values::{is_before, is_natural, is_pair, is_symbol, number};
+use crate::values::{is_before, is_natural, is_symbol};
 use mw_heap::{Heap, Primitive, Ref};
 
 /// The value of a primitive function, or of IF, at as many arguments as it takes.
@@ -31,7 +31,7 @@ fn apply_to_one(heap: &mut Heap, p: Primitive, a: Ref) -> Applied
 {
     match p {
         Primitive::Consp => {
-            let holds = is_pair(heap, Some(a));
+            let holds = heap.is_pair(Some(a));
             truth(heap, holds)
         }
         Primitive::Car => {
@@ -72,19 +72,19 @@ fn apply_to_two(heap: &mut Heap, p: Primitive, a: Ref, b: Ref) -> Applied
             truth(heap, holds)
         }
         Primitive::Less => {
-            let holds = number(heap, Some(a)) < number(heap, Some(b));
+            let holds = heap.number(Some(a)) < heap.number(Some(b));
             truth(heap, holds)
         }
         Primitive::Plus => {
-            let sum = number(heap, Some(a)).checked_add(number(heap, Some(b)));
+            let sum = heap.number(Some(a)).checked_add(heap.number(Some(b)));
             natural(heap, sum)
         }
         Primitive::Minus => {
-            let difference = number(heap, Some(a)).saturating_sub(number(heap, Some(b)));
+            let difference = heap.number(Some(a)).saturating_sub(heap.number(Some(b)));
             natural(heap, Some(difference))
         }
         Primitive::Times => {
-            let product = number(heap, Some(a)).checked_mul(number(heap, Some(b)));
+            let product = heap.number(Some(a)).checked_mul(heap.number(Some(b)));
             natural(heap, product)
         }
         _ => unreachable!(),

@@ -1,12 +1,12 @@
 //! Whether an object is the value of a primitive function, told without making the value.
-ghost use Rattle.std.specs.Prelude.{◌≡◌, ℕ, ◌+◌, ◌<◌, ◌^◌, [], ◌∷◌};
+ghost use Rattle.std.specs.Prelude.{◌≡◌, ℕ, ◌<◌, ◌^◌, [], ◌∷◌};
 ghost use Rattle.std.specs.Option.{SomeIff};
 ghost use Rattle.mw_model.specs.Object.{Natural, Pair, same_object, truth_of, car, cdr};
 ghost use Rattle.mw_model.specs.Primitive.{choose};
 ghost use Rattle.mw_heap.specs.Parts.{part_at, IsPart};
 ghost use Rattle.mw_base.specs.Answers.{value_of};
 
-use crate::values::{is_before, is_natural, is_pair, is_symbol, number};
+use crate::values::{is_before, is_natural, is_symbol};
 use mw_heap::{Heap, Primitive, Ref, View};
 
 // Whether v is T or NIL, as the test says.
@@ -103,19 +103,19 @@ pub(crate) fn is_value(
     match p {
         Primitive::If => is_choice(heap, a, b, c, v),
         Primitive::Equal => is_truth(heap, heap.is_same(a, b), v),
-        Primitive::Consp => is_truth(heap, is_pair(heap, a), v),
+        Primitive::Consp => is_truth(heap, heap.is_pair(a), v),
         Primitive::Cons => is_pair_of(heap, a, b, v),
         Primitive::Car => heap.is_same(first_part(heap, a), v),
         Primitive::Cdr => heap.is_same(second_part(heap, a), v),
         Primitive::Symbolp => is_truth(heap, is_symbol(heap, a), v),
         Primitive::SymbolLess => is_truth(heap, is_before(heap, a, b), v),
         Primitive::Natp => is_truth(heap, is_natural(heap, a), v),
-        Primitive::Less => is_truth(heap, number(heap, a) < number(heap, b), v),
-        Primitive::Plus => is_number(heap, number(heap, a).checked_add(number(heap, b)), v),
+        Primitive::Less => is_truth(heap, heap.number(a) < heap.number(b), v),
+        Primitive::Plus => is_number(heap, heap.number(a).checked_add(heap.number(b)), v),
         Primitive::Minus => {
-            let difference = number(heap, a).saturating_sub(number(heap, b));
+            let difference = heap.number(a).saturating_sub(heap.number(b));
             is_number(heap, Some(difference), v)
         }
-        Primitive::Times => is_number(heap, number(heap, a).checked_mul(number(heap, b)), v),
+        Primitive::Times => is_number(heap, heap.number(a).checked_mul(heap.number(b)), v),
     }
 }

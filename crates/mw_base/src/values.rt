@@ -1,24 +1,10 @@
-//! What an object counts as where a primitive function takes a number, a name or a part.
+//! What an object counts as where a primitive function takes a name, and tests of its kind.
 ghost use Rattle.std.specs.Prelude.{◌≡◌};
 ghost use Rattle.mw_model.specs.Object.{is_before_bytes};
-ghost use Rattle.mw_model.specs.Primitive.{number, name_of, is_symbol, is_natural, is_pair};
+ghost use Rattle.mw_model.specs.Primitive.{name_of, is_symbol, is_natural};
 ghost use Rattle.mw_heap.specs.Parts.{part_at, IsPart};
 
 use mw_heap::{Heap, Ref, View};
-
-// The number; 0 of what is no natural.
-pub(crate) fn number(heap: &Heap, x: Option<Ref>) -> u128
-    requires { IsPart heap.now x }
-    ensures { result ≡ number (part_at heap.now x) }
-{
-    let Some(x) = x else {
-        return 0;
-    };
-    match heap.view(x) {
-        View::Nat(n) => n,
-        _ => 0,
-    }
-}
 
 // The bytes of the name; those of NIL of what is no symbol.
 pub(crate) fn name(heap: &Heap, x: Option<Ref>) -> &[u8]
@@ -52,17 +38,6 @@ pub(crate) fn is_natural(heap: &Heap, x: Option<Ref>) -> bool
 {
     match x {
         Some(x) => matches!(heap.view(x), View::Nat(_)),
-        None => false,
-    }
-}
-
-// Whether it is a pair.
-pub(crate) fn is_pair(heap: &Heap, x: Option<Ref>) -> bool
-    requires { IsPart heap.now x }
-    ensures { result ≡ is_pair (part_at heap.now x) }
-{
-    match x {
-        Some(x) => matches!(heap.view(x), View::Pair(_, _)),
         None => false,
     }
 }

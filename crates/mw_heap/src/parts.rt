@@ -1,7 +1,8 @@
 //! Parts of objects by their place, and tests of what a part is. A part is a reference, or nothing where the object has no such
 //! part, which counts as NIL: so each call here has an answer for each object.
-ghost use Rattle.std.specs.Prelude.{◌≡◌, true};
+ghost use Rattle.std.specs.Prelude.{◌≡◌, ◌<◌, true, IfSome};
 ghost use Rattle.mw_model.specs.Object.{Symbol, Pair, name_of_bytes, is_name, same_object, car, cdr, second_of, third_of, NIL, list1, list2, list3};
+ghost use Rattle.mw_model.specs.Primitive.{number, is_pair};
 ghost use Rattle.mw_heap.specs.Objects.{object_at, IsIn};
 ghost use Rattle.mw_heap.specs.Parts.{part_at, IsPart};
 
@@ -13,6 +14,7 @@ impl Heap {
         requires { IsIn self.now x }
         ensures within { IsPart self.now result }
         ensures value { part_at self.now result ≡ car (object_at self.now x) }
+        ensures older { IfSome result (λ r. r < x) }
     {
         match self.view(x) {
             View::Pair(first, _) => Some(first),
@@ -25,6 +27,7 @@ impl Heap {
         requires { IsIn self.now x }
         ensures within { IsPart self.now result }
         ensures value { part_at self.now result ≡ cdr (object_at self.now x) }
+        ensures older { IfSome result (λ r. r < x) }
     {
         match self.view(x) {
             View::Pair(_, second) => Some(second),
@@ -37,6 +40,7 @@ impl Heap {
         requires { IsIn self.now x }
         ensures within { IsPart self.now result }
         ensures value { part_at self.now result ≡ second_of (object_at self.now x) }
+        ensures older { IfSome result (λ r. r < x) }
     {
         self.car(self.cdr(x)?)
     }
@@ -46,8 +50,34 @@ impl Heap {
         requires { IsIn self.now x }
         ensures within { IsPart self.now result }
         ensures value { part_at self.now result ≡ third_of (object_at self.now x) }
+        ensures older { IfSome result (λ r. r < x) }
     {
         self.second_of(self.cdr(x)?)
+    }
+
+    /// The number; 0 of what is no natural.
+    pub fn number(&self, x: Option<Ref>) -> u128
+        requires { IsPart self.now x }
+        ensures { result ≡ number (part_at self.now x) }
+    {
+        let Some(x) = x else {
+            return 0;
+        };
+        match self.view(x) {
+            View::Nat(n) => n,
+            _ => 0,
+        }
+    }
+
+    /// Whether it is a pair.
+    pub fn is_pair(&self, x: Option<Ref>) -> bool
+        requires { IsPart self.now x }
+        ensures { result ≡ is_pair (part_at self.now x) }
+    {
+        match x {
+            Some(x) => matches!(self.view(x), View::Pair(_, _)),
+            None => false,
+        }
     }
 
     /// Whether it is the symbol of this name.

@@ -6,3 +6,5 @@ mod Sums
 mod Beyond
 pub mod Jumps
 pub mod Computed
+pub mod Compared
+pub mod Passed

@@ -1,2 +1,4 @@
 pub mod Shape
 pub mod Descending
+pub mod Turns
+pub mod Leading

@@ -1,4 +1,5 @@
-// Ordinals below epsilon-zero: laws of their order, of descent, and of the built-in functions that compute them.
+//! Ordinals below epsilon-zero: laws of their order, of descent, and of the built-in functions that compute them; and the order and
+//! the test of ordinals over a heap.
 #![tactic(auto)]
 
 ghost use Rattle.std.specs.Prelude.{ℕ, suc, ◌≡◌, ◌≢◌, ◌⊎◌, ◌↔◌, true, false, ltb, List, [], ◌∷◌};
@@ -12,6 +13,14 @@ ghost use Rattle.mw_model.specs.Theory.{BeginsWith};
 ghost use Rattle.mw_model.specs.Descent.{Question, goal, up};
 ghost use Rattle.mw_ordinal.specs.Shape.{IsNormal};
 ghost use Rattle.mw_ordinal.specs.Descending.{Passes, Ends};
+
+mod heap_order;
+mod turn;
+
+pub use heap_order::{is_ordinal, ordinal_less};
+
+#[cfg(test)]
+mod tests;
 
 /// Which objects are ordinals: each natural, no symbol, and of the pairs just those ((e . c) . r) in normal form.
 pub fn shape_of_ordinals()
