@@ -202,6 +202,15 @@ impl Heap {
         Mark::new(self.cells.len())
     }
 
+    /// The number of objects up to this one, with it, to go back to.
+    pub fn mark_behind(&self, x: Ref) -> Mark
+        requires { IsIn self.now x }
+        ensures { result ≡ x + 1 }
+    {
+        let _ = &self.cells;
+        Mark::new(x.index() + 1)
+    }
+
     /// The object at this index, in the order in which objects came.
     pub fn nth(&self, index: usize) -> Ref
         requires { index < length self.now }
@@ -252,6 +261,7 @@ mod tests {
         assert_eq!(rt; heap.nth(0), car);
         assert_eq!(rt; car.index(), 0);
         assert_eq!(rt; heap.lengths(car), (3, 6));
+        assert_eq!(rt; heap.mark_behind(car), heap.mark());
         Ok(())
     }
 }
