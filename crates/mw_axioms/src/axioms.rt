@@ -11,7 +11,7 @@ use crate::table::{OF_TIMES, SHARED};
 use mw_heap::{Heap, Memory, Profile, Ref};
 use std::marker::Model;
 
-/// The axioms of the primitives, in order, as references to the objects of their formulas.
+/// Axioms, in order, as references to the objects of their formulas.
 #[derive(Drop)]
 pub struct Axioms {
     formulas: Vec<Ref>,
@@ -26,6 +26,13 @@ impl Model for Axioms {
 }
 
 impl Axioms {
+    /// These references, in the memory that they have.
+    pub fn from_vec(formulas: Vec<Ref>) -> Axioms
+        ensures { result ≡ formulas.items }
+    {
+        Axioms { formulas }
+    }
+
     /// The references, in order.
     pub fn as_slice(&self) -> &[Ref]
         ensures { result.now ≡ self.now }

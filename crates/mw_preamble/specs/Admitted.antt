@@ -1,0 +1,15 @@
+-- What the built-in definitions of the first profile bring to a theory.
+use Rattle.std.specs.Prelude.{List, [], ◌∷◌, ◌++◌}
+use Rattle.mw_model.specs.Term.{Formula}
+use Rattle.mw_model.specs.Primitive.{One}
+use Rattle.mw_model.specs.Definition.{Block, Definitions, block_axioms}
+use Rattle.mw_model.specs.BuiltIn.{built_in_definitions}
+
+-- They are long: a proof opens them by name alone.
+unfoldable pub first_definitions : Definitions
+first_definitions = built_in_definitions One
+
+-- the axioms of the blocks, those of the oldest first
+abbrev pub axioms_in_order : List Block → List Formula
+axioms_in_order [] = []
+axioms_in_order (B ∷ D) = axioms_in_order D ++ block_axioms B

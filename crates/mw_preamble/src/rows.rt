@@ -1,0 +1,67 @@
+//! Admission of the rows of the list.
+ghost use Rattle.std.specs.Prelude.{◌≡◌, ◌++◌, [], ◌∷◌, true, IfOk, OnOk, map, All};
+ghost use Rattle.mw_heap.specs.Objects.{object_at, IsIn, Grows};
+ghost use Rattle.mw_preamble.specs.Rows.{first_rows, is_row, are_rows, with_row, with_rows, axiom_of, axioms_of};
+
+use crate::Preamble;
+use crate::text::ROWS;
+use mw_axioms::Axioms;
+use mw_heap::{Heap, Memory, Ref, View};
+use mw_read::{Reader, Step};
+use mw_term::Arity;
+
+// Reads the list of the rows.
+pub(crate) fn read_rows(heap: &mut Heap) -> Result<Ref, Memory>
+    ensures grows { Grows heap.old heap.new }
+    ensures within { IfOk result (IsIn heap.new) }
+    ensures rows { IfOk result (λ r. object_at heap.new r ≡ first_rows) }
+{
+    let mut reader = Reader::new(heap.alloc());
+    let (step, _) = reader.step(heap, ROWS);
+    match step {
+        Step::Datum(rows) => Ok(rows),
+        _ => Err(Memory),
+    }
+}
+
+// Admits the rows of a list, in order.
+pub(crate) fn admit_rows(heap: &Heap, rows: Ref, mut arity: Arity) -> Result<Preamble, Memory>
+    requires within { IsIn heap.now rows }
+    requires rows { are_rows arity (object_at heap.now rows) ≡ true }
+    ensures within { IfOk result (λ p. All (IsIn heap.now) p.axioms) }
+    ensures axioms { IfOk result (λ p. map (object_at heap.now) p.axioms ≡ axioms_of (object_at heap.now rows)) }
+    ensures arity { IfOk result (λ p. p.arity ≡ with_rows arity (object_at heap.now rows)) }
+{
+    let mut axioms = Vec::new(heap.alloc());
+    let mut rest = rows;
+    while let View::Pair(row, more) = heap.view(rest) {
+        let axiom = admit_row(heap, row, &mut arity)?;
+        axioms.push(axiom)?;
+        rest = more;
+    }
+    Ok(Preamble {
+        axioms: Axioms::from_vec(axioms),
+        arity,
+    })
+}
+
+// Adds what a row names to the table, and gives its axiom.
+fn admit_row(heap: &Heap, row: Ref, arity: &mut Arity) -> Result<Ref, Memory>
+    requires within { IsIn heap.now row }
+    requires row { is_row arity.old (object_at heap.now row) ≡ true }
+    ensures within { IfOk result (IsIn heap.now) }
+    ensures axiom { IfOk result (λ a. object_at heap.now a ≡ axiom_of (object_at heap.now row)) }
+    ensures arity { OnOk result (arity.new ≡ with_row arity.old (object_at heap.now row)) }
+{
+    let View::Pair(name, rest) = heap.view(row) else {
+        unreachable!()
+    };
+    let View::Pair(count, axiom) = heap.view(rest) else {
+        unreachable!()
+    };
+    let View::Nat(count) = heap.view(count) else {
+        unreachable!()
+    };
+    arity.add(heap.name_of(name), count as u64)?;
+    Ok(axiom)
+}
