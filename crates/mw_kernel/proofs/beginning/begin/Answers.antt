@@ -1,0 +1,44 @@
+-- The axioms are those of the initial theory.
+use Rattle.std.proofs.Common.{◌++◌, reverse, map, ap, ap₂, ◌∙◌}
+use Rattle.mw_heap.specs.Objects.{object_at}
+use Rattle.mw_kernel.specs.Knowledge.{put_all}
+use Rattle.mw_kernel.proofs.Initial.{Begins, begun_theory, known_begun, known_last, nil_kept}
+use Rattle.mw_kernel.proofs.beginning.begin.Goals as goal
+
+start : (c : goal.After-drop-primitives-inside-2) → Begins c.build.new.heap c.admit_all.new.heap c.symbol.new.self c.add_axioms.new.heap c.add_axioms-2.new.heap c.in_ok-primitives.primitives c.in_ok-preamble.preamble.axioms c.in_ok-nil.nil c.in_ok-axioms.axioms c.in_ok-axioms-2.axioms c.add_axioms-2.new.known
+start c =
+    let primitives = c.in_ok-primitives.primitives in
+    let definitions = c.in_ok-preamble.preamble.axioms in
+    let n = c.symbol.new.self in
+    let p = c.add_axioms.new.heap in
+    let first = c.in_ok-axioms.ensures in
+    let second = c.in_ok-axioms-2.ensures in
+    record {
+      a_grows = c.admit_all.ensures.grows;
+      b_grows = c.symbol.ensures.grows;
+      n_grows = c.add_axioms.ensures.grows;
+      p_grows = c.add_axioms-2.ensures.grows;
+      primitives_in = c.in_ok-primitives.ensures.within;
+      primitives_are = c.in_ok-primitives.ensures.axioms;
+      definitions_in = c.in_ok-preamble.ensures.within;
+      definitions_are = c.in_ok-preamble.ensures.axioms;
+      nil_in = c.in_ok-nil.ensures.made.0;
+      nil_is = c.in_ok-nil.ensures.made.1;
+      first_in = first.list.0;
+      first_is = first.list.1 ∙ ap (λ xs. put_all (map (object_at n) xs) (object_at n c.in_ok-nil.nil)) c.as_slice.ensures;
+      second_in = second.list.0;
+      second_is = second.list.1 ∙ ap (λ xs. put_all (map (object_at p) xs) (object_at p c.in_ok-axioms.axioms)) c.as_slice-2.ensures;
+      known_is = second.known ∙ ap₂ (λ xs k. reverse xs ++ k) c.as_slice-2.ensures (first.known ∙ ap₂ (λ xs k. reverse xs ++ k) c.as_slice.ensures c.requires.none);
+    }
+
+pub returns-clause-theory : goal.returns-clause-theory
+returns-clause-theory c = begun_theory _ _ _ _ _ _ _ _ _ _ _ (start c)
+
+pub returns-clause-theorems_in : goal.returns-clause-theorems_in
+returns-clause-theorems_in c = nil_kept _ _ _ _ _ _ _ _ _ _ _ (start c)
+
+pub returns-clause-known_in : goal.returns-clause-known_in
+returns-clause-known_in c = known_begun _ _ _ _ _ _ _ _ _ _ _ (start c)
+
+pub returns-clause-known : goal.returns-clause-known
+returns-clause-known c = known_last _ _ _ _ _ _ _ _ _ _ _ (start c)

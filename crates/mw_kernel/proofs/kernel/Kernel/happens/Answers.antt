@@ -1,0 +1,72 @@
+-- By the event's word.
+use Rattle.std.proofs.Common.{◌≡◌, false, None, refl, ap, ◌∙◌, subst}
+use Rattle.mw_model.specs.Fate.{event_word, is_out_of_range, show}
+use Rattle.mw_model.specs.Printing.{text_of}
+use Rattle.mw_model.specs.Version.{as_taken}
+use Rattle.mw_heap.specs.Objects.{object_at}
+use Rattle.mw_kernel.specs.Knowledge.{theory_of}
+use Rattle.mw_kernel.specs.Words.{IsEvent}
+use Rattle.mw_kernel.specs.declared.word.Event.TheVariants.{Verify, Print}
+use Rattle.mw_kernel.proofs.Happening.{IfOk-map, OnOk-map, OnOk-from, show_stays, none_happens, shown_happens, verified_happens}
+use Rattle.mw_kernel.proofs.kernel.Kernel.happens.Goals as goal
+
+pub returns-in_default-clause-fate : goal.returns-in_default-clause-fate
+returns-in_default-clause-fate c =
+    let old = c.args.self.now in
+    let heap_is = ap (λ v. v.objects) c.self.view_is in
+    let x = object_at old.objects c.args.event in
+    let in_range = subst (λ os. is_out_of_range (object_at os c.args.event) ≡ false) heap_is c.event_of.ensures.in_range in
+    let none = subst (λ os. event_word (as_taken (object_at os c.args.event)) ≡ None) heap_is c.in_default.ensures.event in
+    ap (λ r. r.0) (none_happens (theory_of old) old.steps x in_range none)
+
+pub returns-in_default-clause-theory : goal.returns-in_default-clause-theory
+returns-in_default-clause-theory c =
+    let old = c.args.self.now in
+    let heap_is = ap (λ v. v.objects) c.self.view_is in
+    let x = object_at old.objects c.args.event in
+    let in_range = subst (λ os. is_out_of_range (object_at os c.args.event) ≡ false) heap_is c.event_of.ensures.in_range in
+    let none = subst (λ os. event_word (as_taken (object_at os c.args.event)) ≡ None) heap_is c.in_default.ensures.event in
+    ap (λ r. r.1) (none_happens (theory_of old) old.steps x in_range none)
+
+pub returns-in-Print-clause-fate : goal.returns-in-Print-clause-fate
+returns-in-Print-clause-fate c =
+    let old = c.args.self.now in
+    let t = theory_of old in
+    let heap_is = ap (λ v. v.objects) c.self.view_is in
+    let x = object_at old.objects c.args.event in
+    let in_range = subst (λ os. is_out_of_range (object_at os c.args.event) ≡ false) heap_is c.event_of.ensures.in_range in
+    let event = subst (λ os. IsEvent os c.args.event (Print c.in-Print.x)) heap_is (subst (IsEvent c.self.inside.heap c.args.event) c.in-Print.is c.in-Some.ensures.event) in
+    IfOk-map c.shown.result _ _ (λ f h. h t ∙ (ap (λ os. (show t (text_of (object_at os c.in-Print.x))).0) heap_is ∙ ap (λ r. r.0) (shown_happens t old.steps x in_range (object_at old.objects c.in-Print.x) event.0))) c.shown.ensures
+
+pub returns-in-Print-clause-theory : goal.returns-in-Print-clause-theory
+returns-in-Print-clause-theory c =
+    let old = c.args.self.now in
+    let t = theory_of old in
+    let heap_is = ap (λ v. v.objects) c.self.view_is in
+    let x = object_at old.objects c.args.event in
+    let in_range = subst (λ os. is_out_of_range (object_at os c.args.event) ≡ false) heap_is c.event_of.ensures.in_range in
+    let event = subst (λ os. IsEvent os c.args.event (Print c.in-Print.x)) heap_is (subst (IsEvent c.self.inside.heap c.args.event) c.in-Print.is c.in-Some.ensures.event) in
+    let y = object_at old.objects c.in-Print.x in
+    OnOk-from c.shown.result _ (show_stays t (text_of y) ∙ ap (λ r. r.1) (shown_happens t old.steps x in_range y event.0))
+
+pub returns-in-Verify-clause-fate : goal.returns-in-Verify-clause-fate
+returns-in-Verify-clause-fate c =
+    let old = c.args.self.now in
+    let t = theory_of old in
+    let heap_is = ap (λ v. v.objects) c.self.view_is in
+    let x = object_at old.objects c.args.event in
+    let m = c.in-Verify in
+    let in_range = subst (λ os. is_out_of_range (object_at os c.args.event) ≡ false) heap_is c.event_of.ensures.in_range in
+    let event = subst (λ os. IsEvent os c.args.event (Verify m.name m.formula m.proof)) heap_is (subst (IsEvent c.self.inside.heap c.args.event) m.is c.in-Some.ensures.event) in
+    IfOk-map c.verify.result _ _ (λ f h. h ∙ ap (λ r. r.0) (verified_happens t old.steps x in_range refl (object_at old.objects m.name) (object_at old.objects m.formula) (object_at old.objects m.proof) event.0)) c.verify.ensures.fate
+
+pub returns-in-Verify-clause-theory : goal.returns-in-Verify-clause-theory
+returns-in-Verify-clause-theory c =
+    let old = c.args.self.now in
+    let t = theory_of old in
+    let heap_is = ap (λ v. v.objects) c.self.view_is in
+    let x = object_at old.objects c.args.event in
+    let m = c.in-Verify in
+    let in_range = subst (λ os. is_out_of_range (object_at os c.args.event) ≡ false) heap_is c.event_of.ensures.in_range in
+    let event = subst (λ os. IsEvent os c.args.event (Verify m.name m.formula m.proof)) heap_is (subst (IsEvent c.self.inside.heap c.args.event) m.is c.in-Some.ensures.event) in
+    OnOk-map c.verify.result _ _ (λ h. h ∙ ap (λ r. r.1) (verified_happens t old.steps x in_range refl (object_at old.objects m.name) (object_at old.objects m.formula) (object_at old.objects m.proof) event.0)) c.verify.ensures.theory

@@ -1,0 +1,49 @@
+-- What a kernel holds, and its theory.
+use Rattle.std.specs.Prelude.{◌≡◌, ℕ, ◌<◌, ◌≤◌, List, [], ◌∷◌, length, None, All}
+use Rattle.mw_model.specs.Object.{Object, Pair}
+use Rattle.mw_model.specs.Term.{ArityTable}
+use Rattle.mw_model.specs.Definition.{arity_table}
+use Rattle.mw_model.specs.Theory.{Theory, IsSound}
+use Rattle.mw_heap.specs.Objects.{object_at}
+use Rattle.mw_term.specs.declared.cell_mark.CellMark.{CellMark}
+use Rattle.mw_term.specs.Marking.{AreMarks}
+use Rattle.mw_proof.specs.Known.{known_object}
+use Rattle.mw_preamble.specs.Admitted.{first_definitions}
+
+-- The objects of the heap, of which the first ones are needed by the theory, the lists of its axioms and its theorems by their
+-- references, and the step limit.
+pub record Knowledge : Type 0 where
+  pub objects : List Object
+  pub needed : ℕ
+  pub axioms : ℕ
+  pub theorems : ℕ
+  pub steps : ℕ
+
+-- This version takes no definitions and no switches: a theory has the built-in definitions and the built-in checker.
+abbrev pub theory_with : Object → Object → Theory
+theory_with axioms theorems = record { axioms = axioms; theorems = theorems; definitions = first_definitions; checker = None; level = 1 }
+
+abbrev pub theory_of : Knowledge → Theory
+theory_of k = theory_with (object_at k.objects k.axioms) (object_at k.objects k.theorems)
+
+-- the theory with one theorem more
+abbrev pub with_theorem : Theory → Object → Theory
+with_theorem t x = record t { theorems = Pair x t.theorems }
+
+-- these objects in front of a list, the last one foremost
+abbrev pub put_all : List Object → Object → Object
+put_all [] list = list
+put_all (x ∷ xs) list = put_all xs (Pair x list)
+
+-- The lists and sets of known objects, the arity table and the marks are those of the theory, which is sound.
+pub record IsKernel (k : Knowledge) (axioms theorems : List ℕ) (A : ArityTable) (marks : List CellMark) : Type 0 where
+  pub kept : k.needed ≤ length k.objects
+  pub axioms_kept : k.axioms < k.needed
+  pub theorems_kept : k.theorems < k.needed
+  pub each_axiom_kept : All (λ x. x < k.needed) axioms
+  pub each_theorem_kept : All (λ x. x < k.needed) theorems
+  pub axioms_known : known_object k.objects axioms ≡ object_at k.objects k.axioms
+  pub theorems_known : known_object k.objects theorems ≡ object_at k.objects k.theorems
+  pub arities : A ≡ arity_table first_definitions
+  pub marked : AreMarks A k.objects marks
+  pub sound : IsSound (theory_of k)

@@ -1,0 +1,4 @@
+pub mod Knowledge
+pub mod Code
+pub mod Words
+pub mod Fates

@@ -1,0 +1,61 @@
+//! The initial theory.
+ghost use Rattle.std.specs.Prelude.{◌≡◌, ◌++◌, [], map, reverse, All, IfOk, OnOk};
+ghost use Rattle.mw_model.specs.Primitive.{One};
+ghost use Rattle.mw_model.specs.Definition.{arity_table};
+ghost use Rattle.mw_model.specs.Theory.{initial};
+ghost use Rattle.mw_heap.specs.Objects.{object_at, IsIn, Grows};
+ghost use Rattle.mw_proof.specs.Known.{known_object};
+ghost use Rattle.mw_preamble.specs.Admitted.{first_definitions};
+ghost use Rattle.mw_kernel.specs.Knowledge.{theory_with, put_all};
+
+use mw_axioms::build;
+use mw_heap::{Heap, Memory, Profile, Ref};
+use mw_preamble::admit_all;
+use mw_proof::Known;
+use mw_term::Arity;
+
+/// The lists of a theory, and its arity table.
+#[derive(Drop)]
+pub(crate) struct Beginning {
+    pub axioms: Ref,
+    pub theorems: Ref,
+    pub arity: Arity,
+}
+
+/// Makes the initial theory of the first profile, and adds its axioms to those that are known, of which there are none.
+pub(crate) fn begin(heap: &mut Heap, known: &mut Known) -> Result<Beginning, Memory>
+    requires none { known.old ≡ [] }
+    ensures theory { IfOk result (λ b. theory_with (object_at heap.new b.axioms) (object_at heap.new b.theorems) ≡ initial One) }
+    ensures axioms_in { IfOk result (λ b. IsIn heap.new b.axioms) }
+    ensures theorems_in { IfOk result (λ b. IsIn heap.new b.theorems) }
+    ensures known_in { OnOk result (All (IsIn heap.new) known.new) }
+    ensures known { IfOk result (λ b. known_object heap.new known.new ≡ object_at heap.new b.axioms) }
+    ensures arities { IfOk result (λ b. b.arity ≡ arity_table first_definitions) }
+{
+    let primitives = build(heap, Profile::One)?;
+    let preamble = admit_all(heap)?;
+    let nil = heap.symbol(b"NIL")?;
+    let axioms = add_axioms(heap, known, nil, primitives.as_slice())?;
+    let axioms = add_axioms(heap, known, axioms, preamble.axioms.as_slice())?;
+    Ok(Beginning {
+        axioms,
+        theorems: nil,
+        arity: preamble.arity,
+    })
+}
+
+// Puts these axioms in front of those that are known, the last one foremost. The list of them is handed on.
+fn add_axioms(heap: &mut Heap, known: &mut Known, list: Ref, axioms: &[Ref]) -> Result<Ref, Memory>
+    requires list { IsIn heap.old list }
+    requires axioms { All (IsIn heap.old) axioms.now }
+    ensures grows { Grows heap.old heap.new }
+    ensures list { IfOk result (λ r. IsIn heap.new r × (object_at heap.new r ≡ put_all (map (object_at heap.old) axioms.now) (object_at heap.old list))) }
+    ensures known { OnOk result (known.new ≡ reverse axioms.now ++ known.old) }
+{
+    let mut list = list;
+    for axiom in axioms {
+        list = heap.cons(*axiom, list)?;
+        known.add(*axiom)?;
+    }
+    Ok(list)
+}

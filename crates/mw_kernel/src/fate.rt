@@ -1,0 +1,40 @@
+//! The fate of an event.
+ghost use Rattle.std.specs.Prelude.{◌≡◌, [], IfOk};
+ghost use Rattle.mw_model.specs.Refusal.{Accepted};
+ghost use Rattle.mw_model.specs.Theory.{Theory};
+ghost use Rattle.mw_model.specs.Fate.{show};
+ghost use Rattle.mw_model.specs.Printing.{text_of};
+ghost use Rattle.mw_heap.specs.Objects.{object_at, IsIn};
+ghost use Rattle.mw_kernel.specs.Fates.{fate_of};
+
+use mw_heap::{Heap, Memory, Ref, Refusal};
+use mw_print::{Bytes, Printed, print};
+
+/// What an event comes to.
+#[derive(Drop)]
+pub enum Fate {
+    /// It is accepted: the text that it shows, which is empty for an event that shows none.
+    Accepted(Bytes),
+    /// It is refused, for this reason.
+    Refused(Refusal),
+}
+
+// The fate of an event that shows nothing.
+pub(crate) fn accepted(heap: &Heap) -> Fate
+    ensures { fate_of result ≡ Accepted [] }
+{
+    Fate::Accepted(Bytes::from_vec(Vec::new(heap.alloc())))
+}
+
+// The fate of an event that shows an object.
+pub(crate) fn shown(heap: &Heap, x: Ref) -> Result<Fate, Memory>
+    requires { IsIn heap.now x }
+    ensures { IfOk result (λ f. (t : Theory) → fate_of f ≡ (show t (text_of (object_at heap.now x))).0) }
+{
+    let mut text = Vec::new(heap.alloc());
+    match print(heap, x, &mut text) {
+        Printed::Ok => Ok(Fate::Accepted(Bytes::from_vec(text))),
+        Printed::Long => Ok(Fate::Refused(Refusal::Long)),
+        Printed::Memory => Err(Memory),
+    }
+}

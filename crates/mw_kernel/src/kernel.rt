@@ -1,0 +1,256 @@
+//! The kernel.
+ghost use Rattle.std.specs.Prelude.{◌≡◌, ℕ, ◌≤◌, false, List, length, max, take, IfOk, OnOk, OnErr};
+ghost use Rattle.mw_model.specs.Object.{Object, NIL};
+ghost use Rattle.mw_model.specs.Primitive.{One};
+ghost use Rattle.mw_model.specs.Theory.{initial, IsSound};
+ghost use Rattle.mw_model.specs.Fate.{fate, next, is_out_of_range};
+ghost use Rattle.mw_model.specs.Version.{as_taken};
+ghost use Rattle.mw_heap.specs.Objects.{object_at, IsIn, Grows};
+ghost use Rattle.mw_model.specs.Term.{ArityTable};
+ghost use Rattle.mw_term.specs.Marking.{AreMarks};
+ghost use Rattle.mw_read.specs.Standing.{Stands, IsStanding, Follows, Says, Finishes};
+ghost use Rattle.mw_kernel.specs.Knowledge.{theory_of, with_theorem};
+ghost use Rattle.mw_kernel.specs.Words.{verify_event};
+ghost use Rattle.mw_kernel.specs.Fates.{fate_of, verified, KeepsRoom};
+
+use crate::Fate;
+use crate::beginning::begin;
+use crate::fate::{accepted, shown};
+use crate::verify::refusal;
+use crate::word::{Event, event_of};
+use mw_heap::{Heap, Mark, Memory, Ref, Refusal};
+use mw_proof::Known;
+use mw_read::{Reader, Step};
+use mw_term::{Arity, Marks};
+use mw_truth::soundness::{events_keep, initial_sound};
+use std::alloc::Global;
+use std::marker::Model;
+
+/// A sound theory in a heap, which events change: each event once or not at all.
+#[derive(Drop)]
+pub struct Kernel {
+    heap: Heap,
+    // how much of the heap the theory needs
+    needed: Mark,
+    arity: Arity,
+    marks: Marks,
+    known_axioms: Known,
+    known_theorems: Known,
+    // the same as lists in the heap
+    axioms: Ref,
+    theorems: Ref,
+    steps: u64,
+}
+
+impl Model for Kernel {
+    ghost use Rattle.mw_kernel.specs.Knowledge.{Knowledge, IsKernel};
+    ghost use Rattle.mw_kernel.specs.Code.{coded_knowledge};
+
+    ghost Value = { Knowledge };
+
+    ghost coded = { coded_knowledge };
+
+    ghost view = { λ k. record { objects = k.heap; needed = k.needed; axioms = k.axioms; theorems = k.theorems; steps = k.steps } };
+
+    ghost invariant = { λ k. IsKernel (record { objects = k.heap; needed = k.needed; axioms = k.axioms; theorems = k.theorems; steps = k.steps }) k.known_axioms k.known_theorems k.arity k.marks };
+}
+
+impl Kernel {
+    /// The initial theory of the first profile. `steps` limits each run of a switched checker and each EVAL; this version has neither.
+    pub fn new(alloc: Global, steps: u64) -> Result<Kernel, Memory>
+        ensures theory { IfOk result (λ k. theory_of k ≡ initial One) }
+        ensures steps { IfOk result (λ k. k.steps ≡ steps) }
+        ensures room { IfOk result (λ k. length k.objects ≡ k.needed) }
+    {
+        initial_sound();
+        let mut heap = Heap::new(alloc)?;
+        let mut known_axioms = Known::new(alloc);
+        let beginning = begin(&mut heap, &mut known_axioms)?;
+        Ok(Kernel {
+            needed: heap.mark(),
+            heap,
+            arity: beginning.arity,
+            marks: Marks::new(alloc),
+            known_axioms,
+            known_theorems: Known::new(alloc),
+            axioms: beginning.axioms,
+            theorems: beginning.theorems,
+            steps,
+        })
+    }
+
+    /// What the reader reads next in a piece of the book, and how many bytes that takes. The theory stays.
+    pub fn step(&mut self, reader: &mut Reader, piece: &[u8]) -> (Step, usize)
+        requires stands { IsStanding self.old.objects reader.old }
+        requires follows { Follows reader.old piece.now }
+        ensures grows { Grows self.old.objects self.new.objects }
+        ensures rest { self.new ≡ record self.old { objects = self.new.objects } }
+        ensures theory { theory_of self.new ≡ theory_of self.old }
+        ensures says { (g : List ℕ) (given : List Object) → Stands self.old.objects reader.old g given → Says self.new.objects reader.old g given piece.now result.0 result.1 reader.new }
+    {
+        reader.step(&mut self.heap, piece)
+    }
+
+    /// What the reader reads where the book has ended. The theory stays.
+    pub fn finish(&mut self, reader: &mut Reader) -> Step
+        requires stands { IsStanding self.old.objects reader.old }
+        ensures grows { Grows self.old.objects self.new.objects }
+        ensures rest { self.new ≡ record self.old { objects = self.new.objects } }
+        ensures theory { theory_of self.new ≡ theory_of self.old }
+        ensures finishes { (g : List ℕ) (given : List Object) → Stands self.old.objects reader.old g given → Finishes self.new.objects reader.old g given result reader.new }
+    {
+        reader.finish(&mut self.heap)
+    }
+
+    /// The fate of an event, with which the theory goes on: it changes once where the event is accepted, and else it stays. Where memory
+    /// is refused it stays too. All objects that the theory does not need are gone afterwards.
+    pub fn event(&mut self, event: Ref) -> Result<Fate, Memory>
+        requires { IsIn self.old.objects event }
+        ensures fate { IfOk result (λ f. fate_of f ≡ fate (theory_of self.old) (as_taken (object_at self.old.objects event)) self.old.steps) }
+        ensures theory { OnOk result (theory_of self.new ≡ next (theory_of self.old) (as_taken (object_at self.old.objects event)) self.old.steps) }
+        ensures err { OnErr result (theory_of self.new ≡ theory_of self.old) }
+        ensures steps { self.new.steps ≡ self.old.steps }
+        ensures room { length self.new.objects ≡ self.new.needed }
+        ensures kept { IfOk result (λ f. KeepsRoom f self.old.needed self.new.needed) }
+    {
+        let fate = self.happens(event);
+        self.cut();
+        fate
+    }
+
+    /// The heap of the theory.
+    pub fn heap(&self) -> &Heap
+        ensures { result.now ≡ self.now.objects }
+    {
+        &self.heap
+    }
+
+    /// The level of the theory: 1, and one more for each switch of the checker.
+    pub fn level(&self) -> u64
+        ensures { result ≡ (theory_of self.now).level }
+    {
+        1
+    }
+
+    /// The list of the axioms, the newest first.
+    pub fn axioms(&self) -> Ref
+        ensures within { IsIn self.now.objects result }
+        ensures list { object_at self.now.objects result ≡ (theory_of self.now).axioms }
+    {
+        self.axioms
+    }
+
+    /// The list of the theorems, the newest first.
+    pub fn theorems(&self) -> Ref
+        ensures within { IsIn self.now.objects result }
+        ensures list { object_at self.now.objects result ≡ (theory_of self.now).theorems }
+    {
+        self.theorems
+    }
+
+    // The fate of the event; what it leaves in the heap is still there.
+    fn happens(&mut self, event: Ref) -> Result<Fate, Memory>
+        requires { IsIn self.old.objects event }
+        ensures fate { IfOk result (λ f. fate_of f ≡ fate (theory_of self.old) (as_taken (object_at self.old.objects event)) self.old.steps) }
+        ensures theory { OnOk result (theory_of self.new ≡ next (theory_of self.old) (as_taken (object_at self.old.objects event)) self.old.steps) }
+        ensures err { OnErr result (theory_of self.new ≡ theory_of self.old) }
+        ensures steps { self.new.steps ≡ self.old.steps }
+        ensures kept { IfOk result (λ f. KeepsRoom f self.old.needed self.new.needed) }
+    {
+        let Some(members) = event_of(&self.heap, event) else {
+            return Ok(Fate::Refused(Refusal::Event));
+        };
+        match members {
+            Event::Print(x) => shown(&self.heap, x),
+            Event::Verify {
+                name,
+                formula,
+                proof,
+            } => self.verify(name, formula, proof),
+        }
+    }
+
+    // The fate of a VERIFY.
+    fn verify(&mut self, name: Ref, formula: Ref, proof: Ref) -> Result<Fate, Memory>
+        requires name { IsIn self.old.objects name }
+        requires formula { IsIn self.old.objects formula }
+        requires proof { IsIn self.old.objects proof }
+        requires in_range { is_out_of_range (verify_event (object_at self.old.objects name) (object_at self.old.objects formula) (object_at self.old.objects proof)) ≡ false }
+        ensures fate { IfOk result (λ f. fate_of f ≡ (verified (theory_of self.old) (object_at self.old.objects name) (object_at self.old.objects formula) (object_at self.old.objects proof)).0) }
+        ensures theory { OnOk result (theory_of self.new ≡ (verified (theory_of self.old) (object_at self.old.objects name) (object_at self.old.objects formula) (object_at self.old.objects proof)).1) }
+        ensures err { OnErr result (theory_of self.new ≡ theory_of self.old) }
+        ensures steps { self.new.steps ≡ self.old.steps }
+        ensures kept { IfOk result (λ f. KeepsRoom f self.old.needed self.new.needed) }
+    {
+        events_keep();
+        let reason = refusal(
+            &mut self.heap,
+            name,
+            formula,
+            proof,
+            &self.known_axioms,
+            &self.known_theorems,
+            &self.arity,
+            &mut self.marks,
+        )?;
+        if let Some(reason) = reason {
+            return Ok(Fate::Refused(reason));
+        }
+        self.add_theorem(formula)?;
+        Ok(accepted(&self.heap))
+    }
+
+    // Adds a theorem. Of the objects that the theory does not need, only those that came before it stay.
+    fn add_theorem(&mut self, formula: Ref) -> Result<(), Memory>
+        requires within { IsIn self.old.objects formula }
+        requires sound { IsSound (with_theorem (theory_of self.old) (object_at self.old.objects formula)) }
+        ensures theory { OnOk result (theory_of self.new ≡ with_theorem (theory_of self.old) (object_at self.old.objects formula)) }
+        ensures err { OnErr result (theory_of self.new ≡ theory_of self.old) }
+        ensures steps { self.new.steps ≡ self.old.steps }
+    {
+        let behind = self.heap.mark_behind(formula);
+        self.cut_to(later(behind, self.needed));
+        let theorems = self.heap.cons(formula, self.theorems)?;
+        self.known_theorems.add(formula)?;
+        self.theorems = theorems;
+        self.needed = self.heap.mark();
+        Ok(())
+    }
+
+    // Forgets the objects that the theory does not need.
+    fn cut(&mut self)
+        ensures objects { self.new ≡ record self.old { objects = take self.old.needed self.old.objects } }
+        ensures theory { theory_of self.new ≡ theory_of self.old }
+        ensures room { length self.new.objects ≡ self.new.needed }
+    {
+        self.cut_to(self.needed);
+    }
+
+    // Forgets the objects from a mark on, which the theory does not need.
+    fn cut_to(&mut self, to: Mark)
+        requires needed { self.old.needed ≤ to }
+        requires within { to ≤ length self.old.objects }
+        ensures objects { self.new ≡ record self.old { objects = take to self.old.objects } }
+        ensures theory { theory_of self.new ≡ theory_of self.old }
+    {
+        cut_marks(&mut self.marks, to);
+        self.heap.cut_back(to);
+    }
+}
+
+// The later of two marks.
+fn later(a: Mark, b: Mark) -> Mark
+    ensures { result ≡ max a b }
+{
+    if a.cells() < b.cells() { b } else { a }
+}
+
+// Forgets the marks of the objects from there on.
+fn cut_marks(marks: &mut Marks, to: Mark)
+    ensures few { length marks.new ≤ to }
+    ensures marked { (A : ArityTable) (os : List Object) → AreMarks A os marks.old → AreMarks A os marks.new }
+{
+    if to.cells() < marks.len() {
+        marks.cut(to);
+    }
+}

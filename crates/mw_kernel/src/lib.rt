@@ -1,0 +1,11 @@
+//! The kernel: a theory that is sound, and the events that change it.
+#![tactic(auto)]
+
+mod beginning;
+mod fate;
+mod kernel;
+mod verify;
+mod word;
+
+pub use fate::Fate;
+pub use kernel::Kernel;
