@@ -1,0 +1,29 @@
+-- What one event more adds: its line, its count, and its theory.
+use Rattle.std.proofs.Common.{◌≡◌, ℕ, suc, ◌+◌, cond, List, [], ◌∷◌, ◌++◌, length, refl, sym, ap, ◌∙◌, arith, append_assoc, add-zero, zero-add, add_assoc}
+use Rattle.std.proofs.lemmas.List.{append-nil}
+use Rattle.mw_model.specs.Object.{Object}
+use Rattle.mw_model.specs.Theory.{Theory}
+use Rattle.mw_model.specs.Fate.{fate, next, after}
+use Rattle.mw_model.specs.Report.{line, lines, is_accepted, refused_among}
+
+pub after-append : (t : Theory) (es : List Object) (e : Object) (N : ℕ) → after t (es ++ e ∷ []) N ≡ next (after t es N) e N
+after-append t [] e N = refl
+after-append t (x ∷ es) e N = after-append (next t x N) es e N
+
+pub refused_among-append : (t : Theory) (es : List Object) (e : Object) (N : ℕ) →
+    refused_among t (es ++ e ∷ []) N ≡ refused_among t es N + cond (is_accepted (fate (after t es N) e N)) 0 1
+refused_among-append t [] e N = add-zero (cond (is_accepted (fate t e N)) 0 1) ∙ sym (zero-add (cond (is_accepted (fate t e N)) 0 1))
+refused_among-append t (x ∷ es) e N =
+    let here = cond (is_accepted (fate t x N)) 0 1 in
+    ap (λ n. here + n) (refused_among-append (next t x N) es e N)
+    ∙ sym (add_assoc here (refused_among (next t x N) es N) (cond (is_accepted (fate (after (next t x N) es N) e N)) 0 1))
+
+pub lines-append : (k : ℕ) (t : Theory) (es : List Object) (e : Object) (N : ℕ) →
+    lines k t (es ++ e ∷ []) N ≡ lines k t es N ++ line (k + length es) e (fate (after t es N) e N)
+lines-append k t [] e N = append-nil (line k e (fate t e N)) ∙ ap (λ n. line n e (fate t e N)) (sym (add-zero k))
+lines-append k t (x ∷ es) e N =
+    let u = next t x N in
+    let here = line k x (fate t x N) in
+    let number : suc k + length es ≡ k + suc (length es) = omega arith in
+    ap (λ l. here ++ l) (lines-append (suc k) u es e N ∙ ap (λ n. lines (suc k) u es N ++ line n e (fate (after u es N) e N)) number)
+    ∙ sym (append_assoc here (lines (suc k) u es N) (line (k + suc (length es)) e (fate (after u es N) e N)))

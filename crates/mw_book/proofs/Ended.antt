@@ -1,0 +1,63 @@
+-- The last line of a report, and its status.
+use Rattle.std.proofs.Common.{◌≡◌, ℕ, suc, ◌+◌, ◌-◌, Bool, true, false, cond, List, [], ◌∷◌, ◌++◌, length, Result, Ok, Err, OnOk, Option, codes, refl, sym, ap, ◌∙◌, arith, true≢false}
+use Rattle.std.specs.Result.{is_err}
+use Rattle.std.proofs.lemmas.List.{length-map}
+use Rattle.mw_model.specs.Object.{Object}
+use Rattle.mw_model.specs.Primitive.{One}
+use Rattle.mw_model.specs.Theory.{Theory, initial}
+use Rattle.mw_model.specs.Fate.{fate, next, after}
+use Rattle.mw_model.specs.Printing.{numeral}
+use Rattle.mw_model.specs.Report.{spaced, is_accepted, accepted_among, refused_among, summary, Status}
+use Rattle.mw_model.specs.Version.{as_taken}
+use Rattle.mw_kernel.specs.Knowledge.{theory_of}
+use Rattle.mw_book.specs.Books.{TakesSome}
+use Rattle.mw_book.specs.Checks.{Concludes, IsHalt}
+use Rattle.mw_book.specs.Knowing.{Judged, events_of}
+use Rattle.mw_book.specs.Lines.{summary_of}
+use Rattle.mw_book.specs.declared.judging.Judging.{Judging}
+use Rattle.mw_book.specs.declared.status.Status.{Status as Ending}
+use Rattle.mw_book.specs.declared.status.Status.TheVariants as ending
+
+-- each event is accepted or refused
+one_more : (b : Bool) (a r n : ℕ) → a + r ≡ n → (cond b 1 0 + a) + (cond b 0 1 + r) ≡ suc n
+one_more true a r n e = omega (arith, e)
+one_more false a r n e = omega (arith, e)
+
+pub counts : (t : Theory) (es : List Object) (N : ℕ) → accepted_among t es N + refused_among t es N ≡ length es
+counts t [] N = refl
+counts t (e ∷ es) N = one_more (is_accepted (fate t e N)) (accepted_among (next t e N) es N) (refused_among (next t e N) es N) (length es) (counts (next t e N) es N)
+
+abbrev text_with : (events accepted refused level : ℕ) → List ℕ
+text_with e a r l =
+    spaced (codes "events") (spaced (numeral e) (spaced (codes "accepted") (spaced (numeral a) (spaced (codes "refused") (spaced (numeral r) (spaced (codes "level") (numeral l))))))) ++ 10 ∷ []
+
+same_text : (e a r l e' a' r' l' : ℕ) → e ≡ e' → a ≡ a' → r ≡ r' → l ≡ l' → text_with e a r l ≡ text_with e' a' r' l'
+same_text e a r l e' a' r' l' p q s u =
+    ap (λ x. text_with x a r l) p ∙ ap (λ x. text_with e' x r l) q ∙ ap (λ x. text_with e' a' x l) s ∙ ap (λ x. text_with e' a' r' x) u
+
+same_summary : (t : Theory) (given : List Object) (N events refused level : ℕ) → events ≡ length given → refused ≡ refused_among t (events_of given) N → level ≡ (after t (events_of given) N).level →
+    text_with events (events - refused) refused level ≡ text_with (length (events_of given)) (accepted_among t (events_of given) N) (refused_among t (events_of given) N) (after t (events_of given) N).level
+same_summary t given N events refused level e r l =
+    let es = events_of given in
+    let all : events ≡ length es = e ∙ sym (length-map given as_taken) in
+    same_text events (events - refused) refused level (length es) (accepted_among t es N) (refused_among t es N) (after t es N).level all
+    (let a : events - refused ≡ accepted_among t es N = omega (arith, counts t es N, all, r) in a)
+    r l
+
+pub summary_is : (j : Judging) (N : ℕ) (given : List Object) (level : ℕ) → Judged j N given → level ≡ (theory_of j.kernel).level → summary_of j.events j.refused level ≡ summary (events_of given) N
+summary_is j N given level h l = same_summary (initial One) given N j.events j.refused level h.counted h.refused_counted (l ∙ ap (λ t. t.level) h.theory)
+
+-- a clause on a success, where it was one
+pub on_ok_here : {T E : Type 0} (P : Type 0) (r : Result T E) → is_err r ≡ false → OnOk r P → P
+on_ok_here P (Ok x) h p = p
+on_ok_here P (Err e) h p = absurd (true≢false h)
+
+-- a write that stopped
+pub concludes_halt : (e : Ending) (s : Status) (text : List ℕ) (old new : Option (List ℕ)) → IsHalt e → TakesSome old new text → Concludes e s text old new
+concludes_halt ending.WriteFault s text old new h t = t
+concludes_halt ending.Memory s text old new h t = t
+concludes_halt ending.Done s text old new h t = absurd h
+concludes_halt ending.SomeRefused s text old new h t = absurd h
+concludes_halt ending.Usage s text old new h t = absurd h
+concludes_halt (ending.Syntax k o) s text old new h t = absurd h
+concludes_halt ending.ReadFault s text old new h t = absurd h

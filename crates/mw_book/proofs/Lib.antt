@@ -1,0 +1,15 @@
+pub mod Taken
+pub mod Ended
+pub mod Written
+pub mod Prefixes
+pub mod Rounds
+pub mod Headlines
+pub mod Asked
+pub mod Appending
+pub mod Showing
+pub mod Symbols
+pub mod OneMore
+pub mod Asking
+pub mod Summary
+pub mod Sinks
+pub mod Clauses

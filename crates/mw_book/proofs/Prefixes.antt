@@ -1,0 +1,78 @@
+-- The lines of the data that are read first are leading bytes of the report on the book, whatever follows.
+use Rattle.std.proofs.Common.{◌≡◌, ℕ, zero, suc, ◌+◌, ◌-◌, ◌≤◌, Bool, true, false, leb, List, [], ◌∷◌, ◌++◌, length, take, Option, Some, None, refl, sym, ap, ◌∙◌, subst, arith, append_assoc, if◌then◌else◌}
+use Rattle.mw_model.specs.Object.{Object}
+use Rattle.mw_model.specs.Primitive.{One}
+use Rattle.mw_model.specs.Lexemes.{Fault, Ending, Ends, Goes}
+use Rattle.mw_model.specs.Grammar.{Book, book, reading, limit, cut_short, trees}
+use Rattle.mw_model.specs.Theory.{Theory, initial}
+use Rattle.mw_model.specs.Fate.{fate, next, after}
+use Rattle.mw_model.specs.Report.{line, lines, last_line}
+use Rattle.mw_model.specs.Version.{as_taken, report_due, taken_book}
+use Rattle.mw_read.specs.Parsing.{Fits, meaning_of}
+use Rattle.mw_read.specs.Standing.{Stands, IsFree}
+use Rattle.mw_read.specs.declared.reader.Reader.{Reader}
+use Rattle.mw_read.proofs.Bytes.{onward_book}
+use Rattle.mw_read.proofs.Telling.{fits_any}
+use Rattle.mw_book.specs.Knowing.{events_of, lines_of}
+
+take_none : (n : ℕ) → take {A = ℕ} n [] ≡ []
+take_none zero = refl
+take_none (suc n) = refl
+
+take_past : (h w : List ℕ) (m : ℕ) → length h ≤ m → take m (h ++ w) ≡ h ++ take (m - length h) w
+take_past [] w m l = ap (λ n. take n w) (let e : m ≡ m - 0 = omega arith in e)
+take_past (c ∷ h) w zero l = absurd (omega arith)
+take_past (c ∷ h) w (suc m) l = ap (λ u. c ∷ u) (take_past h w m (omega arith) ∙ ap (λ n. h ++ take n w) (let e : m - length h ≡ suc m - suc (length h) = omega arith in e))
+
+-- whatever follows may follow
+pub free_fits : (p : Reader) → IsFree p → Fits p.begun Goes []
+free_fits p f = subst (λ u. Fits p.begun Goes u) (take_none _) (f [])
+
+cut_events : (b : Book) → (cut_short b).events ≡ b.events
+cut_events b = go b.events b.fault
+  where
+    go : (xs : List Object) (f : Option Fault) → (cut_short (book xs f)).events ≡ xs
+    go xs None = refl
+    go xs (Some f) = refl
+
+-- the data of what was read are the first of the book
+pub first_data : (os : List Object) (p : Reader) (g : List ℕ) (given : List Object) → Stands os p g given → IsFree p → (rest : List ℕ) → (more : List Object) × ((trees (g ++ rest)).events ≡ given ++ more)
+first_data os p g given s f rest = go (leb (length (g ++ rest)) limit)
+  where
+    fits : (e : Ending) (x : List ℕ) → Fits p.begun e x
+    fits e x = fits_any p.begun e x (free_fits p f)
+
+    read : (e : Ending) (x : List ℕ) → (reading e (g ++ x)).events ≡ given ++ (meaning_of e s.state p x).events
+    read e x = let b = meaning_of e s.state p x in ap (λ y. y.events) (s.means e x (fits e x) ∙ onward_book given b.events b.fault)
+
+    go : (v : Bool) → (more : List Object) × ((if v then reading Ends (g ++ rest) else cut_short (reading Goes (take limit (g ++ rest)))).events ≡ given ++ more)
+    go true = ((meaning_of Ends s.state p rest).events, read Ends rest)
+    go false =
+        let x = take (limit - length g) rest in (
+          (meaning_of Goes s.state p x).events,
+          ap (λ y. (cut_short (reading Goes y)).events) (take_past g rest limit s.short) ∙ cut_events (reading Goes (g ++ x)) ∙ read Goes x,
+        )
+
+lines_both : (t : Theory) (k : ℕ) (a b : List Object) (N : ℕ) → lines k t (a ++ b) N ≡ lines k t a N ++ lines (k + length a) (after t a N) b N
+lines_both t k [] b N = ap (λ n. lines n t b N) (let e : k ≡ k + 0 = omega arith in e)
+lines_both t k (x ∷ a) b N =
+    ap (λ u. line k x (fate t x N) ++ u) (lines_both (next t x N) (suc k) a b N ∙ ap (λ n. lines (suc k) (next t x N) a N ++ lines n (after (next t x N) a N) b N) (let e : suc k + length a ≡ k + suc (length a) = omega arith in e))
+    ∙ sym (append_assoc (line k x (fate t x N)) (lines (suc k) (next t x N) a N) (lines (k + suc (length a)) (after (next t x N) a N) b N))
+
+map_both : (a b : List Object) → events_of (a ++ b) ≡ events_of a ++ events_of b
+map_both [] b = refl
+map_both (x ∷ a) b = ap (λ u. as_taken x ∷ u) (map_both a b)
+
+-- from any theory, with any last line
+lines_first : (t : Theory) (given more all : List Object) (N : ℕ) (last : List ℕ) → all ≡ given ++ more → (rest : List ℕ) × (lines 1 t (events_of all) N ++ last ≡ lines 1 t (events_of given) N ++ rest)
+lines_first t given more all N last e = (
+  lines (1 + length (events_of given)) (after t (events_of given) N) (events_of more) N ++ last,
+  ap (λ u. u ++ last) (ap (λ u. lines 1 t u N) (ap events_of e ∙ map_both given more) ∙ lines_both t 1 (events_of given) (events_of more) N)
+      ∙ append_assoc (lines 1 t (events_of given) N) (lines (1 + length (events_of given)) (after t (events_of given) N) (events_of more) N) last,
+)
+
+pub report_begins : (os : List Object) (p : Reader) (g : List ℕ) (given : List Object) → Stands os p g given → IsFree p → (rest : List ℕ) (N : ℕ) → (tail : List ℕ) × ((report_due (g ++ rest) N).text ≡ lines_of given N ++ tail)
+report_begins os p g given s f rest N =
+    let d = first_data os p g given s f rest in
+    let b = trees (g ++ rest) in
+    lines_first (initial One) given d.0 b.events N (last_line (taken_book b) N) d.1

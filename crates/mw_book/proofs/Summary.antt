@@ -1,0 +1,9 @@
+-- The last line as it is written, part behind part.
+use Rattle.std.proofs.Common.{◌≡◌, ℕ, List, [], ◌∷◌, ◌++◌, append_assoc}
+use Rattle.std.specs.Prelude.{codes}
+use Rattle.mw_model.specs.Report.{spaced}
+
+pub summary-joined : (old events accepted refused level : List ℕ) →
+    ((((((((old ++ codes "events ") ++ events) ++ codes " accepted ") ++ accepted) ++ codes " refused ") ++ refused) ++ codes " level ") ++ level) ++ 10 ∷ []
+    ≡ old ++ (spaced (codes "events") (spaced events (spaced (codes "accepted") (spaced accepted (spaced (codes "refused") (spaced refused (spaced (codes "level") level)))))) ++ 10 ∷ [])
+summary-joined old events accepted refused level = simp append_assoc

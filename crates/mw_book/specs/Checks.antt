@@ -1,0 +1,66 @@
+-- How the judging of a book ends, and what is then true.
+use Rattle.std.specs.Prelude.{◌≡◌, ℕ, List, ◌++◌, Option, Some, None}
+use Rattle.mw_model.specs.Object.{Object}
+use Rattle.mw_model.specs.Command.{Check}
+use Rattle.mw_model.specs.Grammar.{book, trees}
+use Rattle.mw_model.specs.Report.{Status, Done, SomeRefused, Syntax}
+use Rattle.mw_model.specs.Version.{lines_due}
+use Rattle.mw_model.specs.Headline.{Headline}
+use Rattle.mw_port.specs.Ports.{Rises, Gives, Takes, HasEnded}
+use Rattle.mw_read.specs.Piles.{kind_of}
+use Rattle.mw_read.specs.declared.step.SyntaxKind.{SyntaxKind}
+use Rattle.mw_book.specs.Books.{Has, TakesSome}
+use Rattle.mw_book.specs.Knowing.{Judged, lines_of}
+use Rattle.mw_book.specs.Statuses.{report_status, IsPartOf}
+use Rattle.mw_book.specs.Taking.{fault_of}
+use Rattle.mw_book.specs.declared.judging.Judging.{Judging}
+use Rattle.mw_book.specs.declared.status.Status.{Status as Ending}
+use Rattle.mw_book.specs.declared.status.Status.TheVariants as ending
+
+-- What the sink took is the report on the book with this step limit.
+abbrev pub Reported : ℕ → Option (List ℕ) → Option (List ℕ) → Option (List ℕ) → Status → Type 0
+Reported N old_book old new s = (bytes : List ℕ) × Has old_book bytes × (written : List ℕ) × Takes old new written × Headline bytes N written s
+
+-- what the sink took, with this step limit, of the report on a book of which this was left before and afterwards
+abbrev pub CheckEnds : Ending → ℕ → Option (List ℕ) → Option (List ℕ) → Option (List ℕ) → Option (List ℕ) → Type 0
+CheckEnds ending.Done N old_book new_book old new = HasEnded new_book × Reported N old_book old new Done
+CheckEnds ending.SomeRefused N old_book new_book old new = HasEnded new_book × Reported N old_book old new SomeRefused
+CheckEnds (ending.Syntax k o) N old_book new_book old new = Reported N old_book old new (Syntax (kind_of k) o)
+CheckEnds ending.Usage N old_book new_book old new = ⊥
+CheckEnds ending.ReadFault N old_book new_book old new = (given : List ℕ) × Gives old_book new_book given × Takes old new (lines_due given N)
+CheckEnds ending.WriteFault N old_book new_book old new = IsPartOf (Check N) old_book old new
+CheckEnds ending.Memory N old_book new_book old new = IsPartOf (Check N) old_book old new
+
+-- the source's count of faults before and afterwards
+abbrev pub SourceCounts : Ending → ℕ → ℕ → Type 0
+SourceCounts ending.ReadFault old new = Rises old new
+SourceCounts s old new = new ≡ old
+
+-- the sink's count of faults before and afterwards
+abbrev pub SinkCounts : Ending → ℕ → ℕ → Type 0
+SinkCounts ending.WriteFault old new = Rises old new
+SinkCounts s old new = new ≡ old
+
+-- The book was read to its end or its first fault and its data were judged. Behind what the sink took the other lines are due.
+pub record ReadWhole (N : ℕ) (old_book new_book old new : Option (List ℕ)) (fault : Option (SyntaxKind × ℕ)) (j : Judging) : Type 0 where
+  pub bytes : List ℕ
+  pub has : Has old_book bytes
+  pub ended : fault ≡ None → HasEnded new_book
+  pub given : List Object
+  pub read : trees bytes ≡ book given (fault_of fault)
+  pub judged : Judged j N given
+  pub written : List ℕ
+  pub takes : Takes old new written
+  pub lines : written ++ j.lines.items ≡ lines_of given N
+
+-- a report with this status ends with this text, of which the sink took all, or leading bytes
+abbrev pub Concludes : Ending → Status → List ℕ → Option (List ℕ) → Option (List ℕ) → Type 0
+Concludes ending.WriteFault s text old new = TakesSome old new text
+Concludes ending.Memory s text old new = TakesSome old new text
+Concludes e s text old new = (report_status e ≡ Some s) × Takes old new text
+
+-- a write stopped
+abbrev pub IsHalt : Ending → Type 0
+IsHalt ending.WriteFault = Unit {0}
+IsHalt ending.Memory = Unit {0}
+IsHalt e = ⊥
