@@ -25,11 +25,6 @@ in_range e h = ap (λ b. cond b e (as_word_says (event_word e) e)) h
 no_word : (e : Object) → is_out_of_range e ≡ false → event_word e ≡ None → event_word (as_taken e) ≡ None
 no_word e h k = ap event_word (in_range e h ∙ ap (λ o. as_word_says o e) k) ∙ k
 
-pub no_pair : (e : Object) → is_out_of_range e ≡ false → ((a b : Object) → e ≡ Pair a b → ⊥) → event_word (as_taken e) ≡ None
-no_pair (Natural n) h k = no_word (Natural n) h refl
-no_pair (Symbol s) h k = no_word (Symbol s) h refl
-no_pair (Pair a b) h k = absurd (k a b refl)
-
 pub no_verify : (w r : Object) → same_object w (symbol "VERIFY") ≡ true → is_out_of_range (Pair w r) ≡ false → has_members 3 r ≡ false → event_word (as_taken (Pair w r)) ≡ None
 no_verify w r is h k =
     let e : Pair w r ≡ Pair (symbol "VERIFY") r = ap (λ x. Pair x r) (same_object-eq w (symbol "VERIFY") is) in

@@ -65,9 +65,6 @@ module _ (k : Knowledge) (axioms theorems : List ℕ) (A : ArityTable) (marks : 
   cut_back n ms l w few m =
       IsKernel-same (take n k.objects) ms (omega (arith, l, length-take-le n k.objects w)) (same_cut n l) (AreMarks-cut A k.objects ms n few w m)
 
-  pub cut_theory : (n : ℕ) → k.needed ≤ n → theory_of (with_objects k (take n k.objects)) ≡ theory_of k
-  cut_theory n l = theory_of-same (take n k.objects) (same_cut n l)
-
   -- One theorem more, whose list was made behind what the heap had.
   module _ (formula list : ℕ) (new : List Object) (formula_in : IsIn k.objects formula) (grows : Grows k.objects new) (list_in : IsIn new list) (made : object_at new list ≡ Pair (object_at k.objects formula) (object_at k.objects k.theorems)) where
     abbrev pub with_list : Knowledge
