@@ -1,0 +1,17 @@
+//! Worked books with the reports that are due for them, as tests of the whole program.
+#![tactic(auto)]
+
+#[cfg(test)]
+mod books;
+#[cfg(test)]
+mod ends;
+#[cfg(test)]
+mod events;
+#[cfg(test)]
+mod faults;
+#[cfg(test)]
+mod pieces;
+#[cfg(test)]
+mod row;
+#[cfg(test)]
+mod shared;

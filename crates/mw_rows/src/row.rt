@@ -1,0 +1,80 @@
+//! A book, what is due for it and what the program answers.
+use mw_book::{Status, run};
+use mw_port::{MemSink, MemSource, Text};
+use std::alloc::{AllocError, Global};
+
+/// A book, the report that is due for it and how the program is to end.
+pub(crate) struct Row {
+    pub(crate) book: &'static str,
+    pub(crate) report: &'static str,
+    pub(crate) status: Status,
+}
+
+/// What the program wrote and how it ended.
+#[derive(Drop)]
+pub(crate) struct Answer {
+    pub(crate) report: String,
+    pub(crate) status: Status,
+}
+
+/// These words, as those of a command line.
+pub(crate) fn texts(alloc: Global, words: &[&str]) -> Result<Vec<Text>, AllocError> {
+    let mut texts = Vec::new(alloc);
+    for word in words {
+        texts.push(Text::new(String::from_str(alloc, word)?))?;
+    }
+    Ok(texts)
+}
+
+/// A source that gives the book in pieces of so many bytes.
+pub(crate) fn source_of(alloc: Global, book: &str, size: usize) -> Result<MemSource, AllocError> {
+    let bytes = Vec::from_slice(alloc, book.as_bytes())?;
+    let cuts = vec![in alloc; size; book.len()]?;
+    Ok(MemSource::new(bytes, cuts, Vec::new(alloc)))
+}
+
+/// What the sink took, as text.
+pub(crate) fn text_of(alloc: Global, sink: &MemSink) -> Result<String, AllocError> {
+    String::from_utf8_lossy(alloc, sink.taken())
+}
+
+/// What the program answers to a book that it reads in pieces of so many bytes.
+pub(crate) fn answer_to(alloc: Global, book: &str, size: usize) -> Result<Answer, AllocError> {
+    let words = texts(alloc, &["check"])?;
+    let mut source = source_of(alloc, book, size)?;
+    let mut sink = MemSink::new(alloc, Vec::new(alloc));
+    let status = run(alloc, &words, &mut source, &mut sink);
+    let report = text_of(alloc, &sink)?;
+    Ok(Answer { report, status })
+}
+
+/// Puts the book and the answer to it behind the text, where the answer is not the one that is due.
+pub(crate) fn add_wrong(
+    wrong: &mut String,
+    alloc: Global,
+    row: &Row,
+    size: usize,
+) -> Result<(), AllocError> {
+    let answer = answer_to(alloc, row.book, size)?;
+    if answer.report.as_str() == row.report && answer.status == row.status {
+        return Ok(());
+    }
+    wrong.push_str(row.book)?;
+    wrong.push_str("\n")?;
+    wrong.push_str(answer.report.as_str())?;
+    let number = answer.status.number();
+    writeln!(wrong, "status {number}")
+}
+
+/// The books whose answers are not those that are due, with what was answered.
+pub(crate) fn wrong_answers(
+    alloc: Global,
+    rows: &[Row],
+    size: usize,
+) -> Result<String, AllocError> {
+    let mut wrong = String::new(alloc);
+    for row in rows {
+        add_wrong(&mut wrong, alloc, row, size)?;
+    }
+    Ok(wrong)
+}
