@@ -53,7 +53,7 @@ variables-append (x ∷ xs) ys = ap (λ b. is_variable x && b) (variables-append
     and_assoc true b c = refl
     and_assoc false b c = refl
 
-among-append : (z : Name) (xs ys : List Name) → is_among z (xs ++ ys) ≡ (is_among z xs || is_among z ys)
+pub among-append : (z : Name) (xs ys : List Name) → is_among z (xs ++ ys) ≡ (is_among z xs || is_among z ys)
 among-append z [] ys = refl
 among-append z (x ∷ xs) ys = ap (λ b. same_name z x || b) (among-append z xs ys) ∙ sym (or_assoc (same_name z x) (is_among z xs) (is_among z ys))
   where
@@ -64,7 +64,7 @@ among-append z (x ∷ xs) ys = ap (λ b. same_name z x || b) (among-append z xs 
 variables-refused : (before : List Name) (y : Name) (ys : List Name) → is_variable y ≡ false → are_variables (before ++ y ∷ ys) ≡ false
 variables-refused before y ys h = variables-append before (y ∷ ys) ∙ (ap (λ b. are_variables before && (b && are_variables ys)) h ∙ and_false (are_variables before))
 
-differ-sym : (x y : Name) → same_name y x ≡ false → same_name x y ≡ false
+pub differ-sym : (x y : Name) → same_name y x ≡ false → same_name x y ≡ false
 differ-sym x y h = name_differ-from x y (λ e. name_differ y x h (sym e))
 
 distinct-refused : (before : List Name) (y : Name) (ys : List Name) → is_among y before ≡ true → are_distinct (before ++ y ∷ ys) ≡ false
@@ -112,7 +112,7 @@ pub names_at-push : (os : List Object) (rs : List ℕ) (r : ℕ) → names_at os
 names_at-push os [] r = refl
 names_at-push os (q ∷ rs) r = ap (λ l. name_of (object_at os q) ∷ l) (names_at-push os rs r)
 
-symbols-push : (os : List Object) (rs : List ℕ) (r : ℕ) → AreSymbols os rs → IsIn os r → is_symbol (object_at os r) ≡ true → AreSymbols os (rs ++ r ∷ [])
+pub symbols-push : (os : List Object) (rs : List ℕ) (r : ℕ) → AreSymbols os rs → IsIn os r → is_symbol (object_at os r) ≡ true → AreSymbols os (rs ++ r ∷ [])
 symbols-push os [] r h within s = (within, s, tt)
 symbols-push os (q ∷ rs) r h within s = (h.0, h.1, symbols-push os rs r h.2 within s)
 

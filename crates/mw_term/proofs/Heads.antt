@@ -1,38 +1,29 @@
 -- The head of a lambda call, by its parts.
-use Rattle.std.proofs.Common.{◌≡◌, Bool, true, false, ◌&&◌, ◌||◌, not, cond, List, length, Option, Some, None, refl, sym, ap, ap₂, ◌∙◌, subst}
-use Rattle.std.proofs.lemmas.Bool.{and_parts, not-true}
+use Rattle.std.proofs.Common.{◌≡◌, Bool, true, false, ◌&&◌, cond, List, [], ◌∷◌, length, Option, Some, None, refl, sym, ap, ap₂, ◌∙◌, subst}
+use Rattle.std.specs.List.{list_all}
 use Rattle.mw_model.specs.Object.{Name, Object, Symbol, Pair, named, same_name, same_object, NIL}
-use Rattle.mw_model.specs.Term.{Term, Terms, Variable, Constant, If, Call, Lambda, NoTerms, More, ArityTable, term_object, terms_object, are_formals, is_closed, are_closed, is_term}
+use Rattle.mw_model.specs.Term.{Term, ArityTable, is_among, firsts, variables, are_formals, is_closed, is_term}
 use Rattle.mw_model.specs.Reading.{names_of, term_of, when, that}
 use Rattle.mw_model.specs.Definition.{is_present}
 use Rattle.mw_model.specs.Rules.{is_term_object}
-use Rattle.mw_model.proofs.Formed.{Formed, AreFormed, formed}
-use Rattle.mw_model.proofs.ReadBack.{term_back, some_one}
-use Rattle.mw_term.specs.Parts.{if_formals, formals_of, is_closed_object, are_closed_objects}
+use Rattle.mw_model.proofs.Closed.{each_among, closed_variables}
+use Rattle.mw_model.proofs.ReadBack.{some_one}
+use Rattle.mw_term.specs.Parts.{if_formals, formals_of}
+use Rattle.mw_term.specs.Occurrences.{is_closed_object}
+use Rattle.mw_term.proofs.TermOccurrences.{object_occurrences-term}
 use Rattle.mw_term.specs.Marking.{head_count, formal_count}
 
 and_true : (a : Bool) → (a && true) ≡ a
 and_true true = refl
 and_true false = refl
 
+each_listed : (xs ys : List Name) → list_all (λ y. is_among y xs) ys ≡ each_among ys xs
+each_listed xs [] = refl
+each_listed xs (y ∷ ys) = ap (λ b. is_among y xs && b) (each_listed xs ys)
+
 -- on the object of a term, closed is what it is on the term
-module _ (A : ArityTable) (xs : List Name) where
-  mutual
-    closed-term_object : (t : Term) → Formed A t → is_closed_object xs (term_object t) ≡ is_closed xs t
-    closed-term_object (Variable x) i = refl
-    closed-term_object (Constant c) i = refl
-    closed-term_object (If a b c) i = ap₂ (λ p q. p && q) (closed-term_object a i.1) (ap₂ (λ p q. p && q) (closed-term_object b i.2) (and_true (is_closed_object xs (term_object c)) ∙ closed-term_object c i.3))
-    closed-term_object (Call f ts) i =
-        let p = and_parts (not (same_name f (named "QUOTE"))) (not (same_name f (named "IF"))) i.0 in
-        ap (λ b. b || are_closed_objects xs (terms_object ts)) (not-true (same_name f (named "QUOTE")) p.0) ∙ closed-terms_object ts i.2
-    closed-term_object (Lambda ys b ts) i = closed-terms_object ts i.5
-
-    closed-terms_object : (ts : Terms) → AreFormed A ts → are_closed_objects xs (terms_object ts) ≡ are_closed xs ts
-    closed-terms_object NoTerms i = refl
-    closed-terms_object (More t ts) i = ap₂ (λ p q. p && q) (closed-term_object t i.0) (closed-terms_object ts i.1)
-
-  pub closed-object : (x : Object) (t : Term) → term_of x ≡ Some t → is_term A t ≡ true → is_closed_object xs x ≡ is_closed xs t
-  closed-object x t h i = ap (is_closed_object xs) (sym (term_back x t h)) ∙ closed-term_object t (formed A t i)
+closed-object : (xs : List Name) (x : Object) (t : Term) → term_of x ≡ Some t → is_closed_object xs x ≡ is_closed xs t
+closed-object xs x t h = ap (λ l. list_all (λ y. is_among y xs) (firsts same_name l)) (object_occurrences-term x t h) ∙ (each_listed xs (variables t) ∙ sym (closed_variables xs t))
 
 formals_are : (o : Option (List Name)) (xs : List Name) → if_formals o ≡ Some xs → (o ≡ Some xs) × (are_formals xs ≡ true)
 formals_are None xs h = cc
@@ -91,7 +82,7 @@ module _ (A : ArityTable) (f : Name) (x l b z : Object) (shape : x ≡ Pair l (P
         let t = term_is A b body in
         ap₂ (head_count A) p.0 t.1
         ∙ (ap₂ (λ g h. cond (g && (is_closed xs t.0 && h)) (Some (length xs)) None) p.1 t.2
-        ∙ ap (λ c. cond c (Some (length xs)) None) (and_true (is_closed xs t.0) ∙ sym (closed-object A xs b t.0 t.1 t.2)))
+        ∙ ap (λ c. cond c (Some (length xs)) None) (and_true (is_closed xs t.0) ∙ sym (closed-object xs b t.0 t.1)))
 
     pub formal_count-free : is_closed_object xs b ≡ false → formal_count A (Pair (Symbol f) x) ≡ None
     formal_count-free h = count_is ∙ none_when (same_name f (named "LAMBDA") && same_object z NIL) (head_count A (names_of l) (term_of b)) (head_is ∙ ap (λ c. cond c (Some (length xs)) None) h)

@@ -4,9 +4,10 @@ mod Entries
 mod ListMarks
 mod Symbols
 mod PartSet
-mod Walk
 mod FormalList
 mod Heads
-mod ByIndex
+mod Gathered
+mod Gathering
+mod TermOccurrences
 pub mod CallerLemmas
 pub mod SubstitutionLists

@@ -1,5 +1,5 @@
 -- What the code tests of a pair is what the pair is.
-use Rattle.std.proofs.Common.{◌≡◌, ℕ, ◌<◌, Bool, true, false, ◌&&◌, cond, List, [], ◌∷◌, ◌++◌, length, slice_get, get_or, length-append, inl, inr, arith, Option, Some, None, refl, sym, ap, ap₂, ◌∙◌}
+use Rattle.std.proofs.Common.{rules, ◌≡◌, ℕ, ◌⊎◌, ◌+◌, ◌<◌, Bool, true, false, ◌&&◌, cond, List, [], ◌∷◌, ◌++◌, length, slice_get, get_or, length-append, inl, inr, arith, Option, Some, None, refl, sym, ap, ap₂, ◌∙◌}
 use Rattle.std.proofs.lemmas.Option.{get_or_from_slice_get}
 use Rattle.mw_model.specs.Object.{Name, Object, Natural, Symbol, Pair, named, name_of_bytes, same_name, same_object, nil_name, NIL}
 use Rattle.mw_model.specs.Primitive.{is_symbol, name_of}
@@ -12,8 +12,10 @@ use Rattle.mw_term.specs.declared.cell_mark.CellMark.{CellMark}
 use Rattle.mw_term.specs.Parts.{is_single, takes, allows_if}
 use Rattle.mw_term.specs.Marking.{AreMarks, mark_of_object, term_count, formal_count, one_more, is_lambda, is_negation, is_binary}
 use Rattle.mw_heap.proofs.Lists.{slice_get-append, slice_get-seam}
-use Rattle.mw_term.proofs.ByIndex.{earlier_or_last}
 use Rattle.mw_term.proofs.Marked.{is_term-call, term_count-pair, is_lambda-marks, is_formula-unary, is_formula-binary, is_negation-marks, is_binary-marks}
+
+earlier_or_last : (j n : ℕ) → j < n + 1 → (j < n) ⊎ (j ≡ n)
+earlier_or_last j n h = search (rules, arith)
 
 and_false : (a : Bool) → (a && false) ≡ false
 and_false true = refl

@@ -1,5 +1,5 @@
 -- A set of parts, as parts are put into it.
-use Rattle.std.proofs.Common.{◌≡◌, ℕ, ◌+◌, ◌*◌, ◌<◌, ◌≤◌, Bool, true, false, ◌||◌, eqb, List, [], ◌∷◌, ◌++◌, length, map, Contains, inl, inr, refl, sym, ap, ◌∙◌, subst, eqb-true, eq-eqb, if◌then◌else◌, arith, append-nil}
+use Rattle.std.proofs.Common.{◌≡◌, ℕ, ◌+◌, ◌*◌, ◌<◌, ◌≤◌, Bool, true, false, ◌||◌, not, eqb, List, [], ◌∷◌, ◌++◌, length, map, Contains, ◌⊎◌, inl, inr, refl, sym, ap, subst, eqb-true, eq-eqb, if◌then◌else◌, arith}
 use Rattle.std.specs.List.{list_any, IsDistinct, AllByRecursion}
 use Rattle.std.proofs.lemmas.List.Elements.{Contains-push, Contains-push_cases, Contains-append_left, Contains-append_right}
 use Rattle.std.proofs.lemmas.List.{length-map}
@@ -11,7 +11,7 @@ use Rattle.mw_model.specs.Object.{Object}
 use Rattle.mw_term.specs.declared.part.Part.{Part}
 use Rattle.mw_term.specs.declared.part.Part.TheVariants.{Term, Terms}
 use Rattle.mw_term.specs.contracts.part.PartPartialEq.TheImpl.{ghosts}
-use Rattle.mw_term.specs.Parts.{IsPartIn}
+use Rattle.mw_term.specs.Occurrences.{IsPartIn}
 
 pub part-eq : (p q : Part) → ghosts.eq p q ≡ true → p ≡ q
 part-eq (Term r) (Term s) h = ap Term (eqb-true r s h)
@@ -19,32 +19,21 @@ part-eq (Term r) (Terms s) h = cc
 part-eq (Terms r) (Term s) h = cc
 part-eq (Terms r) (Terms s) h = ap Terms (eqb-true r s h)
 
--- the part k was put among the parts
-pub record IsPut (old new : List Part) (k : Part) : Type 0 where
-  pub more : List Part
-  pub longer : new ≡ old ++ more
-  pub only : (p : Part) → Contains more p → p ≡ k
-  pub there : Contains new k
-
-none_in : (p : Part) → Contains [] p → ⊥
-none_in p h = absurd (omega (arith, h.1))
-
-pub IsPut-insert_key : (ks : List Part) (k : Part) → IsPut ks (insert_key ghosts.eq ks k) k
-IsPut-insert_key ks k = go (list_any (ghosts.eq k) ks) refl
+-- what is among the parts after k was put there
+pub put-cases : (ks new : List Part) (k : Part) → new ≡ insert_key ghosts.eq ks k → (p : Part) → Contains new p → Contains ks p ⊎ (p ≡ k)
+put-cases ks new k e p m = go (list_any (ghosts.eq k) ks) (subst (λ l. Contains l p) e m)
   where
-    go : (b : Bool) → list_any (ghosts.eq k) ks ≡ b → IsPut ks (insert_key ghosts.eq ks k) k
-    go true e = record {
-      more = [];
-      longer = ap (λ c. if c then ks else ks ++ k ∷ []) e ∙ sym (append-nil ks);
-      only = λ p h. absurd (none_in p h);
-      there = Contains-insert_key ghosts.eq part-eq ks k;
-    }
-    go false e = record {
-      more = k ∷ [];
-      longer = ap (λ c. if c then ks else ks ++ k ∷ []) e;
-      only = λ p h. elim (Contains-push_cases [] k p h) [ inl n ↦ absurd (none_in p n) | inr q ↦ sym q ];
-      there = Contains-insert_key ghosts.eq part-eq ks k;
-    }
+    go : (b : Bool) → Contains (if b then ks else ks ++ k ∷ []) p → Contains ks p ⊎ (p ≡ k)
+    go true h = inl h
+    go false h = elim (Contains-push_cases ks k p h) [ inl i ↦ inl i | inr q ↦ inr (sym q) ]
+
+-- a part that was not new was there before
+pub put-before : (ks : List Part) (k : Part) → not (list_any (ghosts.eq k) ks) ≡ false → Contains ks k
+put-before ks k h = go (list_any (ghosts.eq k) ks) refl h
+  where
+    go : (b : Bool) → list_any (ghosts.eq k) ks ≡ b → not b ≡ false → Contains ks k
+    go true e _ = subst (λ l. Contains l k) (ap (λ c. if c then ks else ks ++ k ∷ []) e) (Contains-insert_key ghosts.eq part-eq ks k)
+    go false e n = cc
 
 -- parts of a heap are few: two for each object
 abbrev number : Part → ℕ

@@ -1,3 +1,4 @@
 pub mod Tables
 pub mod Parts
+pub mod Occurrences
 pub mod Marking

@@ -1,5 +1,5 @@
 //! Each call once, with ample memory.
-use crate::{Arity, Marks, mark_terms};
+use crate::{Arity, Marks, mark_terms, vars};
 use mw_heap::{Heap, Mark, Memory, Ref};
 use std::alloc::Global;
 use std::process::Abort;
@@ -102,4 +102,49 @@ fn marks_are_extended_and_cut(rt: HostRuntime) -> Result<(), Memory> {
 #[test]
 fn no_objects_have_no_marks(rt: HostRuntime) {
     assert_eq!(rt; Marks::new(rt.alloc()).len(), 0);
+}
+
+// ((LAMBDA (Z) Z) W).
+fn lambda_call(rt: &impl Abort, heap: &mut Heap) -> Result<Ref, Memory> {
+    let lambda = heap.symbol(b"LAMBDA")?;
+    let z = heap.symbol(b"Z")?;
+    let w = heap.symbol(b"W")?;
+    let formals = list(rt, heap, &[z])?;
+    let head = list(rt, heap, &[lambda, formals, z])?;
+    list(rt, heap, &[head, w])
+}
+
+// (CONS Y (F X Y (QUOTE 7) ((LAMBDA (Z) Z) W))).
+fn nested_term(rt: &impl Abort, heap: &mut Heap) -> Result<Ref, Memory> {
+    let x = heap.symbol(b"X")?;
+    let y = heap.symbol(b"Y")?;
+    let f = heap.symbol(b"F")?;
+    let cons = heap.symbol(b"CONS")?;
+    let quote = heap.symbol(b"QUOTE")?;
+    let seven = heap.nat(7)?;
+    let constant = list(rt, heap, &[quote, seven])?;
+    let applied = lambda_call(rt, heap)?;
+    let inner = list(rt, heap, &[f, x, y, constant, applied])?;
+    list(rt, heap, &[cons, y, inner])
+}
+
+fn has_variables(rt: &impl Abort, heap: &Heap, term: Ref, expected: &[Ref]) -> Result<(), Memory> {
+    assert!(rt; term.index() < heap.mark().cells());
+    let found = vars(heap, term)?;
+    assert!(rt; found.as_slice() == expected);
+    Ok(())
+}
+
+fn variables_of_nested_term(rt: &impl Abort, heap: &mut Heap) -> Result<(), Memory> {
+    let term = nested_term(rt, heap)?;
+    let y = heap.symbol(b"Y")?;
+    let x = heap.symbol(b"X")?;
+    let w = heap.symbol(b"W")?;
+    has_variables(rt, heap, term, &[y, x, w])
+}
+
+#[test]
+fn variables_come_in_order_of_first_occurrence(rt: HostRuntime) -> Result<(), Memory> {
+    let mut heap = Heap::new(rt.alloc())?;
+    variables_of_nested_term(&rt, &mut heap)
 }

@@ -1,24 +1,55 @@
--- Each part is looked at once, and there are few.
-use Rattle.std.proofs.Common.{length, get_or, refl, sym, ap, ◌∙◌, subst, arith}
-use Rattle.std.proofs.lemmas.Option.{slice_get_read}
-use Rattle.mw_term.specs.Parts.{names_at, IsSpread}
-use Rattle.mw_term.proofs.PartSet.{few_parts}
-use Rattle.mw_term.proofs.Walk.{walk-step, walk-end}
+-- Each of the variables is tested.
+use Rattle.std.proofs.Common.{◌≡◌, ℕ, true, false, get_or, take, sym, ap, ◌∙◌, subst}
+use Rattle.std.specs.List.{list_all}
+use Rattle.std.proofs.lemmas.Bool.{and_from}
+use Rattle.std.proofs.lemmas.List.{take_all}
+use Rattle.std.proofs.lemmas.List.Elements.{All-get_or}
+use Rattle.std.proofs.lemmas.List.Folds.{list_all_more, list_all_at}
+use Rattle.mw_model.specs.Primitive.{name_of}
+use Rattle.mw_model.specs.Term.{is_among}
+use Rattle.mw_heap.specs.Objects.{object_at}
+use Rattle.mw_term.specs.Parts.{names_at, AreSymbols}
+use Rattle.mw_term.proofs.Symbols.{IsSymbolIn, symbols_each, list_all-names_at}
 use Rattle.mw_term.proofs.free.is_closed.Goals as goal
 
-pub loop-looked-smaller : goal.loop-looked-smaller
-loop-looked-smaller c =
-    let few = few_parts c.args.heap.now c.loop-looked.parts.keys c.len.ensures.unique c.loop-looked.invariant.inside in
-    omega (arith, few, c.len.ensures.len, c.loop-looked-test.true)
+pub is_among_symbols-requires : goal.is_among_symbols-requires
+is_among_symbols-requires c =
+    let os = c.args.heap.now in
+    let rs = c.as_slice-x-items.result.now in
+    let symbols = subst (AreSymbols os) (sym c.as_slice-x-items.ensures.keys) c.in_ok-variables.ensures.symbols in
+    let here = subst (IsSymbolIn os) (sym c.x-item.is) (All-get_or (IsSymbolIn os) rs c.loop-x.x-index c.x-item.result c.loop-x-test.true (symbols_each os rs symbols)) in
+    record { within = here.0; symbol = here.1; symbols = c.requires.symbols }
 
-pub loop-looked-preserved : goal.loop-looked-preserved
-loop-looked-preserved c =
+pub loop-x-preserved : goal.loop-x-preserved
+loop-x-preserved c =
     let os = c.args.heap.now in
     let xs = names_at os c.args.names.now.keys in
-    let old = c.loop-looked.parts.keys in
-    let part = c.index-as_slice-looked.result in
-    let at = slice_get_read old (length old) c.loop-looked.looked part refl (omega (arith, c.len.ensures.len, c.loop-looked-test.true)) (c.index-as_slice-looked.is ∙ ap (λ l. get_or l c.loop-looked.looked part) c.as_slice.ensures.keys) in
-    walk-step os xs c.args.term old c.spread.new.parts.keys c.loop-looked.looked part c.loop-looked.invariant at (subst (IsSpread os xs old c.spread.new.parts.keys part) c.if-not-branch.false c.in_ok-spread.ensures)
+    let rs = c.as_slice-x-items.result.now in
+    let i = c.loop-x.x-index in
+    let test = λ (r : ℕ). is_among (name_of (object_at os r)) xs in
+    let here : test (get_or rs i c.x-item.result) ≡ true = sym (ap test c.x-item.is) ∙ (sym c.is_among_symbols.ensures.among ∙ c.if-not-is_among_symbols.false) in
+    list_all_more test rs i c.x-item.result c.loop-x-test.true ∙ and_from (list_all test (take i rs)) (test (get_or rs i c.x-item.result)) c.loop-x.invariant here
+
+pub returns-then-not-is_among_symbols : goal.returns-then-not-is_among_symbols
+returns-then-not-is_among_symbols c =
+    let os = c.args.heap.now in
+    let xs = names_at os c.args.names.now.keys in
+    let rs = c.as_slice-x-items.result.now in
+    let test = λ (r : ℕ). is_among (name_of (object_at os r)) xs in
+    let here : test (get_or rs c.loop-x.x-index c.x-item.result) ≡ false = sym (ap test c.x-item.is) ∙ (sym c.is_among_symbols.ensures.among ∙ c.if-not-is_among_symbols.true) in
+    sym (list_all_at test rs c.loop-x.x-index c.x-item.result c.loop-x-test.true here)
+    ∙ (ap (list_all test) c.as_slice-x-items.ensures.keys
+    ∙ (sym (list_all-names_at os (λ y. is_among y xs) c.in_ok-variables.variables.keys)
+    ∙ ap (list_all (λ y. is_among y xs)) c.in_ok-variables.ensures.names))
 
 pub returns : goal.returns
-returns c = sym (walk-end c.args.heap.now (names_at c.args.heap.now c.args.names.now.keys) c.args.term c.loop-looked.parts.keys c.loop-looked.looked c.loop-looked.invariant (omega (arith, c.len.ensures.len, c.loop-looked-test.false)))
+returns c =
+    let os = c.args.heap.now in
+    let xs = names_at os c.args.names.now.keys in
+    let rs = c.as_slice-x-items.result.now in
+    let test = λ (r : ℕ). is_among (name_of (object_at os r)) xs in
+    sym c.loop-x.invariant
+    ∙ (ap (list_all test) (take_all c.loop-x.x-index rs c.loop-x-test.false)
+    ∙ (ap (list_all test) c.as_slice-x-items.ensures.keys
+    ∙ (sym (list_all-names_at os (λ y. is_among y xs) c.in_ok-variables.variables.keys)
+    ∙ ap (list_all (λ y. is_among y xs)) c.in_ok-variables.ensures.names)))

@@ -1,11 +1,11 @@
--- The parts found so far, of which some were looked at.
-use Rattle.std.proofs.Common.{◌*◌, ◌-◌, length}
+-- Those before are among the names.
+use Rattle.std.proofs.Common.{◌≡◌, true, take}
+use Rattle.std.specs.List.{list_all}
+use Rattle.mw_model.specs.Primitive.{name_of}
+use Rattle.mw_model.specs.Term.{is_among}
+use Rattle.mw_heap.specs.Objects.{object_at}
 use Rattle.mw_term.specs.Parts.{names_at}
-use Rattle.mw_term.proofs.Walk.{IsWalk}
 use Rattle.mw_term.proofs.free.is_closed.Given as goal
 
-abbrev pub invariant-loop-looked : goal.invariant-loop-looked
-invariant-loop-looked l = IsWalk l.heap (names_at l.heap l.names.keys) l.fn.term l.parts.keys l.looked
-
-abbrev pub decreases-loop-looked : goal.decreases-loop-looked
-decreases-loop-looked l = 2 * length l.heap - l.looked
+abbrev pub invariant-loop-x : goal.invariant-loop-x
+invariant-loop-x l = list_all (λ r. is_among (name_of (object_at l.heap r)) (names_at l.heap l.names.keys)) (take l.x-index l.x-items) ≡ true

@@ -1,0 +1,93 @@
+//! A walk over a term, for its free variables.
+ghost use Rattle.std.specs.Prelude.{◌≡◌, List, [], ◌∷◌, map, All, Some, true, IfOk, OnOk};
+ghost use Rattle.mw_model.specs.Object.{Symbol};
+ghost use Rattle.mw_model.specs.Term.{Term, variables};
+ghost use Rattle.mw_model.specs.Reading.{term_of};
+ghost use Rattle.mw_model.specs.Primitive.{is_symbol, name_of};
+ghost use Rattle.mw_heap.specs.Objects.{object_at, IsIn};
+ghost use Rattle.mw_term.specs.Parts.{names_at, AreSymbols};
+ghost use Rattle.mw_term.specs.Occurrences.{object_variables, IsPartIn, AreFound, IsLooked};
+
+use crate::formals::is_among_symbols;
+use crate::names::is_symbol_of;
+use crate::part::Part;
+use crate::variables::Vars;
+use indexmap::IndexSet;
+use mw_heap::{Heap, Memory, Ref, View};
+use std::alloc::Global;
+
+/// The free variables of a term, in order of first occurrence. Those of a lambda call are those of its actuals. The one error is that
+/// memory is refused. It takes time and memory in proportion to the distinct objects that make up the term. Of an object that is no
+/// term it gives some symbols.
+pub fn vars(heap: &Heap, t: Ref) -> Result<Vars, Memory>
+    requires { IsIn heap.now t }
+    ensures within { IfOk result (All (IsIn heap.now)) }
+    ensures variables { IfOk result (λ vs. (u : Term) → term_of (object_at heap.now t) ≡ Some u → map (object_at heap.now) vs ≡ map Symbol (variables u)) }
+{
+    let symbols = variables_in(heap, t, heap.alloc())?;
+    Ok(Vars::from_set(symbols))
+}
+
+// The free variables of a term. Each of its parts is looked at once.
+pub(crate) fn variables_in(heap: &Heap, term: Ref, alloc: Global) -> Result<IndexSet<Ref>, Memory>
+    requires { IsIn heap.now term }
+    ensures symbols { IfOk result (λ s. AreSymbols heap.now s.keys) }
+    ensures names { IfOk result (λ s. names_at heap.now s.keys ≡ object_variables (object_at heap.now term)) }
+{
+    let mut found = IndexSet::new(alloc);
+    let mut looked = IndexSet::new(alloc);
+    let mut waiting = Vec::new(alloc);
+    waiting.push(Part::Term(term))?;
+    while let Some(part) = waiting.pop() {
+        if !looked.insert(part)? {
+            continue;
+        }
+        look(heap, &mut found, &mut waiting, part)?;
+    }
+    Ok(found)
+}
+
+// Finds the variable that a part is, or has its parts wait, the first of them last.
+fn look(
+    heap: &Heap,
+    found: &mut IndexSet<Ref>,
+    waiting: &mut Vec<Part>,
+    part: Part,
+) -> Result<(), Memory>
+    requires within { IsPartIn heap.now part }
+    requires symbols { AreSymbols heap.now found.old.keys }
+    ensures { OnOk result (IsLooked heap.now part found.old.keys found.new.keys waiting.old.items waiting.new.items) }
+{
+    match part {
+        Part::Term(x) => match heap.view(x) {
+            View::Nat(_) => Ok(()),
+            View::Symbol => add_symbol(heap, found, x),
+            View::Pair(head, actuals) => {
+                if !is_symbol_of(heap, head, b"QUOTE") {
+                    waiting.push(Part::Terms(actuals))?;
+                }
+                Ok(())
+            }
+        },
+        Part::Terms(x) => {
+            if let View::Pair(first, rest) = heap.view(x) {
+                waiting.push(Part::Terms(rest))?;
+                waiting.push(Part::Term(first))?;
+            }
+            Ok(())
+        }
+    }
+}
+
+// Adds the symbol x where it is not there yet.
+fn add_symbol(heap: &Heap, symbols: &mut IndexSet<Ref>, x: Ref) -> Result<(), Memory>
+    requires within { IsIn heap.now x }
+    requires symbol { is_symbol (object_at heap.now x) ≡ true }
+    requires symbols { AreSymbols heap.now symbols.old.keys }
+    ensures { OnOk result (AreFound heap.now symbols.old.keys symbols.new.keys (name_of (object_at heap.now x) ∷ [])) }
+{
+    if !is_among_symbols(heap, symbols, x) {
+        symbols.insert(x)?;
+    }
+    Ok(())
+}
