@@ -1,6 +1,6 @@
 -- On the object of a formula, substitution in terms is substitution in the formula.
-use Rattle.std.proofs.Common.{◌≡◌, true, Option, Some, None, refl, ap, ap₂, subst, cond}
-use Rattle.mw_model.specs.Object.{Object, symbol, list2, list3, NIL, Pair}
+use Rattle.std.proofs.Common.{◌≡◌, true, Option, Some, None, refl, ap, ap₂, subst}
+use Rattle.mw_model.specs.Object.{Object, symbol, list2, list3}
 use Rattle.mw_model.specs.Term.{Formula, Equal, Not, Or, formula_object, ArityTable, is_formula}
 use Rattle.mw_model.specs.Reading.{formula_of, that}
 use Rattle.mw_model.specs.Definition.{is_present}

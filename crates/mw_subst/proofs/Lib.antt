@@ -4,3 +4,4 @@ pub mod Path
 pub mod CallerLemmas
 pub mod PairLists
 pub mod FormulaObjects
+pub mod Seen

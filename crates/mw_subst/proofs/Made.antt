@@ -1,5 +1,5 @@
 -- Results so far: what is found among them, and how they stay.
-use Rattle.std.proofs.Common.{◌≡◌, ℕ, Bool, true, false, cond, nat_eq, List, [], ◌∷◌, ◌++◌, Some, refl, sym, ap, ◌∙◌, subst, eqb-true}
+use Rattle.std.proofs.Common.{◌≡◌, ℕ, Bool, true, false, cond, nat_eq, List, [], ◌∷◌, ◌++◌, Option, Some, None, refl, sym, ap, ◌∙◌, subst, eqb-true}
 use Rattle.std.specs.Map.{lookup}
 use Rattle.mw_model.specs.Object.{Object, Pair, symbol, same_object}
 use Rattle.mw_model.specs.Rules.{substitute_object, substitute_each_object}
@@ -31,3 +31,8 @@ results-Grows old new f (p ∷ es) g h =
 -- what is made of a list that is no constant
 pub substitute-list : (s h r : Object) → same_object h (symbol "QUOTE") ≡ false → substitute_object s (Pair h r) ≡ Pair h (substitute_each_object s r)
 substitute-list s h r e = ap (λ b. cond b (Pair h r) (Pair h (substitute_each_object s r))) e
+
+-- what is not found
+pub none_found : (o : Option ℕ) → ((r : ℕ) → o ≡ Some r → ⊥) → o ≡ None
+none_found None h = refl
+none_found (Some r) h = absurd (h r refl)

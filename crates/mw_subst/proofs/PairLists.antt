@@ -1,5 +1,5 @@
 -- A substitution's object, by its pairs before a tail.
-use Rattle.std.proofs.Common.{◌≡◌, ℕ, Bool, true, false, sym, List, [], ◌∷◌, ◌++◌, refl, ap, ◌∙◌}
+use Rattle.std.proofs.Common.{◌≡◌, ℕ, true, false, sym, List, [], ◌∷◌, ◌++◌, refl, ap}
 use Rattle.std.proofs.lemmas.Bool.{and_parts}
 use Rattle.mw_model.specs.Object.{Object, Natural, Symbol, Pair, NIL}
 use Rattle.mw_model.specs.Primitive.{is_pair}

@@ -128,7 +128,8 @@ module _ (first now new : List Object) (pairs : List (ℕ × ℕ)) (x : ℕ) (te
       let here : slice_get (rest ++ part ∷ []) i ≡ Some p = slice_get-append rest (part ∷ []) i b ∙ at in
       (here, path.falls i (length rest) p part b here last_at)
 
-  above : (i : ℕ) (p : Part) → slice_get (rest ++ part ∷ []) i ≡ Some p → cell_of part ≤ cell_of p
+  -- no part on the path is below the last one
+  pub above : (i : ℕ) (p : Part) → slice_get (rest ++ part ∷ []) i ≡ Some p → cell_of part ≤ cell_of p
   above i p at = elim (slice_get-push rest part p i at) [ inl h ↦ let e = (earlier i p h.1).1 in omega (arith, e) | inr h ↦ let e = ap cell_of h.1 in omega (arith, e) ]
 
   -- a smaller part is wanted first

@@ -12,6 +12,11 @@ abbrev pub cell_of : Part → ℕ
 cell_of (Term x) = x
 cell_of (Terms x) = x
 
+-- the same cell as the other kind of part
+abbrev pub other_kind : Part → Part
+other_kind (Term x) = Terms x
+other_kind (Terms x) = Term x
+
 abbrev pub IsPartIn : List Object → Part → Type 0
 IsPartIn os p = IsIn os (cell_of p)
 

@@ -5,11 +5,13 @@ mod memo;
 mod part;
 mod read;
 mod sigma;
+mod steps;
 mod walk;
 
 pub use read::sigma_of;
 pub use sigma::Sigma;
-pub use walk::substitute;
+pub use steps::Steps;
+pub use walk::{substitute, substitute_counted};
 
 #[cfg(test)]
 mod tests;

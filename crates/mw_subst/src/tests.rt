@@ -1,11 +1,13 @@
 //! Each call once, with ample memory.
-ghost use Rattle.std.specs.Prelude.{◌≡◌, true};
+ghost use Rattle.std.specs.Prelude.{◌≡◌, ◌+◌, ◌<◌, ◌≤◌, true};
 ghost use Rattle.mw_model.specs.Object.{is_name};
 
-use crate::{Sigma, substitute};
+use crate::{Sigma, Steps, substitute, substitute_counted};
 use mw_heap::{Heap, Memory, Ref};
 use std::alloc::Global;
+use std::marker::Brand;
 use std::process::Abort;
+use std::sync::ledger::{Blank, Ledger};
 
 fn finds_the_first(rt: &impl Abort, sigma: &mut Sigma, x: Ref, y: Ref) -> Result<(), Memory> {
     sigma.put(x, y)?;
@@ -85,4 +87,68 @@ fn substitutes(rt: &impl Abort, heap: &mut Heap, alloc: Global) -> Result<(), Me
 fn variables_become_terms(rt: HostRuntime) -> Result<(), Memory> {
     let mut heap = Heap::new(rt.alloc())?;
     substitutes(&rt, &mut heap, rt.alloc())
+}
+
+// The call of CONS on an object twice, so many times over.
+fn doubled(rt: &impl Abort, heap: &mut Heap, x: Ref, times: u32) -> Result<Ref, Memory> {
+    let cons = heap.symbol(b"CONS")?;
+    let mut all = x;
+    for _ in 0..times {
+        all = list(rt, heap, &[cons, all, all])?;
+    }
+    Ok(all)
+}
+
+fn quoted_one(rt: &impl Abort, heap: &mut Heap) -> Result<Ref, Memory> {
+    let quote = heap.symbol(b"QUOTE")?;
+    let one = heap.nat(1)?;
+    list(rt, heap, &[quote, one])
+}
+
+// One of the first 200 objects with '1 for X.
+fn with_one<L: Ledger, R: Abort>(
+    rt: &R,
+    heap: &mut Heap,
+    alloc: Global,
+    x: Ref,
+    steps: &mut Steps<L>,
+) -> Result<Ref, Memory>
+    ensures { steps.new ≤ steps.old + 200 }
+{
+    let variable = heap.symbol(b"X")?;
+    let term = quoted_one(rt, heap)?;
+    let count = heap.mark().cells();
+    assert!(rt; variable.index() < count);
+    assert!(rt; term.index() < count);
+    assert!(rt; x.index() < count);
+    assert!(rt; x.index() < 200);
+    let mut sigma = Sigma::new(alloc);
+    sigma.put(variable, term)?;
+    substitute_counted(heap, x, &sigma, steps)
+}
+
+fn looks_once<L: Ledger, R: Abort>(
+    rt: &R,
+    heap: &mut Heap,
+    alloc: Global,
+    blank: Blank,
+) -> Result<(), Memory>
+    requires name { blank.name ≡ L.name }
+    requires parts { blank.parts ≡ L.parts }
+    requires some { 0 < blank.parts }
+{
+    let x = heap.symbol(b"X")?;
+    let before = doubled(rt, heap, x, 41)?;
+    let mut steps = Steps::<L>::new(blank);
+    let made = with_one(rt, heap, alloc, before, &mut steps)?;
+    let one = quoted_one(rt, heap)?;
+    assert_eq!(rt; made, doubled(rt, heap, one, 41)?);
+    Ok(())
+}
+
+// The calls share their parts: as a tree the term has 2 ^ 41 variables.
+#[test]
+fn shared_parts_are_looked_at_once(rt: HostRuntime) -> Result<(), Memory> {
+    let mut heap = Heap::new(rt.alloc())?;
+    looks_once::<Brand, HostRuntime>(&rt, &mut heap, rt.alloc(), Blank::new(1))
 }

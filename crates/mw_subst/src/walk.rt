@@ -1,17 +1,20 @@
 //! Substitution in a term.
-ghost use Rattle.std.specs.Prelude.{◌≡◌, true, None, IfOk, OnOk};
+ghost use Rattle.std.specs.Prelude.{◌≡◌, ◌+◌, ◌<◌, ◌≤◌, ℕ, true, None, List, length, IfOk, OnOk, OnErr};
 ghost use Rattle.mw_model.specs.Object.{symbol, is_name, name_of_bytes, same_name, same_object};
 ghost use Rattle.mw_model.specs.Rules.{substitute_object, image_object};
 ghost use Rattle.mw_heap.specs.Objects.{object_at, IsIn, Grows};
 ghost use Rattle.mw_subst.specs.Sigma.{sigma_object, AreIn};
 ghost use Rattle.mw_subst.specs.Memo.{AreMade, AreUnique, IsPartIn, found};
 ghost use Rattle.mw_subst.specs.Steps.{IsStep, Advances};
+ghost use Rattle.mw_subst.specs.Parts.{AreParts};
 ghost use Rattle.mw_subst.specs.declared.part.Part.TheVariants.{Term, Terms};
 
-use crate::Sigma;
 use crate::memo::Memo;
 use crate::part::Part;
+use crate::{Sigma, Steps};
 use mw_heap::{Heap, Memory, Ref, View};
+use std::marker::Brand;
+use std::sync::ledger::{Blank, Ledger};
 
 // What is made of a part, or a part of it that has to come first.
 enum Progress {
@@ -101,13 +104,15 @@ fn take_step(heap: &mut Heap, sigma: &Sigma, memo: &Memo, part: &Part) -> Result
     }
 }
 
-// Looks at a part: puts it away with what it wants first on top, or keeps what was made of it.
-fn advance(
+// Looks at a part: puts it away with what it wants first on top, or keeps what was made of it. A cell takes a step as it first comes
+// on the path. It never waits there as both kinds of part, since each cell on the path is below those before it.
+fn advance<L: Ledger>(
     heap: &mut Heap,
     sigma: &Sigma,
     memo: &mut Memo,
     path: &mut Vec<Part>,
     part: Part,
+    steps: &mut Steps<L>,
 ) -> Result<(), Memory>
     requires within { IsPartIn heap.old part }
     requires sigma { AreIn heap.old sigma.now }
@@ -116,20 +121,74 @@ fn advance(
     requires unique { AreUnique memo.old.terms.entries memo.old.lists.entries }
     ensures grows { Grows heap.old heap.new }
     ensures unique { OnOk result (AreUnique memo.new.terms.entries memo.new.lists.entries) }
-    ensures advanced { OnOk result (Advances heap.old heap.new (sigma_object heap.old sigma.now) memo.old memo.new path.old.items path.new.items part) }
+    ensures advanced { OnOk result (Advances heap.old heap.new (sigma_object heap.old sigma.now) memo.old memo.new path.old.items path.new.items part steps.old steps.new) }
+    ensures err { OnErr result (steps.new ≡ steps.old) }
 {
     let progress = take_step(heap, sigma, memo, &part)?;
     match progress {
         Progress::Wants(inner) => {
+            let is_new = memo.find(inner.other_kind()).is_none();
             path.push(part)?;
             path.push(inner)?;
+            if is_new {
+                steps.tick();
+            }
         }
         Progress::Made(made) => memo.add(part, made)?,
     }
     Ok(())
 }
 
-/// The term x with the terms of a substitution for its variables. Each part of the term is looked at once.
+/// The term x with the terms of a substitution for its variables. It takes one step for each distinct cell of the term that it looks
+/// at, and looks at none more than five times. Where memory is refused, the steps so far are counted.
+pub fn substitute_counted<L: Ledger>(
+    heap: &mut Heap,
+    x: Ref,
+    sigma: &Sigma,
+    steps: &mut Steps<L>,
+) -> Result<Ref, Memory>
+    requires within { IsIn heap.old x }
+    requires sigma { AreIn heap.old sigma.now }
+    ensures grows { Grows heap.old heap.new }
+    ensures within { IfOk result (λ r. IsIn heap.new r) }
+    ensures made { IfOk result (λ r. object_at heap.new r ≡ substitute_object (sigma_object heap.old sigma.now) (object_at heap.old x)) }
+    ensures each { (parts : List ℕ) × AreParts heap.old x parts × (steps.new ≡ steps.old + length parts) }
+    ensures most { steps.new ≤ steps.old + (x + 1) }
+{
+    let mut memo = Memo::new(sigma.alloc());
+    let mut path = Vec::new(sigma.alloc());
+    path.push(Part::Term(x))?;
+    steps.tick();
+    while let Some(part) = path.pop() {
+        advance(heap, sigma, &mut memo, &mut path, part, steps)?;
+    }
+    match memo.find(Part::Term(x)) {
+        Some(made) => Ok(made),
+        None => unreachable!(),
+    }
+}
+
+// The same over a ledger that nobody reads.
+fn substitute_uncounted<L: Ledger>(
+    heap: &mut Heap,
+    x: Ref,
+    sigma: &Sigma,
+    blank: Blank,
+) -> Result<Ref, Memory>
+    requires within { IsIn heap.old x }
+    requires sigma { AreIn heap.old sigma.now }
+    requires name { blank.name ≡ L.name }
+    requires parts { blank.parts ≡ L.parts }
+    requires some { 0 < blank.parts }
+    ensures grows { Grows heap.old heap.new }
+    ensures within { IfOk result (λ r. IsIn heap.new r) }
+    ensures made { IfOk result (λ r. object_at heap.new r ≡ substitute_object (sigma_object heap.old sigma.now) (object_at heap.old x)) }
+{
+    let mut steps = Steps::<L>::new(blank);
+    substitute_counted(heap, x, sigma, &mut steps)
+}
+
+/// The term x with the terms of a substitution for its variables, at the cost of `substitute_counted`.
 pub fn substitute(heap: &mut Heap, x: Ref, sigma: &Sigma) -> Result<Ref, Memory>
     requires within { IsIn heap.old x }
     requires sigma { AreIn heap.old sigma.now }
@@ -137,14 +196,5 @@ pub fn substitute(heap: &mut Heap, x: Ref, sigma: &Sigma) -> Result<Ref, Memory>
     ensures within { IfOk result (λ r. IsIn heap.new r) }
     ensures made { IfOk result (λ r. object_at heap.new r ≡ substitute_object (sigma_object heap.old sigma.now) (object_at heap.old x)) }
 {
-    let mut memo = Memo::new(sigma.alloc());
-    let mut path = Vec::new(sigma.alloc());
-    path.push(Part::Term(x))?;
-    while let Some(part) = path.pop() {
-        advance(heap, sigma, &mut memo, &mut path, part)?;
-    }
-    match memo.find(Part::Term(x)) {
-        Some(made) => Ok(made),
-        None => unreachable!(),
-    }
+    substitute_uncounted::<Brand>(heap, x, sigma, Blank::new(1))
 }

@@ -1,9 +1,8 @@
 -- A pair goes from what is left to the pairs so far.
 use Rattle.std.proofs.Common.{◌≡◌, ℕ, true, sym, ap, ◌∙◌, subst}
 use Rattle.mw_model.specs.Object.{Pair}
-use Rattle.mw_heap.specs.Objects.{object_at, IsIn}
+use Rattle.mw_heap.specs.Objects.{object_at}
 use Rattle.mw_heap.proofs.NoPair.{shown_no_pair}
-use Rattle.mw_subst.specs.Sigma.{AreIn}
 use Rattle.mw_subst.specs.Pairs.{is_list_of_pairs}
 use Rattle.mw_subst.proofs.PairLists.{pairs_before, pairs_before-push, sigma_object-before, AreIn-push, pairs_end}
 use Rattle.mw_subst.proofs.read.sigma_of.Goals as goal

@@ -5,6 +5,7 @@ use Rattle.mw_model.specs.Rules.{substitute_object, substitute_each_object}
 use Rattle.mw_heap.specs.Objects.{object_at}
 use Rattle.mw_subst.specs.Sigma.{sigma_object}
 use Rattle.mw_subst.proofs.Made.{result_found, substitute-list}
+use Rattle.mw_subst.proofs.Seen.{has_second}
 use Rattle.mw_subst.proofs.walk.step_term.Goals as goal
 
 pub cons-requires-clause-second_in : goal.cons-requires-clause-second_in
@@ -24,3 +25,8 @@ returns-in_ok-cons-in-Some-clause-step c =
           ∙ (ap (Pair h) rest.1
           ∙ (sym (substitute-list s h (object_at os c.in-Pair.actuals) (sym c.is_quote.ensures ∙ c.if-is_quote.false)) ∙ ap (substitute_object s) (sym c.in-Pair.ensures.shows.2))),
     )
+
+pub returns-in-None-clause-step : goal.returns-in-None-clause-step
+returns-in-None-clause-step c =
+    let os = c.args.heap.now in
+    (c.in-Pair.ensures.below.1, sym c.find.ensures ∙ c.in-None.is, has_second (object_at os c.args.x) (object_at os c.in-Pair.head) (object_at os c.in-Pair.actuals) c.in-Pair.ensures.shows.2)

@@ -1,9 +1,5 @@
--- What waits, and what was made.
-use Rattle.mw_subst.proofs.Path.{IsPath, left}
+-- A ledger of its own.
 use Rattle.mw_subst.proofs.walk.substitute.Given as goal
 
-abbrev pub invariant-loop-part : goal.invariant-loop-part
-invariant-loop-part l = IsPath l.initial.heap l.heap l.sigma l.x l.memo.terms.entries l.memo.lists.entries l.path.items
-
-abbrev pub decreases-loop-part : goal.decreases-loop-part
-decreases-loop-part l = left l.x l.memo.terms.entries l.memo.lists.entries l.path.items
+abbrev pub ghosts-substitute_uncounted : goal.ghosts-substitute_uncounted
+ghosts-substitute_uncounted a = record { name = a.blank.name; parts = a.blank.parts }
