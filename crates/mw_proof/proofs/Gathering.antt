@@ -1,19 +1,22 @@
 -- Gathering the proofs below a proof.
 use Rattle.std.proofs.Common.{◌≡◌, ℕ, suc, ◌+◌, ◌==◌, ◌<◌, ◌≤◌, Bool, true, false, List, [], ◌∷◌, ◌++◌, length, length-append, get_or, cond, eqb, if◌then◌else◌, append_assoc, append-nil, refl, sym, ap, ◌∙◌, subst, arith, ◌⊎◌, inl, inr}
 use Rattle.std.specs.List.{list_any, IsDistinct}
-use Rattle.std.proofs.lemmas.Bool.{cases_lt, or_left, or_cases, eqb-true, eq-eqb}
+use Rattle.std.proofs.lemmas.Bool.{cases_lt, or_left, or_right, or_cases, eqb-true, eq-eqb}
 use Rattle.std.proofs.lemmas.List.Folds.{list_any-append, list_any_at}
+use Rattle.std.proofs.lemmas.Map.Keys.{IsDistinct-from_apart}
 use Rattle.std.proofs.lemmas.Map.Steps.{length-le_from_distinct_below}
 use Rattle.std.proofs.Math.ListN.{get_or-append}
 use Rattle.std.proofs.lemmas.List.{get_or_read_under}
-use Rattle.mw_model.specs.Object.{Object, Natural, Symbol, Pair}
+use Rattle.mw_model.specs.Object.{Object, Natural, Symbol, Pair, same_object, is_member}
+use Rattle.mw_model.proofs.Names.{same_object-refl}
 use Rattle.mw_model.specs.Primitive.{is_symbol}
 use Rattle.mw_heap.specs.Objects.{object_at, IsIn, Shows}
 use Rattle.mw_heap.specs.declared.view.View.{View}
 use Rattle.mw_heap.specs.declared.view.View.TheVariants.{Nat, Symbol as Word, Pair as Parts}
-use Rattle.mw_proof.specs.Step.{subproofs_of}
+use Rattle.mw_proof.specs.Step.{has_proof_shape, subproofs_of}
+use Rattle.mw_proof.specs.Judgments.{HasStepForSome}
 use Rattle.mw_proof.proofs.Counted.{keys_more}
-use Rattle.mw_proof.specs.Gathered.{IsAmong, AreIn, HasMembers, HasSubproofs, AddsSubproofs, AreGathered}
+use Rattle.mw_proof.specs.Gathered.{IsAmong, AreIn, HasMembers, HasSubproofs, AddsSubproofs, AreGathered, IsMadeOf, itself, subproof}
 
 pub IsAmong-append : (keys more : List ℕ) (x : ℕ) → IsAmong keys x → IsAmong (keys ++ more) x
 IsAmong-append keys more x h = list_any-append (λ y. x == y) keys more ∙ or_left (list_any (λ y. x == y) keys) (list_any (λ y. x == y) more) h
@@ -31,10 +34,12 @@ pub record Walks (os : List Object) (old keys : List ℕ) (n list rest : ℕ) : 
   pub rest_within : IsIn os rest
   pub rest_before : rest < n
   pub held : (later : List ℕ) → HasMembers os (keys ++ later) n (object_at os rest) → HasMembers os (keys ++ later) n (object_at os list)
+  pub added : (q : ℕ) → IsAmong keys q → IsAmong old q ⊎ (is_member (object_at os q) (object_at os list) ≡ true)
+  pub ahead : (o : Object) → is_member o (object_at os rest) ≡ true → is_member o (object_at os list) ≡ true
 
 module _ (os : List Object) (old : List ℕ) (n list : ℕ) where
   pub walk_starts : AreIn os old → IsIn os list → list < n → Walks os old old n list list
-  walk_starts within here before = record { more = []; longer = sym (append-nil old); within = within; rest_within = here; rest_before = before; held = λ later h. h }
+  walk_starts within here before = record { more = []; longer = sym (append-nil old); within = within; rest_within = here; rest_before = before; held = λ later h. h; added = λ q h. inl h; ahead = λ o h. h }
 
   module _ (keys : List ℕ) (rest : ℕ) (w : Walks os old keys n list rest) where
     pub walk_goes_on : (q r : ℕ) (new : List ℕ) (b : Bool) → IsIn os q × IsIn os r × (object_at os rest ≡ Pair (object_at os q) (object_at os r)) → (q < rest) × (r < rest) → new ≡ (if b then keys else keys ++ q ∷ []) → list_any (λ y. q == y) new ≡ true → ((x : ℕ) → list_any (λ y. x == y) new ≡ cond (q == x) true (list_any (λ y. x == y) keys)) → Walks os old new n list r
@@ -48,6 +53,8 @@ module _ (os : List Object) (old : List ℕ) (n list : ℕ) where
           rest_within = shows.1;
           rest_before = omega (arith, older, w.rest_before);
           held = λ later h. subst (λ k. HasMembers os k n (object_at os list)) (sym (whole m.0 longer later)) (w.held (m.0 ++ later) (subst (λ k. HasMembers os k n (object_at os rest)) (whole m.0 longer later) (subst (HasMembers os (new ++ later) n) (sym shows.2) ((q, refl, IsAmong-append new later q here, below older), h))));
+          added = λ x h. came x (q == x) refl (sym (says x) ∙ h);
+          ahead = λ o h. w.ahead o (ap (is_member o) shows.2 ∙ or_right (same_object o (object_at os q)) (is_member o (object_at os r)) h);
         }
       where
         below : (q < rest) × (r < rest) → q < n
@@ -55,6 +62,13 @@ module _ (os : List Object) (old : List ℕ) (n list : ℕ) where
 
         whole : (more : List ℕ) → new ≡ keys ++ more → (later : List ℕ) → new ++ later ≡ keys ++ (more ++ later)
         whole more e later = ap (λ k. k ++ later) e ∙ append_assoc keys more later
+
+        first_member : is_member (object_at os q) (object_at os rest) ≡ true
+        first_member = ap (is_member (object_at os q)) shows.2 ∙ or_left (same_object (object_at os q) (object_at os q)) (is_member (object_at os q) (object_at os r)) (same_object-refl (object_at os q))
+
+        came : (x : ℕ) (t : Bool) → (q == x) ≡ t → cond (q == x) true (list_any (λ y. x == y) keys) ≡ true → IsAmong old x ⊎ (is_member (object_at os x) (object_at os list) ≡ true)
+        came x true e h = inr (subst (λ y. is_member (object_at os y) (object_at os list) ≡ true) (eqb-true q x e) (w.ahead (object_at os q) first_member))
+        came x false e h = w.added x (sym (ap (λ s. cond s true (list_any (λ y. x == y) keys)) e) ∙ h)
 
         inside : (x : ℕ) (t : Bool) → (q == x) ≡ t → cond (q == x) true (list_any (λ y. x == y) keys) ≡ true → IsIn os x
         inside x true e h = subst (IsIn os) (eqb-true q x e) shows.0
@@ -74,9 +88,14 @@ HasMembers-shown os keys n x (Nat m) h bad = subst (HasMembers os keys n) (sym h
 HasMembers-shown os keys n x Word h bad = HasMembers-symbol os keys n x h
 HasMembers-shown os keys n x (Parts a b) h bad = absurd (bad a b refl)
 
-pub adds : (os : List Object) (old keys : List ℕ) (list rest p : ℕ) → Walks os old keys p list rest → HasMembers os keys p (object_at os rest) → object_at os list ≡ subproofs_of (object_at os p) → AddsSubproofs os p old keys
-adds os old keys list rest p w ends is =
-    record { more = w.more; longer = w.longer; within = w.within; held = λ shape. subst (HasMembers os keys p) is (walk_ends os old p list keys rest w ends) }
+pub adds : (os : List Object) (old keys : List ℕ) (list rest p : ℕ) → Walks os old keys p list rest → HasMembers os keys p (object_at os rest) → object_at os list ≡ subproofs_of (object_at os p) → has_proof_shape (object_at os p) ≡ true → AddsSubproofs os p old keys
+adds os old keys list rest p w ends is shape = record {
+  more = w.more;
+  longer = w.longer;
+  within = w.within;
+  held = λ shape. subst (HasMembers os keys p) is (walk_ends os old p list keys rest w ends);
+  added = λ q h. elim (w.added q h) [ inl k ↦ inl k | inr k ↦ inr (shape, ap (is_member (object_at os q)) (sym is) ∙ k) ];
+}
 
 -- places in a list
 pub read_at : (x : ℕ) (xs keys : List ℕ) (i n : ℕ) → x ≡ get_or xs i x → xs ≡ keys → i < n → n ≡ length keys → x ≡ get_or keys i 0
@@ -99,6 +118,23 @@ pub record Gathers (os : List Object) (keys : List ℕ) (proof next : ℕ) : Typ
   pub within : AreIn os keys
   pub next_within : next ≤ length keys
   pub held : (i : ℕ) → i < next → HasSubproofs os keys (get_or keys i 0)
+  pub made_of : (q : ℕ) → IsAmong keys q → IsMadeOf (object_at os proof) (object_at os q)
+
+-- at first there is the proof alone
+pub gathers_starts : (os : List Object) (keys old : List ℕ) (proof : ℕ) → IsIn os proof → old ≡ [] → IsAmong keys proof → ((x : ℕ) → list_any (λ y. x == y) keys ≡ cond (proof == x) true (list_any (λ y. x == y) old)) → Gathers os keys proof 0
+gathers_starts os keys old proof within empty here says = record {
+  here = here;
+  within = λ q h. subst (IsIn os) (only q (proof == q) refl h) within;
+  next_within = omega arith;
+  held = λ i k. absurd (omega (arith, k));
+  made_of = λ q h. subst (λ r. IsMadeOf (object_at os proof) (object_at os r)) (only q (proof == q) refl h) itself;
+}
+  where
+    only : (q : ℕ) (t : Bool) → (proof == q) ≡ t → IsAmong keys q → proof ≡ q
+    only q true e h = eqb-true proof q e
+    only q false e h =
+        let none : list_any (λ y. q == y) [] ≡ true = sym (ap (λ s. cond s true (list_any (λ y. q == y) [])) e) ∙ (sym (says q ∙ ap (λ l. cond (proof == q) true (list_any (λ y. q == y) l)) empty) ∙ h) in
+        cc
 
 module _ (os : List Object) (keys : List ℕ) (proof next : ℕ) (g : Gathers os keys proof next) where
   pub next_in : next < length keys → IsIn os (get_or keys next 0)
@@ -114,6 +150,7 @@ module _ (os : List Object) (keys : List ℕ) (proof next : ℕ) (g : Gathers os
     within = a.within;
     next_within = omega (arith, l, ap length a.longer, length-append keys a.more);
     held = λ i h. go i (cases_lt i next) h;
+    made_of = λ q h. elim (a.added q h) [ inl k ↦ g.made_of q k | inr k ↦ subproof (object_at os (get_or keys next 0)) (object_at os q) (g.made_of (get_or keys next 0) (IsAmong-at keys next l)) k ];
   }
     where
       same : (i : ℕ) → i < length keys → get_or keys i 0 ≡ get_or new i 0
@@ -129,9 +166,14 @@ module _ (os : List Object) (keys : List ℕ) (proof next : ℕ) (g : Gathers os
           let e' : get_or keys next 0 ≡ get_or new i 0 = same next l ∙ ap (λ j. get_or new j 0) e in
           subst (HasSubproofs os new) e' a.held
 
-  pub gathered : length keys ≤ next → AreGathered os keys proof
-  gathered l = record {
+  pub gathered : length keys ≤ next → IsDistinct eqb keys → AreGathered os keys proof
+  gathered l distinct = record {
     here = g.here;
     within = g.within;
     held = λ p h. let q = place keys p h in subst (HasSubproofs os keys) q.2 (g.held q.0 (omega (arith, q.1, l)));
+    no_others = record { distinct = distinct; each = g.made_of };
   }
+
+-- memory was refused before the first
+pub none_decided : (os : List Object) (proof steps : ℕ) → HasStepForSome os proof steps steps
+none_decided os proof steps = ([], record { distinct = IsDistinct-from_apart eqb [] (λ i j d k l. absurd (omega arith)); each = λ q h. cc }, omega arith)

@@ -1,7 +1,7 @@
 -- The proofs below a proof, as references.
-use Rattle.std.specs.Prelude.{◌≡◌, ℕ, ◌<◌, ◌==◌, true, List, ◌++◌}
-use Rattle.std.specs.List.{list_any}
-use Rattle.mw_model.specs.Object.{Object, Natural, Symbol, Pair}
+use Rattle.std.specs.Prelude.{◌≡◌, ℕ, ◌<◌, ◌==◌, nat_eq, true, List, ◌++◌, ◌⊎◌}
+use Rattle.std.specs.List.{list_any, IsDistinct}
+use Rattle.mw_model.specs.Object.{Object, Natural, Symbol, Pair, is_member}
 use Rattle.mw_heap.specs.Objects.{object_at, IsIn}
 use Rattle.mw_proof.specs.Step.{has_proof_shape, subproofs_of}
 
@@ -22,13 +22,29 @@ HasMembers os keys n (Symbol s) = Unit {0}
 abbrev pub HasSubproofs : List Object → List ℕ → ℕ → Type 0
 HasSubproofs os keys p = has_proof_shape (object_at os p) ≡ true → HasMembers os keys p (subproofs_of (object_at os p))
 
+-- r is a subproof of p, which has the shape of a proof
+abbrev pub IsSubproof : Object → Object → Type 0
+IsSubproof p r = (has_proof_shape p ≡ true) × (is_member r (subproofs_of p) ≡ true)
+
+-- what p is made of: itself, its subproofs, theirs and so on
+pub data IsMadeOf (p : Object) : Object → Type 0 where
+  itself : IsMadeOf p p
+  subproof : (q r : Object) → IsMadeOf p q → IsSubproof q r → IsMadeOf p r
+
+-- distinct references of what the proof is made of
+pub record AreProofsOf (os : List Object) (proof : ℕ) (keys : List ℕ) : Type 0 where
+  pub distinct : IsDistinct nat_eq keys
+  pub each : (q : ℕ) → IsAmong keys q → IsMadeOf (object_at os proof) (object_at os q)
+
 pub record AddsSubproofs (os : List Object) (p : ℕ) (old new : List ℕ) : Type 0 where
   pub more : List ℕ
   pub longer : new ≡ old ++ more
   pub within : AreIn os new
   pub held : HasSubproofs os new p
+  pub added : (q : ℕ) → IsAmong new q → IsAmong old q ⊎ IsSubproof (object_at os p) (object_at os q)
 
 pub record AreGathered (os : List Object) (keys : List ℕ) (proof : ℕ) : Type 0 where
   pub here : IsAmong keys proof
   pub within : AreIn os keys
   pub held : (p : ℕ) → IsAmong keys p → HasSubproofs os keys p
+  pub no_others : AreProofsOf os proof keys

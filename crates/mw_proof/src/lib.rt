@@ -17,8 +17,9 @@ ghost use Rattle.mw_model.specs.Primitive.{Profile};
 ghost use Rattle.mw_model.specs.Judgment.{judge};
 ghost use Rattle.mw_proof.specs.Step.{subproofs_of, is_proof, are_proofs, is_step};
 
-pub use judging::{Judged, judge};
+pub use judging::{Judged, judge, judge_counted};
 pub use known::Known;
+pub use mw_subst::Steps;
 
 /// Judging is a local test: an object is a proof exactly where it has the shape of one, its conclusion is a formula, its
 /// subproofs are proofs and the rule of its method holds. What is judged a proof proves the formula that it names.

@@ -13,10 +13,10 @@ use Rattle.mw_proof.proofs.judging.good_among.Goals as goal
 use Rattle.mw_proof.proofs.judging.good_among.Goals.{then-branch+in_ok-insert, else-branch}
 
 pub loop-p-init : goal.loop-p-init
-loop-p-init c = (Grows-refl c.args.heap.now, λ A k q. ap (list_any (λ y. q == y)) c.new-good.ensures.empty)
+loop-p-init g c = (Grows-refl c.args.heap.now, λ A k q. ap (list_any (λ y. q == y)) c.new-good.ensures.empty, omega arith)
 
 pub same-requires-clause-first_in : goal.same-requires-clause-first_in
-same-requires-clause-first_in c =
+same-requires-clause-first_in g c =
     let os = c.args.heap.now in
     let new = c.loop-p.heap in
     let ax = c.args.axioms.now in
@@ -31,7 +31,7 @@ same-requires-clause-first_in c =
     IsIn-Grows os new g p p_in
 
 pub same-requires-clause-second_in : goal.same-requires-clause-second_in
-same-requires-clause-second_in c =
+same-requires-clause-second_in g c =
     let os = c.args.heap.now in
     let new = c.loop-p.heap in
     let ax = c.args.axioms.now in
@@ -46,16 +46,16 @@ same-requires-clause-second_in c =
     IsIn-Grows os new g p p_in
 
 pub decide-requires-clause-marks : goal.decide-requires-clause-marks
-decide-requires-clause-marks c = (c.requires.marks.0, AreMarks-grows c.requires.marks.0 c.args.heap.now c.loop-p.heap c.args.marks.now c.loop-p.invariant.0 c.requires.marks.1)
+decide-requires-clause-marks g c = (c.requires.marks.0, AreMarks-grows c.requires.marks.0 c.args.heap.now c.loop-p.heap c.args.marks.now c.loop-p.invariant.0 c.requires.marks.1)
 
 pub decide-requires-clause-axioms : goal.decide-requires-clause-axioms
-decide-requires-clause-axioms c = All-map (IsIn c.args.heap.now) (IsIn c.loop-p.heap) c.args.axioms.now (λ r. IsIn-Grows c.args.heap.now c.loop-p.heap c.loop-p.invariant.0 r) c.requires.axioms
+decide-requires-clause-axioms g c = All-map (IsIn c.args.heap.now) (IsIn c.loop-p.heap) c.args.axioms.now (λ r. IsIn-Grows c.args.heap.now c.loop-p.heap c.loop-p.invariant.0 r) c.requires.axioms
 
 pub decide-requires-clause-theorems : goal.decide-requires-clause-theorems
-decide-requires-clause-theorems c = All-map (IsIn c.args.heap.now) (IsIn c.loop-p.heap) c.args.theorems.now (λ r. IsIn-Grows c.args.heap.now c.loop-p.heap c.loop-p.invariant.0 r) c.requires.theorems
+decide-requires-clause-theorems g c = All-map (IsIn c.args.heap.now) (IsIn c.loop-p.heap) c.args.theorems.now (λ r. IsIn-Grows c.args.heap.now c.loop-p.heap c.loop-p.invariant.0 r) c.requires.theorems
 
 pub decide-requires-clause-within : goal.decide-requires-clause-within
-decide-requires-clause-within c =
+decide-requires-clause-within g c =
     let os = c.args.heap.now in
     let new = c.loop-p.heap in
     let ax = c.args.axioms.now in
@@ -70,7 +70,7 @@ decide-requires-clause-within c =
     subst (λ n. p < n) (sym c.requires.all) p_in
 
 pub decide-requires-clause-known : goal.decide-requires-clause-known
-decide-requires-clause-known c = λ A k.
+decide-requires-clause-known g c = λ A k.
     let os = c.args.heap.now in
     let new = c.loop-p.heap in
     let ax = c.args.axioms.now in
@@ -88,13 +88,13 @@ decide-requires-clause-known c = λ A k.
     (subst (λ q. AreSubproofsKnown (basis os A ax th P) new c.loop-p.good.keys (object_at new q)) (sym is) known)
 
 pub returns-in_err-decide-clause-grows : goal.returns-in_err-decide-clause-grows
-returns-in_err-decide-clause-grows c = Grows-trans c.args.heap.now c.loop-p.heap c.decide.new.heap c.loop-p.invariant.0 c.decide.ensures.grows
+returns-in_err-decide-clause-grows g c = Grows-trans c.args.heap.now c.loop-p.heap c.decide.new.heap c.loop-p.invariant.0 c.decide.ensures.grows
 
 pub returns-in_err-insert-clause-grows : goal.returns-in_err-insert-clause-grows
-returns-in_err-insert-clause-grows c = Grows-trans c.args.heap.now c.loop-p.heap c.decide.new.heap c.loop-p.invariant.0 c.decide.ensures.grows
+returns-in_err-insert-clause-grows g c = Grows-trans c.args.heap.now c.loop-p.heap c.decide.new.heap c.loop-p.invariant.0 c.decide.ensures.grows
 
 pub loop-p-preserved : goal.loop-p-preserved
-loop-p-preserved c = (
+loop-p-preserved g c = (
   Grows-trans c.args.heap.now c.loop-p.heap c.decide.new.heap c.loop-p.invariant.0 c.decide.ensures.grows,
   λ A k.
       let os = c.args.heap.now in
@@ -116,7 +116,8 @@ loop-p-preserved c = (
         | then-branch+in_ok-insert w ↦ subst (λ s. AreDecided b os (take (i + 1) proofs) s.keys) (sym w.good-is) (decided-good b os proofs c.loop-p.good.keys i p c.loop-p-test.true is d w.insert.new.self.keys (sym answer ∙ w.if-branch.true) w.in_ok-insert.ensures.updates.0)
         | else-branch w ↦ subst (λ s. AreDecided b os (take (i + 1) proofs) s.keys) (sym w.good-is) (decided-bad b os proofs c.loop-p.good.keys i p c.loop-p-test.true is d (sym answer ∙ w.if-branch.false))
       ],
+  omega (arith, c.loop-p.invariant.2, c.tick.ensures),
 )
 
 pub returns-clause-grows : goal.returns-clause-grows
-returns-clause-grows c = c.loop-p.invariant.0
+returns-clause-grows g c = c.loop-p.invariant.0

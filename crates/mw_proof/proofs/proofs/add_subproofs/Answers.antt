@@ -1,4 +1,5 @@
 -- One more subproof, and the end of the list.
+use Rattle.std.proofs.Common.{sym}
 use Rattle.mw_heap.specs.Objects.{object_at}
 use Rattle.mw_proof.proofs.Gathering.{walk_goes_on, HasMembers-shown, adds}
 use Rattle.mw_proof.proofs.proofs.add_subproofs.Goals as goal
@@ -14,4 +15,4 @@ returns c =
     let rest = c.loop-subproof.rest in
     adds os c.args.proofs.now.keys c.loop-subproof.proofs.keys c.in-Some.members.subproofs rest c.args.p c.loop-subproof.invariant
     (HasMembers-shown os c.loop-subproof.proofs.keys c.args.p (object_at os rest) c.view.result c.view.ensures.shows c.in_default-view.not-Pair)
-    c.in-Some.ensures.members.subproofs_are
+    c.in-Some.ensures.members.subproofs_are (sym c.in-Some.ensures.shape)

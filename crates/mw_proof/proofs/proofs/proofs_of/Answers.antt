@@ -2,8 +2,11 @@
 use Rattle.std.proofs.Common.{◌<◌, length, subst, sym, refl, arith}
 use Rattle.mw_heap.specs.Objects.{IsIn}
 use Rattle.mw_proof.specs.Gathered.{AddsSubproofs}
-use Rattle.mw_proof.proofs.Gathering.{read_at, next_in, few, gathers_more, gathered}
+use Rattle.mw_proof.proofs.Gathering.{gathers_starts, read_at, next_in, few, gathers_more, gathered}
 use Rattle.mw_proof.proofs.proofs.proofs_of.Goals as goal
+
+pub loop-next-init : goal.loop-next-init
+loop-next-init c = gathers_starts c.args.heap.now c.insert.new.self.keys c.new-proofs.result.keys c.args.proof c.requires c.new-proofs.ensures.empty c.in_ok-insert.ensures.updates.1 c.in_ok-insert.ensures.updates.0
 
 pub add_subproofs-requires-clause-within : goal.add_subproofs-requires-clause-within
 add_subproofs-requires-clause-within c =
@@ -29,4 +32,4 @@ loop-next-preserved c =
     gathers_more os keys c.args.proof next c.loop-next.invariant new l (subst (λ p. AddsSubproofs os p keys new) x c.in_ok-add_subproofs.ensures)
 
 pub returns : goal.returns
-returns c = gathered c.args.heap.now c.loop-next.proofs.keys c.args.proof c.loop-next.next c.loop-next.invariant (omega (arith, c.loop-next-test.false, c.len.ensures.len))
+returns c = gathered c.args.heap.now c.loop-next.proofs.keys c.args.proof c.loop-next.next c.loop-next.invariant (omega (arith, c.loop-next-test.false, c.len.ensures.len)) c.len.ensures.unique
