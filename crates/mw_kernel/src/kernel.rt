@@ -1,5 +1,5 @@
 //! The kernel.
-ghost use Rattle.std.specs.Prelude.{◌≡◌, ℕ, ◌≤◌, false, List, length, max, take, IfOk, OnOk, OnErr};
+ghost use Rattle.std.specs.Prelude.{◌≡◌, ℕ, ◌≤◌, ◌⊎◌, false, List, length, max, take, IfOk, OnOk, OnErr};
 ghost use Rattle.mw_model.specs.Object.{Object, NIL};
 ghost use Rattle.mw_model.specs.Primitive.{One};
 ghost use Rattle.mw_model.specs.Theory.{initial, IsSound};
@@ -8,7 +8,7 @@ ghost use Rattle.mw_model.specs.Version.{as_taken};
 ghost use Rattle.mw_heap.specs.Objects.{object_at, IsIn, Grows};
 ghost use Rattle.mw_model.specs.Term.{ArityTable};
 ghost use Rattle.mw_term.specs.Marking.{AreMarks};
-ghost use Rattle.mw_read.specs.Standing.{Stands, IsStanding, Follows, Says, Finishes};
+ghost use Rattle.mw_read.specs.Standing.{Stands, IsStanding, Follows, Says, Finishes, IsLast, HasEndedWith, HasEnded};
 ghost use Rattle.mw_kernel.specs.Knowledge.{theory_of, with_theorem};
 ghost use Rattle.mw_kernel.specs.Words.{verify_event};
 ghost use Rattle.mw_kernel.specs.Fates.{fate_of, verified, KeepsRoom};
@@ -79,25 +79,30 @@ impl Kernel {
         })
     }
 
-    /// What the reader reads next in a piece of the book, and how many bytes that takes. The theory stays.
+    /// What the reader reads next in a piece of the book, and how many bytes that takes. The theory stays. Behind `Syntax` and `Memory`
+    /// the reader answers the same again.
     pub fn step(&mut self, reader: &mut Reader, piece: &[u8]) -> (Step, usize)
-        requires stands { IsStanding self.old.objects reader.old }
-        requires follows { Follows reader.old piece.now }
+        requires stands { IsStanding self.old.objects reader.old ⊎ HasEnded reader.old }
+        requires follows { Follows reader.old piece.now ⊎ HasEnded reader.old }
         ensures grows { Grows self.old.objects self.new.objects }
         ensures rest { self.new ≡ record self.old { objects = self.new.objects } }
         ensures theory { theory_of self.new ≡ theory_of self.old }
         ensures says { (g : List ℕ) (given : List Object) → Stands self.old.objects reader.old g given → Says self.new.objects reader.old g given piece.now result.0 result.1 reader.new }
+        ensures ended { IsLast result.0 → HasEndedWith result.0 reader.new }
+        ensures again { (s : Step) → HasEndedWith s reader.old → (result ≡ (s, 0)) × ((reader.new ≡ reader.old) × (self.new ≡ self.old)) }
     {
         reader.step(&mut self.heap, piece)
     }
 
-    /// What the reader reads where the book has ended. The theory stays.
+    /// What the reader reads where the book has ended. The theory stays. Behind `Syntax` and `Memory` the reader answers the same again.
     pub fn finish(&mut self, reader: &mut Reader) -> Step
-        requires stands { IsStanding self.old.objects reader.old }
+        requires stands { IsStanding self.old.objects reader.old ⊎ HasEnded reader.old }
         ensures grows { Grows self.old.objects self.new.objects }
         ensures rest { self.new ≡ record self.old { objects = self.new.objects } }
         ensures theory { theory_of self.new ≡ theory_of self.old }
         ensures finishes { (g : List ℕ) (given : List Object) → Stands self.old.objects reader.old g given → Finishes self.new.objects reader.old g given result reader.new }
+        ensures ended { IsLast result → HasEndedWith result reader.new }
+        ensures again { (s : Step) → HasEndedWith s reader.old → (result ≡ s) × ((reader.new ≡ reader.old) × (self.new ≡ self.old)) }
     {
         reader.finish(&mut self.heap)
     }

@@ -1,17 +1,15 @@
 -- What a byte makes of a parser where no text has begun.
-use Rattle.std.proofs.Common.{◌≡◌, ℕ, zero, suc, ◌+◌, ◌-◌, ◌*◌, ◌<◌, ◌≤◌, Bool, true, false, List, [], ◌∷◌, ◌++◌, length, take, drop, get_or, Some, Result, Ok, Err, IfOk, refl, sym, ap, ◌∙◌, subst, arith, true≢false, if◌then◌else◌, ◌⊎◌, inl, inr, length-append}
+use Rattle.std.proofs.Common.{◌≡◌, ℕ, zero, suc, ◌+◌, ◌-◌, ◌<◌, ◌≤◌, Bool, true, false, List, [], ◌∷◌, ◌++◌, length, take, drop, get_or, Some, Result, Ok, Err, IfOk, refl, sym, ap, ◌∙◌, subst, arith, true≢false, if◌then◌else◌}
 use Rattle.std.proofs.lemmas.List.{take_all, length-drop, drop_all}
 use Rattle.mw_model.specs.Object.{Object}
 use Rattle.mw_model.specs.Lexemes.{Lexeme, Stray, Fault, fault, DOT, TOKEN, BYTE, Ending, Goes, glued, glued_bar, is_constituent, Class, class, lexemes_from}
 use Rattle.mw_model.specs.Lexemes as lex
-use Rattle.mw_model.specs.Grammar.{Book, book, and_events}
-use Rattle.mw_read.specs.Machine.{State, Idle, Within, Full, Broken, Turn, quiet, on, Between, Move, turned, fresh, is_full, IsSound}
+use Rattle.mw_model.specs.Grammar.{book, and_events}
+use Rattle.mw_read.specs.Machine.{State, Idle, Within, Full, Broken, Turn, on, Between, Move, turned, fresh, is_full, IsSound}
 use Rattle.mw_read.specs.Resume.{resume, onward, following}
 use Rattle.mw_read.specs.Held.{Took}
-use Rattle.mw_read.specs.Piles.{fault_of}
 use Rattle.mw_read.specs.Runs.{StartsWith}
-use Rattle.mw_read.specs.Stacks.{IsStack}
-use Rattle.mw_read.specs.Parsing.{ahead, meaning_of, Fits, IsReader, Advances, IsBehind, Begins, Moves, Moved, IsStarted, offset_of, offset_at, weight}
+use Rattle.mw_read.specs.Parsing.{ahead, meaning_of, Fits, Advances, IsBehind, Begins, Moves, Moved, offset_of, offset_at, weight}
 use Rattle.mw_read.specs.declared.reader.Begun.{Begun}
 use Rattle.mw_read.specs.declared.reader.Begun.TheVariants.{Nothing, Comment, Token, Bars, Barred, Hash, AfterToken, AfterBar}
 use Rattle.mw_read.specs.declared.reader.Reader.{Reader}

@@ -1,5 +1,5 @@
 -- A stack on which nothing is open stands for nothing in any heap.
-use Rattle.std.proofs.Common.{◌≡◌, ℕ, Bool, true, false, ◌||◌, not, List, [], ◌∷◌, length, Option, Some, None, IfSome, refl, sym, ap, ap₂, ◌∙◌, subst, arith, true≢false, cond, if◌then◌else◌, ltb, ◌<◌}
+use Rattle.std.proofs.Common.{◌≡◌, ℕ, Bool, true, false, ◌||◌, not, List, [], ◌∷◌, length, Option, Some, None, IfSome, refl, sym, ap, ap₂, ◌∙◌, subst, true≢false, cond, if◌then◌else◌, ltb, ◌<◌}
 use Rattle.std.specs.BTreeMap.{BTreeMap, get}
 use Rattle.std.specs.Ordering.{nat_cmp}
 use Rattle.mw_model.specs.Object.{Object, Natural, Symbol, Pair}
@@ -10,13 +10,11 @@ use Rattle.mw_model.specs.Fate.{is_out_of_range}
 use Rattle.mw_model.specs.Grammar.{Unused}
 use Rattle.mw_model.specs.Report.{word_text, label_text, symbol_text, labelled_words, dash}
 use Rattle.mw_heap.specs.Objects.{object_at, IsIn}
-use Rattle.mw_read.specs.Machine.{Frame, Members, Tailed, Quoting, Marking, State, Idle, Within, Full, Broken, end_fault}
-use Rattle.mw_read.specs.Clamp.{clamp, clamp_state}
+use Rattle.mw_read.specs.Machine.{Members, State, Idle, Within, Full, Broken, end_fault}
+use Rattle.mw_read.specs.Clamp.{clamp}
 use Rattle.mw_read.specs.Named.{Agree, seen, IsListed}
-use Rattle.mw_read.specs.Piles.{Pile, Frames, Ready, piled, MayLie, pile_on, LieOn, pile_of, IsPile, AreUnder, is_ready}
-use Rattle.mw_read.specs.Stacks.{IsStack, Means}
+use Rattle.mw_read.specs.Piles.{Pile, Frames, Ready, piled, MayLie, pile_on, LieOn, pile_of, IsPile, AreUnder}
 use Rattle.mw_read.specs.Held.{Holds, Completes}
-use Rattle.mw_read.specs.Shown.{ShowsEvent}
 use Rattle.mw_read.specs.Standing.{Tells, Gives}
 use Rattle.mw_read.specs.declared.stack.Layer.{Layer}
 use Rattle.mw_read.specs.declared.stack.Layer.TheVariants as layers

@@ -1,15 +1,15 @@
 -- The end of the input, for the text that has begun.
-use Rattle.std.proofs.Common.{◌≡◌, ℕ, ◌+◌, ◌<◌, ◌≤◌, Bool, true, false, List, [], ◌∷◌, ◌++◌, length, Some, suc, refl, sym, ap, ◌∙◌, subst, arith, append-nil, if◌then◌else◌, ltb, le-ltb}
+use Rattle.std.proofs.Common.{◌≡◌, ℕ, ◌+◌, ◌<◌, ◌≤◌, true, false, List, [], ◌∷◌, ◌++◌, length, Some, suc, refl, sym, ap, ◌∙◌, subst, arith, append-nil, if◌then◌else◌, le-ltb}
 use Rattle.std.proofs.lemmas.Bool.{and_parts}
 use Rattle.mw_model.specs.Object.{Object, Symbol, name_of_bytes, is_name_byte}
-use Rattle.mw_model.specs.Lexemes.{Lexeme, Atom, Wrong, Fault, fault, END, LABEL, Ending, Ends, all_are, is_constituent, is_digit, TokenForm, Whole, Point, Bad, token_form, token, label, lexemes_from, End, unfinished, glued_bar}
+use Rattle.mw_model.specs.Lexemes.{Atom, Wrong, Fault, fault, END, LABEL, Ending, Ends, all_are, is_constituent, is_digit, TokenForm, Whole, Point, Bad, token_form, token, label, lexemes_from, End, unfinished, glued_bar}
 use Rattle.mw_model.specs.Grammar.{book}
 use Rattle.mw_read.specs.Machine.{State, Turn, on, is_full, IsSound, InToken, InBars, InHash}
 use Rattle.mw_read.specs.Resume.{resume, following}
 use Rattle.mw_read.specs.Lexing.{token_lexeme}
 use Rattle.mw_read.specs.Held.{Took}
 use Rattle.mw_read.specs.Piles.{fault_of}
-use Rattle.mw_read.specs.Parsing.{ahead, meaning_of, is_inside, offset_of, offset_at, IsStarted, Fits, behind, weight}
+use Rattle.mw_read.specs.Parsing.{ahead, meaning_of, is_inside, offset_of, IsStarted, Fits, behind, weight}
 use Rattle.mw_read.specs.Standing.{Lasts}
 use Rattle.mw_read.specs.declared.reader.Begun.TheVariants.{Token, Bars, Barred, Hash, AfterToken, AfterBar}
 use Rattle.mw_read.specs.declared.reader.Reader.{Reader}

@@ -4,21 +4,18 @@ use Rattle.std.proofs.lemmas.Bool.{le-leb, and_parts}
 use Rattle.std.proofs.lemmas.List.{take_all, drop_all, take_min, take-take, drop-take, length-take-le, length-drop, take-append-le}
 use Rattle.std.proofs.Math.Nat.{min-le_left, min-le_right}
 use Rattle.mw_model.specs.Object.{Object}
-use Rattle.mw_model.specs.Lexemes.{Fault, fault, END, LENGTH, Ending, Ends, Goes, lexemes_from, all_are, is_constituent}
-use Rattle.mw_model.specs.Grammar.{Book, book, and_events, reading, limit, cut_short, trees}
+use Rattle.mw_model.specs.Lexemes.{Fault, fault, LENGTH, Ending, Ends, Goes, lexemes_from, all_are, is_constituent}
+use Rattle.mw_model.specs.Grammar.{book, and_events, reading, limit, cut_short, trees}
 use Rattle.mw_heap.specs.Objects.{Grows}
 use Rattle.mw_read.specs.Machine.{State, Idle, Within, Full, Broken, IsSound, is_full, end_fault, InToken, InBars, Barred as BarredMode, InHash, Mode, Machine}
 use Rattle.mw_read.specs.Machine as machine
 use Rattle.mw_read.specs.Resume.{resume, onward}
-use Rattle.mw_read.specs.Piles.{fault_of, kind_of}
 use Rattle.mw_read.specs.Held.{Holds, Completes}
 use Rattle.mw_read.specs.Parsing.{ahead, meaning_of, Fits, IsText, IsReader, IsStarted, Advances, is_inside, offset_of, offset_at}
-use Rattle.mw_read.specs.Standing.{Reached, Reaches, Stands, Follows, IsFree, Lasts, Gives, GivesBehind, GivesLast, Says, Finishes}
+use Rattle.mw_read.specs.Standing.{Reached, Reaches, Stands, Follows, Gives, GivesBehind, GivesLast, Says, Finishes}
 use Rattle.mw_read.specs.declared.reader.Begun.{Begun}
 use Rattle.mw_read.specs.declared.reader.Begun.TheVariants.{Nothing, Comment, Token, Bars, Barred, Hash, AfterToken, AfterBar}
 use Rattle.mw_read.specs.declared.reader.Reader.{Reader}
-use Rattle.mw_read.specs.declared.stack.Stack.{Stack}
-use Rattle.mw_read.specs.declared.step.Outcome.{Outcome}
 use Rattle.mw_read.specs.declared.step.Outcome.TheVariants as outcomes
 use Rattle.mw_read.specs.declared.step.Step.{Step}
 use Rattle.mw_read.specs.declared.step.Step.TheVariants as steps
@@ -28,7 +25,7 @@ use Rattle.mw_read.proofs.Holding.{holds_full, holds_grows, sound_clamp}
 use Rattle.mw_read.proofs.Bare.{take_cut}
 use Rattle.mw_read.proofs.Parsing.{constituent_class}
 use Rattle.mw_read.proofs.Scanning.{fits_more}
-use Rattle.mw_read.proofs.Emptied.{emptied, none_open, some_open}
+use Rattle.mw_read.proofs.Emptied.{emptied}
 
 pub fits_end : (m : Begun) → Fits m Ends []
 fits_end Nothing = tt
@@ -158,12 +155,17 @@ stands_grows os more p g given h s =
       started = s.started;
       offset = s.offset;
       short = s.short;
+      goes_on = s.goes_on;
       means = s.means;
     }
 
--- a parser on whose stack no part was cut
+-- a reader that has not ended
+abbrev pub unended : Reader → Reader
+unended p = record p { ended = None }
+
+-- a reader that has not ended, on whose stack no part was cut
 abbrev pub uncut : Reader → Reader
-uncut p = record p { stack = record p.stack { big = false } }
+uncut p = record p { stack = record p.stack { big = false }; ended = None }
 
 -- a datum is given
 module _ (os0 os : List Object) (old mid : Reader) (g : List ℕ) (given : List Object) (s : Stands os0 old g given) where
@@ -179,6 +181,7 @@ module _ (os0 os : List Object) (old mid : Reader) (g : List ℕ) (given : List 
         started = st;
         offset = o;
         short = l;
+        goes_on = refl;
         means = λ e z fit.
             ap (reading e) (append_assoc g w z)
             ∙ s.means e (w ++ z) (f e z fit)
@@ -189,14 +192,15 @@ module _ (os0 os : List Object) (old mid : Reader) (g : List ℕ) (given : List 
   -- no datum is given
   pub going_stands : (u : State) (w : List ℕ) → Holds os mid.stack u → IsReader os mid → IsStarted mid.begun mid.token.items → offset_of mid ≡ length (g ++ w) → length (g ++ w) ≤ limit →
       ((e : Ending) (z : List ℕ) → Fits mid.begun e z → Fits old.begun e (w ++ z)) →
-      ((e : Ending) (z : List ℕ) → Fits mid.begun e z → meaning_of e s.state old (w ++ z) ≡ meaning_of e u mid z) → Stands os mid (g ++ w) given
+      ((e : Ending) (z : List ℕ) → Fits mid.begun e z → meaning_of e s.state old (w ++ z) ≡ meaning_of e u mid z) → Stands os (unended mid) (g ++ w) given
   going_stands u w h k st o l f m = record {
     state = u;
     holds = h;
-    parser = k;
+    parser = record { stack = k.stack; text = k.text; ready = k.ready };
     started = st;
     offset = o;
     short = l;
+    goes_on = refl;
     means = λ e z fit. ap (reading e) (append_assoc g w z) ∙ s.means e (w ++ z) (f e z fit) ∙ ap (onward given) (m e z fit);
   }
 
@@ -270,24 +274,24 @@ module _ (os0 os : List Object) (old mid : Reader) (g : List ℕ) (given : List 
   whole_part : take (length part) part ≡ part
   whole_part = take_all (length part) part (omega arith)
 
-  pub all_stands : (n : ℕ) → n ≡ length part → Reached old part n mid → Advances os s.state old part outcomes.Pending n mid → Stands os mid (g ++ part) given × Fits mid.begun Goes []
+  pub all_stands : (n : ℕ) → n ≡ length part → Reached old part n mid → Advances os s.state old part outcomes.Pending n mid → Stands os (unended mid) (g ++ part) given × Fits mid.begun Goes []
   all_stands n h m q =
       let l : n ≤ length part = omega (arith, h) in
       let t : take n part ≡ part = ap (λ j. take j part) h ∙ whole_part in (
-        subst (λ u. Stands os mid (g ++ u) given) t (going_stands os0 os old mid g given s q.0 (take n part) q.1 q.2 m.started (reached_offset n l m) (reached_short n l) m.fits q.3),
+        subst (λ u. Stands os (unended mid) (g ++ u) given) t (going_stands os0 os old mid g given s q.0 (take n part) q.1 q.2 m.started (reached_offset n l m) (reached_short n l) m.fits q.3),
         subst (λ u. Fits mid.begun Goes u) (drop_all n part (omega (arith, h))) m.left,
       )
 
-  pub all_says : (n : ℕ) → n ≡ length part → (n < length piece → ⊥) → Reached old part n mid → Advances os s.state old part outcomes.Pending n mid → Says os old g given piece steps.More n mid
+  pub all_says : (n : ℕ) → n ≡ length part → (n < length piece → ⊥) → Reached old part n mid → Advances os s.state old part outcomes.Pending n mid → Says os old g given piece steps.More n (unended mid)
   all_says n h f m q =
       let a = all_stands n h m q in
       let same : k ≡ length piece = omega (arith, f, h, part_length, k_within) in
       let w : part ≡ piece = take_all k piece (omega (arith, same)) in
-      let t = subst (λ u. Stands os mid (g ++ u) given) w a.0 in (
+      let t = subst (λ u. Stands os (unended mid) (g ++ u) given) w a.0 in (
         (let j : n ≡ length piece = omega (arith, same, h, part_length) in j),
         t,
         (λ x. fits_any mid.begun Goes (take (limit - offset_of mid) x) a.1),
-        stands_goes os mid (g ++ piece) given t a.1,
+        stands_goes os (unended mid) (g ++ piece) given t a.1,
       )
 
   pub long_says : (n : ℕ) → n ≡ length part → n < length piece → Reached old part n mid → Advances os s.state old part outcomes.Pending n mid → (rest : List ℕ) → trees (g ++ (piece ++ rest)) ≡ book given (Some (fault LENGTH limit))
@@ -295,7 +299,7 @@ module _ (os0 os : List Object) (old mid : Reader) (g : List ℕ) (given : List 
       let a = all_stands n h m q in
       let all : length (g ++ part) ≡ limit = omega (arith, length-append g part, part_length, e, h, f, s.offset, s.short) in
       let some : 0 < length (drop k piece ++ rest) = omega (arith, length-append (drop k piece) rest, length-drop k piece, h, f, part_length) in
-      ap trees (take_cut g piece k rest) ∙ long_trees (g ++ part) (drop k piece ++ rest) given all some (stands_goes os mid (g ++ part) given a.0 a.1)
+      ap trees (take_cut g piece k rest) ∙ long_trees (g ++ part) (drop k piece ++ rest) given all some (stands_goes os (unended mid) (g ++ part) given a.0 a.1)
 
   pub fault_says : (f : Fault) → Fits old.begun Goes part → ((e : Ending) (x : List ℕ) → meaning_of e s.state old (part ++ x) ≡ book [] (Some f)) → (rest : List ℕ) → trees (g ++ (piece ++ rest)) ≡ book given (Some f)
   fault_says f h m rest =

@@ -1,5 +1,5 @@
 -- What a reader has read: the bytes so far, and the data given of them.
-use Rattle.std.specs.Prelude.{◌≡◌, ℕ, ◌+◌, ◌-◌, ◌*◌, ◌<◌, ◌≤◌, Bool, true, false, List, [], ◌∷◌, ◌++◌, length, take, drop, Some, None}
+use Rattle.std.specs.Prelude.{◌≡◌, ℕ, ◌+◌, ◌-◌, ◌*◌, ◌<◌, ◌≤◌, Bool, true, false, List, [], ◌∷◌, ◌++◌, length, take, drop, Option, Some, None}
 use Rattle.mw_model.specs.Object.{Object}
 use Rattle.mw_model.specs.Lexemes.{fault, Ending, Ends, Goes}
 use Rattle.mw_model.specs.Grammar.{book, reading, limit, trees}
@@ -38,10 +38,31 @@ pub record Stands (os : List Object) (p : Reader) (g : List ℕ) (given : List O
   pub started : IsStarted p.begun p.token.items
   pub offset : offset_of p ≡ length g
   pub short : length g ≤ limit
+  pub goes_on : p.ended ≡ None
   pub means : (e : Ending) (x : List ℕ) → Fits p.begun e x → reading e (g ++ x) ≡ onward given (meaning_of e state p x)
 
 abbrev pub IsStanding : List Object → Reader → Type 0
 IsStanding os p = (g : List ℕ) × (given : List Object) × Stands os p g given
+
+-- the answers behind which no other comes
+abbrev pub IsLast : Step → Type 0
+IsLast (steps.Syntax k o) = Unit {0}
+IsLast steps.Memory = Unit {0}
+IsLast s = ⊥
+
+-- the answer, where no other comes behind it
+abbrev pub lasting : Step → Option Step
+lasting (steps.Syntax k o) = Some (steps.Syntax k o)
+lasting steps.Memory = Some steps.Memory
+lasting s = None
+
+-- the reader answers this from then on
+abbrev pub HasEndedWith : Step → Reader → Type 0
+HasEndedWith s p = p.ended ≡ Some s
+
+-- A fault of the book, or that memory was refused, was answered.
+abbrev pub HasEnded : Reader → Type 0
+HasEnded p = (s : Step) × IsLast s × HasEndedWith s p
 
 -- These bytes may follow, as far as a book may reach.
 abbrev pub Follows : Reader → List ℕ → Type 0

@@ -7,7 +7,7 @@ ghost use Rattle.mw_read.specs.Machine.{State, on, is_full};
 ghost use Rattle.mw_read.specs.Stacks.{IsStack};
 ghost use Rattle.mw_read.specs.Held.{Holds, Took};
 ghost use Rattle.mw_read.specs.Parsing.{IsReader, Advances, EndsHash, meaning_of, offset_of, Moves, IsBehind, Begins, IsStarted, Fits};
-ghost use Rattle.mw_read.specs.Standing.{Reaches, Stands, IsStanding, IsFree, Follows, Lasts, Tells, Says, Finishes};
+ghost use Rattle.mw_read.specs.Standing.{Reaches, Stands, IsStanding, IsFree, Follows, Lasts, Tells, Says, Finishes, IsLast, lasting, HasEndedWith, HasEnded};
 ghost use Rattle.mw_read.specs.Runs.{StartsWith};
 ghost use Rattle.mw_read.specs.Lexing.{token_lexeme, label_lexeme};
 ghost use Rattle.mw_read.specs.Codes.{class_of};
@@ -18,7 +18,7 @@ use crate::class::{
 };
 use crate::members::shown;
 use crate::stack::{Stack, fault};
-use crate::step::{Outcome, Step, SyntaxKind};
+use crate::step::{Outcome, Step, SyntaxKind, lasting};
 use crate::token::{Form, form_of, label};
 use mw_heap::{Heap, Memory, Ref};
 use std::alloc::Global;
@@ -55,6 +55,8 @@ pub struct Reader {
     // the offset where that text begins
     pub(crate) start: u64,
     pub(crate) name: Vec<u8>,
+    // the fault, or the refusal of memory, that was answered
+    pub(crate) ended: Option<Step>,
 }
 
 // The bytes, with letters raised, in place of what the vector had.
@@ -510,16 +512,16 @@ impl Reader {
             token: Vec::new(alloc),
             start: 0,
             name: Vec::new(alloc),
+            ended: None,
         }
     }
 
-    /// What comes next in a piece of the book, and how many of its bytes that takes. Behind a datum the rest of the piece comes next, and
-    /// behind `More` the next piece.
-    pub fn step(&mut self, heap: &mut Heap, piece: &[u8]) -> (Step, usize)
+    // What comes next in a piece, where no fault was answered. A caller notes the answer.
+    fn read(&mut self, heap: &mut Heap, piece: &[u8]) -> (Step, usize)
         requires stands { IsStanding heap.old self.old }
         requires follows { Follows self.old piece.now }
         ensures grows { Grows heap.old heap.new }
-        ensures says { (g : List ℕ) (given : List Object) → Stands heap.old self.old g given → Says heap.new self.old g given piece.now result.0 result.1 self.new }
+        ensures says { (g : List ℕ) (given : List Object) → Stands heap.old self.old g given → Says heap.new self.old g given piece.now result.0 result.1 (record self.new { ended = None }) }
     {
         let room = (LIMIT - self.offset()) as usize;
         let length = piece.len().min(room);
@@ -539,11 +541,11 @@ impl Reader {
         }
     }
 
-    /// What comes next where the book has ended.
-    pub fn finish(&mut self, heap: &mut Heap) -> Step
+    // What comes next where the book has ended and no fault was answered. A caller notes the answer.
+    fn read_end(&mut self, heap: &mut Heap) -> Step
         requires stands { IsStanding heap.old self.old }
         ensures grows { Grows heap.old heap.new }
-        ensures finishes { (g : List ℕ) (given : List Object) → Stands heap.old self.old g given → Finishes heap.new self.old g given result self.new }
+        ensures finishes { (g : List ℕ) (given : List Object) → Stands heap.old self.old g given → Finishes heap.new self.old g given result (record self.new { ended = None }) }
     {
         let outcome = match self.last(heap) {
             Ok(outcome) => outcome,
@@ -559,5 +561,39 @@ impl Reader {
                 Step::Syntax(SyntaxKind::End, self.offset())
             }
         }
+    }
+
+    /// What comes next in a piece of the book, and how many of its bytes that takes. Behind a datum the rest of the piece comes next, and
+    /// behind `More` the next piece. Behind `Syntax` and `Memory` it answers the same again.
+    pub fn step(&mut self, heap: &mut Heap, piece: &[u8]) -> (Step, usize)
+        requires stands { IsStanding heap.old self.old ⊎ HasEnded self.old }
+        requires follows { Follows self.old piece.now ⊎ HasEnded self.old }
+        ensures grows { Grows heap.old heap.new }
+        ensures says { (g : List ℕ) (given : List Object) → Stands heap.old self.old g given → Says heap.new self.old g given piece.now result.0 result.1 self.new }
+        ensures ended { IsLast result.0 → HasEndedWith result.0 self.new }
+        ensures again { (s : Step) → HasEndedWith s self.old → (result ≡ (s, 0)) × ((self.new ≡ self.old) × (heap.new ≡ heap.old)) }
+    {
+        if let Some(step) = self.ended {
+            return (step, 0);
+        }
+        let (step, n) = self.read(heap, piece);
+        self.ended = lasting(&step);
+        (step, n)
+    }
+
+    /// What comes next where the book has ended. Behind `Syntax` and `Memory` it answers the same again.
+    pub fn finish(&mut self, heap: &mut Heap) -> Step
+        requires stands { IsStanding heap.old self.old ⊎ HasEnded self.old }
+        ensures grows { Grows heap.old heap.new }
+        ensures finishes { (g : List ℕ) (given : List Object) → Stands heap.old self.old g given → Finishes heap.new self.old g given result self.new }
+        ensures ended { IsLast result → HasEndedWith result self.new }
+        ensures again { (s : Step) → HasEndedWith s self.old → (result ≡ s) × ((self.new ≡ self.old) × (heap.new ≡ heap.old)) }
+    {
+        if let Some(step) = self.ended {
+            return step;
+        }
+        let step = self.read_end(heap);
+        self.ended = lasting(&step);
+        step
     }
 }

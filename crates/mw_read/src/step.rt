@@ -1,4 +1,7 @@
 //! What a reader answers.
+ghost use Rattle.std.specs.Prelude.{◌≡◌, Option};
+ghost use Rattle.mw_read.specs.Standing.{lasting};
+
 use mw_heap::Ref;
 
 /// A fault of a book's text.
@@ -53,4 +56,14 @@ pub enum Step {
     Syntax(SyntaxKind, u64),
     /// Memory was refused.
     Memory,
+}
+
+// The answer, where no other follows it.
+pub(crate) fn lasting(step: &Step) -> Option<Step>
+    ensures { result ≡ lasting step.now }
+{
+    match step {
+        Step::Syntax(..) | Step::Memory => Some(*step),
+        _ => None,
+    }
 }

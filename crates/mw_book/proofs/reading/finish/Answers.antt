@@ -1,5 +1,5 @@
 -- Each event that the end of the book completes, and the end.
-use Rattle.std.proofs.Common.{[], ◌∷◌, ◌++◌, ap, subst}
+use Rattle.std.proofs.Common.{[], ◌∷◌, ◌++◌, ap, subst, inl}
 use Rattle.mw_read.specs.Standing.{Finishes}
 use Rattle.mw_read.specs.declared.step.Step.TheVariants as steps
 use Rattle.mw_book.specs.Knowing.{Judges}
@@ -10,7 +10,7 @@ pub loop-x-init : goal.loop-x-init
 loop-x-init c = finishing_none c.args.judging.now c.args.reader.now c.requires.few
 
 pub finish-requires : goal.finish-requires
-finish-requires c = record { stands = standing_last c.args.judging.now c.args.reader.now c.loop-x.judging c.loop-x.reader c.loop-x.invariant c.requires.stands }
+finish-requires c = record { stands = inl (standing_last c.args.judging.now c.args.reader.now c.loop-x.judging c.loop-x.reader c.loop-x.invariant c.requires.stands) }
 
 pub judge-requires-clause-within : goal.judge-requires-clause-within
 judge-requires-clause-within c =

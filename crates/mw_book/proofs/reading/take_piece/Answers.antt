@@ -1,5 +1,5 @@
 -- Each event of a piece, and the end of the piece.
-use Rattle.std.proofs.Common.{◌≡◌, ◌+◌, ◌≤◌, ℕ, List, [], ◌∷◌, ◌++◌, sym, ap, subst, drop, rules}
+use Rattle.std.proofs.Common.{◌≡◌, ◌+◌, ◌≤◌, ℕ, List, [], ◌∷◌, ◌++◌, sym, ap, subst, inl, drop, rules}
 use Rattle.mw_model.specs.Object.{Object}
 use Rattle.mw_read.specs.Standing.{Stands, Gives, GivesBehind, Says}
 use Rattle.mw_read.specs.declared.step.Step.{Step}
@@ -14,7 +14,7 @@ pub loop-x-init : goal.loop-x-init
 loop-x-init c = taking_none c.args.judging.now c.args.reader.now c.args.piece.now c.requires.free c.requires.few
 
 pub step-step-requires-clause-stands : goal.step-step-requires-clause-stands
-step-step-requires-clause-stands c = standing c.args.judging.now c.args.reader.now c.args.piece.now c.loop-x.judging c.loop-x.reader c.loop-x.at c.loop-x.invariant c.requires.stands
+step-step-requires-clause-stands c = inl (standing c.args.judging.now c.args.reader.now c.args.piece.now c.loop-x.judging c.loop-x.reader c.loop-x.at c.loop-x.invariant c.requires.stands)
 
 pub judge-requires-clause-within : goal.judge-requires-clause-within
 judge-requires-clause-within c =

@@ -1,5 +1,5 @@
 -- The datum of the text is the list of the rows.
-use Rattle.std.proofs.Common.{[]}
+use Rattle.std.proofs.Common.{[], inl}
 use Rattle.mw_preamble.specs.Rows.{first_rows}
 use Rattle.mw_preamble.specs.declared.text.TheConstants.{ROWS}
 use Rattle.mw_preamble.proofs.RowsText.{rows_text, rows_short}
@@ -7,7 +7,7 @@ use Rattle.mw_preamble.proofs.ReadAlone.{gives_object}
 use Rattle.mw_preamble.proofs.rows.read_rows.Goals as goal
 
 pub step-step-requires-clause-stands : goal.step-step-requires-clause-stands
-step-step-requires-clause-stands c = ([], [], c.new-reader.ensures.stands c.args.heap.now)
+step-step-requires-clause-stands c = inl ([], [], c.new-reader.ensures.stands c.args.heap.now)
 
 pub returns-in-Datum-clause-within : goal.returns-in-Datum-clause-within
 returns-in-Datum-clause-within c =

@@ -1,4 +1,4 @@
-use Rattle.std.proofs.Common.{◌≡◌, ◌∙◌, ◌+◌, ◌++◌, ◌∷◌, [], sym, ap, refl, subst, inl, drop, get_or, length, append-nil}
+use Rattle.std.proofs.Common.{◌∙◌, ◌+◌, ap, subst, inl, drop, get_or, length, append-nil}
 use Rattle.mw_model.specs.Object.{Symbol, name_of_bytes}
 use Rattle.mw_model.specs.Lexemes.{Atom}
 use Rattle.mw_read.specs.Resume.{resume}

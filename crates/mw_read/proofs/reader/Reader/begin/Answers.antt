@@ -1,4 +1,4 @@
-use Rattle.std.proofs.Common.{◌≡◌, ◌∙◌, ◌+◌, ◌++◌, ◌<◌, sym, ap, refl, subst, drop, length, arith, true, false}
+use Rattle.std.proofs.Common.{◌∙◌, ◌++◌, sym, ap, refl, subst}
 use Rattle.mw_read.specs.Resume.{resume}
 use Rattle.mw_read.specs.Parsing.{ahead, Begins, Moves, Advances}
 use Rattle.mw_read.specs.declared.reader.Reader.{Reader}

@@ -1,9 +1,8 @@
-use Rattle.std.proofs.Common.{◌≡◌, ◌∙◌, ◌+◌, ◌≤◌, sym, subst, length, drop, arith}
+use Rattle.std.proofs.Common.{◌+◌, ◌≤◌, subst, length, drop, arith}
 use Rattle.std.proofs.lemmas.List.{length-drop}
 use Rattle.mw_read.specs.Machine.{State}
 use Rattle.mw_read.specs.Held.{Holds}
 use Rattle.mw_read.specs.Parsing.{Moves, Advances}
-use Rattle.mw_read.specs.declared.step.Outcome.TheVariants as outcomes
 use Rattle.mw_read.proofs.Growth.{grows_grows}
 use Rattle.mw_read.proofs.Beginning.{rest_is}
 use Rattle.mw_read.proofs.Scanning.{scan_next, scan_reaches, scan_advances}

@@ -7,8 +7,8 @@ use Rattle.mw_read.specs.Parsing.{offset_of}
 use Rattle.mw_read.specs.Standing.{Lasts, Finishes, Stands}
 use Rattle.mw_read.proofs.Bare.{empty_is, not_empty}
 use Rattle.mw_read.proofs.Emptied.{none_open, some_open, gives}
-use Rattle.mw_read.proofs.Telling.{stands_ends, over_meaning, fits_end, fits_inside, given_stands, finishes_of, uncut}
-use Rattle.mw_read.proofs.reader.Reader.finish.Goals as goal
+use Rattle.mw_read.proofs.Telling.{stands_ends, over_meaning, fits_end, fits_inside, given_stands, finishes_of, unended, uncut}
+use Rattle.mw_read.proofs.reader.Reader.read_end.Goals as goal
 
 pub returns-then-is_empty-clause-finishes : goal.returns-then-is_empty-clause-finishes
 returns-then-is_empty-clause-finishes c g given s =
@@ -32,7 +32,7 @@ returns-in-Datum-clause-finishes c g given s =
     let o : offset_of p ≡ length (g ++ []) = q.3 ∙ s.offset ∙ sym (ap length nil) in
     let stands : (any : List Object) → Stands any (uncut p) g (given ++ q.1.0 ∷ []) = λ any. subst (λ u. Stands any (uncut p) u (given ++ q.1.0 ∷ [])) nil
     (given_stands c.args.heap.now os a p g given s x q.1.0 [] q.1.1 q.1.2 q.2 o (subst (λ u. length u ≤ limit) (sym nil) s.short) (λ e z fit. fits_inside a.begun e z q.0) q.1.3 any) in
-    subst (λ u. Finishes os a g given c.datum.result u) (sym c.datum.ensures.new)
+    subst (λ u. Finishes os a g given c.datum.result (unended u)) (sym c.datum.ensures.new)
     (finishes_of os a g given (uncut p) q.1.0 c.datum.result (gives os p.stack x q.1.0 c.datum.result q.1.1 c.datum.ensures.tells) (record { stands = stands; less = omega (arith, q.4) }))
 
 pub returns-in-Fault-clause-finishes : goal.returns-in-Fault-clause-finishes
