@@ -10,6 +10,8 @@ mod events;
 #[cfg(test)]
 mod faults;
 #[cfg(test)]
+mod induction;
+#[cfg(test)]
 mod pieces;
 #[cfg(test)]
 mod row;
