@@ -1,11 +1,11 @@
 -- A set of names holds its bytes, and finds a name by them.
-use Rattle.std.proofs.Common.{◌≡◌, ℕ, ◌<◌, Bool, true, false, ◌&&◌, Some, List, [], ◌∷◌, ◌++◌, length, take, get_or, slice_get, Vec, refl, sym, ap, ◌∙◌, subst, if◌then◌else◌, ◌⊎◌, inl, inr, eqb, arith}
+use Rattle.std.proofs.Common.{◌≡◌, ℕ, ◌<◌, Bool, true, false, ◌&&◌, Option, Some, None, List, [], ◌∷◌, ◌++◌, length, take, get_or, slice_get, Vec, refl, sym, ap, ◌∙◌, subst, if◌then◌else◌, ◌⊎◌, inl, inr, eqb, arith}
 use lib.Pointwise.{pointwise}
 use Rattle.std.specs.List.{IsDistinct, list_any, position}
 use Rattle.std.proofs.lemmas.List.{map-append, length-map, take-map}
 use Rattle.std.proofs.lemmas.List.Quantifiers.{position-Some}
 use Rattle.std.proofs.lemmas.Option.{slice_get-map, slice_get-get_or, slice_get_within, get_or_from_slice_get}
-use Rattle.std.specs.Option.{option_map}
+use Rattle.std.specs.Option.{option_map, IfSome}
 use Rattle.indexmap.specs.IndexSet.{insert_key}
 use Rattle.mw_model.specs.Object.{same_bytes}
 use Rattle.mw_model.proofs.Names.{same_bytes-eq, same_bytes-refl}
@@ -58,10 +58,14 @@ module _ {A : Type 0} where
       same_true : (x y : List ℕ) → x ≡ y → pointwise eqb x y ≡ true
       same_true x y p = pointwise-same_bytes x y ∙ subst (λ z. same_bytes x z ≡ true) p (same_bytes-refl x)
 
-  pub found_name : (names : List (Vec ℕ A)) (name : List ℕ) (i : ℕ) → Some i ≡ position (λ k. pointwise eqb name k.items) names → slice_get (bytes_of names) i ≡ Some name
+  found_name : (names : List (Vec ℕ A)) (name : List ℕ) (i : ℕ) → Some i ≡ position (λ k. pointwise eqb name k.items) names → slice_get (bytes_of names) i ≡ Some name
   found_name names name i h =
       let s = position-stands _ names i h in
       slice_get-bytes_of names i s.0 s.1 ∙ ap Some (sym (pointwise-eq name s.0.items s.2))
+
+  pub found_names : (names : List (Vec ℕ A)) (name : List ℕ) (o : Option ℕ) → o ≡ position (λ k. pointwise eqb name k.items) names → IfSome o (λ i. slice_get (bytes_of names) i ≡ Some name)
+  found_names names name (Some i) h = found_name names name i h
+  found_names names name None h = tt
 
   pub inserted_name : (old new : List (Vec ℕ A)) (owned : Vec ℕ A) (name : List ℕ) (i : ℕ) → owned.items ≡ name → new ≡ insert_key (λ x y. pointwise eqb x.items y.items) old owned
       → ((k : Vec ℕ A) × (slice_get new i ≡ Some k) × (pointwise eqb owned.items k.items ≡ true)) → Inserts (bytes_of old) (bytes_of new) name i

@@ -2,8 +2,8 @@
 use Rattle.std.proofs.Common.{◌≡◌, ℕ, zero, suc, ◌<◌, ◌≤◌, ◌^◌, Bool, true, false, ◌||◌, not, Some, List, [], length, take, get_or, slice_get, refl, sym, ap, ap₂, ◌∙◌, subst, arith, eqb, eq-eqb, eqb-true, lt-ltb}
 use Rattle.std.proofs.lemmas.Bool.{both_ways}
 use Rattle.std.proofs.lemmas.List.{length-take}
-use Rattle.std.proofs.lemmas.Option.{slice_get_within, slice_get-get_or}
-use Rattle.mw_model.specs.Object.{Object, Natural, car, cdr, is_name, same_object}
+use Rattle.std.proofs.lemmas.Option.{slice_get_within, slice_get-get_or, get_or_from_slice_get}
+use Rattle.mw_model.specs.Object.{Object, Natural, Symbol, name_of_bytes, car, cdr, is_name, same_object}
 use Rattle.mw_model.specs.Primitive.{is_symbol, name_of, number}
 use Rattle.mw_model.specs.Evaluation.{range}
 use Rattle.mw_model.specs.Fate.{is_out_of_range}
@@ -132,3 +132,10 @@ module _ (ns : List ℕ) (ss : List (List ℕ)) (cs : List Cell) (sound : IsSoun
 
   pub name_bytes : (x i : ℕ) → slice_get cs x ≡ Some (Named i) → (name_of (object_at os x)).bytes ≡ get_or ss i []
   name_bytes x i at = ap (λ o. (name_of o).bytes) (shown x (Named i) at) ∙ bytes-name_of_bytes (get_or ss i []) (name_valid x i at)
+
+  -- the object of a symbol's cell has the name of the cell's number
+  pub symbol_is : (x i : ℕ) (name : List ℕ) → slice_get ss i ≡ Some name → slice_get cs x ≡ Some (Named i) → IsIn os x × (object_at os x ≡ Symbol (name_of_bytes name))
+  symbol_is x i name listed at = (
+    omega (arith, slice_get_within cs x (Named i) at, length-cells),
+    shown x (Named i) at ∙ ap (λ s. Symbol (name_of_bytes s)) (get_or_from_slice_get ss i name [] listed),
+  )

@@ -1,5 +1,5 @@
 //! The heap.
-ghost use Rattle.std.specs.Prelude.{◌≡◌, ℕ, ◌+◌, ◌<◌, ◌≤◌, ◌^◌, List, [], true, false, length, take, IfOk, OnErr, IsTrue};
+ghost use Rattle.std.specs.Prelude.{◌≡◌, ℕ, ◌+◌, ◌<◌, ◌≤◌, ◌^◌, List, [], true, false, length, take, IfOk, IfSome, OnErr, IsTrue};
 ghost use Rattle.mw_model.specs.Object.{Symbol, Natural, Pair, name_of_bytes, is_name, same_object, is_before_bytes};
 ghost use Rattle.mw_model.specs.Primitive.{is_symbol, name_of};
 ghost use Rattle.mw_model.specs.Fate.{is_out_of_range};
@@ -8,7 +8,10 @@ ghost use Rattle.mw_heap.specs.Objects.{object_at, IsIn, Grows, Shows, NamesOlde
 
 use crate::cell::Cell;
 use crate::lengths::Lengths;
-use crate::sets::{cell_at, counts_from, insert_measured, insert_name, insert_natural};
+use crate::sets::{
+    cell_at, counts_from, find_name, insert_measured, insert_name, insert_natural, is_place,
+    note_place,
+};
 use crate::{Mark, Memory, Ref, View};
 use indexmap::IndexSet;
 use std::alloc::Global;
@@ -22,6 +25,8 @@ pub struct Heap {
     lengths: Vec<Lengths>,
     naturals: IndexSet<u128>,
     names: IndexSet<Vec<u8>>,
+    // for each name where its cell may stand, which is looked up there before it is searched for
+    places: Vec<Ref>,
     alloc: Global,
 }
 
@@ -53,6 +58,7 @@ impl Heap {
             lengths: Vec::new(alloc),
             naturals: IndexSet::new(alloc),
             names: IndexSet::new(alloc),
+            places: Vec::new(alloc),
             alloc,
         })
     }
@@ -101,6 +107,33 @@ impl Heap {
         ensures made { IfOk result (λ r. IsIn self.new r × (object_at self.new r ≡ Symbol (name_of_bytes name.now))) }
         ensures err { OnErr result (self.new ≡ self.old) }
     {
+        match self.known_symbol(name) {
+            Some(known) => Ok(known),
+            None => self.put_symbol(name),
+        }
+    }
+
+    // The symbol of this name, where its cell stands in its noted place.
+    fn known_symbol(&self, name: &[u8]) -> Option<Ref>
+        requires { is_name name.now ≡ true }
+        ensures { IfSome result (λ r. IsIn self.now r × (object_at self.now r ≡ Symbol (name_of_bytes name.now))) }
+    {
+        let index = find_name(&self.names, name)?;
+        let place = *self.places.get(index)?;
+        if is_place(&self.cells, place, index) {
+            Some(place)
+        } else {
+            None
+        }
+    }
+
+    // The symbol of this name, which is searched for, and added if it is new.
+    fn put_symbol(&mut self, name: &[u8]) -> Result<Ref, Memory>
+        requires { is_name name.now ≡ true }
+        ensures grows { Grows self.old self.new }
+        ensures made { IfOk result (λ r. IsIn self.new r × (object_at self.new r ≡ Symbol (name_of_bytes name.now))) }
+        ensures err { OnErr result (self.new ≡ self.old) }
+    {
         let had = self.names.len();
         let index = insert_name(&mut self.names, self.alloc, name)?;
         match insert_measured(
@@ -110,7 +143,10 @@ impl Heap {
             &self.names,
             Cell::Symbol(index as u32),
         ) {
-            Ok(made) => Ok(made),
+            Ok(made) => {
+                note_place(&mut self.places, index, made);
+                Ok(made)
+            }
             Err(refusal) => {
                 self.names.truncate(had);
                 Err(refusal)

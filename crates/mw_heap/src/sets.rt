@@ -1,5 +1,5 @@
 //! The sets that a heap is made of: a value's place in each is its index.
-ghost use Rattle.std.specs.Prelude.{◌≡◌, ◌<◌, ◌≤◌, ◌^◌, ℕ, List, length, vec_len, drop, slice_get, Some, IfOk, OnOk, OnErr};
+ghost use Rattle.std.specs.Prelude.{◌≡◌, ◌<◌, ◌≤◌, ◌^◌, true, ℕ, List, length, vec_len, drop, slice_get, Some, IfOk, IfSome, OnOk, OnErr};
 ghost use Rattle.mw_heap.specs.Cells.{natural_count, name_count, bytes_of, IsInjective};
 ghost use Rattle.mw_heap.specs.Inserted.{Inserts};
 ghost use Rattle.mw_heap.specs.Lengths.{IsMeasurable, Measures};
@@ -72,6 +72,32 @@ pub(crate) fn insert_natural(naturals: &mut IndexSet<u128>, n: u128) -> Result<u
     Ok(index)
 }
 
+// The index of the name, where it is listed.
+pub(crate) fn find_name(names: &IndexSet<Vec<u8>>, name: &[u8]) -> Option<usize>
+    ensures { IfSome result (λ i. slice_get (bytes_of names.now.keys) i ≡ Some name.now) }
+{
+    names.get_index_of(name)
+}
+
+// Whether the symbol with the name of this index stands in this place.
+pub(crate) fn is_place(cells: &IndexSet<Cell>, place: Ref, index: usize) -> bool
+    ensures { result ≡ true → slice_get cells.now.keys place ≡ Some (Cell.Symbol index) }
+{
+    match cells.as_slice().get(place.index()) {
+        Some(Cell::Symbol(i)) => *i as usize == index,
+        _ => false,
+    }
+}
+
+// Notes where the symbol with the name of this index stands. It is looked up there first, so a place that is not noted costs time alone.
+pub(crate) fn note_place(places: &mut Vec<Ref>, index: usize, x: Ref) {
+    if index < places.len() {
+        places[index] = x;
+    } else if index == places.len() {
+        let _ = places.push(x);
+    }
+}
+
 // The index of the name, which goes last, in memory of its own, if it is new.
 pub(crate) fn insert_name(
     names: &mut IndexSet<Vec<u8>>,
@@ -82,7 +108,7 @@ pub(crate) fn insert_name(
     ensures distinct { OnOk result (IsInjective (bytes_of names.new.keys)) }
     ensures err { OnErr result (names.new.keys ≡ names.old.keys) }
 {
-    if let Some(index) = names.get_index_of(name) {
+    if let Some(index) = find_name(names, name) {
         let _ = names.len();
         return Ok(index);
     }

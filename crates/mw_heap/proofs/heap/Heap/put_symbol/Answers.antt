@@ -9,7 +9,8 @@ use Rattle.mw_heap.specs.Lengths.{lengths_of}
 use Rattle.mw_heap.proofs.Measuring.{length-measured, measured-after, objects-listed_name}
 use Rattle.mw_heap.proofs.NameSet.{removed_name}
 use Rattle.mw_heap.proofs.Numbered.{name_adds}
-use Rattle.mw_heap.proofs.heap.Heap.symbol.Goals as goal
+use Rattle.mw_heap.proofs.heap.Heap.put_symbol.Goals as goal
+use Rattle.mw_heap.proofs.heap.Heap.put_symbol.Goals.{In-Ok}
 
 pub overflow_cast-index : goal.overflow_cast-index
 overflow_cast-index c =
@@ -17,7 +18,7 @@ overflow_cast-index c =
     let sound = c.self.invariant.sound in
     omega (arith, Inserts-le (bytes_of old.names.keys) _ _ _ c.in_ok-index.ensures.inserted, sound.all_names, count_of-le-length is_named old.cells.keys, sound.are_cells.few)
 
-adds : (c : goal.In-Ok) → BecomesWith c.self.inside.naturals.keys c.self.inside.naturals.keys (bytes_of c.self.inside.names.keys) (bytes_of c.insert_name.new.names.keys) c.self.inside.cells.keys c.insert_measured.new.cells.keys c.in-Ok.made (Symbol (name_of_bytes c.args.name.now))
+adds : (c : In-Ok) → BecomesWith c.self.inside.naturals.keys c.self.inside.naturals.keys (bytes_of c.self.inside.names.keys) (bytes_of c.insert_name.new.names.keys) c.self.inside.cells.keys c.insert_measured.new.cells.keys c.in-Ok.made (Symbol (name_of_bytes c.args.name.now))
 adds c =
     let e = c.in-Ok.ensures in
     name_adds _ _ _ _ _ _ _ _ c.self.invariant.sound c.in_ok-index.ensures.inserted c.in_ok-index.ensures.distinct c.requires e.inserted e.distinct e.few
@@ -32,15 +33,15 @@ insert_measured-requires-clause-measurable c =
 
 pub invariant_of-self-in-Ok : goal.invariant_of-self-in-Ok
 invariant_of-self-in-Ok c = record {
-  sound = (adds c).0;
+  sound = (adds (goal.at.invariant_of-self-in-Ok c).In-Ok).0;
   measured = measured-after _ _ _ _ _ _ _ _ _ (objects-listed_name _ _ _ _ _ _ c.self.invariant.sound c.in_ok-index.ensures.inserted) c.self.invariant.measured c.in-Ok.ensures.measured;
 }
 
 pub returns-in-Ok-clause-grows : goal.returns-in-Ok-clause-grows
-returns-in-Ok-clause-grows c = grows_from _ c.self.view_is (adds c).1.grows
+returns-in-Ok-clause-grows c = grows_from _ c.self.view_is (adds (goal.at.returns-in-Ok-clause-grows c).In-Ok).1.grows
 
 pub returns-in-Ok-clause-made : goal.returns-in-Ok-clause-made
-returns-in-Ok-clause-made c = ((adds c).1.within, (adds c).1.made)
+returns-in-Ok-clause-made c = ((adds (goal.at.returns-in-Ok-clause-made c).In-Ok).1.within, (adds (goal.at.returns-in-Ok-clause-made c).In-Ok).1.made)
 
 same_names : (c : goal.After-truncate) → bytes_of c.truncate.new.self.keys ≡ bytes_of c.self.inside.names.keys
 same_names c = removed_name c.len-had.result c.self.inside.names.keys c.insert_name.new.names.keys c.truncate.new.self.keys c.args.name.now _ c.len-had.ensures.len c.in_ok-index.ensures.inserted c.truncate.ensures.keys
