@@ -1,5 +1,5 @@
 -- What a call on a source or a sink does to the bytes, where they are told, and to the count of faults.
-use Rattle.std.specs.Prelude.{◌≡◌, ℕ, ◌-◌, ◌^◌, ◌<◌, ◌≤◌, ◌⊎◌, List, [], ◌∷◌, ◌++◌, Option, Some, None}
+use Rattle.std.specs.Prelude.{◌≡◌, ℕ, ◌-◌, ◌^◌, ◌<◌, ◌≤◌, ◌⊎◌, List, [], ◌++◌, Option, Some, None}
 
 -- the last value of a count, where it stands still
 abbrev pub last_count : ℕ
@@ -25,3 +25,7 @@ abbrev pub Takes : Option (List ℕ) → Option (List ℕ) → List ℕ → Type
 Takes (Some old) (Some new) piece = new ≡ old ++ piece
 Takes None None piece = Unit {0}
 Takes _ _ piece = ⊥
+
+-- the bytes of what tells none
+abbrev pub untold : Option (List ℕ)
+untold = None

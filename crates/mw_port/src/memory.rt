@@ -81,6 +81,7 @@ impl Source for MemSource {
 
         // Which calls fail, how many bytes the others give, and what else stays.
         ensures fails { IsErr result → fails_at self.old.fails (next_count self.old.calls) ≡ true }
+        ensures rises { IsErr result → self.new.faults ≡ next_count self.old.faults }
         ensures gives { IfOk result (λ n. (n ≡ allowed self.old.cuts self.old.calls (min (length self.old.left) (length buffer.old)))
             × (fails_at self.old.fails (next_count self.old.calls) ≡ false)) }
         ensures counts { (self.new.calls ≡ next_count self.old.calls) × (self.new.cuts ≡ self.old.cuts) × (self.new.fails ≡ self.old.fails) }
@@ -170,6 +171,7 @@ impl Sink for MemSink {
 
         // Which calls fail, how many bytes the others take, and what else stays.
         ensures fails { IsErrOf result Halt.Failed → fails_at self.old.fails (next_count self.old.calls) ≡ true }
+        ensures rises { IsErrOf result Halt.Failed → self.new.faults ≡ next_count self.old.faults }
         ensures takes { IfOk result (λ n. (n ≡ allowed self.old.cuts self.old.calls (length piece.now))
             × (fails_at self.old.fails (next_count self.old.calls) ≡ false)) }
         ensures counts { (self.new.calls ≡ next_count self.old.calls) × (self.new.cuts ≡ self.old.cuts) × (self.new.fails ≡ self.old.fails) }

@@ -1,6 +1,7 @@
-//! The standard streams: the edge that is trusted. They tell no bytes.
-ghost use Rattle.std.specs.Prelude.{◌≡◌, ℕ, ◌+◌, None};
-ghost use Rattle.mw_port.specs.Memories.{next_count};
+//! The standard streams: the edge that is trusted. They tell no bytes, but hand on what the stream below them moves.
+ghost use Rattle.std.specs.Prelude.{◌≡◌, ◌<◌, ◌≤◌, length, take, IfOk, OnOk, OnErr, IsErrOf};
+ghost use Rattle.std.specs.Io.KnownBytes.{Consumes, Appends, Keeps, IsAtEnd};
+ghost use Rattle.mw_port.specs.Ports.{Rises, Gives, HasEnded, Takes, untold};
 
 use crate::{Failed, Halt, Sink, Source};
 use std::io::{ErrorKind, Read, Write};
@@ -17,17 +18,31 @@ pub struct StdSource<R> {
 
 impl<R: Read> StdSource<R> {
     /// A source over a reader, with no faults so far.
-    pub fn new(reader: R) -> StdSource<R> {
+    pub fn new(reader: R) -> StdSource<R>
+        ensures { result ≡ record { reader = reader; faults = 0 } }
+    {
         StdSource { reader, faults: 0 }
     }
 }
 
 impl<R: Read> Source for StdSource<R> {
-    ghost left = { λ s. None };
+    ghost left = { λ s. untold };
 
     ghost faults = { λ s. s.faults };
 
-    fn read(&mut self, buffer: &mut [u8]) -> Result<usize, Failed> {
+    fn read(&mut self, buffer: &mut [u8]) -> Result<usize, Failed>
+        ensures within { IfOk result (λ n. n ≤ length buffer.new) }
+        ensures given { IfOk result (λ n. Gives untold untold (take n buffer.new)) }
+        ensures ended { IfOk result (λ n. n ≡ 0 → 0 < length buffer.old → HasEnded untold) }
+        ensures steady { OnOk result (self.new.faults ≡ self.old.faults) }
+        ensures failed { OnErr result (Rises self.old.faults self.new.faults) }
+        ensures kept { OnErr result (untold ≡ untold) }
+
+        // Where the reader tells its bytes, these are its next ones, none only at its end, and a fault loses none.
+        ensures next { IfOk result (λ n. Consumes (R.remaining self.old.reader) (R.remaining self.new.reader) (take n buffer.new)) }
+        ensures at_end { IfOk result (λ n. n ≡ 0 → 0 < length buffer.new → IsAtEnd (R.remaining self.new.reader)) }
+        ensures none_lost { OnErr result (Keeps (R.remaining self.old.reader) (R.remaining self.new.reader)) }
+    {
         for _ in 0..TRIES {
             match self.reader.read(buffer) {
                 Ok(n) => return Ok(n),
@@ -52,17 +67,32 @@ pub struct StdSink<W> {
 
 impl<W: Write> StdSink<W> {
     /// A sink over a writer, with no faults so far.
-    pub fn new(writer: W) -> StdSink<W> {
+    pub fn new(writer: W) -> StdSink<W>
+        ensures { result ≡ record { writer = writer; faults = 0 } }
+    {
         StdSink { writer, faults: 0 }
     }
 }
 
 impl<W: Write> Sink for StdSink<W> {
-    ghost taken = { λ s. None };
+    ghost taken = { λ s. untold };
 
     ghost faults = { λ s. s.faults };
 
-    fn write(&mut self, piece: &[u8]) -> Result<usize, Halt> {
+    fn write(&mut self, piece: &[u8]) -> Result<usize, Halt>
+        ensures within { IfOk result (λ n. n ≤ length piece.now) }
+        ensures some { IfOk result (λ n. 0 < length piece.now → 0 < n) }
+        ensures took { IfOk result (λ n. Takes untold untold (take n piece.now)) }
+        ensures steady { OnOk result (self.new.faults ≡ self.old.faults) }
+        ensures failed { IsErrOf result Halt.Failed → Rises self.old.faults self.new.faults }
+        ensures memory { IsErrOf result Halt.Memory → self.new.faults ≡ self.old.faults }
+        ensures kept { OnErr result (untold ≡ untold) }
+
+        // Where the writer tells its bytes, those taken went behind them, and none at a fault.
+        ensures wrote { IfOk result (λ n. Appends (W.contents self.old.writer) (W.contents self.new.writer) (take n piece.now)) }
+        ensures none_added { OnErr result (Keeps (W.contents self.old.writer) (W.contents self.new.writer)) }
+        ensures only_failed { IsErrOf result Halt.Memory → ⊥ }
+    {
         if piece.is_empty() {
             return Ok(0);
         }

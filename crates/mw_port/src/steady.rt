@@ -51,7 +51,7 @@ impl Source for SteadySource {
 
         ensures succeeds { IsOk result }
         ensures gives { IfOk result (λ n. n ≡ allowed self.old.cuts self.old.calls (min (length self.old.left) (length buffer.old))) }
-        ensures counts { (self.new.calls ≡ next_count self.old.calls) × (self.new.cuts ≡ self.old.cuts) }
+        ensures counts { (self.new.calls ≡ next_count self.old.calls) × (self.new.cuts ≡ self.old.cuts) × (self.new.fails ≡ self.old.fails) }
     {
         match self.source.read(buffer) {
             Ok(n) => Ok(n),
@@ -111,7 +111,7 @@ impl Sink for SteadySink {
 
         ensures only_memory { IsErrOf result Halt.Failed → ⊥ }
         ensures takes { IfOk result (λ n. n ≡ allowed self.old.cuts self.old.calls (length piece.now)) }
-        ensures counts { (self.new.calls ≡ next_count self.old.calls) × (self.new.cuts ≡ self.old.cuts) }
+        ensures counts { (self.new.calls ≡ next_count self.old.calls) × (self.new.cuts ≡ self.old.cuts) × (self.new.fails ≡ self.old.fails) }
     {
         self.sink.write(piece)
     }

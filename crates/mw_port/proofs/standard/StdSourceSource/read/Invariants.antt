@@ -1,5 +1,6 @@
 use Rattle.std.proofs.Common.{◌≡◌}
+use Rattle.std.specs.Io.KnownBytes.{Keeps}
 use Rattle.mw_port.proofs.standard.StdSourceSource.read.Given as goal
 
 abbrev pub invariant-loop : goal.invariant-loop
-invariant-loop g l = l.self.faults ≡ l.fn.self.faults
+invariant-loop g l = (l.self.faults ≡ l.fn.self.faults) × Keeps (g.R.Read.remaining l.fn.self.reader) (g.R.Read.remaining l.self.reader)
