@@ -1,5 +1,5 @@
-//! The axioms of both profiles, counted, and one looked at.
-use crate::build;
+//! The axioms of both profiles, counted, kept, and one looked at.
+use crate::{Axioms, build};
 use mw_heap::{Heap, Profile};
 use std::test::Fail;
 
@@ -11,6 +11,8 @@ fn profiles_have_their_axioms(rt: HostRuntime) -> Result<(), Fail> {
     assert_eq!(rt; one.as_slice().len(), 53);
     assert_eq!(rt; two.as_slice().len(), 60);
     assert!(rt; two.as_slice().starts_with(one.as_slice()));
+    let kept = Axioms::from_vec(one.as_slice().to_vec(rt.alloc())?);
+    assert!(rt; kept.as_slice() == one.as_slice());
     let x = heap.symbol(b"X")?;
     let first = one.as_slice()[0];
     assert!(rt; first.index() < heap.mark().cells());

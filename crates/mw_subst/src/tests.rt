@@ -1,8 +1,9 @@
 //! Each call once, with ample memory.
 ghost use Rattle.std.specs.Prelude.{◌≡◌, ◌+◌, ◌<◌, ◌≤◌, true};
 ghost use Rattle.mw_model.specs.Object.{is_name};
+ghost use Rattle.mw_heap.specs.Objects.{IsIn};
 
-use crate::{Sigma, Steps, substitute, substitute_counted};
+use crate::{Sigma, Steps, sigma_of, substitute, substitute_counted};
 use mw_heap::{Heap, Memory, Ref};
 use std::alloc::Global;
 use std::marker::Brand;
@@ -56,6 +57,32 @@ fn with_term(
     let mut sigma = Sigma::new(alloc);
     sigma.put(variable, term)?;
     substitute(heap, x, &sigma)
+}
+
+// The first term for a variable in the substitution ((x . y) (x . x)).
+fn first_term(heap: &mut Heap, x: Ref, y: Ref) -> Result<Option<Ref>, Memory>
+    requires x_in { IsIn heap.old x }
+    requires y_in { IsIn heap.old y }
+{
+    let nil = heap.symbol(b"NIL")?;
+    let later = heap.cons(x, x)?;
+    let rest = heap.cons(later, nil)?;
+    let first = heap.cons(x, y)?;
+    let s = heap.cons(first, rest)?;
+    Ok(sigma_of(heap, s)?.find(x))
+}
+
+fn reads_the_first(rt: &impl Abort, heap: &mut Heap) -> Result<(), Memory> {
+    let x = heap.symbol(b"X")?;
+    let y = heap.symbol(b"Y")?;
+    assert_eq!(rt; first_term(heap, x, y)?, Some(y));
+    Ok(())
+}
+
+#[test]
+fn a_list_of_pairs_is_read(rt: HostRuntime) -> Result<(), Memory> {
+    let mut heap = Heap::new(rt.alloc())?;
+    reads_the_first(&rt, &mut heap)
 }
 
 fn quoted(rt: &impl Abort, heap: &mut Heap, name: &[u8]) -> Result<Ref, Memory>

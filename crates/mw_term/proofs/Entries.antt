@@ -1,9 +1,10 @@
 -- The table of a map of arities as the map changes, and what is found in it.
-use Rattle.std.proofs.Common.{◌≡◌, ℕ, zero, suc, ◌+◌, ◌-◌, ◌≤◌, Bool, true, false, cond, List, [], ◌∷◌, ◌++◌, length, take, drop, Vec, Option, Some, None, refl, sym, ap, ◌∙◌, subst, nat_eq, arith}
+use Rattle.std.proofs.Common.{◌≡◌, ℕ, zero, suc, ◌+◌, ◌-◌, ◌≤◌, Bool, true, false, cond, List, [], ◌∷◌, ◌++◌, length, take, drop, Vec, Option, Some, None, ◌<◌, refl, sym, ap, ◌∙◌, subst, nat_eq, arith}
 use Rattle.std.specs.Map.{keys_of, lookup}
-use Rattle.std.specs.List.{IsDistinct, AllByRecursion}
+use Rattle.std.specs.List.{IsDistinct, AllByRecursion, slice_get}
 use Rattle.std.specs.Cmp.Lexicographic.{pointwise}
-use Rattle.std.proofs.lemmas.List.{drop-drop}
+use Rattle.std.proofs.lemmas.List.{drop-drop, take_more}
+use Rattle.std.proofs.lemmas.Option.{slice_get_within, get_or_from_slice_get}
 use Rattle.std.proofs.lemmas.Map.Keys.{IsDistinct-head, IsDistinct-tail}
 use Rattle.std.proofs.lemmas.Slice.Eq.{bytes_eq-Decides}
 use Rattle.mw_model.specs.Object.{Name, is_name, name_of_bytes}
@@ -44,6 +45,20 @@ module _ {A : Type 0} where
   entries_before-take (e ∷ es) (suc n) older h =
       let z : suc (length es) - suc n ≡ length es - n = omega arith in
       entries_before-take es n ((name_of_bytes e.0.items, e.1) ∷ older) (omega arith) ∙ ap (λ k. drop k (entries_before es ((name_of_bytes e.0.items, e.1) ∷ older))) (sym z)
+
+  -- the pair at a place stands before the older ones
+  pub entries_before-at : (es : List (Vec ℕ A × ℕ)) (i : ℕ) (e : Vec ℕ A × ℕ) → slice_get es i ≡ Some e → drop (length es - (i + 1)) (table_of es) ≡ (name_of_bytes e.0.items, e.1) ∷ drop (length es - i) (table_of es)
+  entries_before-at es i e h =
+      let l : i < length es = slice_get_within es i e h in
+      sym (entries_before-take es (i + 1) [] (omega (arith, l)))
+      ∙ (ap table_of (take_more es i e l ∙ ap (λ x. take i es ++ x ∷ []) (get_or_from_slice_get es i e e h))
+      ∙ (entries_before-append (take i es) e.0 e.1 []
+      ∙ ap (λ t. (name_of_bytes e.0.items, e.1) ∷ t) (entries_before-take es i [] (omega (arith, l)))))
+
+  pub named-at : (es : List (Vec ℕ A × ℕ)) (i : ℕ) (e : Vec ℕ A × ℕ) → AreNamed es → slice_get es i ≡ Some e → is_name e.0.items ≡ true
+  named-at [] i e h k = cc
+  named-at (f ∷ es) zero e h k = cc
+  named-at (f ∷ es) (suc i) e h k = named-at es i e h.1 k
 
   pub named-take : (es : List (Vec ℕ A × ℕ)) (n : ℕ) → AreNamed es → AreNamed (take n es)
   named-take es zero h = tt

@@ -2,7 +2,7 @@ pub mod NamedBytes
 pub mod Marked
 mod Entries
 mod ListMarks
-mod Symbols
+pub mod Symbols
 mod PartSet
 mod FormalList
 mod Heads

@@ -1,5 +1,5 @@
 //! The arities of functions.
-ghost use Rattle.std.specs.Prelude.{◌≡◌, ℕ, ◌-◌, ◌≤◌, List, [], ◌∷◌, length, drop, true, None, IfOk, OnOk, OnErr};
+ghost use Rattle.std.specs.Prelude.{◌≡◌, ℕ, ◌+◌, ◌-◌, ◌<◌, ◌≤◌, List, [], ◌∷◌, length, drop, true, None, IfOk, OnOk, OnErr};
 ghost use Rattle.mw_model.specs.Object.{is_name, name_of_bytes};
 ghost use Rattle.mw_model.specs.Term.{arity_of};
 
@@ -53,6 +53,18 @@ impl Arity {
         ensures { result ≡ arity_of self.now (name_of_bytes name.now) }
     {
         self.arities.get(name).copied()
+    }
+
+    /// The name of the function at this place, the oldest first, and how many arguments it takes.
+    pub fn nth(&self, index: usize) -> (&[u8], u64)
+        requires { index < length self.now }
+        ensures name { is_name result.0.now ≡ true }
+        ensures pair { drop (length self.now - (index + 1)) self.now ≡ (name_of_bytes result.0.now, result.1) ∷ drop (length self.now - index) self.now }
+    {
+        let Some((name, count)) = self.arities.get_index(index) else {
+            unreachable!()
+        };
+        (name.as_slice(), *count)
     }
 
     /// Adds a function that takes `count` arguments. Where memory is refused nothing changes.

@@ -22,6 +22,7 @@ use std::alloc::Global;
 pub fn vars(heap: &Heap, t: Ref) -> Result<Vars, Memory>
     requires { IsIn heap.now t }
     ensures within { IfOk result (All (IsIn heap.now)) }
+    ensures symbols { IfOk result (λ vs. AreSymbols heap.now vs) }
     ensures variables { IfOk result (λ vs. (u : Term) → term_of (object_at heap.now t) ≡ Some u → map (object_at heap.now) vs ≡ map Symbol (variables u)) }
 {
     let symbols = variables_in(heap, t, heap.alloc())?;

@@ -1,5 +1,5 @@
 //! Each call once, with ample memory.
-use crate::{Arity, Marks, mark_terms, vars};
+use crate::{Arity, Marks, is_substitution, mark_terms, vars};
 use mw_heap::{Heap, Mark, Memory, Ref};
 use std::alloc::Global;
 use std::process::Abort;
@@ -14,6 +14,20 @@ fn arities_are_added_and_cut(rt: HostRuntime) -> Result<(), Memory> {
     arity.cut(0);
     assert_eq!(rt; arity.lookup(b"CAR"), None);
     assert_eq!(rt; arity.len(), 0);
+    Ok(())
+}
+
+#[test]
+fn arities_are_listed_the_oldest_first(rt: HostRuntime) -> Result<(), Memory> {
+    let mut arity = Arity::new(rt.alloc());
+    arity.add(b"CONS", 2)?;
+    arity.add(b"CAR", 1)?;
+    let (first, first_count) = arity.nth(0);
+    assert!(rt; first == b"CONS".as_slice());
+    assert_eq!(rt; first_count, 2);
+    let (second, second_count) = arity.nth(1);
+    assert!(rt; second == b"CAR".as_slice());
+    assert_eq!(rt; second_count, 1);
     Ok(())
 }
 
@@ -80,7 +94,8 @@ fn extends_and_cuts(
     alloc: Global,
     to: Mark,
 ) -> Result<(), Memory> {
-    let mut marks = mark_terms(alloc, heap, arity, heap.mark())?;
+    assert!(rt; to.cells() <= heap.mark().cells());
+    let mut marks = mark_terms(alloc, heap, arity, to)?;
     marks.extend(heap, arity, heap.mark())?;
     assert_eq!(rt; marks.len(), heap.mark().cells());
     assert!(rt; to.cells() <= marks.len());
@@ -147,4 +162,38 @@ fn variables_of_nested_term(rt: &impl Abort, heap: &mut Heap) -> Result<(), Memo
 fn variables_come_in_order_of_first_occurrence(rt: HostRuntime) -> Result<(), Memory> {
     let mut heap = Heap::new(rt.alloc())?;
     variables_of_nested_term(&rt, &mut heap)
+}
+
+// Asserts whether s is a substitution.
+fn is_one(rt: &impl Abort, heap: &Heap, marks: &Marks, s: Ref, expected: bool) {
+    assert!(rt; s.index() < heap.mark().cells());
+    assert!(rt; s.index() < marks.len());
+    assert_eq!(rt; is_substitution(heap, marks, s), expected);
+}
+
+// ((X . (CAR X))), and (((CAR X) . X)).
+fn tells_substitutions(
+    rt: &impl Abort,
+    heap: &mut Heap,
+    arity: &Arity,
+    alloc: Global,
+) -> Result<(), Memory> {
+    let x = heap.symbol(b"X")?;
+    let term = call(rt, heap)?;
+    let forward = pair(rt, heap, x, term)?;
+    let backward = pair(rt, heap, term, x)?;
+    let good = list(rt, heap, &[forward])?;
+    let bad = list(rt, heap, &[backward])?;
+    let marks = mark_terms(alloc, heap, arity, heap.mark())?;
+    is_one(rt, heap, &marks, good, true);
+    is_one(rt, heap, &marks, bad, false);
+    Ok(())
+}
+
+#[test]
+fn substitutions_have_variables_in_front(rt: HostRuntime) -> Result<(), Memory> {
+    let mut heap = Heap::new(rt.alloc())?;
+    let mut arity = Arity::new(rt.alloc());
+    arity.add(b"CAR", 1)?;
+    tells_substitutions(&rt, &mut heap, &arity, rt.alloc())
 }
