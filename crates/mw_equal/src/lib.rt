@@ -9,3 +9,6 @@ mod shapes;
 pub use equal_calls::functional_equality;
 pub use instance::instantiation;
 pub use reduction::beta;
+
+#[cfg(test)]
+mod tests;

@@ -1,13 +1,13 @@
 -- Where the conditions end the cases must end.
 use Rattle.std.proofs.Common.{◌≡◌, ℕ, ◌+◌, Bool, true, false, ◌&&◌, eqb, refl, sym, ap, ap₂, ◌∙◌, one-add}
-use Rattle.mw_model.specs.Object.{Object, Natural, Symbol, Pair, NIL, same_object, list3}
+use Rattle.mw_model.specs.Object.{Object, Natural, Symbol, Pair, NIL, same_object, list3, car, second_of, third_of, has_members}
 use Rattle.mw_model.specs.Term.{ArityTable}
 use Rattle.mw_model.specs.Rules.{is_substitution_object}
 use Rattle.mw_model.specs.RulesInduction.{is_list_object, length_object, are_substitution_objects, are_case_objects, premises_object, object_is_induction}
 use Rattle.std.proofs.Math.Dec.{eqb-zero-suc, eqb-suc-zero, eqb-suc-suc}
 use Rattle.std.proofs.Math.Bool.{and-false}
 use Rattle.mw_model.specs.Primitive.{is_pair}
-use Rattle.std.proofs.lemmas.Bool.{and_parts}
+use Rattle.std.proofs.lemmas.Bool.{and_parts, and_left, and_right}
 use Rattle.mw_subst.proofs.PairLists.{substitution_pairs}
 use Rattle.mw_induct.specs.Pairs.{are_lists_of_pairs, are_cases_of_pairs}
 
@@ -86,6 +86,22 @@ and_three false b c d h = cc
 pub object_is_induction-from : (A : ArityTable) (c ps x m q s : Object) → x ≡ list3 m q s → (is_list_object q && (eqb (length_object q) (length_object s) && are_case_objects A s)) ≡ true → same_object ps (premises_object c m q s) ≡ object_is_induction A c ps x
 object_is_induction-from A c ps x m q s e h =
     sym (ap (object_is_induction A c ps) e ∙ and_three (is_list_object q) (eqb (length_object q) (length_object s)) (are_case_objects A s) (same_object ps (premises_object c m q s)) h)
+
+and_three-false : (a b c d : Bool) → (a && (b && c)) ≡ false → (a && (b && (c && d))) ≡ false
+and_three-false true true c d h = and_left c d h
+and_three-false true false c d h = refl
+and_three-false false b c d h = refl
+
+pub no_induction-data : (A : ArityTable) (c ps x m q s : Object) → x ≡ list3 m q s → are_data A q s ≡ false → false ≡ object_is_induction A c ps x
+no_induction-data A c ps x m q s e h =
+    sym (ap (object_is_induction A c ps) e ∙ and_three-false (is_list_object q) (eqb (length_object q) (length_object s)) (are_case_objects A s) (same_object ps (premises_object c m q s)) h)
+
+-- no premises of any data
+pub no_induction-premises : (A : ArityTable) (c ps x : Object) → ((m q s : Object) → same_object ps (premises_object c m q s) ≡ false) → false ≡ object_is_induction A c ps x
+no_induction-premises A c ps x h =
+    let q = second_of x in
+    let s = third_of x in
+    sym (and_right (has_members 3 x) _ (and_right (is_list_object q) _ (and_right (eqb (length_object q) (length_object s)) _ (and_right (are_case_objects A s) _ (h (car x) q s)))))
 
 pub data_pairs : (A : ArityTable) (q s : Object) → true ≡ (is_list_object q && (eqb (length_object q) (length_object s) && are_case_objects A s)) → are_cases_of_pairs s ≡ true
 data_pairs A q s h = cases_pairs A s (and_parts (eqb (length_object q) (length_object s)) (are_case_objects A s) (and_parts (is_list_object q) _ (sym h)).1).1

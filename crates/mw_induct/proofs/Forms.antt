@@ -23,6 +23,15 @@ other_first x h a b c d e s = ap (λ y. same_object y (list3 h c d)) e ∙ (same
 pub other_second : (x h a b c d : Object) → x ≡ list3 h a b → same_object b d ≡ false → same_object x (list3 h c d) ≡ false
 other_second x h a b c d e s = ap (λ y. same_object y (list3 h c d)) e ∙ (same_list3 h a b c d ∙ (ap (λ t. same_object a c && t) s ∙ and-false (same_object a c)))
 
+-- what begins with a as a disjunction does, and what does not
+pub or_from : (x a b c : Object) → x ≡ or_object a b → same_object a c ≡ true → same_object x (or_object c b) ≡ true
+or_from x a b c e s = same_rest x (symbol "POR*") a b c b e s ∙ same_object-refl b
+
+pub not_from : (x a : Object) → same_object x a ≡ false → ((b : Object) → same_object x (or_object a b) ≡ false) → (members : Object) → same_object x (disjunction_object (Pair a members)) ≡ false
+not_from x a h k (Natural n) = h
+not_from x a h k (Symbol s) = h
+not_from x a h k (Pair b members) = k (disjunction_object (Pair b members))
+
 -- equations with 't are the same where their terms are
 pub same_true : (t u : Object) → same_object (true_object t) (true_object u) ≡ same_object t u
 same_true t u = same_list3 (symbol "PEQUAL*") t (list2 (symbol "QUOTE") T) u (list2 (symbol "QUOTE") T) ∙ and-true (same_object t u)

@@ -2,11 +2,12 @@
 use Rattle.std.proofs.Common.{◌≡◌, ℕ, zero, suc, ◌+◌, ◌<◌, ◌≤◌, false, nat_eq, All, List, [], ◌∷◌, length, take, drop, ◌-◌, get_or, Option, Some, None, refl, sym, ap, ap₂, ◌∙◌, subst, arith, zero-add}
 use Rattle.std.proofs.Math.Dec.{eqb-zero-suc, eqb-suc-suc}
 use Rattle.std.proofs.lemmas.List.{drop_more, drop_all, length-drop}
+use Rattle.std.proofs.lemmas.Bool.{and_left, and_right}
 use Rattle.std.proofs.Math.Seq.{take-length}
-use Rattle.mw_model.specs.Object.{Object, Pair, NIL, same_object}
+use Rattle.mw_model.specs.Object.{Object, Natural, Symbol, Pair, NIL, same_object}
 use Rattle.mw_heap.specs.Objects.{object_at, IsIn, Grows}
 use Rattle.mw_heap.proofs.Objects.{object_at-Grows}
-use Rattle.mw_model.specs.RulesInduction.{ordinal_object, falls_object, all_falls_object}
+use Rattle.mw_model.specs.RulesInduction.{disjunction_object, steps_object, ordinal_object, falls_object, all_falls_object, premises_object}
 use Rattle.mw_induct.proofs.Forms.{step_object, same_step}
 use Rattle.mw_induct.specs.Conclusions.{conclusions_object, Takes}
 
@@ -75,3 +76,20 @@ slice_from n xs = ap (λ k. take k (drop n xs)) (sym (length-drop n xs)) ∙ tak
 
 pub Takes-from : (premises : Object → Object) (os : List Object) (n : ℕ) (xs : List ℕ) (o : Option ℕ) → Takes premises os (take (length xs - n) (drop n xs)) o → Takes premises os (drop n xs) o
 Takes-from premises os n xs o t = subst (λ l. Takes premises os l o) (slice_from n xs) t
+
+-- there are two premises or more
+steps_some : (a q s m r : Object) → same_object NIL (steps_object a q s (Pair m r)) ≡ false
+steps_some a (Natural n) s m r = refl
+steps_some a (Symbol n) s m r = refl
+steps_some a (Pair q qs) s m r = refl
+
+pub few_premises : (os : List Object) (xs : List ℕ) → length xs < 2 → (a m q s : Object) → same_object (conclusions_object os xs) (premises_object a m q s) ≡ false
+few_premises os [] l a m q s = refl
+few_premises os (x ∷ []) l a m q s = and_right (same_object (object_at os x) (disjunction_object (Pair a q))) _ (steps_some a q s (ordinal_object m) (all_falls_object m q s))
+few_premises os (x ∷ y ∷ xs) l a m q s = absurd (omega arith)
+
+pub other_premises : (os : List Object) (xs : List ℕ) (x : ℕ) (a : Object) → 2 ≤ length xs → x ≡ get_or xs 0 x → ((q : Object) → same_object (object_at os x) (disjunction_object (Pair a q)) ≡ false) → (m q s : Object) → same_object (conclusions_object os xs) (premises_object a m q s) ≡ false
+other_premises os [] x a l e h m q s = absurd (omega arith)
+other_premises os (y ∷ xs) x a l e h m q s =
+    and_left (same_object (object_at os y) (disjunction_object (Pair a q))) (same_object (conclusions_object os xs) (steps_object a q s (Pair (ordinal_object m) (all_falls_object m q s))))
+    (ap (λ z. same_object (object_at os z) (disjunction_object (Pair a q))) (sym e) ∙ h q)

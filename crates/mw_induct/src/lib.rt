@@ -9,3 +9,6 @@ mod shapes;
 mod steps;
 
 pub use premises::premises_hold;
+
+#[cfg(test)]
+mod tests;

@@ -11,7 +11,7 @@ ghost use Rattle.mw_induct.specs.Pairs.{are_cases_of_pairs, IsLikeFormula};
 
 use crate::cases::{are_cases, three_members};
 use crate::falls::are_all_falls;
-use crate::shapes::{is_disjunction, is_ordinal_premise};
+use crate::shapes::{is_disjunction, is_disjunction_from, is_ordinal_premise};
 use crate::steps::take_steps;
 use mw_heap::{Heap, Memory, Ref};
 use mw_term::Marks;
@@ -34,6 +34,10 @@ pub fn premises_hold(
     ensures grows { Grows heap.old heap.new }
     ensures answer { IfOk result (λ b. (A : ArityTable) → AreMarks A heap.old marks.now → b ≡ object_is_induction A (object_at heap.old f) (conclusions_object heap.old conclusions.now) (object_at heap.old extras)) }
 {
+    // what costs a constant comes first
+    if conclusions.len() < 2 || !is_disjunction_from(heap, conclusions[0], f) {
+        return Ok(false);
+    }
     let Some((measure, conditions, cases)) = three_members(heap, extras) else {
         return Ok(false);
     };

@@ -1,5 +1,5 @@
 //! Premises that need no substitution, and the shapes of the others.
-ghost use Rattle.std.specs.Prelude.{◌≡◌, false, IfSome, MatchOption};
+ghost use Rattle.std.specs.Prelude.{◌≡◌, true, false, IfSome, MatchOption};
 ghost use Rattle.mw_model.specs.Object.{Object, Pair, same_object};
 ghost use Rattle.mw_model.specs.RulesInduction.{disjunction_object, true_object, ordinal_object};
 ghost use Rattle.mw_heap.specs.Objects.{object_at, IsIn};
@@ -28,6 +28,21 @@ pub(crate) fn is_disjunction(heap: &Heap, x: Ref, a: Ref, members: Ref) -> bool
         members = more;
     }
     heap.same(rest, first)
+}
+
+// Whether x is: A or q1 or .. or qn, for the formula A and any members. It looks no further than at the first disjunct.
+pub(crate) fn is_disjunction_from(heap: &Heap, x: Ref, a: Ref) -> bool
+    requires within { IsIn heap.now x }
+    requires first_within { IsIn heap.now a }
+    ensures no { result ≡ false → (members : Object) → same_object (object_at heap.now x) (disjunction_object (Pair (object_at heap.now a) members)) ≡ false }
+    ensures yes { result ≡ true → (members : Object) × (same_object (object_at heap.now x) (disjunction_object (Pair (object_at heap.now a) members)) ≡ true) }
+{
+    if let Some((first, _)) = heap.members_after(x, b"POR*") {
+        if heap.same(first, a) {
+            return true;
+        }
+    }
+    heap.same(x, a)
 }
 
 // The term t, where x is: t = 't.

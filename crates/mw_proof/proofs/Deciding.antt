@@ -1,10 +1,11 @@
 -- Deciding one proof, in a heap that grew since the objects were marked.
-use Rattle.std.proofs.Common.{◌≡◌, ℕ, ◌<◌, Bool, true, false, ◌&&◌, List, [], ◌∷◌, Option, Some, None, Result, Ok, Err, IfOk, sym, ap, ap₂, ◌∙◌, arith}
+use Rattle.std.proofs.Common.{◌≡◌, ℕ, zero, suc, ◌<◌, Bool, true, false, ◌&&◌, List, [], ◌∷◌, Option, Some, None, Result, Ok, Err, IfOk, refl, sym, ap, ap₂, ◌∙◌, arith}
 use Rattle.std.specs.List.{All}
 use Rattle.std.proofs.lemmas.Bool.{and_parts, and_left, and_right}
 use Rattle.std.proofs.lemmas.List.Elements.{All-cons}
-use Rattle.mw_model.specs.Object.{Object, Natural, Symbol, Pair, car, cdr, second_of, fourth_of}
-use Rattle.mw_model.specs.Proof.{Method}
+use Rattle.mw_model.specs.Object.{Object, Natural, Symbol, Pair, NIL, same_object, has_members, car, cdr, second_of, fourth_of}
+use Rattle.mw_model.specs.Proof.{Method, Axiom, Theorem, PropositionalSchema, FunctionalEquality, BetaReduction, BaseEval, Expansion, Contraction, Associativity, Cut, Instantiation, Induction}
+use Rattle.mw_model.specs.RulesInduction.{length_object}
 use Rattle.mw_model.specs.Judgment.{methods, method_among}
 use Rattle.mw_model.specs.Rules.{is_formula_object}
 use Rattle.mw_heap.specs.Objects.{object_at}
@@ -12,8 +13,34 @@ use Rattle.mw_proof.specs.Step.{has_proof_shape, subproofs_of, conclusions_objec
 use Rattle.mw_proof.specs.Known.{known_object}
 use Rattle.mw_proof.specs.Members.{AreMembers}
 use Rattle.mw_proof.specs.declared.members.Members.{Members}
-use Rattle.mw_proof.specs.Judging.{Basis, is_proof_on, are_proofs_on, AreConclusions}
+use Rattle.mw_proof.specs.Judging.{Basis, is_proof_on, are_proofs_on, AreConclusions, IsOver}
+use Rattle.mw_proof.specs.Counted.{most_subproofs}
 use Rattle.mw_proof.proofs.StepExact.{is_proof-step}
+
+-- no more members than those of the list of n
+members_over : (n : ℕ) (x : Object) → n < length_object x → has_members n (conclusions_object x) ≡ false
+members_over zero (Pair p x) l = refl
+members_over (suc n) (Pair p x) l = members_over n x (omega arith)
+members_over n (Natural k) l = absurd (omega arith)
+members_over n (Symbol s) l = absurd (omega arith)
+
+-- a test of as many members, where there are more
+plain_over : (x extras : Object) (n : ℕ) (test : Bool) → n < length_object x → (same_object extras NIL && (has_members n (conclusions_object x) && test)) ≡ false
+plain_over x extras n test l = and_right (same_object extras NIL) _ (and_left (has_members n (conclusions_object x)) test (members_over n x l))
+
+rule_over : (b : Basis) (method : Method) (c x extras : Object) → IsOver (most_subproofs method) (length_object x) → rule_holds b.axioms b.theorems b.table b.profile (Some method) c (conclusions_object x) extras ≡ false
+rule_over b Axiom c x extras l = plain_over x extras 0 _ l
+rule_over b Theorem c x extras l = plain_over x extras 0 _ l
+rule_over b PropositionalSchema c x extras l = plain_over x extras 0 _ l
+rule_over b FunctionalEquality c x extras l = plain_over x extras 0 _ l
+rule_over b BetaReduction c x extras l = plain_over x extras 0 _ l
+rule_over b BaseEval c x extras l = plain_over x extras 0 _ l
+rule_over b Expansion c x extras l = plain_over x extras 1 _ l
+rule_over b Contraction c x extras l = plain_over x extras 1 _ l
+rule_over b Associativity c x extras l = plain_over x extras 1 _ l
+rule_over b Cut c x extras l = plain_over x extras 2 _ l
+rule_over b Instantiation c x extras l = and_left (has_members 1 (conclusions_object x)) _ (members_over 1 x l)
+rule_over b Induction c x extras l = absurd l
 
 module _ (b : Basis) (os : List Object) where
   -- the conclusions of proofs are formulas
@@ -53,6 +80,13 @@ module _ (b : Basis) (os : List Object) where
     no_method h =
         by_members ∙ and_right (is_formula_object b.table (object_at os m.conclusion)) _ (and_right (are_proofs_on b (object_at os m.subproofs)) _
         (ap (λ o. rule_holds b.axioms b.theorems b.table b.profile o (object_at os m.conclusion) (conclusions_object (object_at os m.subproofs)) (object_at os m.extras)) h))
+
+    -- a rule takes no more subproofs than its method says
+    pub too_many : (method : Method) → method_among methods (object_at os m.method) ≡ Some method → IsOver (most_subproofs method) (length_object (object_at os m.subproofs)) → is_proof_on b (object_at os p) ≡ false
+    too_many method named over =
+        by_members ∙ and_right (is_formula_object b.table (object_at os m.conclusion)) _ (and_right (are_proofs_on b (object_at os m.subproofs)) _
+        (ap (λ o. rule_holds b.axioms b.theorems b.table b.profile o (object_at os m.conclusion) (conclusions_object (object_at os m.subproofs)) (object_at os m.extras)) named
+        ∙ rule_over b method (object_at os m.conclusion) (object_at os m.subproofs) (object_at os m.extras) over))
 
     pub by_rule : (method : Method) (rs : List ℕ) → method_among methods (object_at os m.method) ≡ Some method → is_formula_object b.table (object_at os m.conclusion) ≡ true → AreConclusions b os m.subproofs rs → rule_holds b.axioms b.theorems b.table b.profile (Some method) (object_at os m.conclusion) (known_object os rs) (object_at os m.extras) ≡ is_proof_on b (object_at os p)
     by_rule method rs named formula a =

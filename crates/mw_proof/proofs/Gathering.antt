@@ -1,5 +1,5 @@
 -- Gathering the proofs below a proof.
-use Rattle.std.proofs.Common.{◌≡◌, ℕ, suc, ◌+◌, ◌==◌, ◌<◌, ◌≤◌, Bool, true, false, List, [], ◌∷◌, ◌++◌, length, length-append, get_or, cond, eqb, if◌then◌else◌, append_assoc, append-nil, refl, sym, ap, ◌∙◌, subst, arith, ◌⊎◌, inl, inr}
+use Rattle.std.proofs.Common.{◌≡◌, ℕ, suc, ◌+◌, ◌==◌, ◌<◌, ◌≤◌, Bool, true, false, not, List, [], ◌∷◌, ◌++◌, length, length-append, get_or, cond, eqb, if◌then◌else◌, append_assoc, append-nil, refl, sym, ap, ◌∙◌, subst, arith, ◌⊎◌, inl, inr}
 use Rattle.std.specs.List.{list_any, IsDistinct}
 use Rattle.std.proofs.lemmas.Bool.{cases_lt, or_left, or_right, or_cases, eqb-true, eq-eqb}
 use Rattle.std.proofs.lemmas.List.Folds.{list_any-append, list_any_at}
@@ -16,7 +16,7 @@ use Rattle.mw_heap.specs.declared.view.View.TheVariants.{Nat, Symbol as Word, Pa
 use Rattle.mw_proof.specs.Step.{has_proof_shape, subproofs_of}
 use Rattle.mw_proof.specs.Judgments.{HasStepForSome}
 use Rattle.mw_proof.proofs.Counted.{keys_more}
-use Rattle.mw_proof.specs.Gathered.{IsAmong, AreIn, HasMembers, HasSubproofs, AddsSubproofs, AreGathered, IsMadeOf, itself, subproof}
+use Rattle.mw_proof.specs.Gathered.{IsAmong, AreIn, HasMembers, HasSubproofs, AreWalked, AddsSubproofs, AreGathered, IsMadeOf, itself, subproof}
 
 pub IsAmong-append : (keys more : List ℕ) (x : ℕ) → IsAmong keys x → IsAmong (keys ++ more) x
 IsAmong-append keys more x h = list_any-append (λ y. x == y) keys more ∙ or_left (list_any (λ y. x == y) keys) (list_any (λ y. x == y) more) h
@@ -26,24 +26,45 @@ HasMembers-append os keys more n (Pair a r) h = ((h.0.0, h.0.1, IsAmong-append k
 HasMembers-append os keys more n (Natural m) h = tt
 HasMembers-append os keys more n (Symbol s) h = tt
 
+pub HasMembers-below : (os : List Object) (keys : List ℕ) (m n : ℕ) → m ≤ n → (x : Object) → HasMembers os keys m x → HasMembers os keys n x
+HasMembers-below os keys m n l (Pair a r) h = ((h.0.0, h.0.1, h.0.2, omega (arith, l, h.0.3)), HasMembers-below os keys m n l r h.1)
+HasMembers-below os keys m n l (Natural k) h = tt
+HasMembers-below os keys m n l (Symbol s) h = tt
+
+-- the members from the cell c on are held once those of the rest are, which is behind it in the list
+pub record Awaits (os : List Object) (keys : List ℕ) (rest c : ℕ) : Type 0 where
+  pub rest_before : rest < c
+  pub held : (later : List ℕ) → HasMembers os (keys ++ later) rest (object_at os rest) → HasMembers os (keys ++ later) c (object_at os c)
+
 -- the walk along a list: what is yet to be held
-pub record Walks (os : List Object) (old keys : List ℕ) (n list rest : ℕ) : Type 0 where
+pub record Walks (os : List Object) (old keys walked : List ℕ) (n list rest : ℕ) : Type 0 where
   pub more : List ℕ
   pub longer : keys ≡ old ++ more
   pub within : AreIn os keys
   pub rest_within : IsIn os rest
   pub rest_before : rest < n
-  pub held : (later : List ℕ) → HasMembers os (keys ++ later) n (object_at os rest) → HasMembers os (keys ++ later) n (object_at os list)
+  pub held : (later : List ℕ) → HasMembers os (keys ++ later) rest (object_at os rest) → HasMembers os (keys ++ later) n (object_at os list)
+  pub cells : (c : ℕ) → IsAmong walked c → HasMembers os keys c (object_at os c) ⊎ Awaits os keys rest c
   pub added : (q : ℕ) → IsAmong keys q → IsAmong old q ⊎ (is_member (object_at os q) (object_at os list) ≡ true)
   pub ahead : (o : Object) → is_member o (object_at os rest) ≡ true → is_member o (object_at os list) ≡ true
 
 module _ (os : List Object) (old : List ℕ) (n list : ℕ) where
-  pub walk_starts : AreIn os old → IsIn os list → list < n → Walks os old old n list list
-  walk_starts within here before = record { more = []; longer = sym (append-nil old); within = within; rest_within = here; rest_before = before; held = λ later h. h; added = λ q h. inl h; ahead = λ o h. h }
+  pub walk_starts : (walked : List ℕ) → AreIn os old → AreWalked os old walked → IsIn os list → list < n → Walks os old old walked n list list
+  walk_starts walked within all here before = record {
+    more = [];
+    longer = sym (append-nil old);
+    within = within;
+    rest_within = here;
+    rest_before = before;
+    held = λ later h. HasMembers-below os (old ++ later) list n (omega (arith, before)) (object_at os list) h;
+    cells = λ c h. inl (all c h);
+    added = λ q h. inl h;
+    ahead = λ o h. h;
+  }
 
-  module _ (keys : List ℕ) (rest : ℕ) (w : Walks os old keys n list rest) where
-    pub walk_goes_on : (q r : ℕ) (new : List ℕ) (b : Bool) → IsIn os q × IsIn os r × (object_at os rest ≡ Pair (object_at os q) (object_at os r)) → (q < rest) × (r < rest) → new ≡ (if b then keys else keys ++ q ∷ []) → list_any (λ y. q == y) new ≡ true → ((x : ℕ) → list_any (λ y. x == y) new ≡ cond (q == x) true (list_any (λ y. x == y) keys)) → Walks os old new n list r
-    walk_goes_on q r new b shows older inserted here says =
+  module _ (keys walked : List ℕ) (rest : ℕ) (w : Walks os old keys walked n list rest) where
+    pub walk_goes_on : (q r : ℕ) (new seen : List ℕ) (b : Bool) → IsIn os q × IsIn os r × (object_at os rest ≡ Pair (object_at os q) (object_at os r)) → (q < rest) × (r < rest) → new ≡ (if b then keys else keys ++ q ∷ []) → list_any (λ y. q == y) new ≡ true → ((x : ℕ) → list_any (λ y. x == y) new ≡ cond (q == x) true (list_any (λ y. x == y) keys)) → ((x : ℕ) → list_any (λ y. x == y) seen ≡ cond (rest == x) true (list_any (λ y. x == y) walked)) → Walks os old new seen n list r
+    walk_goes_on q r new seen b shows older inserted here says sees =
         let m = keys_more b keys q in
         let longer : new ≡ keys ++ m.0 = inserted ∙ m.1 in
         record {
@@ -52,16 +73,29 @@ module _ (os : List Object) (old : List ℕ) (n list : ℕ) where
           within = λ x h. inside x (q == x) refl (sym (says x) ∙ h);
           rest_within = shows.1;
           rest_before = omega (arith, older, w.rest_before);
-          held = λ later h. subst (λ k. HasMembers os k n (object_at os list)) (sym (whole m.0 longer later)) (w.held (m.0 ++ later) (subst (λ k. HasMembers os k n (object_at os rest)) (whole m.0 longer later) (subst (HasMembers os (new ++ later) n) (sym shows.2) ((q, refl, IsAmong-append new later q here, below older), h))));
+          held = λ later h. subst (λ k. HasMembers os k n (object_at os list)) (sym (whole m.0 longer later)) (w.held (m.0 ++ later) (onward m.0 longer later h));
+          cells = λ c h. cell m.0 longer c (rest == c) refl (sym (sees c) ∙ h);
           added = λ x h. came x (q == x) refl (sym (says x) ∙ h);
           ahead = λ o h. w.ahead o (ap (is_member o) shows.2 ∙ or_right (same_object o (object_at os q)) (is_member o (object_at os r)) h);
         }
       where
-        below : (q < rest) × (r < rest) → q < n
-        below o = omega (arith, o, w.rest_before)
-
         whole : (more : List ℕ) → new ≡ keys ++ more → (later : List ℕ) → new ++ later ≡ keys ++ (more ++ later)
         whole more e later = ap (λ k. k ++ later) e ∙ append_assoc keys more later
+
+        here_on : (later : List ℕ) → HasMembers os (new ++ later) r (object_at os r) → HasMembers os (new ++ later) rest (object_at os rest)
+        here_on later h =
+            let l : r ≤ rest = omega (arith, older) in
+            subst (HasMembers os (new ++ later) rest) (sym shows.2) ((q, refl, IsAmong-append new later q here, older.0), HasMembers-below os (new ++ later) r rest l (object_at os r) h)
+
+        onward : (more : List ℕ) → new ≡ keys ++ more → (later : List ℕ) → HasMembers os (new ++ later) r (object_at os r) → HasMembers os (keys ++ (more ++ later)) rest (object_at os rest)
+        onward more e later h = subst (λ k. HasMembers os k rest (object_at os rest)) (whole more e later) (here_on later h)
+
+        cell : (more : List ℕ) → new ≡ keys ++ more → (c : ℕ) (t : Bool) → (rest == c) ≡ t → cond (rest == c) true (list_any (λ y. c == y) walked) ≡ true → HasMembers os new c (object_at os c) ⊎ Awaits os new r c
+        cell more e c true is h = inr (subst (Awaits os new r) (eqb-true rest c is) (record { rest_before = older.1; held = here_on }))
+        cell more e c false is h = elim (w.cells c (sym (ap (λ s. cond s true (list_any (λ y. c == y) walked)) is) ∙ h)) [
+          | inl k ↦ inl (subst (λ ks. HasMembers os ks c (object_at os c)) (sym e) (HasMembers-append os keys more c (object_at os c) k))
+          | inr a ↦ inr (record { rest_before = omega (arith, a.rest_before, older); held = λ later k. subst (λ ks. HasMembers os ks c (object_at os c)) (sym (whole more e later)) (a.held (more ++ later) (onward more e later k)) })
+        ]
 
         first_member : is_member (object_at os q) (object_at os rest) ≡ true
         first_member = ap (is_member (object_at os q)) shows.2 ∙ or_left (same_object (object_at os q) (object_at os q)) (is_member (object_at os q) (object_at os r)) (same_object-refl (object_at os q))
@@ -74,8 +108,33 @@ module _ (os : List Object) (old : List ℕ) (n list : ℕ) where
         inside x true e h = subst (IsIn os) (eqb-true q x e) shows.0
         inside x false e h = w.within x (sym (ap (λ s. cond s true (list_any (λ y. x == y) keys)) e) ∙ h)
 
-    pub walk_ends : HasMembers os keys n (object_at os rest) → HasMembers os keys n (object_at os list)
-    walk_ends h = subst (λ k. HasMembers os k n (object_at os list)) (append-nil keys) (w.held [] (subst (λ k. HasMembers os k n (object_at os rest)) (sym (append-nil keys)) h))
+    -- a cell that was walked before is not of this walk, whose cells stand behind the rest
+    pub walked_before : IsAmong walked rest → HasMembers os keys rest (object_at os rest)
+    walked_before h = elim (w.cells rest h) [ inl k ↦ k | inr a ↦ absurd (omega (arith, a.rest_before)) ]
+
+    module _ (h : HasMembers os keys rest (object_at os rest)) where
+      all_held : HasMembers os (keys ++ []) rest (object_at os rest)
+      all_held = subst (λ k. HasMembers os k rest (object_at os rest)) (sym (append-nil keys)) h
+
+      walk_ends : HasMembers os keys n (object_at os list)
+      walk_ends = subst (λ k. HasMembers os k n (object_at os list)) (append-nil keys) (w.held [] all_held)
+
+      pub are_walked : AreWalked os keys walked
+      are_walked c k = elim (w.cells c k) [ inl m ↦ m | inr a ↦ subst (λ ks. HasMembers os ks c (object_at os c)) (append-nil keys) (a.held [] all_held) ]
+
+      pub adds : object_at os list ≡ subproofs_of (object_at os n) → has_proof_shape (object_at os n) ≡ true → AddsSubproofs os n old keys
+      adds is shape = record {
+        more = w.more;
+        longer = w.longer;
+        within = w.within;
+        held = λ shape. subst (HasMembers os keys n) is walk_ends;
+        added = λ q k. elim (w.added q k) [ inl m ↦ inl m | inr m ↦ inr (shape, ap (is_member (object_at os q)) (sym is) ∙ m) ];
+      }
+
+-- what was no new member was one already
+pub was_among : (t b : Bool) → b ≡ not t → b ≡ false → t ≡ true
+was_among true b e h = refl
+was_among false b e h = cc
 
 -- what is no pair has no members
 pub HasMembers-symbol : (os : List Object) (keys : List ℕ) (n : ℕ) (x : Object) → is_symbol x ≡ true → HasMembers os keys n x
@@ -87,15 +146,6 @@ pub HasMembers-shown : (os : List Object) (keys : List ℕ) (n : ℕ) (x : Objec
 HasMembers-shown os keys n x (Nat m) h bad = subst (HasMembers os keys n) (sym h) tt
 HasMembers-shown os keys n x Word h bad = HasMembers-symbol os keys n x h
 HasMembers-shown os keys n x (Parts a b) h bad = absurd (bad a b refl)
-
-pub adds : (os : List Object) (old keys : List ℕ) (list rest p : ℕ) → Walks os old keys p list rest → HasMembers os keys p (object_at os rest) → object_at os list ≡ subproofs_of (object_at os p) → has_proof_shape (object_at os p) ≡ true → AddsSubproofs os p old keys
-adds os old keys list rest p w ends is shape = record {
-  more = w.more;
-  longer = w.longer;
-  within = w.within;
-  held = λ shape. subst (HasMembers os keys p) is (walk_ends os old p list keys rest w ends);
-  added = λ q h. elim (w.added q h) [ inl k ↦ inl k | inr k ↦ inr (shape, ap (is_member (object_at os q)) (sym is) ∙ k) ];
-}
 
 -- places in a list
 pub read_at : (x : ℕ) (xs keys : List ℕ) (i n : ℕ) → x ≡ get_or xs i x → xs ≡ keys → i < n → n ≡ length keys → x ≡ get_or keys i 0

@@ -1,9 +1,19 @@
--- The rules that take no extras, by how many subproofs they take.
-use Rattle.std.specs.Prelude.{Bool, false}
+-- How many subproofs the rules take, and those that take no extras by that number.
+use Rattle.std.specs.Prelude.{ℕ, Bool, false, Option, Some, None}
 use Rattle.mw_model.specs.Object.{Object, is_member}
 use Rattle.mw_model.specs.Primitive.{Profile}
-use Rattle.mw_model.specs.Proof.{Method, Axiom, Theorem, PropositionalSchema, FunctionalEquality, BetaReduction, BaseEval, Expansion, Contraction, Associativity, Cut}
+use Rattle.mw_model.specs.Proof.{Method, Axiom, Theorem, PropositionalSchema, FunctionalEquality, BetaReduction, BaseEval, Expansion, Contraction, Associativity, Cut, Instantiation, Induction}
 use Rattle.mw_model.specs.Rules.{object_is_schema, object_is_functional_equality, object_is_beta, object_is_base_eval, object_is_expansion, object_is_contraction, object_is_associativity, object_is_cut}
+
+-- at most so many, or any number
+abbrev pub most_subproofs : Method → Option ℕ
+most_subproofs Induction = None
+most_subproofs Cut = Some 2
+most_subproofs Expansion = Some 1
+most_subproofs Contraction = Some 1
+most_subproofs Associativity = Some 1
+most_subproofs Instantiation = Some 1
+most_subproofs _ = Some 0
 
 abbrev pub rule_of_none : Object → Object → Profile → Method → Object → Bool
 rule_of_none axioms theorems P Axiom c = is_member c axioms

@@ -18,6 +18,10 @@ HasMembers os keys n (Pair a r) = ((q : ℕ) × (object_at os q ≡ a) × IsAmon
 HasMembers os keys n (Natural m) = Unit {0}
 HasMembers os keys n (Symbol s) = Unit {0}
 
+-- from each of these cells of lists on, the members are among the references, each below the cell
+abbrev pub AreWalked : List Object → List ℕ → List ℕ → Type 0
+AreWalked os keys cells = (c : ℕ) → IsAmong cells c → HasMembers os keys c (object_at os c)
+
 -- the subproofs of p, if it has the shape of a proof, are among the references, before it
 abbrev pub HasSubproofs : List Object → List ℕ → ℕ → Type 0
 HasSubproofs os keys p = has_proof_shape (object_at os p) ≡ true → HasMembers os keys p (subproofs_of (object_at os p))

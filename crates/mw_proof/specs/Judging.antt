@@ -1,9 +1,10 @@
 -- Judging in a heap: what a proof may rest on, and which answers are known.
-use Rattle.std.specs.Prelude.{◌≡◌, ℕ, ◌<◌, ◌≤◌, ◌==◌, Bool, true, false, ◌&&◌, List, length, get_or, All, Option, Some, None, Vec}
+use Rattle.std.specs.Prelude.{◌≡◌, ℕ, ◌<◌, ◌≤◌, ◌==◌, Bool, true, false, ◌&&◌, List, length, get_or, All, Option, Some, None, Vec, ◌⊎◌}
 use Rattle.std.specs.List.{list_any}
 use Rattle.mw_model.specs.Object.{Object, Natural, Symbol, Pair}
 use Rattle.mw_model.specs.Term.{ArityTable}
 use Rattle.mw_model.specs.Primitive.{Profile}
+use Rattle.mw_model.specs.RulesInduction.{length_object}
 use Rattle.mw_heap.specs.Objects.{object_at, IsIn}
 use Rattle.mw_proof.specs.Step.{has_proof_shape, subproofs_of, conclusions_object, is_proof, are_proofs}
 use Rattle.mw_proof.specs.Known.{known_object}
@@ -42,9 +43,19 @@ pub record AreConclusions (b : Basis) (os : List Object) (list : ℕ) (rs : List
   pub list_is : known_object os rs ≡ conclusions_object (object_at os list)
   pub before : All (λ r. r < list) rs
 
-abbrev pub IsAnswer : {A : Type 0} → Basis → List Object → ℕ → Option (Vec ℕ A) → Type 0
-IsAnswer b os list None = are_proofs_on b (object_at os list) ≡ false
-IsAnswer b os list (Some rs) = AreConclusions b os list rs.items
+-- n is not over the most, and is over it
+abbrev pub IsWithin : Option ℕ → ℕ → Type 0
+IsWithin None n = Unit {0}
+IsWithin (Some most) n = n ≤ most
+
+abbrev pub IsOver : Option ℕ → ℕ → Type 0
+IsOver None n = ⊥
+IsOver (Some most) n = most < n
+
+-- the conclusions of a list of at most so many proofs
+abbrev pub IsAnswer : {A : Type 0} → Basis → List Object → ℕ → Option ℕ → Option (Vec ℕ A) → Type 0
+IsAnswer b os list most None = (are_proofs_on b (object_at os list) ≡ false) ⊎ IsOver most (length_object (object_at os list))
+IsAnswer b os list most (Some rs) = AreConclusions b os list rs.items × IsWithin most (length rs.items)
 
 -- the good references are those proofs among the references
 abbrev pub AreDecided : Basis → List Object → List ℕ → List ℕ → Type 0

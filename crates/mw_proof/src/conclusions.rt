@@ -8,18 +8,23 @@ ghost use Rattle.mw_proof.specs.Judging.{Basis, IsKnown, IsAnswer};
 use indexmap::IndexSet;
 use mw_heap::{Heap, Memory, Ref, View};
 
-/// The conclusions of a proper list of proofs, where each is known to be good.
+/// The conclusions of a proper list of proofs, where there are at most `most` and each is known to be good. It looks at
+/// one more cell of the list at most.
 pub(crate) fn conclusions_of(
     heap: &Heap,
     subproofs: Ref,
     good: &IndexSet<Ref>,
+    most: Option<usize>,
 ) -> Result<Option<Vec<Ref>>, Memory>
     requires { IsIn heap.now subproofs }
-    ensures { (b : Basis) → IsKnown b heap.now good.now.keys (object_at heap.now subproofs) → IfOk result (λ o. IsAnswer b heap.now subproofs o) }
+    ensures { (b : Basis) → IsKnown b heap.now good.now.keys (object_at heap.now subproofs) → IfOk result (λ o. IsAnswer b heap.now subproofs most o) }
 {
     let mut conclusions = Vec::new(heap.alloc());
     let mut rest = subproofs;
     while let View::Pair(p, more) = heap.view(rest) {
+        if most == Some(conclusions.len()) {
+            return Ok(None);
+        }
         if !good.contains(&p) {
             return Ok(None);
         }

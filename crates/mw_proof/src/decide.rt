@@ -42,7 +42,8 @@ pub(crate) fn decide(
     if !marks.is_formula(members.conclusion) {
         return Ok(false);
     }
-    let Some(conclusions) = conclusions_of(heap, members.subproofs, good)? else {
+    let most = method.most_subproofs();
+    let Some(conclusions) = conclusions_of(heap, members.subproofs, good, most)? else {
         return Ok(false);
     };
     follows(

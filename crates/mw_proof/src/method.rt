@@ -4,6 +4,7 @@ ghost use Rattle.mw_model.specs.Proof.{method_name};
 ghost use Rattle.mw_model.specs.Judgment.{methods, method_among};
 ghost use Rattle.mw_heap.specs.Objects.{object_at, IsIn};
 ghost use Rattle.mw_proof.specs.Methods.{method_of_logic, method_of_bytes};
+ghost use Rattle.mw_proof.specs.Counted.{most_subproofs};
 
 use mw_heap::{Heap, Ref, View};
 
@@ -57,6 +58,21 @@ impl Method {
             Method::Cut => b"CUT",
             Method::Instantiation => b"INSTANTIATION",
             Method::Induction => b"INDUCTION",
+        }
+    }
+
+    /// How many subproofs a step by the method has at most; an induction has any number.
+    pub fn most_subproofs(self) -> Option<usize>
+        ensures { result ≡ most_subproofs (method_of_logic self) }
+    {
+        match self {
+            Method::Induction => None,
+            Method::Cut => Some(2),
+            Method::Expansion
+            | Method::Contraction
+            | Method::Associativity
+            | Method::Instantiation => Some(1),
+            _ => Some(0),
         }
     }
 

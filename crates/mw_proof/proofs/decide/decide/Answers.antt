@@ -1,8 +1,9 @@
 -- By the members of the proof.
-use Rattle.std.proofs.Common.{◌≡◌, true, length, Some, option_map, sym, ap, ◌∙◌, subst, arith}
+use Rattle.std.proofs.Common.{◌≡◌, true, false, ◌⊎◌, inl, inr, length, Some, option_map, sym, ap, ◌∙◌, subst, arith}
 use Rattle.std.specs.List.{All}
 use Rattle.mw_model.specs.Term.{ArityTable}
 use Rattle.mw_model.specs.Judgment.{methods, method_among}
+use Rattle.mw_model.specs.RulesInduction.{length_object}
 use Rattle.mw_model.specs.Rules.{is_formula_object}
 use Rattle.mw_heap.specs.Objects.{object_at, IsIn}
 use Rattle.mw_heap.specs.Variants.{profile_of}
@@ -10,8 +11,8 @@ use Rattle.mw_heap.proofs.Objects.{Grows-refl}
 use Rattle.mw_proof.specs.Step.{rule_holds}
 use Rattle.mw_proof.specs.Known.{known_object}
 use Rattle.mw_proof.specs.Methods.{method_of_logic}
-use Rattle.mw_proof.specs.Judging.{basis, IsKnown, AreConclusions, IsAnswer}
-use Rattle.mw_proof.proofs.Deciding.{conclusions_formulas, no_formula, no_proofs, no_method, by_rule, below, All-map, IfOk-map}
+use Rattle.mw_proof.specs.Judging.{basis, IsKnown, are_proofs_on, AreConclusions, IsOver, IsAnswer}
+use Rattle.mw_proof.proofs.Deciding.{conclusions_formulas, no_formula, no_proofs, no_method, too_many, by_rule, below, All-map, IfOk-map}
 use Rattle.mw_proof.proofs.decide.decide.Goals as goal
 
 pub returns-in_default-of-clause-answer : goal.returns-in_default-of-clause-answer
@@ -45,8 +46,13 @@ returns-in_default-2-clause-answer c = λ A k.
     let b = basis os A c.args.axioms.now c.args.theorems.now (profile_of c.args.profile) in
     let m = c.in-Some.members in
     let am = c.in-Some.ensures.members in
+    let named : method_among methods (object_at os m.method) ≡ Some (method_of_logic c.in-Some-of.method) = sym c.in-Some-of.ensures in
     let known : IsKnown b os c.args.good.now.keys (object_at os m.subproofs) = subst (IsKnown b os c.args.good.now.keys) (sym am.subproofs_are) (c.requires.known A k (sym c.in-Some.ensures.shape)) in
-    sym (no_proofs b os c.args.p m c.in-Some.ensures.shape am (subst (IsAnswer b os m.subproofs) c.in_default-2.is (c.in_ok-conclusions.ensures b known)))
+    let answer : (are_proofs_on b (object_at os m.subproofs) ≡ false) ⊎ IsOver c.most_subproofs-most.result (length_object (object_at os m.subproofs)) = subst (IsAnswer b os m.subproofs c.most_subproofs-most.result) c.in_default-2.is (c.in_ok-conclusions.ensures b known) in
+    elim answer [
+      | inl bad ↦ sym (no_proofs b os c.args.p m c.in-Some.ensures.shape am bad)
+      | inr over ↦ sym (too_many b os c.args.p m c.in-Some.ensures.shape am (method_of_logic c.in-Some-of.method) named (subst (λ most. IsOver most (length_object (object_at os m.subproofs))) c.most_subproofs-most.ensures over))
+    ]
 
 pub follows-requires-clause-formula : goal.follows-requires-clause-formula
 follows-requires-clause-formula c =
@@ -63,7 +69,7 @@ follows-requires-clause-premises c =
     let m = c.in-Some.members in
     let am = c.in-Some.ensures.members in
     let known : IsKnown b os c.args.good.now.keys (object_at os m.subproofs) = subst (IsKnown b os c.args.good.now.keys) (sym am.subproofs_are) (c.requires.known A k (sym c.in-Some.ensures.shape)) in
-    let collected : AreConclusions b os m.subproofs c.in-Some-2.conclusions.items = subst (IsAnswer b os m.subproofs) c.in-Some-2.is (c.in_ok-conclusions.ensures b known) in
+    let collected : AreConclusions b os m.subproofs c.in-Some-2.conclusions.items = (subst (IsAnswer b os m.subproofs c.most_subproofs-most.result) c.in-Some-2.is (c.in_ok-conclusions.ensures b known)).0 in
     subst (All (IsIn os)) (sym c.deref.ensures.value) (below c.in-Some-2.conclusions.items m.subproofs c.args.p (length os) collected.before am.subproofs_before (omega (arith, c.requires.within, k.within)))
 
 pub follows-requires-clause-formulas : goal.follows-requires-clause-formulas
@@ -75,7 +81,7 @@ follows-requires-clause-formulas c =
     let m = c.in-Some.members in
     let am = c.in-Some.ensures.members in
     let known : IsKnown b os c.args.good.now.keys (object_at os m.subproofs) = subst (IsKnown b os c.args.good.now.keys) (sym am.subproofs_are) (c.requires.known A k (sym c.in-Some.ensures.shape)) in
-    let collected : AreConclusions b os m.subproofs c.in-Some-2.conclusions.items = subst (IsAnswer b os m.subproofs) c.in-Some-2.is (c.in_ok-conclusions.ensures b known) in
+    let collected : AreConclusions b os m.subproofs c.in-Some-2.conclusions.items = (subst (IsAnswer b os m.subproofs c.most_subproofs-most.result) c.in-Some-2.is (c.in_ok-conclusions.ensures b known)).0 in
     subst (All (λ r. (A : ArityTable) × (is_formula_object A (object_at os r) ≡ true))) (sym c.deref.ensures.value)
     (All-map (λ r. is_formula_object A (object_at os r) ≡ true) (λ r. (A : ArityTable) × (is_formula_object A (object_at os r) ≡ true)) c.in-Some-2.conclusions.items (λ r h. (A, h))
     (conclusions_formulas b os (object_at os m.subproofs) c.in-Some-2.conclusions.items collected.proofs collected.list_is))
@@ -87,7 +93,7 @@ returns-clause-answer c = IfOk-map c.follows.result _ _ (λ t h A k.
     let m = c.in-Some.members in
     let am = c.in-Some.ensures.members in
     let known : IsKnown b os c.args.good.now.keys (object_at os m.subproofs) = subst (IsKnown b os c.args.good.now.keys) (sym am.subproofs_are) (c.requires.known A k (sym c.in-Some.ensures.shape)) in
-    let collected : AreConclusions b os m.subproofs c.in-Some-2.conclusions.items = subst (IsAnswer b os m.subproofs) c.in-Some-2.is (c.in_ok-conclusions.ensures b known) in
+    let collected : AreConclusions b os m.subproofs c.in-Some-2.conclusions.items = (subst (IsAnswer b os m.subproofs c.most_subproofs-most.result) c.in-Some-2.is (c.in_ok-conclusions.ensures b known)).0 in
     let named : method_among methods (object_at os m.method) ≡ Some (method_of_logic c.in-Some-of.method) = sym c.in-Some-of.ensures in
     let formula : is_formula_object A (object_at os m.conclusion) ≡ true = sym (c.is_formula.ensures A os k) ∙ c.if-not-is_formula.false in
     h A k
