@@ -4,7 +4,7 @@ use Rattle.std.specs.List.{All}
 use Rattle.std.proofs.lemmas.List.{map-append, reverse-append}
 use Rattle.std.proofs.lemmas.List.Elements.{All-head, All-tail, All-cons, All-nil}
 use Rattle.mw_model.specs.Object.{Object, Pair, NIL}
-use Rattle.mw_model.specs.Term.{ArityTable, formula_object}
+use Rattle.mw_model.specs.Term.{ArityTable, formula_object, table_object}
 use Rattle.mw_model.specs.Primitive.{One}
 use Rattle.mw_model.specs.Definition.{Block, arity_table, block_axioms}
 use Rattle.mw_model.specs.Axioms.{primitive_axioms}
@@ -45,15 +45,15 @@ map_grown : (old new : List Object) → Grows old new → (xs : List ℕ) → Al
 map_grown old new g [] h = refl
 map_grown old new g (x ∷ xs) h = ap₂ (λ y ys. y ∷ ys) (object_at-Grows old new g x (All-head (IsIn old) x xs h)) (map_grown old new g xs (All-tail (IsIn old) x xs h))
 
-all_grown : (old new : List Object) → Grows old new → (xs : List ℕ) → All (IsIn old) xs → All (IsIn new) xs
+pub all_grown : (old new : List Object) → Grows old new → (xs : List ℕ) → All (IsIn old) xs → All (IsIn new) xs
 all_grown old new g xs h = λ i d l. IsIn-Grows old new g _ (h i d l)
 
 first_theory : theory_with (axioms_of One first_definitions.blocks) NIL ≡ initial One
 unfolding first_definitions
 first_theory = refl
 
-abbrev pub begun : List Object → (axioms theorems steps : ℕ) → Knowledge
-begun q axioms theorems steps = record { objects = q; needed = length q; axioms = axioms; theorems = theorems; steps = steps }
+abbrev pub begun : List Object → (axioms theorems arity_list steps : ℕ) → Knowledge
+begun q axioms theorems arity_list steps = record { objects = q; needed = length q; axioms = axioms; theorems = theorems; arity_list = arity_list; steps = steps }
 
 -- The heaps after the axioms of the primitives, those of the definitions, NIL, and each of the two lists.
 pub record Begins (a b n p q : List Object) (primitives definitions : List ℕ) (nil first second : ℕ) (known : List ℕ) : Type 0 where
@@ -115,15 +115,17 @@ module _ (a b n p q : List Object) (primitives definitions : List ℕ) (nil firs
       (all_put (IsIn q) definitions (reverse primitives ++ []) (all_grown b q b_last definitions h.definitions_in) (all_put (IsIn q) primitives [] (all_grown a q a_last primitives h.primitives_in) (All-nil (IsIn q))))
 
 -- What the kernel holds at the start.
-pub begins : (q : List Object) (axioms nil : ℕ) (known : List ℕ) (A : ArityTable) (steps : ℕ) → IsIn q axioms → IsIn q nil → All (IsIn q) known → known_object q known ≡ object_at q axioms → theory_with (object_at q axioms) (object_at q nil) ≡ initial One → A ≡ arity_table first_definitions → IsSound (initial One) → IsKernel (begun q axioms nil steps) known [] A []
-begins q axioms nil known A steps axioms_in nil_in known_in known_is theory arities sound = record {
+pub begins : (q : List Object) (axioms nil arity_list : ℕ) (known : List ℕ) (A : ArityTable) (steps : ℕ) → IsIn q axioms → IsIn q nil → IsIn q arity_list → All (IsIn q) known → known_object q known ≡ object_at q axioms → theory_with (object_at q axioms) (object_at q nil) ≡ initial One → object_at q arity_list ≡ table_object (arity_table first_definitions) → A ≡ arity_table first_definitions → IsSound (initial One) → IsKernel (begun q axioms nil arity_list steps) known [] A []
+begins q axioms nil arity_list known A steps axioms_in nil_in arity_list_in known_in known_is theory listed arities sound = record {
   kept = omega arith;
   axioms_kept = axioms_in;
   theorems_kept = nil_in;
+  arity_list_kept = arity_list_in;
   each_axiom_kept = known_in;
   each_theorem_kept = All-nil (λ x. x < length q);
   axioms_known = known_is;
   theorems_known = sym (ap (λ t. t.theorems) theory);
+  arities_listed = listed ∙ ap table_object (sym arities);
   arities = arities;
   marked = AreMarks-none A q;
   sound = subst IsSound (sym theory) sound;

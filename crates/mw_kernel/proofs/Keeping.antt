@@ -35,10 +35,12 @@ module _ (k : Knowledge) (axioms theorems : List ℕ) (A : ArityTable) (marks : 
     kept = l;
     axioms_kept = h.axioms_kept;
     theorems_kept = h.theorems_kept;
+    arity_list_kept = h.arity_list_kept;
     each_axiom_kept = h.each_axiom_kept;
     each_theorem_kept = h.each_theorem_kept;
     axioms_known = known_object-same k.needed k.objects new axioms s h.each_axiom_kept ∙ (h.axioms_known ∙ sym (s k.axioms h.axioms_kept));
     theorems_known = known_object-same k.needed k.objects new theorems s h.each_theorem_kept ∙ (h.theorems_known ∙ sym (s k.theorems h.theorems_kept));
+    arities_listed = s k.arity_list h.arity_list_kept ∙ h.arities_listed;
     arities = h.arities;
     marked = m;
     sound = subst IsSound (sym (theory_of-same new s)) h.sound;
@@ -68,7 +70,7 @@ module _ (k : Knowledge) (axioms theorems : List ℕ) (A : ArityTable) (marks : 
   -- One theorem more, whose list was made behind what the heap had.
   module _ (formula list : ℕ) (new : List Object) (formula_in : IsIn k.objects formula) (grows : Grows k.objects new) (list_in : IsIn new list) (made : object_at new list ≡ Pair (object_at k.objects formula) (object_at k.objects k.theorems)) where
     abbrev pub with_list : Knowledge
-    with_list = record { objects = new; needed = length new; axioms = k.axioms; theorems = list; steps = k.steps }
+    with_list = record { objects = new; needed = length new; axioms = k.axioms; theorems = list; arity_list = k.arity_list; steps = k.steps }
 
     pub added_theory : theory_of with_list ≡ with_theorem (theory_of k) (object_at k.objects formula)
     added_theory = ap₂ theory_with (same_grown new grows k.axioms h.axioms_kept) made
@@ -86,12 +88,14 @@ module _ (k : Knowledge) (axioms theorems : List ℕ) (A : ArityTable) (marks : 
           kept = omega arith;
           axioms_kept = later k.axioms h.axioms_kept;
           theorems_kept = list_in;
+          arity_list_kept = later k.arity_list h.arity_list_kept;
           each_axiom_kept = each_later axioms h.each_axiom_kept;
           each_theorem_kept = All-cons (λ x. x < length new) formula theorems (IsIn-Grows k.objects new grows formula formula_in) (each_later theorems h.each_theorem_kept);
           axioms_known = known_object-same k.needed k.objects new axioms s h.each_axiom_kept ∙ (h.axioms_known ∙ sym (s k.axioms h.axioms_kept));
           theorems_known =
               ap₂ Pair (object_at-Grows k.objects new grows formula formula_in) (known_object-same k.needed k.objects new theorems s h.each_theorem_kept ∙ h.theorems_known)
               ∙ sym made;
+          arities_listed = s k.arity_list h.arity_list_kept ∙ h.arities_listed;
           arities = h.arities;
           marked = AreMarks-grows A k.objects new marks grows h.marked;
           sound = subst IsSound (sym added_theory) sound;

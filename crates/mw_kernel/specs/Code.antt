@@ -7,5 +7,5 @@ use Rattle.mw_kernel.specs.Knowledge.{Knowledge}
 
 abbrev pub coded_knowledge : Coded Knowledge
 coded_knowledge =
-    code_by (List Object × (ℕ × (ℕ × (ℕ × ℕ)))) (coded× (coded_list coded_object) (coded× coded_ℕ (coded× coded_ℕ (coded× coded_ℕ coded_ℕ))))
-    (λ k. (k.objects, (k.needed, (k.axioms, (k.theorems, k.steps))))) (λ p. record { objects = p.0; needed = p.1.0; axioms = p.1.1.0; theorems = p.1.1.1.0; steps = p.1.1.1.1 }) (λ _. refl)
+    code_by (List Object × (ℕ × (ℕ × (ℕ × (ℕ × ℕ))))) (coded× (coded_list coded_object) (coded× coded_ℕ (coded× coded_ℕ (coded× coded_ℕ (coded× coded_ℕ coded_ℕ)))))
+    (λ k. (k.objects, (k.needed, (k.axioms, (k.theorems, (k.arity_list, k.steps)))))) (λ p. record { objects = p.0; needed = p.1.0; axioms = p.1.1.0; theorems = p.1.1.1.0; arity_list = p.1.1.1.1.0; steps = p.1.1.1.1.1 }) (λ _. refl)

@@ -1,7 +1,7 @@
 -- What a kernel holds, and its theory.
 use Rattle.std.specs.Prelude.{◌≡◌, ℕ, ◌<◌, ◌≤◌, List, [], ◌∷◌, length, None, All}
 use Rattle.mw_model.specs.Object.{Object, Pair}
-use Rattle.mw_model.specs.Term.{ArityTable}
+use Rattle.mw_model.specs.Term.{ArityTable, table_object}
 use Rattle.mw_model.specs.Definition.{arity_table}
 use Rattle.mw_model.specs.Theory.{Theory, IsSound}
 use Rattle.mw_heap.specs.Objects.{object_at}
@@ -10,13 +10,14 @@ use Rattle.mw_term.specs.Marking.{AreMarks}
 use Rattle.mw_proof.specs.Known.{known_object}
 use Rattle.mw_preamble.specs.Admitted.{first_definitions}
 
--- The objects of the heap, of which the first ones are needed by the theory, the lists of its axioms and its theorems by their
--- references, and the step limit.
+-- The objects of the heap, of which the first ones are needed by the theory, the lists of its axioms, its theorems and its arities by
+-- their references, and the step limit.
 pub record Knowledge : Type 0 where
   pub objects : List Object
   pub needed : ℕ
   pub axioms : ℕ
   pub theorems : ℕ
+  pub arity_list : ℕ
   pub steps : ℕ
 
 -- This version takes no definitions and no switches: a theory has the built-in definitions and the built-in checker.
@@ -40,10 +41,12 @@ pub record IsKernel (k : Knowledge) (axioms theorems : List ℕ) (A : ArityTable
   pub kept : k.needed ≤ length k.objects
   pub axioms_kept : k.axioms < k.needed
   pub theorems_kept : k.theorems < k.needed
+  pub arity_list_kept : k.arity_list < k.needed
   pub each_axiom_kept : All (λ x. x < k.needed) axioms
   pub each_theorem_kept : All (λ x. x < k.needed) theorems
   pub axioms_known : known_object k.objects axioms ≡ object_at k.objects k.axioms
   pub theorems_known : known_object k.objects theorems ≡ object_at k.objects k.theorems
+  pub arities_listed : object_at k.objects k.arity_list ≡ table_object A
   pub arities : A ≡ arity_table first_definitions
   pub marked : AreMarks A k.objects marks
   pub sound : IsSound (theory_of k)

@@ -1,5 +1,7 @@
 //! The initial theory.
-ghost use Rattle.std.specs.Prelude.{◌≡◌, ◌++◌, [], map, reverse, All, IfOk, OnOk};
+ghost use Rattle.std.specs.Prelude.{◌≡◌, ◌++◌, [], true, map, reverse, All, IfOk, OnOk};
+ghost use Rattle.mw_model.specs.Object.{Natural, Symbol, Pair, is_name, name_of_bytes};
+ghost use Rattle.mw_model.specs.Term.{table_object};
 ghost use Rattle.mw_model.specs.Primitive.{One};
 ghost use Rattle.mw_model.specs.Definition.{arity_table};
 ghost use Rattle.mw_model.specs.Theory.{initial};
@@ -20,6 +22,8 @@ pub(crate) struct Beginning {
     pub axioms: Ref,
     pub theorems: Ref,
     pub arity: Arity,
+    // the same as a list in the heap
+    pub arity_list: Ref,
 }
 
 /// Makes the initial theory of the first profile, and adds its axioms to those that are known, of which there are none.
@@ -31,9 +35,12 @@ pub(crate) fn begin(heap: &mut Heap, known: &mut Known) -> Result<Beginning, Mem
     ensures known_in { OnOk result (All (IsIn heap.new) known.new) }
     ensures known { IfOk result (λ b. known_object heap.new known.new ≡ object_at heap.new b.axioms) }
     ensures arities { IfOk result (λ b. b.arity ≡ arity_table first_definitions) }
+    ensures arity_list_in { IfOk result (λ b. IsIn heap.new b.arity_list) }
+    ensures arity_list { IfOk result (λ b. object_at heap.new b.arity_list ≡ table_object (arity_table first_definitions)) }
 {
     let primitives = build(heap, Profile::One)?;
     let preamble = admit_all(heap)?;
+    let arity_list = list_arities(heap, &preamble.arity)?;
     let nil = heap.symbol(b"NIL")?;
     let axioms = add_axioms(heap, known, nil, primitives.as_slice())?;
     let axioms = add_axioms(heap, known, axioms, preamble.axioms.as_slice())?;
@@ -41,6 +48,7 @@ pub(crate) fn begin(heap: &mut Heap, known: &mut Known) -> Result<Beginning, Mem
         axioms,
         theorems: nil,
         arity: preamble.arity,
+        arity_list,
     })
 }
 
@@ -58,4 +66,30 @@ fn add_axioms(heap: &mut Heap, known: &mut Known, list: Ref, axioms: &[Ref]) -> 
         known.add(*axiom)?;
     }
     Ok(list)
+}
+
+// The arity table as an object, the newest pair first.
+fn list_arities(heap: &mut Heap, arity: &Arity) -> Result<Ref, Memory>
+    ensures grows { Grows heap.old heap.new }
+    ensures list { IfOk result (λ r. IsIn heap.new r × (object_at heap.new r ≡ table_object arity.now)) }
+{
+    let mut list = heap.symbol(b"NIL")?;
+    for index in 0..arity.len() {
+        let (name, count) = arity.nth(index);
+        list = add_arity(heap, list, name, count)?;
+    }
+    Ok(list)
+}
+
+// Puts the pair (name . count) in front of a list.
+fn add_arity(heap: &mut Heap, list: Ref, name: &[u8], count: u64) -> Result<Ref, Memory>
+    requires list { IsIn heap.old list }
+    requires name { is_name name.now ≡ true }
+    ensures grows { Grows heap.old heap.new }
+    ensures list { IfOk result (λ r. IsIn heap.new r × (object_at heap.new r ≡ Pair (Pair (Symbol (name_of_bytes name.now)) (Natural count)) (object_at heap.old list))) }
+{
+    let name = heap.symbol(name)?;
+    let count = heap.nat(count as u128)?;
+    let entry = heap.cons(name, count)?;
+    heap.cons(entry, list)
 }

@@ -1,20 +1,23 @@
 //! The kernel.
-ghost use Rattle.std.specs.Prelude.{◌≡◌, ℕ, ◌≤◌, ◌⊎◌, false, List, length, max, take, IfOk, OnOk, OnErr};
-ghost use Rattle.mw_model.specs.Object.{Object, NIL};
-ghost use Rattle.mw_model.specs.Primitive.{One};
-ghost use Rattle.mw_model.specs.Theory.{initial, IsSound};
+ghost use Rattle.std.specs.Prelude.{◌≡◌, ℕ, ◌≤◌, ◌⊎◌, false, true, List, length, max, take, option_map, IfOk, IfSome, OnOk, OnErr};
+ghost use Rattle.mw_model.specs.Object.{Object, Symbol, NIL};
+ghost use Rattle.mw_model.specs.Primitive.{One, is_symbol, name_of};
+ghost use Rattle.mw_model.specs.Definition.{arity_table};
+ghost use Rattle.mw_model.specs.Theory.{initial, claim, IsSound};
 ghost use Rattle.mw_model.specs.Fate.{fate, next, is_out_of_range};
 ghost use Rattle.mw_model.specs.Version.{as_taken};
 ghost use Rattle.mw_heap.specs.Objects.{object_at, IsIn, Grows};
-ghost use Rattle.mw_model.specs.Term.{ArityTable};
+ghost use Rattle.mw_model.specs.Term.{ArityTable, formula_object, table_object};
 ghost use Rattle.mw_term.specs.Marking.{AreMarks};
-ghost use Rattle.mw_read.specs.Standing.{Stands, IsStanding, Follows, Says, Finishes, IsLast, HasEndedWith, HasEnded};
+ghost use Rattle.mw_read.specs.Standing.{Stands, IsStanding, Follows, Says, IsLast, HasEndedWith, HasEnded};
+ghost use Rattle.mw_read.specs.Feeding.{IsAwaiting, IsReady, Continues};
 ghost use Rattle.mw_kernel.specs.Knowledge.{theory_of, with_theorem};
 ghost use Rattle.mw_kernel.specs.Words.{verify_event};
 ghost use Rattle.mw_kernel.specs.Fates.{fate_of, verified, KeepsRoom};
 
 use crate::Fate;
 use crate::beginning::begin;
+use crate::claim::claim;
 use crate::fate::{accepted, shown};
 use crate::verify::refusal;
 use crate::word::{Event, event_of};
@@ -27,6 +30,8 @@ use std::alloc::Global;
 use std::marker::Model;
 
 /// A sound theory in a heap, which events change: each event once or not at all.
+/// `level`, `checker`, `axioms`, `theorems` and `arity` show parts of the theory and nothing else, and what `claim` makes depends on the name
+/// alone. So after an event that is refused, and after want of memory, all six show what they showed before.
 #[derive(Drop)]
 pub struct Kernel {
     heap: Heap,
@@ -39,6 +44,7 @@ pub struct Kernel {
     // the same as lists in the heap
     axioms: Ref,
     theorems: Ref,
+    arity_list: Ref,
     steps: u64,
 }
 
@@ -50,9 +56,9 @@ impl Model for Kernel {
 
     ghost coded = { coded_knowledge };
 
-    ghost view = { λ k. record { objects = k.heap; needed = k.needed; axioms = k.axioms; theorems = k.theorems; steps = k.steps } };
+    ghost view = { λ k. record { objects = k.heap; needed = k.needed; axioms = k.axioms; theorems = k.theorems; arity_list = k.arity_list; steps = k.steps } };
 
-    ghost invariant = { λ k. IsKernel (record { objects = k.heap; needed = k.needed; axioms = k.axioms; theorems = k.theorems; steps = k.steps }) k.known_axioms k.known_theorems k.arity k.marks };
+    ghost invariant = { λ k. IsKernel (record { objects = k.heap; needed = k.needed; axioms = k.axioms; theorems = k.theorems; arity_list = k.arity_list; steps = k.steps }) k.known_axioms k.known_theorems k.arity k.marks };
 }
 
 impl Kernel {
@@ -75,6 +81,7 @@ impl Kernel {
             known_theorems: Known::new(alloc),
             axioms: beginning.axioms,
             theorems: beginning.theorems,
+            arity_list: beginning.arity_list,
             steps,
         })
     }
@@ -82,29 +89,34 @@ impl Kernel {
     /// What the reader reads next in a piece of the book, and how many bytes that takes. The theory stays. Behind `Syntax` and `Memory`
     /// the reader answers the same again.
     pub fn step(&mut self, reader: &mut Reader, piece: &[u8]) -> (Step, usize)
-        requires stands { IsStanding self.old.objects reader.old ⊎ HasEnded reader.old }
-        requires follows { Follows reader.old piece.now ⊎ HasEnded reader.old }
+        requires stands { IsStanding self.old.objects reader.old.parser ⊎ HasEnded reader.old.parser }
+        requires awaits { IsAwaiting reader.old ⊎ HasEnded reader.old.parser }
+        requires follows { Follows reader.old.parser piece.now ⊎ HasEnded reader.old.parser }
         ensures grows { Grows self.old.objects self.new.objects }
         ensures rest { self.new ≡ record self.old { objects = self.new.objects } }
         ensures theory { theory_of self.new ≡ theory_of self.old }
-        ensures says { (g : List ℕ) (given : List Object) → Stands self.old.objects reader.old g given → Says self.new.objects reader.old g given piece.now result.0 result.1 reader.new }
-        ensures ended { IsLast result.0 → HasEndedWith result.0 reader.new }
-        ensures again { (s : Step) → HasEndedWith s reader.old → (result ≡ (s, 0)) × ((reader.new ≡ reader.old) × (self.new ≡ self.old)) }
+        ensures reader_rest { reader.new ≡ record reader.old { parser = reader.new.parser } }
+        ensures taken { result.1 ≤ length piece.now }
+        ensures says { (g : List ℕ) (given : List Object) → Stands self.old.objects reader.old.parser g given → Says self.new.objects reader.old.parser g given piece.now result.0 result.1 reader.new.parser }
+        ensures ended { IsLast result.0 → HasEndedWith result.0 reader.new.parser }
+        ensures again { (s : Step) → HasEndedWith s reader.old.parser → (result ≡ (s, 0)) × ((reader.new ≡ reader.old) × (self.new ≡ self.old)) }
     {
         reader.step(&mut self.heap, piece)
     }
 
-    /// What the reader reads where the book has ended. The theory stays. Behind `Syntax` and `Memory` the reader answers the same again.
-    pub fn finish(&mut self, reader: &mut Reader) -> Step
-        requires stands { IsStanding self.old.objects reader.old ⊎ HasEnded reader.old }
+    /// What the reader reads next in the bytes that it was fed, or, where it was finished and no datum is left in them, that the book has
+    /// ended. The theory stays. Behind `Syntax` and `Memory` the reader answers the same again.
+    pub fn next(&mut self, reader: &mut Reader) -> Step
+        requires ready { IsReady self.old.objects reader.old }
         ensures grows { Grows self.old.objects self.new.objects }
         ensures rest { self.new ≡ record self.old { objects = self.new.objects } }
         ensures theory { theory_of self.new ≡ theory_of self.old }
-        ensures finishes { (g : List ℕ) (given : List Object) → Stands self.old.objects reader.old g given → Finishes self.new.objects reader.old g given result reader.new }
-        ensures ended { IsLast result → HasEndedWith result reader.new }
-        ensures again { (s : Step) → HasEndedWith s reader.old → (result ≡ s) × ((reader.new ≡ reader.old) × (self.new ≡ self.old)) }
+        ensures ready { IsReady self.new.objects reader.new }
+        ensures continues { (g : List ℕ) (given : List Object) → Stands self.old.objects reader.old.parser g given → Continues self.new.objects reader.old g given result reader.new }
+        ensures ended { IsLast result → HasEndedWith result reader.new.parser }
+        ensures again { (s : Step) → HasEndedWith s reader.old.parser → (result ≡ s) × ((reader.new ≡ reader.old) × (self.new ≡ self.old)) }
     {
-        reader.finish(&mut self.heap)
+        reader.next(&mut self.heap)
     }
 
     /// The fate of an event, with which the theory goes on: it changes once where the event is accepted, and else it stays. Where memory
@@ -137,6 +149,14 @@ impl Kernel {
         1
     }
 
+    /// The name of the theory's checker; nothing where the checker is the built-in one, which in this version it always is.
+    pub fn checker(&self) -> Option<Ref>
+        ensures within { IfSome result (λ r. IsIn self.now.objects r) }
+        ensures name { option_map (object_at self.now.objects) result ≡ option_map Symbol (theory_of self.now).checker }
+    {
+        None
+    }
+
     /// The list of the axioms, the newest first.
     pub fn axioms(&self) -> Ref
         ensures within { IsIn self.now.objects result }
@@ -151,6 +171,27 @@ impl Kernel {
         ensures list { object_at self.now.objects result ≡ (theory_of self.now).theorems }
     {
         self.theorems
+    }
+
+    /// The arity table as a list of pairs (name . arity), the newest first.
+    pub fn arity(&self) -> Ref
+        ensures within { IsIn self.now.objects result }
+        ensures list { object_at self.now.objects result ≡ table_object (arity_table (theory_of self.now).definitions) }
+    {
+        self.arity_list
+    }
+
+    /// The formula that a checker of this name claims: what it says yes to has a proof. The theory stays; the objects that are made for it
+    /// are gone after the next event.
+    pub fn claim(&mut self, name: Ref) -> Result<Ref, Memory>
+        requires within { IsIn self.old.objects name }
+        requires symbol { is_symbol (object_at self.old.objects name) ≡ true }
+        ensures grows { Grows self.old.objects self.new.objects }
+        ensures claim { IfOk result (λ r. IsIn self.new.objects r × (object_at self.new.objects r ≡ formula_object (claim (name_of (object_at self.old.objects name))))) }
+        ensures rest { self.new ≡ record self.old { objects = self.new.objects } }
+        ensures theory { theory_of self.new ≡ theory_of self.old }
+    {
+        claim(&mut self.heap, name)
     }
 
     // The fate of the event; what it leaves in the heap is still there.

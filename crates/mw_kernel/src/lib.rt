@@ -2,6 +2,7 @@
 #![tactic(auto)]
 
 mod beginning;
+mod claim;
 mod fate;
 mod kernel;
 mod verify;
@@ -9,3 +10,6 @@ mod word;
 
 pub use fate::Fate;
 pub use kernel::Kernel;
+
+#[cfg(test)]
+mod tests;

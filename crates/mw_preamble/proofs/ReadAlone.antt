@@ -9,7 +9,7 @@ use Rattle.mw_model.proofs.TextReadBack.{trees-text_of}
 use Rattle.mw_heap.specs.Objects.{object_at, IsIn}
 use Rattle.mw_read.specs.Parsing.{Fits, offset_of, meaning_of}
 use Rattle.mw_read.specs.Standing.{Says, GivesBehind}
-use Rattle.mw_read.specs.declared.reader.Reader.{Reader}
+use Rattle.mw_read.specs.declared.parser.Parser.{Parser}
 use Rattle.mw_read.specs.declared.step.Step.{Step}
 use Rattle.mw_read.specs.declared.step.Step.TheVariants as steps
 use Rattle.mw_read.proofs.Scanning.{fits_more}
@@ -21,7 +21,7 @@ reading-text_of : (x : Object) → length (text_of x) ≤ limit → reading Ends
 reading-text_of x l =
     sym (ap (λ v. if v then reading Ends (text_of x) else cut_short (reading Goes (take limit (text_of x)))) (le-leb (length (text_of x)) limit l)) ∙ trees-text_of x l
 
-module _ (old new : Reader) (x y : Object) (n : ℕ) (short : length (text_of x) ≤ limit) (gives : GivesBehind old [] [] (text_of x) y n new) where
+module _ (old new : Parser) (x y : Object) (n : ℕ) (short : length (text_of x) ≤ limit) (gives : GivesBehind old [] [] (text_of x) y n new) where
   fits : Fits new.begun Ends (drop n (text_of x))
   fits =
       let room = limit - offset_of new in
@@ -36,7 +36,7 @@ module _ (old new : Reader) (x y : Object) (n : ℕ) (short : length (text_of x)
       (sym (reading-text_of x short) ∙ (ap (reading Ends) (sym (take-append-drop n (text_of x))) ∙ stands.means Ends left fits))
 
 -- the datum that is given first of the text of an object
-pub gives_object : (os : List Object) (old new : Reader) (text : List ℕ) (x : Object) (s : Step) (r n : ℕ) → text ≡ text_of x → length text ≤ limit → s ≡ steps.Datum r → Says os old [] [] text s n new → IsIn os r × (object_at os r ≡ x)
+pub gives_object : (os : List Object) (old new : Parser) (text : List ℕ) (x : Object) (s : Step) (r n : ℕ) → text ≡ text_of x → length text ≤ limit → s ≡ steps.Datum r → Says os old [] [] text s n new → IsIn os r × (object_at os r ≡ x)
 gives_object os old new text x s r n e short is says =
     let t = subst (λ (t : List ℕ). Says os old [] [] t (steps.Datum r) n new) e (subst (λ (s : Step). Says os old [] [] text s n new) is says) in
     (t.1.0, t.1.1 ∙ alone old new x t.0 n (subst (λ (t : List ℕ). length t ≤ limit) e short) t.2)

@@ -9,9 +9,9 @@ use Rattle.mw_read.specs.Lexing.{token_lexeme}
 use Rattle.mw_read.specs.Piles.{fault_of}
 use Rattle.mw_read.specs.Stacks.{IsStack}
 use Rattle.mw_read.specs.Held.{Holds, Took}
-use Rattle.mw_read.specs.Parsing.{behind, ahead, meaning_of, Fits, IsText, is_inside, IsReader, Advances}
-use Rattle.mw_read.specs.declared.reader.Begun.TheVariants.{Token, AfterToken, AfterBar}
-use Rattle.mw_read.specs.declared.reader.Reader.{Reader}
+use Rattle.mw_read.specs.Parsing.{behind, ahead, meaning_of, Fits, IsText, is_inside, IsParser, Advances}
+use Rattle.mw_read.specs.declared.parser.Begun.TheVariants.{Token, AfterToken, AfterBar}
+use Rattle.mw_read.specs.declared.parser.Parser.{Parser}
 use Rattle.mw_read.specs.declared.step.Fault as code
 use Rattle.mw_read.specs.declared.step.Outcome.{Outcome}
 use Rattle.mw_read.specs.declared.step.Outcome.TheVariants as outcomes
@@ -32,21 +32,21 @@ dot_quiet (Broken f) o = refl
 quiet_is : (w : Turn) → w.events ≡ [] → w ≡ quiet w.state
 quiet_is w h = ap (λ (u : List Object). let r : Turn = record { events = u; state = w.state } in r) h
 
-pub after_bar_parser : (os : List Object) (p : Reader) → p.begun ≡ AfterBar → IsStack os p.stack → IsReader os p
+pub after_bar_parser : (os : List Object) (p : Parser) → p.begun ≡ AfterBar → IsStack os p.stack → IsParser os p
 after_bar_parser os p e k = record {
   stack = k;
   text = subst (λ u. IsText u p.token.items) (sym e) tt;
   ready = λ h. absurd (true≢false (sym h ∙ ap is_inside e));
 }
 
-pub after_parser : (os : List Object) (p : Reader) → p.begun ≡ AfterToken → IsStack os p.stack → IsReader os p
+pub after_parser : (os : List Object) (p : Parser) → p.begun ≡ AfterToken → IsStack os p.stack → IsParser os p
 after_parser os p e k = record {
   stack = k;
   text = subst (λ u. IsText u p.token.items) (sym e) tt;
   ready = λ h. absurd (true≢false (sym h ∙ ap is_inside e));
 }
 
-module _ (os : List Object) (t : State) (old new : Reader) (rest : List ℕ) (n b : ℕ) (g : Bool) (x : List ℕ) where
+module _ (os : List Object) (t : State) (old new : Parser) (rest : List ℕ) (n b : ℕ) (g : Bool) (x : List ℕ) where
   abbrev whole : List ℕ
   whole = old.token.items ++ take n rest
 
@@ -140,7 +140,7 @@ module _ (os : List Object) (t : State) (old new : Reader) (rest : List ℕ) (n 
         ∙ token_faults e' t old.start b g whole (x ++ z) (fault_of j) l a c h q
 
 -- an atom between bars
-pub bars_advance : (os : List Object) (t : State) (old new : Reader) (rest : List ℕ) (n b end : ℕ) (x : List ℕ) (y : Object) (r : Outcome) → ((f : code.Fault) → r ≡ outcomes.Fault f → rest ≡ take n rest ++ b ∷ x) →
+pub bars_advance : (os : List Object) (t : State) (old new : Parser) (rest : List ℕ) (n b end : ℕ) (x : List ℕ) (y : Object) (r : Outcome) → ((f : code.Fault) → r ≡ outcomes.Fault f → rest ≡ take n rest ++ b ∷ x) →
     ((e : Ending) (z : List ℕ) → Fits AfterBar e z → meaning_of e t old (take n rest ++ z) ≡ resume t (Atom old.start y ∷ behind glued_bar e end z)) →
     Took os new.stack r (on t (Atom old.start y)) → new.begun ≡ AfterBar → new.start ≡ end → Advances os t old rest r n new
 bars_advance os t old new rest n b end x y outcomes.Pending e m q i s =
@@ -174,6 +174,6 @@ bars_advance os t old new rest n b end x y (outcomes.Fault f) e m q i s = λ e' 
     ∙ ap (λ (u : Turn). following u (behind glued_bar e' end (b ∷ (x ++ z)))) q
 
 -- a fault
-pub fault_advances : (os : List Object) (t : State) (old new : Reader) (rest : List ℕ) (r : Outcome) (n : ℕ) (f : code.Fault) → r ≡ outcomes.Fault f →
+pub fault_advances : (os : List Object) (t : State) (old new : Parser) (rest : List ℕ) (r : Outcome) (n : ℕ) (f : code.Fault) → r ≡ outcomes.Fault f →
     ((e : Ending) (z : List ℕ) → meaning_of e t old (rest ++ z) ≡ book [] (Some (fault_of f))) → Advances os t old rest r n new
 fault_advances os t old new rest r n f e h = subst (λ u. Advances os t old rest u n new) (sym e) h

@@ -10,9 +10,9 @@ use Rattle.mw_read.specs.Resume.{resume, onward, following}
 use Rattle.mw_read.specs.Held.{Took}
 use Rattle.mw_read.specs.Runs.{StartsWith}
 use Rattle.mw_read.specs.Parsing.{ahead, meaning_of, Fits, Advances, IsBehind, Begins, Moves, Moved, offset_of, offset_at, weight}
-use Rattle.mw_read.specs.declared.reader.Begun.{Begun}
-use Rattle.mw_read.specs.declared.reader.Begun.TheVariants.{Nothing, Comment, Token, Bars, Barred, Hash, AfterToken, AfterBar}
-use Rattle.mw_read.specs.declared.reader.Reader.{Reader}
+use Rattle.mw_read.specs.declared.parser.Begun.{Begun}
+use Rattle.mw_read.specs.declared.parser.Begun.TheVariants.{Nothing, Comment, Token, Bars, Barred, Hash, AfterToken, AfterBar}
+use Rattle.mw_read.specs.declared.parser.Parser.{Parser}
 use Rattle.mw_read.specs.declared.step.Outcome.{Outcome}
 use Rattle.mw_read.specs.declared.step.Outcome.TheVariants as outcomes
 use Rattle.mw_read.proofs.Resuming.{on_step}
@@ -35,7 +35,7 @@ if_ok_both P Q R (Ok x) f p q = f x p q
 if_ok_both P Q R (Err e) f p q = p
 
 -- what is read from one parser is read from another
-pub carry : (os : List Object) (t : State) (old mid new : Reader) (rest more : List ℕ) (r : Outcome) (n m : ℕ) →
+pub carry : (os : List Object) (t : State) (old mid new : Parser) (rest more : List ℕ) (r : Outcome) (n m : ℕ) →
     ((e : Ending) (z : List ℕ) → meaning_of e t old (take m more ++ z) ≡ meaning_of e t mid (take n rest ++ z)) →
     ((e : Ending) (z : List ℕ) → meaning_of e t old (more ++ z) ≡ meaning_of e t mid (rest ++ z)) →
     Advances os t mid rest r n new → Advances os t old more r m new
@@ -44,7 +44,7 @@ carry os t old mid new rest more (outcomes.Datum r) n m f g q = (q.0, q.1, q.2, 
 carry os t old mid new rest more (outcomes.Fault r) n m f g q = λ e z. g e z ∙ q e z
 
 -- a lexeme that ends where no text has begun
-ends_free : (os : List Object) (t : State) (old new : Reader) (rest : List ℕ) (n : ℕ) (l : Lexeme) (r : Outcome) → new.begun ≡ Nothing →
+ends_free : (os : List Object) (t : State) (old new : Parser) (rest : List ℕ) (n : ℕ) (l : Lexeme) (r : Outcome) → new.begun ≡ Nothing →
     ((e : Ending) (z : List ℕ) → meaning_of e t old (take n rest ++ z) ≡ following (on t l) (lexemes_from e new.start 0 z)) → Took os new.stack r (on t l) → Advances os t old rest r n new
 ends_free os t old new rest n l outcomes.Pending i m q =
     let w = on t l in (
@@ -70,11 +70,11 @@ ends_free os t old new rest n l (outcomes.Fault f) i m q = λ e z.
     ∙ m e (drop n rest ++ z)
     ∙ ap (λ (u : Turn). following u (lexemes_from e new.start 0 (drop n rest ++ z))) q
 
-at_nothing : (e : Ending) (t : State) (p : Reader) (x : List ℕ) → p.begun ≡ Nothing → meaning_of e t p x ≡ resume t (lexemes_from e p.start 0 x)
+at_nothing : (e : Ending) (t : State) (p : Parser) (x : List ℕ) → p.begun ≡ Nothing → meaning_of e t p x ≡ resume t (lexemes_from e p.start 0 x)
 at_nothing e t p x h = ap (λ m. resume t (ahead e m p.token.items p.start x)) h
 
 -- a lexeme of one byte
-pub lexeme_advances : (os : List Object) (t : State) (old new : Reader) (rest : List ℕ) (r : Outcome) (k : Class) (l : Lexeme) → 0 < length rest → old.begun ≡ Nothing → new.begun ≡ Nothing →
+pub lexeme_advances : (os : List Object) (t : State) (old new : Parser) (rest : List ℕ) (r : Outcome) (k : Class) (l : Lexeme) → 0 < length rest → old.begun ≡ Nothing → new.begun ≡ Nothing →
     new.start ≡ old.start + 1 → class (get_or rest 0 0) ≡ k → ((b : ℕ) → fresh k t old.start b ≡ turned (on t l) Between (suc old.start)) → Took os new.stack r (on t l) → Advances os t old rest r 1 new
 lexeme_advances os t old new [] r k l some h i s c f q = absurd (omega arith)
 lexeme_advances os t old new (b ∷ rest) r k l some h i s c f q =
@@ -87,7 +87,7 @@ lexeme_advances os t old new (b ∷ rest) r k l some h i s c f q =
     q
 
 -- a byte that may not stand here
-pub byte_faults : (e : Ending) (t : State) (old : Reader) (rest z : List ℕ) → 0 < length rest → old.begun ≡ Nothing → class (get_or rest 0 0) ≡ lex.Other → IsSound t →
+pub byte_faults : (e : Ending) (t : State) (old : Parser) (rest z : List ℕ) → 0 < length rest → old.begun ≡ Nothing → class (get_or rest 0 0) ≡ lex.Other → IsSound t →
     meaning_of e t old (rest ++ z) ≡ book [] (Some (fault BYTE old.start))
 byte_faults e t old [] z some h c k = absurd (omega arith)
 byte_faults e t old (b ∷ rest) z some h c k =
@@ -125,7 +125,7 @@ drop_next [] n = drop_all n [] (omega arith) ∙ sym (drop_all (n + 1) [] (omega
 drop_next (b ∷ rest) n = ap (λ k. drop k (b ∷ rest)) (let o : suc n ≡ n + 1 = omega arith in o)
 
 -- a name between bars or a label begins
-pub bars_begin : (os : List Object) (t : State) (old mid new : Reader) (rest : List ℕ) (r : Outcome) (n : ℕ) → old.begun ≡ Nothing → mid.begun ≡ Bars → mid.token.items ≡ [] → mid.start ≡ old.start → Begins Bars rest →
+pub bars_begin : (os : List Object) (t : State) (old mid new : Parser) (rest : List ℕ) (r : Outcome) (n : ℕ) → old.begun ≡ Nothing → mid.begun ≡ Bars → mid.token.items ≡ [] → mid.start ≡ old.start → Begins Bars rest →
     is_full t ≡ false → IsSound t → Advances os t mid (drop 1 rest) r n new → Advances os t old rest r (n + 1) new
 bars_begin os t old mid new [] r n h i j s c f k q = absurd c
 bars_begin os t old mid new (b ∷ rest) r n h i j s c f k q =
@@ -138,7 +138,7 @@ bars_begin os t old mid new (b ∷ rest) r n h i j s c f k q =
         ∙ ap (λ o. resume t (lexemes_from e o 0 (124 ∷ y))) (sym s)
         ∙ sym (ap (λ m. resume t (ahead e m mid.token.items mid.start y)) i ∙ ap (λ u. resume t (lexemes_from e mid.start 0 (124 ∷ (u ++ y)))) j)
 
-pub hash_begin : (os : List Object) (t : State) (old mid new : Reader) (rest : List ℕ) (r : Outcome) (n : ℕ) → old.begun ≡ Nothing → mid.begun ≡ Hash → mid.token.items ≡ [] → mid.start ≡ old.start → Begins Hash rest →
+pub hash_begin : (os : List Object) (t : State) (old mid new : Parser) (rest : List ℕ) (r : Outcome) (n : ℕ) → old.begun ≡ Nothing → mid.begun ≡ Hash → mid.token.items ≡ [] → mid.start ≡ old.start → Begins Hash rest →
     is_full t ≡ false → IsSound t → Advances os t mid (drop 1 rest) r n new → Advances os t old rest r (n + 1) new
 hash_begin os t old mid new [] r n h i j s c f k q = absurd c
 hash_begin os t old mid new (b ∷ rest) r n h i j s c f k q =
@@ -152,7 +152,7 @@ hash_begin os t old mid new (b ∷ rest) r n h i j s c f k q =
         ∙ sym (ap (λ m. resume t (ahead e m mid.token.items mid.start y)) i ∙ ap (λ u. resume t (lexemes_from e mid.start 0 (35 ∷ (u ++ y)))) j)
 
 -- a token begins
-pub token_begin : (os : List Object) (t : State) (old mid new : Reader) (rest : List ℕ) (r : Outcome) (n : ℕ) → old.begun ≡ Nothing → mid.begun ≡ Token → mid.token.items ≡ [] → mid.start ≡ old.start →
+pub token_begin : (os : List Object) (t : State) (old mid new : Parser) (rest : List ℕ) (r : Outcome) (n : ℕ) → old.begun ≡ Nothing → mid.begun ≡ Token → mid.token.items ≡ [] → mid.start ≡ old.start →
     Advances os t mid rest r n new → Advances os t old rest r n new
 token_begin os t old mid new rest r n h i j s q = carry os t old mid new rest rest r n n (λ e z. same e (take n rest ++ z)) (λ e z. same e (rest ++ z)) q
   where
@@ -162,10 +162,10 @@ token_begin os t old mid new rest r n h i j s q = carry os t old mid new rest re
         ∙ ap (λ o. resume t (lexemes_from e o 0 y)) (sym s)
         ∙ sym (ap (λ m. resume t (ahead e m mid.token.items mid.start y)) i ∙ ap (λ u. resume t (lexemes_from e mid.start 0 (u ++ y))) j)
 
-pub offset_is : (p : Reader) (m : Begun) (n o : ℕ) → p.begun ≡ m → length p.token.items ≡ n → p.start ≡ o → offset_of p ≡ offset_at m n o
+pub offset_is : (p : Parser) (m : Begun) (n o : ℕ) → p.begun ≡ m → length p.token.items ≡ n → p.start ≡ o → offset_of p ≡ offset_at m n o
 offset_is p m n o h i j = ap (λ u. offset_at u (length p.token.items) p.start) h ∙ ap (λ u. offset_at m u p.start) i ∙ ap (offset_at m n) j
 
-module _ (old mid : Reader) (h : old.begun ≡ Nothing) (j : mid.token.items ≡ []) (s : mid.start ≡ old.start) where
+module _ (old mid : Parser) (h : old.begun ≡ Nothing) (j : mid.token.items ≡ []) (s : mid.start ≡ old.start) where
   pub bars_offset : mid.begun ≡ Bars → offset_of mid ≡ offset_of old + 1
   bars_offset i =
       offset_is mid Bars 0 old.start i (ap length j) s ∙ (let e : old.start + 0 + 1 ≡ old.start + 1 = omega arith in e) ∙ sym (ap (λ n. n + 1) (offset_is old Nothing (length old.token.items) old.start h refl refl))
@@ -187,7 +187,7 @@ weight_small Hash = omega arith
 weight_small AfterToken = omega arith
 weight_small AfterBar = omega arith
 
-moved_past : (old mid new : Reader) (rest : List ℕ) (n : ℕ) → offset_of mid ≡ offset_of old + 1 → Moved mid (drop 1 rest) n new → Moved old rest (n + 1) new
+moved_past : (old mid new : Parser) (rest : List ℕ) (n : ℕ) → offset_of mid ≡ offset_of old + 1 → Moved mid (drop 1 rest) n new → Moved old rest (n + 1) new
 moved_past old mid new rest n o m = record {
   offset = (let k : offset_of new ≡ offset_of old + (n + 1) = omega (arith, o, m.offset) in k);
   left = subst (λ u. Fits new.begun Goes u) (drop_next rest n) m.left;
@@ -195,12 +195,12 @@ moved_past old mid new rest n o m = record {
   less = λ l. omega (arith, weight_small new.begun);
 }
 
-pub moves_past : (r : Outcome) (old mid new : Reader) (rest : List ℕ) (n : ℕ) → offset_of mid ≡ offset_of old + 1 → Moves r mid (drop 1 rest) n new → Moves r old rest (n + 1) new
+pub moves_past : (r : Outcome) (old mid new : Parser) (rest : List ℕ) (n : ℕ) → offset_of mid ≡ offset_of old + 1 → Moves r mid (drop 1 rest) n new → Moves r old rest (n + 1) new
 moves_past outcomes.Pending old mid new rest n o m = moved_past old mid new rest n o m
 moves_past (outcomes.Datum x) old mid new rest n o m = moved_past old mid new rest n o m
 moves_past (outcomes.Fault f) old mid new rest n o m = tt
 
-moved_on : (old mid new : Reader) (rest : List ℕ) (n : ℕ) → offset_of mid ≡ offset_of old → 0 < n → Moved mid rest n new → Moved old rest n new
+moved_on : (old mid new : Parser) (rest : List ℕ) (n : ℕ) → offset_of mid ≡ offset_of old → 0 < n → Moved mid rest n new → Moved old rest n new
 moved_on old mid new rest n o s m = record {
   offset = (let k : offset_of new ≡ offset_of old + n = omega (arith, o, m.offset) in k);
   left = m.left;
@@ -208,7 +208,7 @@ moved_on old mid new rest n o s m = record {
   less = λ l. omega (arith, weight_small new.begun);
 }
 
-pub moves_on : (r : Outcome) (old mid new : Reader) (rest : List ℕ) (n : ℕ) → offset_of mid ≡ offset_of old → 0 < n → Moves r mid rest n new → Moves r old rest n new
+pub moves_on : (r : Outcome) (old mid new : Parser) (rest : List ℕ) (n : ℕ) → offset_of mid ≡ offset_of old → 0 < n → Moves r mid rest n new → Moves r old rest n new
 moves_on outcomes.Pending old mid new rest n o s m = moved_on old mid new rest n o s m
 moves_on (outcomes.Datum x) old mid new rest n o s m = moved_on old mid new rest n o s m
 moves_on (outcomes.Fault f) old mid new rest n o s m = tt
@@ -227,7 +227,7 @@ behind_is AfterToken g e t o b y h = sym (ap (λ v. if v then Stray (fault TOKEN
 behind_is AfterBar g e t o b y h = sym (ap (λ v. if v then Stray (fault TOKEN o) ∷ lexemes_from e o 0 (b ∷ y) else lexemes_from e o 0 (b ∷ y)) h)
 behind_is m g e t o b y h = absurd h
 
-pub glued_faults : (e : Ending) (t : State) (old : Reader) (rest z : List ℕ) → 0 < length rest → IsBehind old.begun true (get_or rest 0 0) → IsSound t → meaning_of e t old (rest ++ z) ≡ book [] (Some (fault TOKEN old.start))
+pub glued_faults : (e : Ending) (t : State) (old : Parser) (rest z : List ℕ) → 0 < length rest → IsBehind old.begun true (get_or rest 0 0) → IsSound t → meaning_of e t old (rest ++ z) ≡ book [] (Some (fault TOKEN old.start))
 glued_faults e t old [] z some h k = absurd (omega arith)
 glued_faults e t old (b ∷ rest) z some h k =
     let r = lexemes_from e old.start 0 (b ∷ (rest ++ z)) in
@@ -236,7 +236,7 @@ glued_faults e t old (b ∷ rest) z some h k =
     ∙ ap (λ (u : Turn). following u r) (stray_breaks t (fault TOKEN old.start) k)
 
 -- nothing is glued
-module _ (os : List Object) (t : State) (old mid new : Reader) (i : mid.begun ≡ Nothing) (s : mid.start ≡ old.start) where
+module _ (os : List Object) (t : State) (old mid new : Parser) (i : mid.begun ≡ Nothing) (s : mid.start ≡ old.start) where
   same_behind : (b : ℕ) → IsBehind old.begun false b → (e : Ending) (y : List ℕ) → meaning_of e t old (b ∷ y) ≡ meaning_of e t mid (b ∷ y)
   same_behind b h e y =
       ap (resume t) (behind_is old.begun false e old.token.items old.start b y h)

@@ -11,8 +11,8 @@ use Rattle.mw_read.specs.Held.{Took}
 use Rattle.mw_read.specs.Piles.{fault_of}
 use Rattle.mw_read.specs.Parsing.{ahead, meaning_of, is_inside, offset_of, IsStarted, Fits, behind, weight}
 use Rattle.mw_read.specs.Standing.{Lasts}
-use Rattle.mw_read.specs.declared.reader.Begun.TheVariants.{Token, Bars, Barred, Hash, AfterToken, AfterBar}
-use Rattle.mw_read.specs.declared.reader.Reader.{Reader}
+use Rattle.mw_read.specs.declared.parser.Begun.TheVariants.{Token, Bars, Barred, Hash, AfterToken, AfterBar}
+use Rattle.mw_read.specs.declared.parser.Parser.{Parser}
 use Rattle.mw_read.specs.declared.step.Outcome.{Outcome}
 use Rattle.mw_read.specs.declared.step.Outcome.TheVariants as outcomes
 use Rattle.mw_read.proofs.Resuming.{on_step}
@@ -35,7 +35,7 @@ token_ends_fault s o (c ∷ t) f l a q =
     let r = End (unfinished Ends (o + length (c ∷ t))) ∷ [] in
     ap (resume s) (last_are Ends (InToken c t) o (constituent_class c k.0, k.1) ∙ ap (λ u. u ++ r) (token_one o (c ∷ t) v)) ∙ on_step s (token_lexeme o false v) (token_solid o false v) r ∙ q
 
-module _ (os : List Object) (t : State) (old new : Reader) (f : is_full t ≡ false) (k : IsSound t) (l : 0 < length old.token.items) where
+module _ (os : List Object) (t : State) (old new : Parser) (f : is_full t ≡ false) (k : IsSound t) (l : 0 < length old.token.items) where
   module _ (i : old.begun ≡ Token) (a : all_are is_constituent old.token.items ≡ true) (m : new.begun ≡ AfterToken) (s : new.start ≡ old.start + length (old.token.items ++ [])) where
     n : old.token.items ++ [] ≡ old.token.items
     n = append-nil old.token.items
@@ -48,6 +48,7 @@ module _ (os : List Object) (t : State) (old new : Reader) (f : is_full t ≡ fa
       token_pending os t old new [] 0 0 false [] i f k (subst (λ u. 0 < length u) (sym n) l) (subst (λ u. all_are is_constituent u ≡ true) (sym n) a) m s (token_form (old.token.items ++ [])) refl q,
       ap is_inside m,
       here,
+      λ e x h. subst (λ b. Fits b e x) (sym i) tt,
     )
     token_lasts (outcomes.Datum x) q = (
       ap is_inside i,
@@ -86,7 +87,7 @@ module _ (os : List Object) (t : State) (old new : Reader) (f : is_full t ≡ fa
     took_is r q = subst (λ u. Took os new.stack r (on t (Atom old.start (Symbol (name_of_bytes u))))) (append-nil old.token.items) q
 
     pub bars_lasts : (r : Outcome) → Took os new.stack r (on t (Atom old.start (Symbol (name_of_bytes (old.token.items ++ []))))) → Lasts os t old r new
-    bars_lasts outcomes.Pending q = (bars_advance os t old new [] 0 0 end [] y outcomes.Pending (λ x e. absurd cc) bars_mean (took_is outcomes.Pending q) m ends_at, ap is_inside m, bars_here)
+    bars_lasts outcomes.Pending q = (bars_advance os t old new [] 0 0 end [] y outcomes.Pending (λ x e. absurd cc) bars_mean (took_is outcomes.Pending q) m ends_at, ap is_inside m, bars_here, λ e x h. subst (λ b. Fits b e x) (sym i) tt)
     bars_lasts (outcomes.Datum x) q = (
       ap is_inside i,
       bars_advance os t old new [] 0 0 end [] y (outcomes.Datum x) (λ x e. absurd cc) bars_mean (took_is (outcomes.Datum x) q) m ends_at,
@@ -100,7 +101,7 @@ module _ (os : List Object) (t : State) (old new : Reader) (f : is_full t ≡ fa
         ∙ ap (λ (u : Turn). following u (behind glued_bar Ends end [])) (took_is (outcomes.Fault x) q)
 
 -- a text that cannot end
-pub bars_end : (t : State) (old : Reader) → old.begun ≡ Bars → all_are is_name_byte old.token.items ≡ true → is_full t ≡ false → IsSound t → meaning_of Ends t old [] ≡ book [] (Some (fault END (offset_of old)))
+pub bars_end : (t : State) (old : Parser) → old.begun ≡ Bars → all_are is_name_byte old.token.items ≡ true → is_full t ≡ false → IsSound t → meaning_of Ends t old [] ≡ book [] (Some (fault END (offset_of old)))
 bars_end t old i a f k =
     let o = old.start in
     let n = old.token.items in
@@ -113,7 +114,7 @@ bars_end t old i a f k =
     ∙ ap (λ (u : Turn). following u r) (wrong_breaks t o (fault END (o + 1 + length n)) f k)
     ∙ ap (λ j. book [] (Some (fault END j))) ((let e : o + 1 + length n ≡ o + length n + 1 = omega arith in e) ∙ sym (offset_is old Bars (length n) o i refl refl))
 
-pub hash_end : (t : State) (old : Reader) → old.begun ≡ Hash → all_are is_digit old.token.items ≡ true → length old.token.items ≤ 9 → is_full t ≡ false → IsSound t → meaning_of Ends t old [] ≡ book [] (Some (fault END (offset_of old)))
+pub hash_end : (t : State) (old : Parser) → old.begun ≡ Hash → all_are is_digit old.token.items ≡ true → length old.token.items ≤ 9 → is_full t ≡ false → IsSound t → meaning_of Ends t old [] ≡ book [] (Some (fault END (offset_of old)))
 hash_end t old i a c f k =
     let o = old.start in
     let n = old.token.items in

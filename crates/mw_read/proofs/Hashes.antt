@@ -9,9 +9,9 @@ use Rattle.mw_read.specs.Resume.{resume, onward, following}
 use Rattle.mw_read.specs.Lexing.{label_lexeme}
 use Rattle.mw_read.specs.Stacks.{IsStack}
 use Rattle.mw_read.specs.Held.{Took}
-use Rattle.mw_read.specs.Parsing.{ahead, meaning_of, IsText, is_inside, IsReader, Advances, EndsHash}
-use Rattle.mw_read.specs.declared.reader.Begun.TheVariants.{Nothing}
-use Rattle.mw_read.specs.declared.reader.Reader.{Reader}
+use Rattle.mw_read.specs.Parsing.{ahead, meaning_of, IsText, is_inside, IsParser, Advances, EndsHash}
+use Rattle.mw_read.specs.declared.parser.Begun.TheVariants.{Nothing}
+use Rattle.mw_read.specs.declared.parser.Parser.{Parser}
 use Rattle.mw_read.specs.declared.step.Outcome.{Outcome}
 use Rattle.mw_read.specs.declared.step.Outcome.TheVariants as outcomes
 use Rattle.mw_read.proofs.Resuming.{on_step, IsSolid}
@@ -101,7 +101,7 @@ pub label_ref : (o : ℕ) (d : List ℕ) (b : ℕ) → 0 < length d → b ≡ 35
 label_ref o [] b l h = absurd (omega arith)
 label_ref o (c ∷ d) b l h = ap (λ u. if eqb u 61 then Mark o (decimal_value (c ∷ d)) else (if eqb u 35 then Ref o (decimal_value (c ∷ d)) else Wrong o (Some (fault LABEL o)))) h
 
-pub free_parser : (os : List Object) (p : Reader) → p.begun ≡ Nothing → IsStack os p.stack → IsReader os p
+pub free_parser : (os : List Object) (p : Parser) → p.begun ≡ Nothing → IsStack os p.stack → IsParser os p
 free_parser os p e k = record {
   stack = k;
   text = subst (λ u. IsText u p.token.items) (sym e) tt;
@@ -109,7 +109,7 @@ free_parser os p e k = record {
 }
 
 -- a label, or a fault in its place
-pub hash_advance : (os : List Object) (t : State) (old mid new : Reader) (rest : List ℕ) (n : ℕ) (d x : List ℕ) (b : ℕ) (r : Outcome) → mid.token.items ≡ d → mid.start ≡ old.start →
+pub hash_advance : (os : List Object) (t : State) (old mid new : Parser) (rest : List ℕ) (n : ℕ) (d x : List ℕ) (b : ℕ) (r : Outcome) → mid.token.items ≡ d → mid.start ≡ old.start →
     ((z : List ℕ) → rest ++ z ≡ take n rest ++ (x ++ z)) → all_are is_digit d ≡ true → is_digit b ≡ false → length d ≤ 9 →
     ((e : Ending) (z : List ℕ) → meaning_of e t old (take n rest ++ z) ≡ resume t (lexemes_from e old.start 0 (35 ∷ (d ++ b ∷ z)))) →
     Took os new.stack r (on t (label_lexeme old.start d b)) → EndsHash r mid new → Advances os t old rest r n new

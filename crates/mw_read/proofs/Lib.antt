@@ -20,3 +20,4 @@ pub mod Scanning
 pub mod Ending
 pub mod Emptied
 pub mod Telling
+pub mod Feeding

@@ -8,7 +8,7 @@ use Rattle.mw_read.specs.Machine.{State, Idle, Within, Full, Broken, Members, Ta
 use Rattle.mw_read.specs.Resume.{resume, following}
 use Rattle.mw_read.specs.Lexing.{token_lexeme}
 use Rattle.mw_read.specs.Parsing.{behind, Fits}
-use Rattle.mw_read.specs.declared.reader.Begun.TheVariants.{AfterToken, AfterBar}
+use Rattle.mw_read.specs.declared.parser.Begun.TheVariants.{AfterToken, AfterBar}
 use Rattle.mw_read.proofs.Resuming.{on_step, IsSolid}
 use Rattle.mw_read.proofs.Bytes.{token_lexemes, last_are, barred_lexemes, bar_lexemes, barred_fault}
 

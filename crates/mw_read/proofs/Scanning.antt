@@ -6,24 +6,24 @@ use Rattle.mw_model.specs.Lexemes.{Ending, Goes}
 use Rattle.mw_heap.specs.Objects.{Grows}
 use Rattle.mw_read.specs.Machine.{State}
 use Rattle.mw_read.specs.Held.{Holds}
-use Rattle.mw_read.specs.Parsing.{meaning_of, Fits, IsReader, IsStarted, Advances, Moves, Moved, offset_of, weight}
+use Rattle.mw_read.specs.Parsing.{meaning_of, Fits, IsParser, IsStarted, Advances, Moves, Moved, offset_of, weight}
 use Rattle.mw_read.specs.Standing.{Reached, Reaches}
-use Rattle.mw_read.specs.declared.reader.Begun.{Begun}
-use Rattle.mw_read.specs.declared.reader.Begun.TheVariants.{Nothing, Comment, Token, Bars, Barred, Hash, AfterToken, AfterBar}
-use Rattle.mw_read.specs.declared.reader.Reader.{Reader}
+use Rattle.mw_read.specs.declared.parser.Begun.{Begun}
+use Rattle.mw_read.specs.declared.parser.Begun.TheVariants.{Nothing, Comment, Token, Bars, Barred, Hash, AfterToken, AfterBar}
+use Rattle.mw_read.specs.declared.parser.Parser.{Parser}
 use Rattle.mw_read.specs.declared.step.Outcome.{Outcome}
 use Rattle.mw_read.specs.declared.step.Outcome.TheVariants as outcomes
 use Rattle.mw_read.proofs.Growth.{grows_refl, grows_grows}
 use Rattle.mw_read.proofs.Bare.{take_cut}
 
 -- what a loop over the piece keeps
-pub record Scans (first : List Object) (old : Reader) (piece : List ℕ) (os : List Object) (p : Reader) (n : ℕ) : Type 0 where
+pub record Scans (first : List Object) (old : Parser) (piece : List ℕ) (os : List Object) (p : Parser) (n : ℕ) : Type 0 where
   pub kept : Grows first os
   pub within : n ≤ length piece
   pub reached : Reached old piece n p
   pub advances : (t : State) → Holds first old.stack t → Advances os t old piece outcomes.Pending n p
 
-pub scan_start : (os : List Object) (old : Reader) (piece : List ℕ) → Fits old.begun Goes piece → IsStarted old.begun old.token.items → IsReader os old → Scans os old piece os old 0
+pub scan_start : (os : List Object) (old : Parser) (piece : List ℕ) → Fits old.begun Goes piece → IsStarted old.begun old.token.items → IsParser os old → Scans os old piece os old 0
 scan_start os old piece f s k = record {
   kept = grows_refl os;
   within = omega arith;
@@ -66,8 +66,8 @@ take_both (suc m) n [] = none (suc m + n) ∙ sym (none n)
     none (suc k) = refl
 take_both (suc m) n (x ∷ xs) = ap (λ k. take k (x ∷ xs)) (let e : suc m + n ≡ suc (m + n) = omega arith in e) ∙ ap (λ u. x ∷ u) (take_both m n xs)
 
-module _ (first : List Object) (old : Reader) (piece : List ℕ) (os : List Object) (mid : Reader) (at : ℕ) (s : Scans first old piece os mid at)
-    (os2 : List Object) (new : Reader) (g : Grows os os2) (some : at < length piece) where
+module _ (first : List Object) (old : Parser) (piece : List ℕ) (os : List Object) (mid : Parser) (at : ℕ) (s : Scans first old piece os mid at)
+    (os2 : List Object) (new : Parser) (g : Grows os os2) (some : at < length piece) where
   abbrev rest : List ℕ
   rest = drop at piece
 

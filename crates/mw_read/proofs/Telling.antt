@@ -1,4 +1,4 @@
--- What a reader's answers say of the whole book.
+-- What a parser's answers say of the whole book.
 use Rattle.std.proofs.Common.{◌≡◌, ℕ, zero, suc, ◌+◌, ◌-◌, ◌<◌, ◌≤◌, Bool, true, false, leb, min, List, [], ◌∷◌, ◌++◌, length, take, drop, Option, Some, None, refl, sym, ap, ◌∙◌, subst, arith, true≢false, leb-true, append_assoc, append-nil, length-append, if◌then◌else◌}
 use Rattle.std.proofs.lemmas.Bool.{le-leb, and_parts}
 use Rattle.std.proofs.lemmas.List.{take_all, drop_all, take_min, take-take, drop-take, length-take-le, length-drop, take-append-le}
@@ -11,11 +11,11 @@ use Rattle.mw_read.specs.Machine.{State, Idle, Within, Full, Broken, IsSound, is
 use Rattle.mw_read.specs.Machine as machine
 use Rattle.mw_read.specs.Resume.{resume, onward}
 use Rattle.mw_read.specs.Held.{Holds, Completes}
-use Rattle.mw_read.specs.Parsing.{ahead, meaning_of, Fits, IsText, IsReader, IsStarted, Advances, is_inside, offset_of, offset_at}
-use Rattle.mw_read.specs.Standing.{Reached, Reaches, Stands, Follows, Gives, GivesBehind, GivesLast, Says, Finishes}
-use Rattle.mw_read.specs.declared.reader.Begun.{Begun}
-use Rattle.mw_read.specs.declared.reader.Begun.TheVariants.{Nothing, Comment, Token, Bars, Barred, Hash, AfterToken, AfterBar}
-use Rattle.mw_read.specs.declared.reader.Reader.{Reader}
+use Rattle.mw_read.specs.Parsing.{ahead, meaning_of, Fits, IsText, IsParser, IsStarted, Advances, is_inside, offset_of, offset_at}
+use Rattle.mw_read.specs.Standing.{Reached, Reaches, Stands, Follows, Gives, GivesBehind, GivesLast, Says, Finishes, Lasts}
+use Rattle.mw_read.specs.declared.parser.Begun.{Begun}
+use Rattle.mw_read.specs.declared.parser.Begun.TheVariants.{Nothing, Comment, Token, Bars, Barred, Hash, AfterToken, AfterBar}
+use Rattle.mw_read.specs.declared.parser.Parser.{Parser}
 use Rattle.mw_read.specs.declared.step.Outcome.TheVariants as outcomes
 use Rattle.mw_read.specs.declared.step.Step.{Step}
 use Rattle.mw_read.specs.declared.step.Step.TheVariants as steps
@@ -56,6 +56,16 @@ fits_inside Nothing e x h = tt
 fits_inside Comment e x h = tt
 fits_inside AfterToken e x h = absurd (true≢false (sym h))
 fits_inside AfterBar e x h = absurd (true≢false (sym h))
+
+started_outside : (m : Begun) (t : List ℕ) → is_inside m ≡ false → IsStarted m t
+started_outside Token t h = absurd (true≢false h)
+started_outside Nothing t h = tt
+started_outside Comment t h = tt
+started_outside Bars t h = tt
+started_outside Barred t h = tt
+started_outside Hash t h = tt
+started_outside AfterToken t h = tt
+started_outside AfterBar t h = tt
 
 -- the end, where no text goes on
 pub over_meaning : (u : State) (m : Begun) (t : List ℕ) (o : ℕ) → is_inside m ≡ false → resume u (ahead Ends m t o []) ≡ book [] (end_fault u (offset_at m (length t) o))
@@ -127,7 +137,7 @@ long_trees h w given l s r =
         go true e = absurd (let c = leb-true a b e in omega (arith, c, k))
         go false e = e
 
-pub stands_ends : (os : List Object) (p : Reader) (g : List ℕ) (given : List Object) (s : Stands os p g given) (f : Option Fault) → meaning_of Ends s.state p [] ≡ book [] f → trees g ≡ book given f
+pub stands_ends : (os : List Object) (p : Parser) (g : List ℕ) (given : List Object) (s : Stands os p g given) (f : Option Fault) → meaning_of Ends s.state p [] ≡ book [] f → trees g ≡ book given f
 stands_ends os p g given s f h =
     trees_short g s.short
     ∙ ap (reading Ends) (sym (append-nil g))
@@ -136,7 +146,7 @@ stands_ends os p g given s f h =
     ∙ onward_book given [] f
     ∙ ap (λ u. book u f) (append-nil given)
 
-pub stands_goes : (os : List Object) (p : Reader) (g : List ℕ) (given : List Object) → Stands os p g given → Fits p.begun Goes [] → reading Goes g ≡ book given None
+pub stands_goes : (os : List Object) (p : Parser) (g : List ℕ) (given : List Object) → Stands os p g given → Fits p.begun Goes [] → reading Goes g ≡ book given None
 stands_goes os p g given s h =
     ap (reading Goes) (sym (append-nil g))
     ∙ s.means Goes [] h
@@ -145,7 +155,7 @@ stands_goes os p g given s h =
     ∙ ap (λ u. book u None) (append-nil given)
 
 -- the heap may grow
-pub stands_grows : (os more : List Object) (p : Reader) (g : List ℕ) (given : List Object) → Grows os more → Stands os p g given → Stands more p g given
+pub stands_grows : (os more : List Object) (p : Parser) (g : List ℕ) (given : List Object) → Grows os more → Stands os p g given → Stands more p g given
 stands_grows os more p g given h s =
     let k = holds_grows os more p.stack s.state h s.holds in
     record {
@@ -159,17 +169,17 @@ stands_grows os more p g given h s =
       means = s.means;
     }
 
--- a reader that has not ended
-abbrev pub unended : Reader → Reader
+-- a parser that has not ended
+abbrev pub unended : Parser → Parser
 unended p = record p { ended = None }
 
--- a reader that has not ended, on whose stack no part was cut
-abbrev pub uncut : Reader → Reader
+-- a parser that has not ended, on whose stack no part was cut
+abbrev pub uncut : Parser → Parser
 uncut p = record p { stack = record p.stack { big = false }; ended = None }
 
 -- a datum is given
-module _ (os0 os : List Object) (old mid : Reader) (g : List ℕ) (given : List Object) (s : Stands os0 old g given) where
-  pub given_stands : (x : ℕ) (y : Object) (w : List ℕ) → Completes os mid.stack x y → IsReader os mid → IsStarted mid.begun mid.token.items → offset_of mid ≡ length (g ++ w) → length (g ++ w) ≤ limit →
+module _ (os0 os : List Object) (old mid : Parser) (g : List ℕ) (given : List Object) (s : Stands os0 old g given) where
+  pub given_stands : (x : ℕ) (y : Object) (w : List ℕ) → Completes os mid.stack x y → IsParser os mid → IsStarted mid.begun mid.token.items → offset_of mid ≡ length (g ++ w) → length (g ++ w) ≤ limit →
       ((e : Ending) (z : List ℕ) → Fits mid.begun e z → Fits old.begun e (w ++ z)) →
       ((e : Ending) (z : List ℕ) → Fits mid.begun e z → meaning_of e s.state old (w ++ z) ≡ and_events y (meaning_of e Idle mid z)) → (any : List Object) → Stands any (uncut mid) (g ++ w) (given ++ y ∷ [])
   given_stands x y w q k st o l f m any =
@@ -190,7 +200,7 @@ module _ (os0 os : List Object) (old mid : Reader) (g : List ℕ) (given : List 
       }
 
   -- no datum is given
-  pub going_stands : (u : State) (w : List ℕ) → Holds os mid.stack u → IsReader os mid → IsStarted mid.begun mid.token.items → offset_of mid ≡ length (g ++ w) → length (g ++ w) ≤ limit →
+  pub going_stands : (u : State) (w : List ℕ) → Holds os mid.stack u → IsParser os mid → IsStarted mid.begun mid.token.items → offset_of mid ≡ length (g ++ w) → length (g ++ w) ≤ limit →
       ((e : Ending) (z : List ℕ) → Fits mid.begun e z → Fits old.begun e (w ++ z)) →
       ((e : Ending) (z : List ℕ) → Fits mid.begun e z → meaning_of e s.state old (w ++ z) ≡ meaning_of e u mid z) → Stands os (unended mid) (g ++ w) given
   going_stands u w h k st o l f m = record {
@@ -204,7 +214,15 @@ module _ (os0 os : List Object) (old mid : Reader) (g : List ℕ) (given : List 
     means = λ e z fit. ap (reading e) (append_assoc g w z) ∙ s.means e (w ++ z) (f e z fit) ∙ ap (onward given) (m e z fit);
   }
 
-pub finishes_of : (os : List Object) (old : Reader) (g : List ℕ) (given : List Object) (p : Reader) (y : Object) (t : Step) → Gives os y t → GivesLast old g given y p → Finishes os old g given t p
+-- where the book ends no datum is given
+pub ended_stands : (os0 os : List Object) (old mid : Parser) (g : List ℕ) (given : List Object) (s : Stands os0 old g given) → Lasts os s.state old outcomes.Pending mid → Stands os (unended mid) g given
+ended_stands os0 os old mid g given s q =
+    let nil = append-nil g in
+    let o : offset_of mid ≡ length (g ++ []) = q.2 ∙ s.offset ∙ sym (ap length nil) in
+    subst (λ u. Stands os (unended mid) u given) nil
+    (going_stands os0 os old mid g given s q.0.0 [] q.0.1 q.0.2 (started_outside mid.begun mid.token.items q.1) o (subst (λ u. length u ≤ limit) (sym nil) s.short) q.3 q.0.3)
+
+pub finishes_of : (os : List Object) (old : Parser) (g : List ℕ) (given : List Object) (p : Parser) (y : Object) (t : Step) → Gives os y t → GivesLast old g given y p → Finishes os old g given t p
 finishes_of os old g given p y (steps.Datum r) h s = (y, h, s)
 finishes_of os old g given p y (steps.TooBig w l) h s = (y, h, s)
 finishes_of os old g given p y steps.More h s = absurd h
@@ -212,7 +230,7 @@ finishes_of os old g given p y steps.End h s = absurd h
 finishes_of os old g given p y (steps.Syntax k o) h s = absurd h
 finishes_of os old g given p y steps.Memory h s = absurd h
 
-pub says_of : (os : List Object) (old : Reader) (g : List ℕ) (given : List Object) (piece : List ℕ) (n : ℕ) (p : Reader) (y : Object) (t : Step) → Gives os y t → GivesBehind old g given piece y n p → Says os old g given piece t n p
+pub says_of : (os : List Object) (old : Parser) (g : List ℕ) (given : List Object) (piece : List ℕ) (n : ℕ) (p : Parser) (y : Object) (t : Step) → Gives os y t → GivesBehind old g given piece y n p → Says os old g given piece t n p
 says_of os old g given piece n p y (steps.Datum r) h s = (y, h, s)
 says_of os old g given piece n p y (steps.TooBig w l) h s = (y, h, s)
 says_of os old g given piece n p y steps.More h s = absurd h
@@ -221,7 +239,7 @@ says_of os old g given piece n p y (steps.Syntax k o) h s = absurd h
 says_of os old g given piece n p y steps.Memory h s = absurd h
 
 -- the part of a piece that a book may have
-module _ (os0 os : List Object) (old mid : Reader) (g : List ℕ) (given : List Object) (s : Stands os0 old g given) (piece : List ℕ) (k : ℕ) (e : k ≡ min (length piece) (limit - offset_of old)) where
+module _ (os0 os : List Object) (old mid : Parser) (g : List ℕ) (given : List Object) (s : Stands os0 old g given) (piece : List ℕ) (k : ℕ) (e : k ≡ min (length piece) (limit - offset_of old)) where
   abbrev part : List ℕ
   part = take k piece
 

@@ -12,3 +12,4 @@ pub mod Lexing
 pub mod Parsing
 pub mod Shown
 pub mod Standing
+pub mod Feeding

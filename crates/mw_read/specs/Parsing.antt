@@ -9,9 +9,9 @@ use Rattle.mw_read.specs.Resume.{resume}
 use Rattle.mw_read.specs.Piles.{pile_of, is_ready, fault_of}
 use Rattle.mw_read.specs.Stacks.{IsStack}
 use Rattle.mw_read.specs.Held.{Holds, Completes}
-use Rattle.mw_read.specs.declared.reader.Begun.{Begun}
-use Rattle.mw_read.specs.declared.reader.Begun.TheVariants.{Nothing, Comment, Token, Bars, Barred, Hash, AfterToken, AfterBar}
-use Rattle.mw_read.specs.declared.reader.Reader.{Reader}
+use Rattle.mw_read.specs.declared.parser.Begun.{Begun}
+use Rattle.mw_read.specs.declared.parser.Begun.TheVariants.{Nothing, Comment, Token, Bars, Barred, Hash, AfterToken, AfterBar}
+use Rattle.mw_read.specs.declared.parser.Parser.{Parser}
 use Rattle.mw_read.specs.declared.step.Outcome.{Outcome}
 use Rattle.mw_read.specs.declared.step.Outcome.TheVariants as outcomes
 
@@ -43,7 +43,7 @@ ahead e Barred t o x = lexemes_from e o 0 (124 ∷ (t ++ 124 ∷ x))
 ahead e Hash t o x = lexemes_from e o 0 (35 ∷ (t ++ x))
 
 -- what the book comes to where these bytes follow
-abbrev pub meaning_of : Ending → State → Reader → List ℕ → Book
+abbrev pub meaning_of : Ending → State → Parser → List ℕ → Book
 meaning_of e s p x = resume s (ahead e p.begun p.token.items p.start x)
 
 -- Behind a datum that is complete something follows, or the end; a token does not go on.
@@ -72,21 +72,21 @@ is_inside Barred = true
 is_inside Hash = true
 is_inside m = false
 
-pub record IsReader (os : List Object) (p : Reader) : Type 0 where
+pub record IsParser (os : List Object) (p : Parser) : Type 0 where
   pub stack : IsStack os p.stack
   pub text : IsText p.begun p.token.items
   pub ready : is_inside p.begun ≡ true → is_ready (pile_of os p.stack.layers.items) ≡ false
 
 -- What a parser does with the first n bytes of the rest, or with all that it saw of it.
-abbrev pub Advances : List Object → State → Reader → List ℕ → Outcome → ℕ → Reader → Type 0
+abbrev pub Advances : List Object → State → Parser → List ℕ → Outcome → ℕ → Parser → Type 0
 Advances os t old rest outcomes.Pending n new =
-    (u : State) × Holds os new.stack u × IsReader os new × ((e : Ending) (z : List ℕ) → Fits new.begun e z → meaning_of e t old (take n rest ++ z) ≡ meaning_of e u new z)
+    (u : State) × Holds os new.stack u × IsParser os new × ((e : Ending) (z : List ℕ) → Fits new.begun e z → meaning_of e t old (take n rest ++ z) ≡ meaning_of e u new z)
 Advances os t old rest (outcomes.Datum r) n new =
-    (x : Object) × Completes os new.stack r x × IsReader os new × ((e : Ending) (z : List ℕ) → Fits new.begun e z → meaning_of e t old (take n rest ++ z) ≡ and_events x (meaning_of e Idle new z))
+    (x : Object) × Completes os new.stack r x × IsParser os new × ((e : Ending) (z : List ℕ) → Fits new.begun e z → meaning_of e t old (take n rest ++ z) ≡ and_events x (meaning_of e Idle new z))
 Advances os t old rest (outcomes.Fault f) n new = (e : Ending) (x : List ℕ) → meaning_of e t old (rest ++ x) ≡ book [] (Some (fault_of f))
 
 -- the label has ended, unless it is a fault
-abbrev pub EndsHash : Outcome → Reader → Reader → Type 0
+abbrev pub EndsHash : Outcome → Parser → Parser → Type 0
 EndsHash (outcomes.Fault f) old new = Unit {0}
 EndsHash r old new = (new.begun ≡ Nothing) × (new.start ≡ old.start + 2 + length old.token.items)
 
@@ -101,7 +101,7 @@ offset_at Hash n o = o + n + 1
 offset_at AfterToken n o = o
 offset_at AfterBar n o = o
 
-abbrev pub offset_of : Reader → ℕ
+abbrev pub offset_of : Parser → ℕ
 offset_of p = offset_at p.begun (length p.token.items) p.start
 
 -- a text that may end with no further byte
@@ -116,14 +116,14 @@ IsStarted Token t = 0 < length t
 IsStarted m t = Unit {0}
 
 -- n bytes of the rest were taken, and what is left may follow
-pub record Moved (old : Reader) (rest : List ℕ) (n : ℕ) (new : Reader) : Type 0 where
+pub record Moved (old : Parser) (rest : List ℕ) (n : ℕ) (new : Parser) : Type 0 where
   pub offset : offset_of new ≡ offset_of old + n
   pub left : Fits new.begun Goes (drop n rest)
   pub started : IsStarted new.begun new.token.items
   -- a byte was taken, or a text has ended
   pub less : 0 < length rest → weight new.begun < weight old.begun + 2 * n
 
-abbrev pub Moves : Outcome → Reader → List ℕ → ℕ → Reader → Type 0
+abbrev pub Moves : Outcome → Parser → List ℕ → ℕ → Parser → Type 0
 Moves (outcomes.Fault f) old rest n new = Unit {0}
 Moves r old rest n new = Moved old rest n new
 

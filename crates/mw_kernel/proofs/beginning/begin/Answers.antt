@@ -1,9 +1,24 @@
 -- The axioms are those of the initial theory.
-use Rattle.std.proofs.Common.{◌++◌, reverse, map, ap, ap₂, ◌∙◌}
-use Rattle.mw_heap.specs.Objects.{object_at}
+use Rattle.std.proofs.Common.{◌++◌, reverse, map, sym, ap, ap₂, ◌∙◌, subst}
+use Rattle.std.specs.List.{All}
+use Rattle.mw_model.specs.Term.{table_object}
+use Rattle.mw_heap.specs.Objects.{object_at, IsIn, Grows}
+use Rattle.mw_heap.proofs.Objects.{Grows-trans, IsIn-Grows, object_at-Grows}
 use Rattle.mw_kernel.specs.Knowledge.{put_all}
-use Rattle.mw_kernel.proofs.Initial.{Begins, begun_theory, known_begun, known_last, nil_kept}
+use Rattle.mw_kernel.proofs.Initial.{all_grown, Begins, begun_theory, known_begun, known_last, nil_kept}
 use Rattle.mw_kernel.proofs.beginning.begin.Goals as goal
+
+pub add_axioms-requires-clause-axioms : goal.add_axioms-requires-clause-axioms
+add_axioms-requires-clause-axioms c =
+    let n = c.symbol.new.self in
+    let grows = Grows-trans _ _ _ c.admit_all.ensures.grows (Grows-trans _ _ _ c.list_arities.ensures.grows c.symbol.ensures.grows) in
+    subst (All (IsIn n)) (sym c.as_slice.ensures) (all_grown c.build.new.heap n grows c.in_ok-primitives.primitives c.in_ok-primitives.ensures.within)
+
+pub add_axioms-requires-2-clause-axioms : goal.add_axioms-requires-2-clause-axioms
+add_axioms-requires-2-clause-axioms c =
+    let p = c.add_axioms.new.heap in
+    let grows = Grows-trans _ _ _ c.list_arities.ensures.grows (Grows-trans _ _ _ c.symbol.ensures.grows c.add_axioms.ensures.grows) in
+    subst (All (IsIn p)) (sym c.as_slice-2.ensures) (all_grown c.admit_all.new.heap p grows c.in_ok-preamble.preamble.axioms c.in_ok-preamble.ensures.within)
 
 start : (c : goal.After-drop-primitives-inside-2) → Begins c.build.new.heap c.admit_all.new.heap c.symbol.new.self c.add_axioms.new.heap c.add_axioms-2.new.heap c.in_ok-primitives.primitives c.in_ok-preamble.preamble.axioms c.in_ok-nil.nil c.in_ok-axioms.axioms c.in_ok-axioms-2.axioms c.add_axioms-2.new.known
 start c =
@@ -15,7 +30,7 @@ start c =
     let second = c.in_ok-axioms-2.ensures in
     record {
       a_grows = c.admit_all.ensures.grows;
-      b_grows = c.symbol.ensures.grows;
+      b_grows = Grows-trans _ _ _ c.list_arities.ensures.grows c.symbol.ensures.grows;
       n_grows = c.add_axioms.ensures.grows;
       p_grows = c.add_axioms-2.ensures.grows;
       primitives_in = c.in_ok-primitives.ensures.within;
@@ -31,6 +46,9 @@ start c =
       known_is = second.known ∙ ap₂ (λ xs k. reverse xs ++ k) c.as_slice-2.ensures (first.known ∙ ap₂ (λ xs k. reverse xs ++ k) c.as_slice.ensures c.requires.none);
     }
 
+listed_grows : (c : goal.After-drop-primitives-inside-2) → Grows c.list_arities.new.heap c.add_axioms-2.new.heap
+listed_grows c = Grows-trans _ _ _ c.symbol.ensures.grows (Grows-trans _ _ _ c.add_axioms.ensures.grows c.add_axioms-2.ensures.grows)
+
 pub returns-clause-theory : goal.returns-clause-theory
 returns-clause-theory c = begun_theory _ _ _ _ _ _ _ _ _ _ _ (start c)
 
@@ -42,3 +60,12 @@ returns-clause-known_in c = known_begun _ _ _ _ _ _ _ _ _ _ _ (start c)
 
 pub returns-clause-known : goal.returns-clause-known
 returns-clause-known c = known_last _ _ _ _ _ _ _ _ _ _ _ (start c)
+
+pub returns-clause-arity_list_in : goal.returns-clause-arity_list_in
+returns-clause-arity_list_in c = IsIn-Grows _ _ (listed_grows c) c.in_ok-arity_list.arity_list c.in_ok-arity_list.ensures.list.0
+
+pub returns-clause-arity_list : goal.returns-clause-arity_list
+returns-clause-arity_list c =
+    let made = c.in_ok-arity_list.ensures.list in
+    object_at-Grows _ _ (listed_grows c) c.in_ok-arity_list.arity_list made.0
+    ∙ (made.1 ∙ ap table_object c.in_ok-preamble.ensures.arity)

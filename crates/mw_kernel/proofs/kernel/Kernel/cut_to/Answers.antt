@@ -9,5 +9,5 @@ invariant_of-self c =
     let h = c.self.invariant in
     let needed = subst (λ v. v.needed ≤ c.args.to) (sym c.self.view_is) c.requires.needed in
     let within = subst (λ v. c.args.to ≤ length v.objects) (sym c.self.view_is) c.requires.within in
-    subst (λ os. IsKernel (record { objects = os; needed = c.self.inside.needed; axioms = c.self.inside.axioms; theorems = c.self.inside.theorems; steps = c.self.inside.steps }) c.self.inside.known_axioms c.self.inside.known_theorems c.self.inside.arity c.cut_marks.new.marks) (sym c.cut_back.ensures)
+    subst (λ os. IsKernel (record { objects = os; needed = c.self.inside.needed; axioms = c.self.inside.axioms; theorems = c.self.inside.theorems; arity_list = c.self.inside.arity_list; steps = c.self.inside.steps }) c.self.inside.known_axioms c.self.inside.known_theorems c.self.inside.arity c.cut_marks.new.marks) (sym c.cut_back.ensures)
     (cut_back _ _ _ _ _ h c.args.to c.cut_marks.new.marks needed within c.cut_marks.ensures.few (c.cut_marks.ensures.marked _ _ h.marked))

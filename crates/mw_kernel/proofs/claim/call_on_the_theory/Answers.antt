@@ -1,0 +1,23 @@
+-- Each part means in the end what it meant when it was made.
+use Rattle.std.proofs.Common.{refl, ap₂, ◌∙◌}
+use Rattle.mw_model.specs.Object.{Pair}
+use Rattle.mw_heap.proofs.Objects.{Grows-trans, object_at-Grows}
+use Rattle.mw_kernel.proofs.Happening.{IfOk-map}
+use Rattle.mw_kernel.proofs.claim.call_on_the_theory.Goals as goal
+
+pub returns-clause-term : goal.returns-clause-term
+returns-clause-term c =
+    let axioms = c.in_ok-axioms.ensures in
+    let theorems = c.in_ok-theorems.ensures in
+    let arities = c.in_ok-arities.ensures in
+    let arguments = c.in_ok-arguments.ensures in
+    let later = Grows-trans _ _ _ theorems.grows arities.grows in
+    let all = Grows-trans _ _ _ axioms.grows later in
+    IfOk-map c.cons.result _ _ (λ r made f t function_is argument_is.
+    made.1
+    ∙ ap₂ Pair (object_at-Grows _ _ (Grows-trans _ _ _ all arguments.grows) c.args.function c.requires.function ∙ function_is)
+    (arguments.made.1
+    ∙ ap₂ Pair (object_at-Grows _ _ all c.args.argument c.requires.argument ∙ argument_is)
+    (ap₂ Pair (object_at-Grows _ _ later c.in_ok-axioms.axioms axioms.made.0 ∙ axioms.made.1)
+    (ap₂ Pair (object_at-Grows _ _ arities.grows c.in_ok-theorems.theorems theorems.made.0 ∙ theorems.made.1)
+    (ap₂ Pair arities.made.1 refl))))) c.cons.ensures.made

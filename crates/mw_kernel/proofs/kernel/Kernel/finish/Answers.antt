@@ -1,6 +1,0 @@
--- The heap grows.
-use Rattle.mw_kernel.proofs.Keeping.{grown}
-use Rattle.mw_kernel.proofs.kernel.Kernel.finish.Goals as goal
-
-pub invariant_of-self : goal.invariant_of-self
-invariant_of-self c = grown _ _ _ _ _ c.self.invariant c.finish.new.heap c.finish.ensures.grows

@@ -1,0 +1,53 @@
+use Rattle.std.proofs.Common.{◌≡◌, ◌∙◌, ◌<◌, ◌≤◌, ◌+◌, ◌++◌, ◌∷◌, sym, ap, subst, length, take, drop, get_or, arith, refl, []}
+use Rattle.mw_model.specs.Lexemes.{is_digit, lexemes_from}
+use Rattle.mw_read.specs.Machine.{on}
+use Rattle.mw_read.specs.Resume.{resume}
+use Rattle.mw_read.specs.Lexing.{label_lexeme}
+use Rattle.mw_read.specs.Held.{Took}
+use Rattle.mw_read.specs.declared.parser.Parser.{Parser}
+use Rattle.mw_read.specs.Parsing.{IsText, is_inside, ahead}
+use Rattle.mw_read.specs.declared.step.SyntaxKind.TheVariants as kinds
+use Rattle.mw_read.proofs.Holding.{holds_full, sound_clamp}
+use Rattle.mw_read.proofs.Bare.{all_append, go_on_past, both_length, take_cut}
+use Rattle.mw_read.proofs.Hashes.{hash_long, hash_advance}
+use Rattle.mw_read.proofs.Advancing.{fault_advances}
+use Rattle.mw_read.proofs.parser.Parser.in_hash.Goals as goal
+
+pub returns-then-length-gt9-clause-advances : goal.returns-then-length-gt9-clause-advances
+returns-then-length-gt9-clause-advances c t h =
+    let a = c.args.self.now in
+    let rest = c.args.rest.now in
+    let n = c.digits-n.result in
+    let run = c.digits-n.ensures in
+    let full = sym (holds_full c.args.heap.now a.stack t h) ∙ c.requires.parser.ready (ap is_inside c.requires.begun) in
+    let text = subst (λ m. IsText m a.token.items) c.requires.begun c.requires.parser.text in
+    let whole = a.token.items ++ take n rest in
+    let l = both_length a.token.items rest n run.within in
+    let long : 9 < length whole = omega (arith, l, c.len.ensures, a.token.ok.0, c.if-length-gt9.true) in
+    fault_advances c.args.heap.now t a a rest c.fault.result 0 (record { kind = kinds.Label; offset = a.start }) c.fault.ensures
+    (λ e z.
+    ap (λ m. resume t (ahead e m a.token.items a.start (rest ++ z))) c.requires.begun
+    ∙ ap (λ y. resume t (lexemes_from e a.start 0 (35 ∷ y))) (take_cut a.token.items rest n z)
+    ∙ hash_long e t a.start whole (drop n rest ++ z) (all_append is_digit a.token.items (take n rest) text.0 run.all) long full (sound_clamp c.args.heap.now a.stack t h.means))
+
+pub returns-clause-advances : goal.returns-clause-advances
+returns-clause-advances c t h =
+    let a = c.args.self.now in
+    let rest = c.args.rest.now in
+    let n = c.digits-n.result in
+    let run = c.digits-n.ensures in
+    let lt : n < length rest = omega (arith, run.within, c.if-n-rest.false) in
+    let full = sym (holds_full c.args.heap.now a.stack t h) ∙ c.requires.parser.ready (ap is_inside c.requires.begun) in
+    let text = subst (λ m. IsText m a.token.items) c.requires.begun c.requires.parser.text in
+    let whole = a.token.items ++ take n rest in
+    let l = both_length a.token.items rest n run.within in
+    let few : length whole ≤ 9 = omega (arith, l, c.len.ensures, a.token.ok.0, c.if-length-gt9.false) in
+    let i : c.extend_from_slice.new.self.items ≡ whole = c.in_ok-extend_from_slice.ensures.items in
+    let mid : Parser = record a { token = c.extend_from_slice.new.self } in
+    hash_advance c.end_hash.new.heap t a mid c.end_hash.new.self rest (n + 1) whole (drop (n + 1) rest) (get_or rest n 0) c.in_ok-outcome.outcome i refl
+    (λ z. take_cut [] rest (n + 1) z) (all_append is_digit a.token.items (take n rest) text.0 run.all) (run.ends lt) few
+    (λ e z.
+    ap (λ m. resume t (ahead e m a.token.items a.start (take (n + 1) rest ++ z))) c.requires.begun
+    ∙ ap (λ y. resume t (lexemes_from e a.start 0 (35 ∷ y))) (go_on_past a.token.items rest n z lt))
+    (subst (λ u. Took c.end_hash.new.heap c.end_hash.new.self.stack c.in_ok-outcome.outcome (on t (label_lexeme a.start u (get_or rest n 0)))) i (c.in_ok-outcome.ensures.took t h full))
+    c.in_ok-outcome.ensures.ended
