@@ -58,6 +58,7 @@ concludes_halt ending.WriteFault s text old new h t = t
 concludes_halt ending.Memory s text old new h t = t
 concludes_halt ending.Done s text old new h t = absurd h
 concludes_halt ending.SomeRefused s text old new h t = absurd h
+concludes_halt ending.Help s text old new h t = absurd h
 concludes_halt ending.Usage s text old new h t = absurd h
 concludes_halt (ending.Syntax k o) s text old new h t = absurd h
 concludes_halt ending.ReadFault s text old new h t = absurd h

@@ -17,11 +17,11 @@ use Rattle.mw_book.specs.Checks.{Reported, CheckEnds, SourceCounts, ReadWhole, C
 use Rattle.mw_book.specs.declared.judging.Judging.{Judging}
 use Rattle.mw_book.specs.declared.status.Status.{Status as Ending}
 use Rattle.mw_book.specs.declared.status.Status.TheVariants as ending
-use Rattle.mw_book.proofs.Written.{takes_none, takes_both, takes_then, gives_none, left_of, gives_has}
+use Rattle.mw_book.proofs.Written.{nothing_taken, takes_both, takes_then, gives_none, left_of, gives_has}
 
 -- nothing was written
 pub part_none : (N : ℕ) (input sink : Option (List ℕ)) → IsPartOf (Check N) input sink sink
-part_none N input sink = (left_of input, gives_has input input [] (gives_none input), ([], (report_due (left_of input) N).text, refl, takes_none sink))
+part_none N input sink = (left_of input, gives_has input input [] (gives_none input), nothing_taken (report_due (left_of input) N).text sink)
 
 -- a report that is done is that of a book with no fault
 done_none : (f : Option (SyntaxKind × ℕ)) (n : ℕ) → Some Done ≡ Some (report.status_of (fault_of f) n) → f ≡ None
@@ -32,12 +32,13 @@ some_refused_none : (f : Option (SyntaxKind × ℕ)) (n : ℕ) → Some SomeRefu
 some_refused_none None n e = refl
 some_refused_none (Some f) n e = absurd (let h : Some SomeRefused ≡ Some (Syntax (kind_of f.0) f.1) = e in cc)
 
-same_some : (a b : Status) → Some a ≡ Some b → a ≡ b
+pub same_some : (a b : Status) → Some a ≡ Some b → a ≡ b
 same_some a b e = cc
 
 pub concludes_reads : (e : Ending) (s : Status) (text : List ℕ) (a b : Option (List ℕ)) (old new : ℕ) → Concludes e s text a b → new ≡ old → SourceCounts e old new
 concludes_reads ending.Done s text a b old new c k = k
 concludes_reads ending.SomeRefused s text a b old new c k = k
+concludes_reads ending.Help s text a b old new c k = k
 concludes_reads ending.Usage s text a b old new c k = k
 concludes_reads (ending.Syntax x o) s text a b old new c k = k
 concludes_reads ending.WriteFault s text a b old new c k = k
@@ -45,8 +46,11 @@ concludes_reads ending.Memory s text a b old new c k = k
 concludes_reads ending.ReadFault s text a b old new c k = absurd (let h : None ≡ Some s = c.0 in cc)
 
 module _ (N : ℕ) (input now first middle : Option (List ℕ)) (f : Option (SyntaxKind × ℕ)) (j : Judging) (w : ReadWhole N input now first middle f j) where
-  abbrev read : Book
+  abbrev pub read : Book
   read = book (events_of w.given) (fault_of f)
+
+  pub same_book : read ≡ taken_book (trees w.bytes)
+  same_book = ap taken_book (sym w.read)
 
   abbrev rest : List ℕ
   rest = j.lines.items ++ last_line read N
@@ -55,10 +59,10 @@ module _ (N : ℕ) (input now first middle : Option (List ℕ)) (f : Option (Syn
   whole =
       sym (append_assoc w.written j.lines.items (last_line read N))
       ∙ ap (λ u. u ++ last_line read N) w.lines
-      ∙ ap (λ (b : Book). (report_of (taken_book b) N).text) (sym w.read)
+      ∙ ap (λ (b : Book). (report_of b N).text) same_book
 
   same_status : (report_of read N).status ≡ (report_due w.bytes N).status
-  same_status = ap (λ (b : Book). (report_of (taken_book b) N).status) (sym w.read)
+  same_status = ap (λ (b : Book). (report_of b N).status) same_book
 
   reported : EventsKeep → (after : Option (List ℕ)) (s : Status) → s ≡ (report_of read N).status → Takes middle after rest → Reported N input first after s
   reported keeps after s e t = (
@@ -76,6 +80,7 @@ module _ (N : ℕ) (input now first middle : Option (List ℕ)) (f : Option (Syn
   ends_with keeps ending.Done after c = (w.ended (done_none f _ c.0), reported keeps after Done (same_some Done (report_of read N).status c.0) c.1)
   ends_with keeps ending.SomeRefused after c = (w.ended (some_refused_none f _ c.0), reported keeps after SomeRefused (same_some SomeRefused (report_of read N).status c.0) c.1)
   ends_with keeps (ending.Syntax k o) after c = reported keeps after (Syntax (kind_of k) o) (same_some (Syntax (kind_of k) o) (report_of read N).status c.0) c.1
+  ends_with keeps ending.Help after c = absurd (let h : None ≡ Some (report_of read N).status = c.0 in cc)
   ends_with keeps ending.Usage after c = absurd (let h : None ≡ Some (report_of read N).status = c.0 in cc)
   ends_with keeps ending.ReadFault after c = absurd (let h : None ≡ Some (report_of read N).status = c.0 in cc)
   ends_with keeps ending.WriteFault after c = part after c

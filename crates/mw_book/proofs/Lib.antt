@@ -4,12 +4,15 @@ pub mod Written
 pub mod Prefixes
 pub mod Rounds
 pub mod Headlines
+pub mod TrialHeadlines
 pub mod Asked
 pub mod Appending
 pub mod Showing
 pub mod Symbols
 pub mod OneMore
-pub mod Asking
 pub mod Summary
 pub mod Sinks
 pub mod Clauses
+pub mod Trials
+pub mod Faultless
+pub mod Requests

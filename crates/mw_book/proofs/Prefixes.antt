@@ -10,7 +10,7 @@ use Rattle.mw_model.specs.Report.{line, lines, last_line}
 use Rattle.mw_model.specs.Version.{as_taken, report_due, taken_book}
 use Rattle.mw_read.specs.Parsing.{Fits, meaning_of}
 use Rattle.mw_read.specs.Standing.{Stands, IsFree}
-use Rattle.mw_read.specs.declared.reader.Reader.{Reader}
+use Rattle.mw_read.specs.declared.parser.Parser.{Parser}
 use Rattle.mw_read.proofs.Bytes.{onward_book}
 use Rattle.mw_read.proofs.Telling.{fits_any}
 use Rattle.mw_book.specs.Knowing.{events_of, lines_of}
@@ -25,7 +25,7 @@ take_past (c ∷ h) w zero l = absurd (omega arith)
 take_past (c ∷ h) w (suc m) l = ap (λ u. c ∷ u) (take_past h w m (omega arith) ∙ ap (λ n. h ++ take n w) (let e : m - length h ≡ suc m - suc (length h) = omega arith in e))
 
 -- whatever follows may follow
-pub free_fits : (p : Reader) → IsFree p → Fits p.begun Goes []
+pub free_fits : (p : Parser) → IsFree p → Fits p.begun Goes []
 free_fits p f = subst (λ u. Fits p.begun Goes u) (take_none _) (f [])
 
 cut_events : (b : Book) → (cut_short b).events ≡ b.events
@@ -36,7 +36,7 @@ cut_events b = go b.events b.fault
     go xs (Some f) = refl
 
 -- the data of what was read are the first of the book
-pub first_data : (os : List Object) (p : Reader) (g : List ℕ) (given : List Object) → Stands os p g given → IsFree p → (rest : List ℕ) → (more : List Object) × ((trees (g ++ rest)).events ≡ given ++ more)
+pub first_data : (os : List Object) (p : Parser) (g : List ℕ) (given : List Object) → Stands os p g given → IsFree p → (rest : List ℕ) → (more : List Object) × ((trees (g ++ rest)).events ≡ given ++ more)
 first_data os p g given s f rest = go (leb (length (g ++ rest)) limit)
   where
     fits : (e : Ending) (x : List ℕ) → Fits p.begun e x
@@ -71,7 +71,7 @@ lines_first t given more all N last e = (
       ∙ append_assoc (lines 1 t (events_of given) N) (lines (1 + length (events_of given)) (after t (events_of given) N) (events_of more) N) last,
 )
 
-pub report_begins : (os : List Object) (p : Reader) (g : List ℕ) (given : List Object) → Stands os p g given → IsFree p → (rest : List ℕ) (N : ℕ) → (tail : List ℕ) × ((report_due (g ++ rest) N).text ≡ lines_of given N ++ tail)
+pub report_begins : (os : List Object) (p : Parser) (g : List ℕ) (given : List Object) → Stands os p g given → IsFree p → (rest : List ℕ) (N : ℕ) → (tail : List ℕ) × ((report_due (g ++ rest) N).text ≡ lines_of given N ++ tail)
 report_begins os p g given s f rest N =
     let d = first_data os p g given s f rest in
     let b = trees (g ++ rest) in

@@ -7,7 +7,7 @@ use Rattle.mw_model.specs.Lexemes.{Goes}
 use Rattle.mw_model.specs.Grammar.{Book, book, reading}
 use Rattle.mw_port.specs.Ports.{Gives, Takes as SinkTakes, HasEnded}
 use Rattle.mw_read.specs.Standing.{Stands, IsStanding, IsFree, work}
-use Rattle.mw_read.specs.declared.reader.Reader.{Reader}
+use Rattle.mw_read.specs.declared.parser.Parser.{Parser}
 use Rattle.mw_read.specs.declared.step.SyntaxKind.{SyntaxKind}
 use Rattle.mw_read.proofs.Beginning.{weight_small}
 use Rattle.mw_read.proofs.Telling.{stands_goes}
@@ -15,7 +15,7 @@ use Rattle.mw_book.specs.Books.{Has, TakesSome}
 use Rattle.mw_book.specs.Knowing.{Judged, Judges, lines_of}
 use Rattle.mw_book.specs.Taking.{Takes, Ends}
 use Rattle.mw_book.specs.Statuses.{IsPartOf}
-use Rattle.mw_book.specs.Checks.{CheckEnds, SourceCounts, IsHalt, ReadWhole}
+use Rattle.mw_book.specs.Checks.{CheckEnds, SourceCounts, IsHalt, IsStop, ReadWhole}
 use Rattle.mw_book.specs.declared.judging.Judging.{Judging}
 use Rattle.mw_book.specs.declared.status.Status.{Status as Ending}
 use Rattle.mw_book.specs.declared.status.Status.TheVariants as ending
@@ -23,7 +23,7 @@ use Rattle.mw_book.proofs.Prefixes.{free_fits, report_begins}
 use Rattle.mw_book.proofs.Written.{takes_none, takes_both, some_then, takes_some, takes_then, gives_none, gives_both, left_of, gives_has, ended_has, still_ended}
 
 -- Of the book, these bytes were read, all their data judged, and all lines of these written.
-pub record Between (N : ℕ) (input first : Option (List ℕ)) (j : Judging) (p : Reader) (left sink : Option (List ℕ)) (count : ℕ) : Type 0 where
+pub record Between (N : ℕ) (input first : Option (List ℕ)) (j : Judging) (p : Parser) (left sink : Option (List ℕ)) (count : ℕ) : Type 0 where
   pub bytes : List ℕ
   pub given : List Object
   pub gives : Gives input left bytes
@@ -37,7 +37,7 @@ pub record Between (N : ℕ) (input first : Option (List ℕ)) (j : Judging) (p 
   pub events : j.events ≤ 3 * length bytes
   pub few : j.refused ≤ j.events
 
-pub between_none : (N : ℕ) (input first : Option (List ℕ)) (j : Judging) (p : Reader) → Judged j N [] → j.lines.items ≡ [] → j.refused ≤ j.events → ((os : List Object) → Stands os p [] []) → IsFree p → Between N input first j p input first 0
+pub between_none : (N : ℕ) (input first : Option (List ℕ)) (j : Judging) (p : Parser) → Judged j N [] → j.lines.items ≡ [] → j.refused ≤ j.events → ((os : List Object) → Stands os p [] []) → IsFree p → Between N input first j p input first 0
 between_none N input first j p h l few s f = record {
   bytes = [];
   given = [];
@@ -53,7 +53,7 @@ between_none N input first j p h l few s f = record {
   few = few;
 }
 
-module _ (N : ℕ) (input first : Option (List ℕ)) (j : Judging) (p : Reader) (left sink : Option (List ℕ)) (count : ℕ) (between : Between N input first j p left sink count) where
+module _ (N : ℕ) (input first : Option (List ℕ)) (j : Judging) (p : Parser) (left sink : Option (List ℕ)) (count : ℕ) (between : Between N input first j p left sink count) where
   pub here : IsStanding j.kernel.objects p
   here = (between.bytes, between.given, between.stands)
 
@@ -104,7 +104,7 @@ module _ (N : ℕ) (input first : Option (List ℕ)) (j : Judging) (p : Reader) 
     lines_more more h = h.lines N between.judged (lines_of between.given N) (ap (λ u. lines_of between.given N ++ u) between.none_left ∙ append-nil (lines_of between.given N))
 
     -- up to a fault
-    pub whole_fault : (f : Option (SyntaxKind × ℕ)) (q : Reader) → is_some f ≡ true → Takes f j between.bytes between.given piece new q → ReadWhole N input now first sink f new
+    pub whole_fault : (f : Option (SyntaxKind × ℕ)) (q : Parser) → is_some f ≡ true → Takes f j between.bytes between.given piece new q → ReadWhole N input now first sink f new
     whole_fault None q e h = absurd (true≢false (sym e))
     whole_fault (Some f) q e h = record {
       bytes = between.bytes ++ (piece ++ left_of now);
@@ -122,11 +122,11 @@ module _ (N : ℕ) (input first : Option (List ℕ)) (j : Judging) (p : Reader) 
         some_is_not_none x e = true≢false (ap is_some e)
 
     -- all of it
-    pub taken_all : (f : Option (SyntaxKind × ℕ)) (q : Reader) → is_some f ≡ false → Takes f j between.bytes between.given piece new q → Takes None j between.bytes between.given piece new q
+    pub taken_all : (f : Option (SyntaxKind × ℕ)) (q : Parser) → is_some f ≡ false → Takes f j between.bytes between.given piece new q → Takes None j between.bytes between.given piece new q
     taken_all None q e h = h
     taken_all (Some f) q e h = absurd (true≢false e)
 
-    module _ (q : Reader) (h : Takes None j between.bytes between.given piece new q) (after : Option (List ℕ)) where
+    module _ (q : Parser) (h : Takes None j between.bytes between.given piece new q) (after : Option (List ℕ)) where
       -- a write stopped
       pub write_stops : TakesSome sink after new.lines.items → IsPartOf (Check N) input first after
       write_stops t =
@@ -165,6 +165,7 @@ halt_ends N input now first after ending.WriteFault h p = p
 halt_ends N input now first after ending.Memory h p = p
 halt_ends N input now first after ending.Done h p = absurd h
 halt_ends N input now first after ending.SomeRefused h p = absurd h
+halt_ends N input now first after ending.Help h p = absurd h
 halt_ends N input now first after ending.Usage h p = absurd h
 halt_ends N input now first after (ending.Syntax k o) h p = absurd h
 halt_ends N input now first after ending.ReadFault h p = absurd h
@@ -174,6 +175,17 @@ halt_reads ending.WriteFault old new h e = e
 halt_reads ending.Memory old new h e = e
 halt_reads ending.Done old new h e = absurd h
 halt_reads ending.SomeRefused old new h e = absurd h
+halt_reads ending.Help old new h e = absurd h
 halt_reads ending.Usage old new h e = absurd h
 halt_reads (ending.Syntax k o) old new h e = absurd h
 halt_reads ending.ReadFault old new h e = absurd h
+
+pub halt_stops : (s : Ending) → IsHalt s → IsStop s
+halt_stops ending.WriteFault h = h
+halt_stops ending.Memory h = h
+halt_stops ending.Done h = absurd h
+halt_stops ending.SomeRefused h = absurd h
+halt_stops ending.Help h = absurd h
+halt_stops ending.Usage h = absurd h
+halt_stops (ending.Syntax k o) h = absurd h
+halt_stops ending.ReadFault h = absurd h

@@ -15,6 +15,10 @@ takes_both None (Some v) c x y p q = absurd p
 takes_both (Some u) (Some v) None x y p q = absurd q
 takes_both None None (Some w) x y p q = absurd q
 
+-- leading bytes of any text
+pub nothing_taken : (text : List ℕ) (a : Option (List ℕ)) → TakesSome a a text
+nothing_taken text a = ([], text, refl, takes_none a)
+
 -- of a text that goes on
 pub some_then : (a b : Option (List ℕ)) (x y : List ℕ) → TakesSome a b x → TakesSome a b (x ++ y)
 some_then a b x y t = (t.0, t.1 ++ y, ap (λ u. u ++ y) t.2 ∙ append_assoc t.0 t.1 y, t.3)

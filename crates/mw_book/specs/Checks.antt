@@ -4,8 +4,9 @@ use Rattle.mw_model.specs.Object.{Object}
 use Rattle.mw_model.specs.Command.{Check}
 use Rattle.mw_model.specs.Grammar.{book, trees}
 use Rattle.mw_model.specs.Report.{Status, Done, SomeRefused, Syntax}
-use Rattle.mw_model.specs.Version.{lines_due}
-use Rattle.mw_model.specs.Headline.{Headline}
+use Rattle.mw_model.specs.Trial.{trial_book}
+use Rattle.mw_model.specs.Version.{lines_due, last_line_due}
+use Rattle.mw_model.specs.Headline.{Headline, TrialHeadline}
 use Rattle.mw_port.specs.Ports.{Rises, Gives, Takes, HasEnded}
 use Rattle.mw_read.specs.Piles.{kind_of}
 use Rattle.mw_read.specs.declared.step.SyntaxKind.{SyntaxKind}
@@ -26,10 +27,26 @@ abbrev pub CheckEnds : Ending → ℕ → Option (List ℕ) → Option (List ℕ
 CheckEnds ending.Done N old_book new_book old new = HasEnded new_book × Reported N old_book old new Done
 CheckEnds ending.SomeRefused N old_book new_book old new = HasEnded new_book × Reported N old_book old new SomeRefused
 CheckEnds (ending.Syntax k o) N old_book new_book old new = Reported N old_book old new (Syntax (kind_of k) o)
+CheckEnds ending.Help N old_book new_book old new = ⊥
 CheckEnds ending.Usage N old_book new_book old new = ⊥
 CheckEnds ending.ReadFault N old_book new_book old new = (given : List ℕ) × Gives old_book new_book given × Takes old new (lines_due given N)
 CheckEnds ending.WriteFault N old_book new_book old new = IsPartOf (Check N) old_book old new
 CheckEnds ending.Memory N old_book new_book old new = IsPartOf (Check N) old_book old new
+
+-- What the sink took is the last line of the report on the trial book of m events with this step limit.
+abbrev pub LastReported : (m N : ℕ) → Option (List ℕ) → Option (List ℕ) → Status → Type 0
+LastReported m N old new s = (written : List ℕ) × Takes old new written × TrialHeadline m N written s
+
+-- what the sink took of that line; the trial book is made and not read, so that no read fails
+abbrev pub TrialEnds : Ending → (m N : ℕ) → Option (List ℕ) → Option (List ℕ) → Type 0
+TrialEnds ending.Done m N old new = LastReported m N old new Done
+TrialEnds ending.SomeRefused m N old new = LastReported m N old new SomeRefused
+TrialEnds (ending.Syntax k o) m N old new = LastReported m N old new (Syntax (kind_of k) o)
+TrialEnds ending.Help m N old new = ⊥
+TrialEnds ending.Usage m N old new = ⊥
+TrialEnds ending.ReadFault m N old new = ⊥
+TrialEnds ending.WriteFault m N old new = TakesSome old new (last_line_due (trial_book m) N)
+TrialEnds ending.Memory m N old new = TakesSome old new (last_line_due (trial_book m) N)
 
 -- the source's count of faults before and afterwards
 abbrev pub SourceCounts : Ending → ℕ → ℕ → Type 0
@@ -64,3 +81,10 @@ abbrev pub IsHalt : Ending → Type 0
 IsHalt ending.WriteFault = Unit {0}
 IsHalt ending.Memory = Unit {0}
 IsHalt e = ⊥
+
+-- a read or a write stopped, or memory was refused
+abbrev pub IsStop : Ending → Type 0
+IsStop ending.ReadFault = Unit {0}
+IsStop ending.WriteFault = Unit {0}
+IsStop ending.Memory = Unit {0}
+IsStop e = ⊥

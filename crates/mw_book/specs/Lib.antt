@@ -6,3 +6,4 @@ pub mod Lines
 pub mod Knowing
 pub mod Taking
 pub mod Checks
+pub mod Trials

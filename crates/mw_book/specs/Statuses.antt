@@ -1,9 +1,10 @@
 -- How the program ends, and what is then true.
-use Rattle.std.specs.Prelude.{◌≡◌, ℕ, List, Option, Some, None}
-use Rattle.mw_model.specs.Command.{Request, Check, Usage, asked, help_text}
+use Rattle.std.specs.Prelude.{◌≡◌, ℕ, Bool, true, false, List, Option, Some, None}
+use Rattle.mw_model.specs.Command.{Request, Check, Trial, Help, Usage, asked, help_text}
 use Rattle.mw_model.specs.Report.{Status, Done, SomeRefused, Syntax}
-use Rattle.mw_model.specs.Version.{report_due, lines_due}
-use Rattle.mw_model.specs.Headline.{Headline}
+use Rattle.mw_model.specs.Trial.{trial_book}
+use Rattle.mw_model.specs.Version.{report_due, lines_due, last_line_due}
+use Rattle.mw_model.specs.Headline.{Headline, TrialHeadline}
 use Rattle.mw_port.specs.Ports.{Gives, Takes}
 use Rattle.mw_read.specs.Piles.{kind_of}
 use Rattle.mw_port.specs.declared.sink.Halt.{Halt}
@@ -24,14 +25,28 @@ abbrev pub halted : Halt → Ending
 halted halt.Failed = ending.WriteFault
 halted halt.Memory = ending.Memory
 
--- What was written is the report on the book, and what it calls accepted is true.
-abbrev pub Reports : List (List ℕ) → Option (List ℕ) → Option (List ℕ) → Option (List ℕ) → Status → Type 0
-Reports words book old new s =
-    (N : ℕ) × (asked words ≡ Check N) × (bytes : List ℕ) × Has book bytes × (written : List ℕ) × Takes old new written × Headline bytes N written s
+-- does the request read the source?
+abbrev pub reads_book : Request → Bool
+reads_book (Check N) = true
+reads_book (Trial m N) = false
+reads_book Help = false
+reads_book Usage = false
 
--- The sink took leading bytes of what is due: the report on the book, or the help text.
+-- What was written is the report on the book, or the last line of that on the trial book, and what the report calls accepted is true.
+abbrev pub ReportsOn : Request → Option (List ℕ) → Option (List ℕ) → Option (List ℕ) → Status → Type 0
+ReportsOn (Check N) book old new s = (bytes : List ℕ) × Has book bytes × (written : List ℕ) × Takes old new written × Headline bytes N written s
+ReportsOn (Trial m N) book old new s = (written : List ℕ) × Takes old new written × TrialHeadline m N written s
+ReportsOn Help book old new s = ⊥
+ReportsOn Usage book old new s = ⊥
+
+abbrev pub Reports : List (List ℕ) → Option (List ℕ) → Option (List ℕ) → Option (List ℕ) → Status → Type 0
+Reports words book old new s = ReportsOn (asked words) book old new s
+
+-- The sink took leading bytes of what is due: the report on the book, the last line of that on the trial book, or the help text.
 abbrev pub IsPartOf : Request → Option (List ℕ) → Option (List ℕ) → Option (List ℕ) → Type 0
 IsPartOf (Check N) book old new = (bytes : List ℕ) × Has book bytes × TakesSome old new (report_due bytes N).text
+IsPartOf (Trial m N) book old new = TakesSome old new (last_line_due (trial_book m) N)
+IsPartOf Help book old new = TakesSome old new help_text
 IsPartOf Usage book old new = TakesSome old new help_text
 
 abbrev pub IsCutShort : List (List ℕ) → Option (List ℕ) → Option (List ℕ) → Option (List ℕ) → Type 0

@@ -5,7 +5,7 @@ use Rattle.mw_model.specs.Lexemes.{Fault, fault, Goes}
 use Rattle.mw_model.specs.Grammar.{book, reading, trees}
 use Rattle.mw_read.specs.Piles.{kind_of}
 use Rattle.mw_read.specs.Standing.{Stands, IsFree}
-use Rattle.mw_read.specs.declared.reader.Reader.{Reader}
+use Rattle.mw_read.specs.declared.parser.Parser.{Parser}
 use Rattle.mw_read.specs.declared.step.SyntaxKind.{SyntaxKind}
 use Rattle.mw_book.specs.Knowing.{Judges}
 use Rattle.mw_book.specs.declared.judging.Judging.{Judging}
@@ -16,7 +16,7 @@ fault_of None = None
 fault_of (Some f) = Some (fault (kind_of f.0) f.1)
 
 -- Behind bytes g, of which these data were given, a piece was taken whole, or up to the first fault of the book.
-abbrev pub Takes : Option (SyntaxKind × ℕ) → Judging → List ℕ → List Object → List ℕ → Judging → Reader → Type 0
+abbrev pub Takes : Option (SyntaxKind × ℕ) → Judging → List ℕ → List Object → List ℕ → Judging → Parser → Type 0
 Takes None old g given piece new r =
     (more : List Object) × Judges old given new more × Stands new.kernel.objects r (g ++ piece) more × IsFree r × (reading Goes (g ++ piece) ≡ book more None)
 Takes (Some f) old g given piece new r =

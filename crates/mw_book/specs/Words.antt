@@ -1,7 +1,10 @@
--- The step limit that the words ask for.
-use Rattle.std.specs.Prelude.{ℕ, Option, Some, None}
-use Rattle.mw_model.specs.Command.{Request, Check, Usage}
+-- What the program makes of the words of the command line.
+use Rattle.mw_model.specs.Command.{Request, Check, Trial, Help, Usage}
+use Rattle.mw_book.specs.declared.words.Request.{Request as Asked}
+use Rattle.mw_book.specs.declared.words.Request.TheVariants as words
 
-abbrev pub steps_asked : Request → Option ℕ
-steps_asked (Check N) = Some N
-steps_asked Usage = None
+abbrev pub meaning_of : Asked → Request
+meaning_of (words.Check steps) = Check steps
+meaning_of (words.Trial events steps) = Trial events steps
+meaning_of words.Help = Help
+meaning_of words.Usage = Usage

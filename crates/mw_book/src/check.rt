@@ -1,17 +1,20 @@
-//! The command that judges a book.
-ghost use Rattle.std.specs.Prelude.{◌≡◌, ℕ, ◌≤◌, List, [], ◌++◌, OnOk, OnErr, IfOk, IfErr};
+//! The commands that judge a book.
+ghost use Rattle.std.specs.Prelude.{◌≡◌, ℕ, ◌≤◌, List, [], ◌++◌, Some, OnOk, OnErr, IfOk, IfErr};
 ghost use Rattle.mw_model.specs.Object.{Object};
 ghost use Rattle.mw_model.specs.Grammar.{book};
 ghost use Rattle.mw_model.specs.Report.{report_of, last_line};
+ghost use Rattle.mw_model.specs.Trial.{trial_book};
+ghost use Rattle.mw_port.specs.Memories.{no_faults};
 ghost use Rattle.mw_port.specs.Ports.{Takes};
 ghost use Rattle.mw_book.specs.Books.{TakesSome};
 ghost use Rattle.mw_book.specs.Knowing.{Judged, events_of};
 ghost use Rattle.mw_book.specs.Taking.{fault_of};
-ghost use Rattle.mw_book.specs.Checks.{CheckEnds, SourceCounts, SinkCounts, ReadWhole, Concludes, IsHalt};
+ghost use Rattle.mw_book.specs.Checks.{CheckEnds, TrialEnds, SourceCounts, SinkCounts, ReadWhole, Concludes, IsHalt, IsStop};
 
 use crate::Status;
 use crate::judging::Judging;
 use crate::line::{write_fault, write_summary};
+use crate::nowhere::Nowhere;
 use crate::output::{status_of, write_all};
 use crate::reading::{finish, take_piece};
 use mw_heap::Memory;
@@ -48,6 +51,30 @@ pub(crate) fn check<S: Source, K: Sink>(
     }
 }
 
+/// Judges the trial book, which the source holds, and writes the last line of its report.
+pub(crate) fn trial<S: Source, K: Sink>(
+    alloc: Global,
+    steps: u64,
+    source: &mut S,
+    sink: &mut K,
+) -> Status
+    requires never_fails { (s : S) → S.faults s ≡ no_faults }
+    ensures ends { (m : ℕ) → S.left source.old ≡ Some (trial_book m) → TrialEnds result m steps (K.taken sink.old) (K.taken sink.new) }
+    ensures sink_counts { SinkCounts result (K.faults sink.old) (K.faults sink.new) }
+{
+    let Ok(mut judging) = Judging::new(alloc, steps) else {
+        return Status::Memory;
+    };
+    reached_sound();
+    match read_all(alloc, &mut judging, source, &mut Nowhere) {
+        Ok(fault) => {
+            judging.lines.clear();
+            end(&mut judging, fault, sink)
+        }
+        Err(status) => status,
+    }
+}
+
 // Reads the book to its end or its first fault, which is answered. All lines but those of the last piece are written.
 fn read_all<S: Source, K: Sink>(
     alloc: Global,
@@ -61,6 +88,7 @@ fn read_all<S: Source, K: Sink>(
     ensures whole { IfOk result (λ f. ReadWhole judging.old.kernel.steps (S.left source.old) (S.left source.new) (K.taken sink.old) (K.taken sink.new) f judging.new) }
     ensures few { OnOk result (judging.new.refused ≤ judging.new.events) }
     ensures steady { OnOk result ((S.faults source.new ≡ S.faults source.old) × (K.faults sink.new ≡ K.faults sink.old)) }
+    ensures stops { IfErr result IsStop }
     ensures ends { IfErr result (λ s. CheckEnds s judging.old.kernel.steps (S.left source.old) (S.left source.new) (K.taken sink.old) (K.taken sink.new)) }
     ensures source_counts { IfErr result (λ s. SourceCounts s (S.faults source.old) (S.faults source.new)) }
     ensures sink_counts { IfErr result (λ s. SinkCounts s (K.faults sink.old) (K.faults sink.new)) }

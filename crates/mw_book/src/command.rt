@@ -1,26 +1,30 @@
 //! The program, but for its words, its source and its sink, which it is handed.
-ghost use Rattle.std.specs.Prelude.{◌≡◌, ◌≢◌, ◌⊎◌, IfSome};
-ghost use Rattle.mw_model.specs.Command.{Usage, asked, help_text};
+ghost use Rattle.std.specs.Prelude.{◌≡◌, ◌≢◌, ◌⊎◌, true, false, IfSome, IfErr, OnOk, OnErr};
+ghost use Rattle.mw_model.specs.Command.{Help, Usage, asked, help_text};
 ghost use Rattle.mw_port.specs.Ports.{Rises, Takes, HasEnded};
-ghost use Rattle.mw_book.specs.Statuses.{report_status, Reports, ReportsSoFar, IsCutShort};
+ghost use Rattle.mw_book.specs.Books.{TakesSome};
+ghost use Rattle.mw_book.specs.Checks.{TrialEnds, SinkCounts, IsHalt};
+ghost use Rattle.mw_book.specs.Statuses.{report_status, reads_book, Reports, ReportsSoFar, IsCutShort};
 
 use crate::Status;
-use crate::check::check;
+use crate::check::{check, trial};
 use crate::output::{status_of, write_all};
-use crate::words::steps_of;
+use crate::trial::TrialSource;
+use crate::words::{Request, request_of};
 use mw_port::{Sink, Source, Text};
 use std::alloc::Global;
 
-// How the program is used.
-const HELP: &[u8] = b"milawa check\n";
+// How the program is used: a line for each command.
+const HELP: &[u8] = b"milawa check [--steps N]\nmilawa trial M [--steps N]\n";
 
-/// Does what the words ask for: judges the book on the source and writes its report to the sink, or writes how the program is used.
+/// Does what the words ask for: judges the book on the source and writes its report to the sink, or judges the trial book and writes
+/// the last line of its report, or writes how the program is used.
 ///
-/// `Done`, `SomeRefused` and `Syntax` come where the words ask for a book to be judged and the report on it has that status, which the
-/// sink then took whole: what it calls accepted is true in the standard model. `Usage` comes where the words ask for nothing that the
-/// program does. `ReadFault` and `WriteFault` come where the source, or the sink, counted a fault in this call, and `Memory` where
-/// memory was refused: what the sink took are leading bytes of the text that was due, and at a fault in reading the lines of all data that
-/// are complete in the bytes read.
+/// `Done`, `SomeRefused` and `Syntax` come where the words ask for a book to be judged and the report on it has that status; the
+/// sink then took the report whole, or its last line: what it calls accepted is true in the standard model. `Help` comes where the
+/// words ask how the program is used, and `Usage` where they ask for nothing that it does. `ReadFault` and `WriteFault` come where
+/// the source, or the sink, counted a fault in this call, and `Memory` where memory was refused: what the sink took are leading bytes
+/// of the text that was due, and at a fault in reading the lines of all data that are complete in the bytes read.
 pub fn run<S: Source, K: Sink>(
     alloc: Global,
     words: &[Text],
@@ -28,19 +32,69 @@ pub fn run<S: Source, K: Sink>(
     sink: &mut K,
 ) -> Status
     ensures report { IfSome (report_status result) (Reports words.now (S.left source.old) (K.taken sink.old) (K.taken sink.new)) }
-    ensures read_whole { (result ≡ Status.Done) ⊎ (result ≡ Status.SomeRefused) → HasEnded (S.left source.new) }
-    ensures usage { result ≡ Status.Usage → (asked words.now ≡ Usage) × Takes (K.taken sink.old) (K.taken sink.new) help_text × (S.left source.new ≡ S.left source.old) }
+    ensures read_whole { reads_book (asked words.now) ≡ true → (result ≡ Status.Done) ⊎ (result ≡ Status.SomeRefused) → HasEnded (S.left source.new) }
+    ensures unread { reads_book (asked words.now) ≡ false → S.left source.new ≡ S.left source.old }
+    ensures help { result ≡ Status.Help → (asked words.now ≡ Help) × Takes (K.taken sink.old) (K.taken sink.new) help_text }
+    ensures usage { result ≡ Status.Usage → (asked words.now ≡ Usage) × Takes (K.taken sink.old) (K.taken sink.new) help_text }
     ensures read_fault { result ≡ Status.ReadFault → Rises (S.faults source.old) (S.faults source.new) × ReportsSoFar words.now (S.left source.old) (S.left source.new) (K.taken sink.old) (K.taken sink.new) }
     ensures write_fault { result ≡ Status.WriteFault → Rises (K.faults sink.old) (K.faults sink.new) × IsCutShort words.now (S.left source.old) (K.taken sink.old) (K.taken sink.new) }
     ensures memory { result ≡ Status.Memory → IsCutShort words.now (S.left source.old) (K.taken sink.old) (K.taken sink.new) }
     ensures source_steady { result ≢ Status.ReadFault → S.faults source.new ≡ S.faults source.old }
     ensures sink_steady { result ≢ Status.WriteFault → K.faults sink.new ≡ K.faults sink.old }
 {
-    if let Some(steps) = steps_of(words) {
-        return check(alloc, steps, source, sink);
+    match request_of(alloc, words) {
+        Ok(Request::Check { steps }) => check(alloc, steps, source, sink),
+        Ok(Request::Trial { events, steps }) => judge_trial(alloc, events, steps, sink),
+        Ok(Request::Help) => match write_help(sink) {
+            Ok(()) => Status::Help,
+            Err(status) => status,
+        },
+        Ok(Request::Usage) => match write_help(sink) {
+            Ok(()) => Status::Usage,
+            Err(status) => status,
+        },
+        Err(_) => Status::Memory,
     }
-    match write_all(sink, HELP) {
-        Ok(()) => Status::Usage,
-        Err(halt) => status_of(halt),
+}
+
+// Judges the trial book of so many events and writes the last line of its report.
+fn judge_trial<K: Sink>(alloc: Global, events: u64, steps: u64, sink: &mut K) -> Status
+    ensures ends { TrialEnds result events steps (K.taken sink.old) (K.taken sink.new) }
+    ensures sink_counts { SinkCounts result (K.faults sink.old) (K.faults sink.new) }
+{
+    let mut source = TrialSource::new(events);
+    trial(alloc, steps, &mut source, sink)
+}
+
+// Writes how the program is used.
+fn write_help<K: Sink>(sink: &mut K) -> Result<(), Status>
+    ensures written { OnOk result (Takes (K.taken sink.old) (K.taken sink.new) help_text) }
+    ensures steady { OnOk result (K.faults sink.new ≡ K.faults sink.old) }
+    ensures some { OnErr result (TakesSome (K.taken sink.old) (K.taken sink.new) help_text) }
+    ensures halt { IfErr result IsHalt }
+    ensures sink_counts { IfErr result (λ s. SinkCounts s (K.faults sink.old) (K.faults sink.new)) }
+{
+    write_all(sink, HELP).map_err(status_of)
+}
+
+#[cfg(test)]
+mod tests {
+    use super::judge_trial;
+    use crate::Status;
+    use mw_port::SteadySink;
+    use std::test::Fail;
+
+    const STEPS: u64 = 10_000_000;
+
+    #[test]
+    fn a_trial_of_several_pieces_writes_its_last_line_alone(rt: HostRuntime) -> Result<(), Fail> {
+        let alloc = rt.alloc();
+        let mut sink = SteadySink::new(alloc);
+        assert_eq!(rt; judge_trial(alloc, 100, STEPS, &mut sink), Status::Done);
+        assert_eq!(rt;
+            sink.taken(),
+            b"events 100 accepted 100 refused 0 level 1\n".as_slice()
+        );
+        Ok(())
     }
 }

@@ -2,6 +2,7 @@
 ghost use Rattle.std.specs.Prelude.{◌≡◌, ℕ, ◌+◌, ◌≤◌, ◌<◌, ◌^◌, List, [], IfOk, OnOk};
 ghost use Rattle.mw_model.specs.Object.{Object};
 ghost use Rattle.mw_read.specs.Standing.{Stands, IsStanding, IsFree, work};
+ghost use Rattle.mw_read.specs.Feeding.{IsAwaiting};
 ghost use Rattle.mw_book.specs.Taking.{Takes, Ends};
 
 use crate::judging::Judging;
@@ -15,12 +16,14 @@ pub(crate) fn take_piece(
     reader: &mut Reader,
     piece: &[u8],
 ) -> Result<Option<(SyntaxKind, u64)>, Memory>
-    requires stands { IsStanding judging.old.kernel.objects reader.old }
-    requires free { IsFree reader.old }
-    requires room { judging.old.events + work reader.old piece.now < 2 ^ 62 }
+    requires stands { IsStanding judging.old.kernel.objects reader.old.parser }
+    requires awaits { IsAwaiting reader.old }
+    requires free { IsFree reader.old.parser }
+    requires room { judging.old.events + work reader.old.parser piece.now < 2 ^ 62 }
     requires few { judging.old.refused ≤ judging.old.events }
-    ensures takes { IfOk result (λ f. (g : List ℕ) (given : List Object) → Stands judging.old.kernel.objects reader.old g given → Takes f judging.old g given piece.now judging.new reader.new) }
-    ensures counted { OnOk result (judging.new.events ≤ judging.old.events + work reader.old piece.now) }
+    ensures takes { IfOk result (λ f. (g : List ℕ) (given : List Object) → Stands judging.old.kernel.objects reader.old.parser g given → Takes f judging.old g given piece.now judging.new reader.new.parser) }
+    ensures awaits { OnOk result (IsAwaiting reader.new) }
+    ensures counted { OnOk result (judging.new.events ≤ judging.old.events + work reader.old.parser piece.now) }
     ensures few { OnOk result (judging.new.refused ≤ judging.new.events) }
 {
     let mut at = 0;
@@ -43,14 +46,16 @@ pub(crate) fn finish(
     judging: &mut Judging,
     reader: &mut Reader,
 ) -> Result<Option<(SyntaxKind, u64)>, Memory>
-    requires stands { IsStanding judging.old.kernel.objects reader.old }
-    requires room { judging.old.events + work reader.old [] < 2 ^ 62 }
+    requires stands { IsStanding judging.old.kernel.objects reader.old.parser }
+    requires awaits { IsAwaiting reader.old }
+    requires room { judging.old.events + work reader.old.parser [] < 2 ^ 62 }
     requires few { judging.old.refused ≤ judging.old.events }
-    ensures ends { IfOk result (λ f. (g : List ℕ) (given : List Object) → Stands judging.old.kernel.objects reader.old g given → Ends f judging.old g given judging.new) }
+    ensures ends { IfOk result (λ f. (g : List ℕ) (given : List Object) → Stands judging.old.kernel.objects reader.old.parser g given → Ends f judging.old g given judging.new) }
     ensures few { OnOk result (judging.new.refused ≤ judging.new.events) }
 {
+    reader.finish();
     loop {
-        match judging.kernel.finish(reader) {
+        match judging.kernel.next(reader) {
             Step::Datum(x) => judging.judge(x)?,
             Step::TooBig(word, label) => judging.refuse_large(word, label)?,
             Step::End => return Ok(None),

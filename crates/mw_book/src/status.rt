@@ -11,6 +11,8 @@ pub enum Status {
     Done,
     /// The book was read to its end, and some event was refused.
     SomeRefused,
+    /// The words asked how the program is used, which was written.
+    Help,
     /// The words are none that the program takes; how it is used was written.
     Usage,
     /// The first fault of the book's text, and its offset.
@@ -29,7 +31,7 @@ impl Status {
         ensures { result ≡ status_number self }
     {
         match self {
-            Status::Done => 0,
+            Status::Done | Status::Help => 0,
             Status::SomeRefused => 1,
             Status::Usage => 2,
             Status::Syntax(_, _) => 3,

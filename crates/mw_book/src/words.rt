@@ -1,20 +1,93 @@
 //! The words of the command line.
-ghost use Rattle.std.specs.Prelude.{◌≡◌, Option, Some, None};
-ghost use Rattle.mw_model.specs.Command.{Check, Usage, asked};
-ghost use Rattle.mw_book.specs.Words.{steps_asked};
+ghost use Rattle.std.specs.Prelude.{◌≡◌, ℕ, IfOk, option_map};
+ghost use Rattle.clap.specs.Words.{subcommand_rows_of};
+ghost use Rattle.mw_model.specs.Command as model;
+ghost use Rattle.mw_book.specs.Words.{meaning_of};
 
+use crate::number::number_within;
+use crate::program::program;
+use clap::ArgMatches;
+use clap::error::ErrorKind;
+use mw_heap::Memory;
 use mw_port::Text;
+use std::alloc::Global;
 use std::convert::AsStr;
 
-// The step limit where none is given.
-const STEPS: u64 = 10_000_000;
+/// What the words of the command line ask for.
+#[derive(Clone, Copy, Debug, PartialEq, Eq)]
+pub(crate) enum Request {
+    /// To judge the book, with this step limit.
+    Check { steps: u64 },
+    /// To judge the trial book of so many events, with this step limit.
+    Trial { events: u64, steps: u64 },
+    /// To show how the program is used.
+    Help,
+    /// Nothing that the program does.
+    Usage,
+}
 
-/// The step limit with which the words ask to judge a book; nothing where they ask for something else.
-pub(crate) fn steps_of(words: &[Text]) -> Option<u64>
-    ensures { result ≡ steps_asked (asked words.now) }
+// The step limit where the words name none.
+const DEFAULT_STEPS: u64 = 10_000_000;
+
+/// What the words ask for, as `clap` reads them and with numbers in range.
+pub(crate) fn request_of(alloc: Global, words: &[Text]) -> Result<Request, Memory>
+    ensures { IfOk result (λ r. meaning_of r ≡ model.asked words.now) }
+{
+    if is_help(words) {
+        return Ok(Request::Help);
+    }
+    let program = program(alloc)?;
+    match program.try_get_matches_from(words) {
+        Ok(matches) => Ok(request_by(&matches)),
+        Err(error) => match error.kind() {
+            ErrorKind::OutOfMemory => Err(Memory),
+            _ => Ok(Request::Usage),
+        },
+    }
+}
+
+// Is `--help` the only word?
+fn is_help(words: &[Text]) -> bool
+    ensures { result ≡ model.is_help words.now }
 {
     match words {
-        [word] => (word.as_str() == "check").then_some(STEPS),
-        _ => None,
+        [word] => word.as_str() == "--help",
+        _ => false,
     }
+}
+
+// What the subcommand asks for that `clap` found.
+fn request_by(matches: &ArgMatches<'_>) -> Request
+    ensures { meaning_of result ≡ model.request_of (subcommand_rows_of matches.now) }
+{
+    let Some((name, found)) = matches.subcommand() else {
+        return Request::Usage;
+    };
+    let Some(steps) = steps_of(found.get_str("steps")) else {
+        return Request::Usage;
+    };
+    if name == "check" {
+        return Request::Check { steps };
+    }
+    match events_of(found.get_str("events")) {
+        Some(events) => Request::Trial { events, steps },
+        None => Request::Usage,
+    }
+}
+
+// The step limit: from 1 to 10^12.
+fn steps_of(text: Option<&str>) -> Option<u64>
+    ensures { result ≡ model.steps_of (option_map (λ s. s.now) text.entry) }
+{
+    match text {
+        Some(text) => number_within(text, 13, 1, 1_000_000_000_000),
+        None => Some(DEFAULT_STEPS),
+    }
+}
+
+// How many events the trial book has: up to 10^6.
+fn events_of(text: Option<&str>) -> Option<u64>
+    ensures { result ≡ model.events_of (option_map (λ s. s.now) text.entry) }
+{
+    number_within(text?, 7, 0, 1_000_000)
 }

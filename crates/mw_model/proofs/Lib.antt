@@ -47,6 +47,7 @@ mod ExamplesText
 mod ExamplesSyntax
 mod ExamplesTrial
 mod ExamplesVersion
+mod ExamplesCommand
 mod ExamplesLong
 pub mod Numerals
 pub mod Lexing

@@ -6,7 +6,7 @@ use Rattle.mw_model.specs.Lexemes.{Goes}
 use Rattle.mw_model.specs.Grammar.{Book, book, reading, trees}
 use Rattle.mw_model.specs.Theory.{initial}
 use Rattle.mw_model.specs.Fate.{EventWord, Verify, Define, Skolem, Switch, Eval, Print, DefineAll, SetProfile, event_word, is_out_of_range}
-use Rattle.mw_model.specs.Report.{Report, report_of, lines}
+use Rattle.mw_model.specs.Report.{Report, report_of, lines, last_line}
 
 -- the words that events may begin with
 abbrev pub is_taken : EventWord → Bool
@@ -40,6 +40,10 @@ taken_book b = book (map as_taken b.events) b.fault
 -- the report that the program owes
 abbrev pub report_due : List ℕ → ℕ → Report
 report_due bytes N = report_of (taken_book (trees bytes)) N
+
+-- its last line alone
+abbrev pub last_line_due : List ℕ → ℕ → List ℕ
+last_line_due bytes N = last_line (taken_book (trees bytes)) N
 
 -- the lines that it owes where more bytes may follow
 abbrev pub lines_due : List ℕ → ℕ → List ℕ

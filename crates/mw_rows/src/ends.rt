@@ -1,5 +1,5 @@
 //! The ends that are not the book's own, and the numbers of all.
-use crate::row::{source_of, text_of, texts};
+use crate::row::{text_of, texts};
 use mw_book::{Status, run};
 use mw_port::{MemSink, MemSource};
 use mw_read::SyntaxKind;
@@ -8,9 +8,10 @@ use std::test::Fail;
 
 const BOOK: &str = "(verify refl (pequal* x x) (axiom (pequal* x x)))";
 
-const NUMBERS: [(Status, u8); 7] = [
+const NUMBERS: [(Status, u8); 8] = [
     (Status::Done, 0),
     (Status::SomeRefused, 1),
+    (Status::Help, 0),
     (Status::Usage, 2),
     (Status::Syntax(SyntaxKind::Close, 0), 3),
     (Status::ReadFault, 4),
@@ -31,15 +32,6 @@ fn checked(
     let mut source = MemSource::new(bytes, Vec::new(alloc), Vec::from_slice(alloc, reads)?);
     let cuts = vec![in alloc; size; 100]?;
     let mut sink = MemSink::with_cuts(alloc, cuts, Vec::from_slice(alloc, writes)?);
-    let status = run(alloc, &words, &mut source, &mut sink);
-    Ok((status, text_of(alloc, &sink)?))
-}
-
-// How the program ends with these words, and what the sink took.
-fn asked(alloc: Global, words: &[&str]) -> Result<(Status, String), AllocError> {
-    let words = texts(alloc, words)?;
-    let mut source = source_of(alloc, BOOK, 4096)?;
-    let mut sink = MemSink::new(alloc, Vec::new(alloc));
     let status = run(alloc, &words, &mut source, &mut sink);
     Ok((status, text_of(alloc, &sink)?))
 }
@@ -68,17 +60,6 @@ fn short_writes_take_the_whole_report(rt: HostRuntime) -> Result<(), Fail> {
         text.as_str(),
         "1 VERIFY REFL accepted\nevents 1 accepted 1 refused 0 level 1\n"
     );
-    Ok(())
-}
-
-#[test]
-fn other_words_are_told_how_the_program_is_used(rt: HostRuntime) -> Result<(), Fail> {
-    let all: [&[&str]; 4] = [&[], &["check", "check"], &["--help"], &["chekc"]];
-    for words in all {
-        let (status, text) = asked(rt.alloc(), words)?;
-        assert_eq!(rt; status, Status::Usage);
-        assert_eq!(rt; text.as_str(), "milawa check\n");
-    }
     Ok(())
 }
 

@@ -4,6 +4,8 @@
 #[cfg(test)]
 mod books;
 #[cfg(test)]
+mod commands;
+#[cfg(test)]
 mod ends;
 #[cfg(test)]
 mod events;

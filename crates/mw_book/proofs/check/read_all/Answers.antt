@@ -4,12 +4,13 @@ use Rattle.std.proofs.lemmas.List.{length-take-le}
 use Rattle.std.proofs.lemmas.Result.{err_from_is_err_and}
 use Rattle.mw_port.specs.Ports.{Gives}
 use Rattle.mw_book.specs.Checks.{SinkCounts}
-use Rattle.mw_book.proofs.Rounds.{between_none, here, count_short, room_for, read_fails, part_here, whole_end, whole_fault, taken_all, write_stops, between_more, halt_ends, halt_reads}
+use Rattle.mw_book.proofs.Rounds.{between_none, here, count_short, room_for, read_fails, part_here, whole_end, whole_fault, taken_all, write_stops, between_more, halt_ends, halt_reads, halt_stops}
 use Rattle.mw_book.proofs.check.read_all.Goals as goal
 
 pub loop-init : goal.loop-init
 loop-init g c = record {
-  between = between_none c.args.judging.now.kernel.steps (g.S.Source.left c.args.source.now) (g.K.Sink.taken c.args.sink.now) c.args.judging.now c.new-reader.result c.requires.judged c.requires.lines c.requires.few c.new-reader.ensures.stands c.new-reader.ensures.free;
+  between = between_none c.args.judging.now.kernel.steps (g.S.Source.left c.args.source.now) (g.K.Sink.taken c.args.sink.now) c.args.judging.now c.new-reader.result.parser c.requires.judged c.requires.lines c.requires.few c.new-reader.ensures.stands c.new-reader.ensures.free;
+  awaits = c.new-reader.ensures.awaits;
   source_steady = refl;
   size = refl;
   sink_steady = refl;
@@ -17,43 +18,45 @@ loop-init g c = record {
 
 pub returns-in_default-clause-ends : goal.returns-in_default-clause-ends
 returns-in_default-clause-ends g c =
-    read_fails c.args.judging.now.kernel.steps (g.S.Source.left c.args.source.now) (g.K.Sink.taken c.args.sink.now) c.loop.judging c.loop.reader (g.S.Source.left c.loop.source) (g.K.Sink.taken c.loop.sink) c.loop.counter c.loop.invariant.between
+    read_fails c.args.judging.now.kernel.steps (g.S.Source.left c.args.source.now) (g.K.Sink.taken c.args.sink.now) c.loop.judging c.loop.reader.parser (g.S.Source.left c.loop.source) (g.K.Sink.taken c.loop.sink) c.loop.counter c.loop.invariant.between
     (g.S.Source.left c.read.new.self) c.in_default.ensures.kept
 
 pub finish-requires : goal.finish-requires
 finish-requires g c =
     let b = c.loop.invariant.between in
     record {
-      stands = here c.args.judging.now.kernel.steps (g.S.Source.left c.args.source.now) (g.K.Sink.taken c.args.sink.now) c.loop.judging c.loop.reader (g.S.Source.left c.loop.source) (g.K.Sink.taken c.loop.sink) c.loop.counter b;
-      room = room_for c.args.judging.now.kernel.steps (g.S.Source.left c.args.source.now) (g.K.Sink.taken c.args.sink.now) c.loop.judging c.loop.reader (g.S.Source.left c.loop.source) (g.K.Sink.taken c.loop.sink) c.loop.counter b [] (omega arith);
+      stands = here c.args.judging.now.kernel.steps (g.S.Source.left c.args.source.now) (g.K.Sink.taken c.args.sink.now) c.loop.judging c.loop.reader.parser (g.S.Source.left c.loop.source) (g.K.Sink.taken c.loop.sink) c.loop.counter b;
+      room = room_for c.args.judging.now.kernel.steps (g.S.Source.left c.args.source.now) (g.K.Sink.taken c.args.sink.now) c.loop.judging c.loop.reader.parser (g.S.Source.left c.loop.source) (g.K.Sink.taken c.loop.sink) c.loop.counter b [] (omega arith);
       few = b.few;
+      awaits = c.loop.invariant.awaits;
     }
 
 pub take_piece-requires : goal.take_piece-requires
 take_piece-requires g c =
     let b = c.loop.invariant.between in
     record {
-      stands = here c.args.judging.now.kernel.steps (g.S.Source.left c.args.source.now) (g.K.Sink.taken c.args.sink.now) c.loop.judging c.loop.reader (g.S.Source.left c.loop.source) (g.K.Sink.taken c.loop.sink) c.loop.counter b;
+      stands = here c.args.judging.now.kernel.steps (g.S.Source.left c.args.source.now) (g.K.Sink.taken c.args.sink.now) c.loop.judging c.loop.reader.parser (g.S.Source.left c.loop.source) (g.K.Sink.taken c.loop.sink) c.loop.counter b;
       free = b.free;
-      room = room_for c.args.judging.now.kernel.steps (g.S.Source.left c.args.source.now) (g.K.Sink.taken c.args.sink.now) c.loop.judging c.loop.reader (g.S.Source.left c.loop.source) (g.K.Sink.taken c.loop.sink) c.loop.counter b (take c.in-Ok.n c.read.new.buffer)
+      room = room_for c.args.judging.now.kernel.steps (g.S.Source.left c.args.source.now) (g.K.Sink.taken c.args.sink.now) c.loop.judging c.loop.reader.parser (g.S.Source.left c.loop.source) (g.K.Sink.taken c.loop.sink) c.loop.counter b (take c.in-Ok.n c.read.new.buffer)
           (omega (arith, length-take-le c.in-Ok.n c.read.new.buffer c.in-Ok.ensures.within, c.read.auto.buffer, c.loop.invariant.size, c.in-Ok.ensures.within));
       few = b.few;
+      awaits = c.loop.invariant.awaits;
     }
 
 pub returns-in_default-take_piece-clause-ends : goal.returns-in_default-take_piece-clause-ends
 returns-in_default-take_piece-clause-ends g c =
-    part_here c.args.judging.now.kernel.steps (g.S.Source.left c.args.source.now) (g.K.Sink.taken c.args.sink.now) c.loop.judging c.loop.reader (g.S.Source.left c.loop.source) (g.K.Sink.taken c.loop.sink) c.loop.counter c.loop.invariant.between
+    part_here c.args.judging.now.kernel.steps (g.S.Source.left c.args.source.now) (g.K.Sink.taken c.args.sink.now) c.loop.judging c.loop.reader.parser (g.S.Source.left c.loop.source) (g.K.Sink.taken c.loop.sink) c.loop.counter c.loop.invariant.between
 
 pub returns-in_default-finish-clause-ends : goal.returns-in_default-finish-clause-ends
 returns-in_default-finish-clause-ends g c =
-    part_here c.args.judging.now.kernel.steps (g.S.Source.left c.args.source.now) (g.K.Sink.taken c.args.sink.now) c.loop.judging c.loop.reader (g.S.Source.left c.loop.source) (g.K.Sink.taken c.loop.sink) c.loop.counter c.loop.invariant.between
+    part_here c.args.judging.now.kernel.steps (g.S.Source.left c.args.source.now) (g.K.Sink.taken c.args.sink.now) c.loop.judging c.loop.reader.parser (g.S.Source.left c.loop.source) (g.K.Sink.taken c.loop.sink) c.loop.counter c.loop.invariant.between
 
 pub returns-then-n-eq0-clause-whole : goal.returns-then-n-eq0-clause-whole
 returns-then-n-eq0-clause-whole g c =
     let b = c.loop.invariant.between in
     let left = g.S.Source.left c.loop.source in
     let now = g.S.Source.left c.read.new.self in
-    whole_end c.args.judging.now.kernel.steps (g.S.Source.left c.args.source.now) (g.K.Sink.taken c.args.sink.now) c.loop.judging c.loop.reader (g.S.Source.left c.loop.source) (g.K.Sink.taken c.loop.sink) c.loop.counter b
+    whole_end c.args.judging.now.kernel.steps (g.S.Source.left c.args.source.now) (g.K.Sink.taken c.args.sink.now) c.loop.judging c.loop.reader.parser (g.S.Source.left c.loop.source) (g.K.Sink.taken c.loop.sink) c.loop.counter b
     now (subst (λ n. Gives left now (take n c.read.new.buffer)) c.if-n-eq0.true c.in-Ok.ensures.given)
     (c.in-Ok.ensures.ended c.if-n-eq0.true (omega (arith, c.loop.invariant.size)))
     c.in-Ok-finish.fault c.finish.new.judging (c.in-Ok-finish.ensures.ends b.bytes b.given b.stands)
@@ -61,8 +64,8 @@ returns-then-n-eq0-clause-whole g c =
 pub returns-then-is_some-clause-whole : goal.returns-then-is_some-clause-whole
 returns-then-is_some-clause-whole g c =
     let b = c.loop.invariant.between in
-    whole_fault c.args.judging.now.kernel.steps (g.S.Source.left c.args.source.now) (g.K.Sink.taken c.args.sink.now) c.loop.judging c.loop.reader (g.S.Source.left c.loop.source) (g.K.Sink.taken c.loop.sink) c.loop.counter b
-    (take c.in-Ok.n c.read.new.buffer) (g.S.Source.left c.read.new.self) c.in-Ok.ensures.given c.take_piece.new.judging c.in-Ok-take_piece.fault c.take_piece.new.reader
+    whole_fault c.args.judging.now.kernel.steps (g.S.Source.left c.args.source.now) (g.K.Sink.taken c.args.sink.now) c.loop.judging c.loop.reader.parser (g.S.Source.left c.loop.source) (g.K.Sink.taken c.loop.sink) c.loop.counter b
+    (take c.in-Ok.n c.read.new.buffer) (g.S.Source.left c.read.new.self) c.in-Ok.ensures.given c.take_piece.new.judging c.in-Ok-take_piece.fault c.take_piece.new.reader.parser
     (sym c.is_some.ensures ∙ c.if-is_some.true) (c.in-Ok-take_piece.ensures.takes b.bytes b.given b.stands)
 
 pub returns-in_err-write_lines : goal.returns-in_err-write_lines
@@ -73,12 +76,13 @@ returns-in_err-write_lines g c =
     let input = g.S.Source.left c.args.source.now in
     let now = g.S.Source.left c.read.new.self in
     let piece = take c.in-Ok.n c.read.new.buffer in
-    let whole = taken_all c.args.judging.now.kernel.steps (g.S.Source.left c.args.source.now) (g.K.Sink.taken c.args.sink.now) c.loop.judging c.loop.reader (g.S.Source.left c.loop.source) (g.K.Sink.taken c.loop.sink) c.loop.counter b piece now c.in-Ok.ensures.given c.take_piece.new.judging c.in-Ok-take_piece.fault c.take_piece.new.reader (sym c.is_some.ensures ∙ c.if-is_some.false) (c.in-Ok-take_piece.ensures.takes b.bytes b.given b.stands) in
-    let stops = write_stops c.args.judging.now.kernel.steps (g.S.Source.left c.args.source.now) (g.K.Sink.taken c.args.sink.now) c.loop.judging c.loop.reader (g.S.Source.left c.loop.source) (g.K.Sink.taken c.loop.sink) c.loop.counter b piece now c.in-Ok.ensures.given c.take_piece.new.judging c.take_piece.new.reader whole (g.K.Sink.taken c.write_lines.new.sink) c.in_err-write_lines.ensures.some in
+    let whole = taken_all c.args.judging.now.kernel.steps (g.S.Source.left c.args.source.now) (g.K.Sink.taken c.args.sink.now) c.loop.judging c.loop.reader.parser (g.S.Source.left c.loop.source) (g.K.Sink.taken c.loop.sink) c.loop.counter b piece now c.in-Ok.ensures.given c.take_piece.new.judging c.in-Ok-take_piece.fault c.take_piece.new.reader.parser (sym c.is_some.ensures ∙ c.if-is_some.false) (c.in-Ok-take_piece.ensures.takes b.bytes b.given b.stands) in
+    let stops = write_stops c.args.judging.now.kernel.steps (g.S.Source.left c.args.source.now) (g.K.Sink.taken c.args.sink.now) c.loop.judging c.loop.reader.parser (g.S.Source.left c.loop.source) (g.K.Sink.taken c.loop.sink) c.loop.counter b piece now c.in-Ok.ensures.given c.take_piece.new.judging c.take_piece.new.reader.parser whole (g.K.Sink.taken c.write_lines.new.sink) c.in_err-write_lines.ensures.some in
     rw (p.1, p.2) (record {
       whole = tt;
       few = tt;
       steady = tt;
+      stops = halt_stops s c.in_err-write_lines.ensures.halt;
       ends = halt_ends c.args.judging.now.kernel.steps input now (g.K.Sink.taken c.args.sink.now) (g.K.Sink.taken c.write_lines.new.sink) s c.in_err-write_lines.ensures.halt stops;
       source_counts = halt_reads s (g.S.Source.faults c.args.source.now) (g.S.Source.faults c.read.new.self) c.in_err-write_lines.ensures.halt (c.in-Ok.ensures.steady ∙ c.loop.invariant.source_steady);
       sink_counts = subst (λ n. SinkCounts s n (g.K.Sink.faults c.write_lines.new.sink)) c.loop.invariant.sink_steady c.in_err-write_lines.ensures.sink_counts;
@@ -91,11 +95,12 @@ loop-preserved g c =
     let now = g.S.Source.left c.read.new.self in
     let piece = take n c.read.new.buffer in
     let size = length-take-le n c.read.new.buffer c.in-Ok.ensures.within in
-    let whole = taken_all c.args.judging.now.kernel.steps (g.S.Source.left c.args.source.now) (g.K.Sink.taken c.args.sink.now) c.loop.judging c.loop.reader (g.S.Source.left c.loop.source) (g.K.Sink.taken c.loop.sink) c.loop.counter b piece now c.in-Ok.ensures.given c.take_piece.new.judging c.in-Ok-take_piece.fault c.take_piece.new.reader (sym c.is_some.ensures ∙ c.if-is_some.false) (c.in-Ok-take_piece.ensures.takes b.bytes b.given b.stands) in
+    let whole = taken_all c.args.judging.now.kernel.steps (g.S.Source.left c.args.source.now) (g.K.Sink.taken c.args.sink.now) c.loop.judging c.loop.reader.parser (g.S.Source.left c.loop.source) (g.K.Sink.taken c.loop.sink) c.loop.counter b piece now c.in-Ok.ensures.given c.take_piece.new.judging c.in-Ok-take_piece.fault c.take_piece.new.reader.parser (sym c.is_some.ensures ∙ c.if-is_some.false) (c.in-Ok-take_piece.ensures.takes b.bytes b.given b.stands) in
     record {
-      between = between_more c.args.judging.now.kernel.steps (g.S.Source.left c.args.source.now) (g.K.Sink.taken c.args.sink.now) c.loop.judging c.loop.reader (g.S.Source.left c.loop.source) (g.K.Sink.taken c.loop.sink) c.loop.counter b piece now c.in-Ok.ensures.given c.take_piece.new.judging c.take_piece.new.reader whole (g.K.Sink.taken c.write_lines.new.sink)
+      between = between_more c.args.judging.now.kernel.steps (g.S.Source.left c.args.source.now) (g.K.Sink.taken c.args.sink.now) c.loop.judging c.loop.reader.parser (g.S.Source.left c.loop.source) (g.K.Sink.taken c.loop.sink) c.loop.counter b piece now c.in-Ok.ensures.given c.take_piece.new.judging c.take_piece.new.reader.parser whole (g.K.Sink.taken c.write_lines.new.sink)
           (omega (arith, size, c.if-n-eq0.false)) c.in_ok-write_lines.ensures.written c.in-Ok-take_piece.ensures.counted c.in-Ok-take_piece.ensures.few
           c.write_lines.new.judging c.in_ok-write_lines.ensures.rest c.in_ok-write_lines.ensures.none_left;
+      awaits = c.in-Ok-take_piece.ensures.awaits;
       source_steady = c.in-Ok.ensures.steady ∙ c.loop.invariant.source_steady;
       size = c.read.auto.buffer ∙ c.loop.invariant.size;
       sink_steady = c.in_ok-write_lines.ensures.steady ∙ c.loop.invariant.sink_steady;
@@ -103,5 +108,5 @@ loop-preserved g c =
 
 pub unreachable-requires : goal.unreachable-requires
 unreachable-requires g c =
-    let s = count_short c.args.judging.now.kernel.steps (g.S.Source.left c.args.source.now) (g.K.Sink.taken c.args.sink.now) c.loop.judging c.loop.reader (g.S.Source.left c.loop.source) (g.K.Sink.taken c.loop.sink) c.loop.counter c.loop.invariant.between in
+    let s = count_short c.args.judging.now.kernel.steps (g.S.Source.left c.args.source.now) (g.K.Sink.taken c.args.sink.now) c.loop.judging c.loop.reader.parser (g.S.Source.left c.loop.source) (g.K.Sink.taken c.loop.sink) c.loop.counter c.loop.invariant.between in
     omega (arith, s, c.loop-test.false)

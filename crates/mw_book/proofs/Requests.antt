@@ -1,0 +1,103 @@
+-- What is asked for, by what `clap` found in the words.
+use Rattle.std.proofs.Common.{◌≡◌, ◌∙◌, ℕ, Bool, true, false, cond, List, [], ◌∷◌, length, get_or, Option, Some, None, is_some, option_map, refl, sym, ap, ap₂, codes, true≢false, arith}
+use Rattle.std.specs.Prelude.{unwrap_or}
+use Rattle.std.specs.Str.{bytes_eq}
+use Rattle.clap.specs.Words.{App, Row, Text, fault_of, first_value, is_simple, is_simple_and_free, rows_of, subcommand_name_of, subcommand_of, subcommand_rows_of, takes, built}
+use Rattle.clap.specs.declared.parser.matches.ArgMatches.{ArgMatches}
+use Rattle.clap.specs.declared.parser.matches.ArgMatches.TheViews.{out-ArgMatches}
+use Rattle.clap.specs.declared.parser.matches.Found.{Found}
+use Rattle.clap.proofs.WalkLemmas.{first_value-rows}
+use Rattle.clap.proofs.OnLiterals.{clap_on_literals}
+use Rattle.mw_model.specs.Command.{Request, Help, Usage, asked, check_with, events_of, is_help, program, request_of, steps_of, trial_with}
+use Rattle.mw_model.specs.Object.{same_bytes}
+use Rattle.mw_heap.proofs.NameSet.{pointwise-same_bytes}
+use Rattle.mw_book.proofs.Faultless.{faultless_taken, is_plain_app}
+
+-- ---- whether the words are `--help` alone
+
+pub one_word : (words : List Text) (word : Text) → length words ≡ 1 → word ≡ get_or words 0 word → bytes_eq word (codes "--help") ≡ is_help words
+one_word [] word one at = absurd (omega arith)
+one_word (w ∷ []) word one at = ap (λ t. bytes_eq t (codes "--help")) at ∙ pointwise-same_bytes w (codes "--help")
+one_word (w ∷ v ∷ words) word one at = absurd (omega arith)
+
+-- ---- the subcommand that was found
+
+some_same : {X : Type 0} (x y : X) → Some x ≡ Some y → x ≡ y
+some_same x y e = ap (λ o. unwrap_or o x) e
+
+map_twice : {X Y Z : Type 0} (f : Y → Z) (g : X → Y) (o : Option X) → option_map (λ x. f (g x)) o ≡ option_map f (option_map g o)
+map_twice f g None = refl
+map_twice f g (Some x) = refl
+
+both_parts : {X Y : Type 0} (o : Option (X × Y)) (x : X) (y : Y) → Some x ≡ option_map (λ p. p.0) o → Some y ≡ option_map (λ p. p.1) o → o ≡ Some (x, y)
+both_parts None x y e h = absurd (true≢false (ap is_some e))
+both_parts (Some p) x y e h = sym (ap₂ (λ a b. Some (a, b)) (some_same x p.0 e) (some_same y p.1 h))
+
+subcommand_met : (m : ArgMatches) (name : Text) (rows : List Row) → Some name ≡ subcommand_name_of m → Some rows ≡ option_map (λ p. p.1) (subcommand_rows_of m)
+    → subcommand_rows_of m ≡ Some (name, rows)
+subcommand_met m name rows e h = both_parts (subcommand_rows_of m) name rows (e ∙ map_twice (λ (p : Text × List Row). p.0) _ (out-ArgMatches m).subcommand) h
+
+-- ---- what the subcommand asks for
+
+abbrev asked_by : Bool → Option ℕ → Option ℕ → Request
+asked_by is_check steps events = cond is_check (check_with steps) (trial_with events steps)
+
+nothing_asked : (is_check : Bool) (events : Option ℕ) → Usage ≡ asked_by is_check None events
+nothing_asked true events = refl
+nothing_asked false None = refl
+nothing_asked false (Some m) = refl
+
+module _ (m : ArgMatches) (name : Text) (found : Found) (named : Some name ≡ subcommand_name_of m) (has : Some (rows_of found) ≡ option_map (λ p. p.1) (subcommand_rows_of m)) where
+  pub found_asks : (is_check : Bool) (steps events : Option ℕ) → is_check ≡ bytes_eq name (codes "check") → steps ≡ steps_of (first_value found (codes "steps"))
+      → events ≡ events_of (first_value found (codes "events")) → asked_by is_check steps events ≡ request_of (subcommand_rows_of m)
+  found_asks is_check steps events b s e =
+      let same = b ∙ pointwise-same_bytes name (codes "check") in
+      let read = s ∙ ap steps_of (first_value-rows found (codes "steps")) in
+      let counted = e ∙ ap events_of (first_value-rows found (codes "events")) in
+      (λ i. asked_by (same i) (read i) (counted i)) ∙ ap request_of (sym (subcommand_met m name (rows_of found) named has))
+
+  -- without steps nothing is asked for
+  pub no_steps : None ≡ steps_of (first_value found (codes "steps")) → Usage ≡ request_of (subcommand_rows_of m)
+  no_steps s =
+      let is_check = bytes_eq name (codes "check") in
+      let events = events_of (first_value found (codes "events")) in
+      nothing_asked is_check events ∙ found_asks is_check None events refl s refl
+
+-- ---- what the words ask for
+
+program_is_simple : is_simple program ≡ true
+unfolding clap_on_literals
+program_is_simple = refl
+
+program_is_free : is_simple_and_free program ≡ true
+unfolding clap_on_literals
+program_is_free = refl
+
+program_is_plain : is_plain_app (built program) ≡ true
+unfolding clap_on_literals
+program_is_plain = refl
+
+taken_asks : (helps taken : Bool) (r : Request) → helps ≡ false → taken ≡ true → r ≡ cond helps Help (cond taken r Usage)
+taken_asks helps taken r h t = λ i. cond (sym h i) Help (cond (sym t i) r Usage)
+
+refused_asks : (helps taken : Bool) (r : Request) → helps ≡ false → (taken ≡ true → ⊥) → Usage ≡ cond helps Help (cond taken r Usage)
+refused_asks true taken r h t = absurd (true≢false h)
+refused_asks false true r h t = absurd (t refl)
+refused_asks false false r h t = refl
+
+-- a command that is the program's, at words that are those of the command line
+module _ (a : App) (words texts : List Text) (is : a ≡ program) (same : texts ≡ words) (no_help : is_help words ≡ false) where
+  pub simple : is_simple a ≡ true
+  simple = ap is_simple is ∙ program_is_simple
+
+  pub free : is_simple_and_free a ≡ true
+  free = ap is_simple_and_free is ∙ program_is_free
+
+  taken : fault_of a texts ≡ [] → takes program words ≡ true
+  taken e = faultless_taken program words program_is_simple program_is_plain (sym (ap₂ fault_of is same) ∙ e)
+
+  pub taken_words : (found : Option (Text × List Row)) → found ≡ subcommand_of a texts → fault_of a texts ≡ [] → request_of found ≡ asked words
+  taken_words found e none = ap request_of (e ∙ ap₂ subcommand_of is same) ∙ taken_asks (is_help words) (takes program words) (request_of (subcommand_of program words)) no_help (taken none)
+
+  pub refused_words : (takes a texts ≡ true → ⊥) → Usage ≡ asked words
+  refused_words h = refused_asks (is_help words) (takes program words) (request_of (subcommand_of program words)) no_help (λ t. h (ap₂ takes is same ∙ t))

@@ -1,0 +1,56 @@
+//! The program's command, as `clap` is told of it.
+ghost use Rattle.std.specs.Prelude.{◌≡◌, false, IfOk};
+ghost use Rattle.clap.specs.Words.{app_of, shape_of, rule_of};
+ghost use Rattle.clap.specs.declared.builder.command.Command.TheViews.{out-Command as fields_of};
+ghost use Rattle.mw_model.specs.Command as model;
+
+use clap::{Arg, ArgAction, Command};
+use std::alloc::{AllocError, Global};
+
+/// The command with its subcommands `check` and `trial`.
+pub(crate) fn program<'a>(alloc: Global) -> Result<Command<'a>, AllocError>
+    ensures { IfOk result (λ c. app_of c ≡ model.program) }
+{
+    let check = check_command(alloc)?;
+    let trial = trial_command(alloc)?;
+    Command::new(alloc, "milawa")
+        .no_binary_name(true)
+        .subcommand(check)?
+        .subcommand(trial)
+}
+
+// check [--steps N]
+fn check_command<'a>(alloc: Global) -> Result<Command<'a>, AllocError>
+    ensures shape { IfOk result (λ c. shape_of c ≡ model.check_command) }
+    ensures local { IfOk result (λ c. (fields_of c).has_globals ≡ false) }
+{
+    Command::new(alloc, "check").arg(steps_option(alloc))
+}
+
+// trial M [--steps N]
+fn trial_command<'a>(alloc: Global) -> Result<Command<'a>, AllocError>
+    ensures shape { IfOk result (λ c. shape_of c ≡ model.trial_command) }
+    ensures local { IfOk result (λ c. (fields_of c).has_globals ≡ false) }
+{
+    Command::new(alloc, "trial")
+        .arg(events_argument(alloc))?
+        .arg(steps_option(alloc))
+}
+
+fn steps_option<'a>(alloc: Global) -> Arg<'a>
+    ensures rule { rule_of result ≡ model.steps_option }
+    ensures local { result.global ≡ false }
+{
+    Arg::new(alloc, "steps")
+        .long("steps")
+        .action(ArgAction::Set)
+}
+
+fn events_argument<'a>(alloc: Global) -> Arg<'a>
+    ensures rule { rule_of result ≡ model.events_argument }
+    ensures local { result.global ≡ false }
+{
+    Arg::new(alloc, "events")
+        .action(ArgAction::Set)
+        .required(true)
+}

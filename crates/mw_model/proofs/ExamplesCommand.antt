@@ -1,0 +1,129 @@
+-- What the words of a command line ask for.
+use Rattle.std.proofs.Common.{◌≡◌, List, [], ◌∷◌, refl, codes}
+use Rattle.clap.proofs.OnLiterals.{clap_on_literals}
+use Rattle.clap.specs.Walk.{Text}
+use Rattle.mw_model.specs.Command.{Check, Trial, Help, Usage, asked}
+
+no_words : asked [] ≡ Usage
+unfolding clap_on_literals
+no_words = refl
+
+check_alone : asked (codes "check" ∷ []) ≡ Check 10000000
+unfolding clap_on_literals
+check_alone = refl
+
+steps_behind_the_option : asked (codes "check" ∷ codes "--steps" ∷ codes "5" ∷ []) ≡ Check 5
+unfolding clap_on_literals
+steps_behind_the_option = refl
+
+steps_in_the_same_word : asked (codes "check" ∷ codes "--steps=5" ∷ []) ≡ Check 5
+unfolding clap_on_literals
+steps_in_the_same_word = refl
+
+two_dashes_alone : asked (codes "check" ∷ codes "--" ∷ []) ≡ Check 10000000
+unfolding clap_on_literals
+two_dashes_alone = refl
+
+leading_zeros : asked (codes "check" ∷ codes "--steps" ∷ codes "0000000000001" ∷ []) ≡ Check 1
+unfolding clap_on_literals
+leading_zeros = refl
+
+fourteen_digits : asked (codes "check" ∷ codes "--steps" ∷ codes "00000000000001" ∷ []) ≡ Usage
+unfolding clap_on_literals
+fourteen_digits = refl
+
+no_steps : asked (codes "check" ∷ codes "--steps" ∷ codes "0" ∷ []) ≡ Usage
+unfolding clap_on_literals
+no_steps = refl
+
+most_steps : asked (codes "check" ∷ codes "--steps" ∷ codes "1000000000000" ∷ []) ≡ Check 1000000000000
+unfolding clap_on_literals
+most_steps = refl
+
+too_many_steps : asked (codes "check" ∷ codes "--steps" ∷ codes "1000000000001" ∷ []) ≡ Usage
+unfolding clap_on_literals
+too_many_steps = refl
+
+negative_steps : asked (codes "check" ∷ codes "--steps" ∷ codes "-1" ∷ []) ≡ Usage
+unfolding clap_on_literals
+negative_steps = refl
+
+no_number : asked (codes "check" ∷ codes "--steps" ∷ codes "x" ∷ []) ≡ Usage
+unfolding clap_on_literals
+no_number = refl
+
+empty_number : asked (codes "check" ∷ codes "--steps=" ∷ []) ≡ Usage
+unfolding clap_on_literals
+empty_number = refl
+
+no_value : asked (codes "check" ∷ codes "--steps" ∷ []) ≡ Usage
+unfolding clap_on_literals
+no_value = refl
+
+steps_twice : asked (codes "check" ∷ codes "--steps" ∷ codes "5" ∷ codes "--steps" ∷ codes "5" ∷ []) ≡ Usage
+unfolding clap_on_literals
+steps_twice = refl
+
+option_before_the_command : asked (codes "--steps" ∷ codes "5" ∷ codes "check" ∷ []) ≡ Usage
+unfolding clap_on_literals
+option_before_the_command = refl
+
+word_behind_check : asked (codes "check" ∷ codes "book" ∷ []) ≡ Usage
+unfolding clap_on_literals
+word_behind_check = refl
+
+trial_of_two : asked (codes "trial" ∷ codes "2" ∷ []) ≡ Trial 2 10000000
+unfolding clap_on_literals
+trial_of_two = refl
+
+trial_of_none : asked (codes "trial" ∷ codes "0" ∷ []) ≡ Trial 0 10000000
+unfolding clap_on_literals
+trial_of_none = refl
+
+steps_behind_the_argument : asked (codes "trial" ∷ codes "2" ∷ codes "--steps" ∷ codes "5" ∷ []) ≡ Trial 2 5
+unfolding clap_on_literals
+steps_behind_the_argument = refl
+
+steps_before_the_argument : asked (codes "trial" ∷ codes "--steps" ∷ codes "5" ∷ codes "0002" ∷ []) ≡ Trial 2 5
+unfolding clap_on_literals
+steps_before_the_argument = refl
+
+argument_behind_two_dashes : asked (codes "trial" ∷ codes "--" ∷ codes "5" ∷ []) ≡ Trial 5 10000000
+unfolding clap_on_literals
+argument_behind_two_dashes = refl
+
+trial_alone : asked (codes "trial" ∷ []) ≡ Usage
+unfolding clap_on_literals
+trial_alone = refl
+
+trial_of_too_many : asked (codes "trial" ∷ codes "1000001" ∷ []) ≡ Usage
+unfolding clap_on_literals
+trial_of_too_many = refl
+
+two_arguments : asked (codes "trial" ∷ codes "2" ∷ codes "3" ∷ []) ≡ Usage
+unfolding clap_on_literals
+two_arguments = refl
+
+help_alone : asked (codes "--help" ∷ []) ≡ Help
+unfolding clap_on_literals
+help_alone = refl
+
+help_behind_a_command : asked (codes "check" ∷ codes "--help" ∷ []) ≡ Usage
+unfolding clap_on_literals
+help_behind_a_command = refl
+
+short_help : asked (codes "-h" ∷ []) ≡ Usage
+unfolding clap_on_literals
+short_help = refl
+
+help_as_a_command : asked (codes "help" ∷ []) ≡ Usage
+unfolding clap_on_literals
+help_as_a_command = refl
+
+version : asked (codes "--version" ∷ []) ≡ Usage
+unfolding clap_on_literals
+version = refl
+
+unknown_command : asked (codes "judge" ∷ []) ≡ Usage
+unfolding clap_on_literals
+unknown_command = refl

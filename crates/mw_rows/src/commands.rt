@@ -1,0 +1,135 @@
+//! The words of the command line, and what the program does with them.
+use crate::row::{source_of, text_of, texts};
+use mw_book::{Status, run};
+use mw_port::MemSink;
+use std::alloc::{AllocError, Global};
+use std::test::Fail;
+
+const BOOK: &str = "(print 1)";
+
+const REPORT: &str = "1 PRINT - accepted 1\nevents 1 accepted 1 refused 0 level 1\n";
+
+const HELP: &str = "milawa check [--steps N]\nmilawa trial M [--steps N]\n";
+
+// Words that ask for nothing that the program does.
+const OTHERS: [&[&str]; 23] = [
+    &[],
+    &["check", "--steps", "0"],
+    &["check", "--steps", "1000000000001"],
+    &["check", "--steps", "00000000000001"],
+    &["check", "--steps", "x"],
+    &["check", "--steps", "+1"],
+    &["check", "--steps", "-1"],
+    &["check", "--steps", ""],
+    &["check", "--steps"],
+    &["check", "--steps", "5", "--steps", "5"],
+    &["--steps", "5", "check"],
+    &["check", "book"],
+    &["check", "--help"],
+    &["help"],
+    &["-h"],
+    &["--version"],
+    &["-V"],
+    &["trial"],
+    &["trial", "x"],
+    &["trial", "1000001"],
+    &["trial", "00000001"],
+    &["trial", "2", "3"],
+    &["Check"],
+];
+
+// Words that ask for a book to be judged.
+const CHECKS: [&[&str]; 6] = [
+    &["check"],
+    &["check", "--"],
+    &["check", "--steps", "5"],
+    &["check", "--steps=5"],
+    &["check", "--steps", "0000000000001"],
+    &["check", "--steps", "1000000000000"],
+];
+
+// Words that ask for a trial book to be judged, and the line that is due for it.
+const TRIALS: [(&[&str], &str); 7] = [
+    (&["trial", "0"], "events 0 accepted 0 refused 0 level 1\n"),
+    (&["trial", "2"], "events 2 accepted 2 refused 0 level 1\n"),
+    (
+        &["trial", "0002"],
+        "events 2 accepted 2 refused 0 level 1\n",
+    ),
+    (
+        &["trial", "--", "5"],
+        "events 5 accepted 5 refused 0 level 1\n",
+    ),
+    (
+        &["trial", "--steps", "1", "5"],
+        "events 5 accepted 5 refused 0 level 1\n",
+    ),
+    (
+        &["trial", "1000"],
+        "events 1000 accepted 1000 refused 0 level 1\n",
+    ),
+    (
+        &["trial", "20000", "--steps", "5"],
+        "events 20000 accepted 20000 refused 0 level 1\n",
+    ),
+];
+
+// How the program ends with these words, and what the sink took.
+fn asked(alloc: Global, words: &[&str]) -> Result<(Status, String), AllocError> {
+    let words = texts(alloc, words)?;
+    let mut source = source_of(alloc, BOOK, 4096)?;
+    let mut sink = MemSink::new(alloc, Vec::new(alloc));
+    let status = run(alloc, &words, &mut source, &mut sink);
+    Ok((status, text_of(alloc, &sink)?))
+}
+
+// The rows of words with which the program doesn't end so, or writes another text.
+fn wrong_rows(
+    alloc: Global,
+    rows: &[&[&str]],
+    status: Status,
+    text: &str,
+) -> Result<String, AllocError> {
+    let mut wrong = String::new(alloc);
+    for words in rows {
+        let answer = asked(alloc, words)?;
+        if answer.0 != status || answer.1.as_str() != text {
+            for word in *words {
+                writeln!(wrong, "{word}")?;
+            }
+            writeln!(wrong, "status {}", answer.0.number())?;
+        }
+    }
+    Ok(wrong)
+}
+
+#[test]
+fn other_words_are_told_how_the_program_is_used(rt: HostRuntime) -> Result<(), Fail> {
+    let wrong = wrong_rows(rt.alloc(), &OTHERS, Status::Usage, HELP)?;
+    assert_eq!(rt; wrong.as_str(), "");
+    Ok(())
+}
+
+#[test]
+fn help_alone_is_answered(rt: HostRuntime) -> Result<(), Fail> {
+    let (status, text) = asked(rt.alloc(), &["--help"])?;
+    assert_eq!(rt; status, Status::Help);
+    assert_eq!(rt; text.as_str(), HELP);
+    Ok(())
+}
+
+#[test]
+fn a_book_is_judged_under_any_step_limit_in_range(rt: HostRuntime) -> Result<(), Fail> {
+    let wrong = wrong_rows(rt.alloc(), &CHECKS, Status::Done, REPORT)?;
+    assert_eq!(rt; wrong.as_str(), "");
+    Ok(())
+}
+
+#[test]
+fn trial_books_are_accepted(rt: HostRuntime) -> Result<(), Fail> {
+    for (words, line) in TRIALS {
+        let wrong = wrong_rows(rt.alloc(), &[words], Status::Done, line)?;
+        assert_eq!(rt; wrong.as_str(), "");
+    }
+    Ok(())
+}
