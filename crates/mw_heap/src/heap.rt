@@ -1,6 +1,6 @@
 //! The heap.
 ghost use Rattle.std.specs.Prelude.{◌≡◌, ℕ, ◌+◌, ◌<◌, ◌≤◌, ◌^◌, List, [], true, false, length, take, IfOk, IfSome, OnErr, IsTrue};
-ghost use Rattle.mw_model.specs.Object.{Symbol, Natural, Pair, name_of_bytes, is_name, same_object, is_before_bytes};
+ghost use Rattle.mw_model.specs.Object.{Symbol, Natural, Pair, NIL, name_of_bytes, is_name, same_object, is_before_bytes};
 ghost use Rattle.mw_model.specs.Primitive.{is_symbol, name_of};
 ghost use Rattle.mw_model.specs.Fate.{is_out_of_range};
 ghost use Rattle.mw_heap.specs.Lengths.{text_length, tail_length};
@@ -27,6 +27,8 @@ pub struct Heap {
     names: IndexSet<Vec<u8>>,
     // for each name where its cell may stand, which is looked up there before it is searched for
     places: Vec<Ref>,
+    // where NIL may stand, which is looked up there before it is searched for
+    nil: Ref,
     alloc: Global,
 }
 
@@ -59,6 +61,7 @@ impl Heap {
             naturals: IndexSet::new(alloc),
             names: IndexSet::new(alloc),
             places: Vec::new(alloc),
+            nil: Ref::new(0),
             alloc,
         })
     }
@@ -110,6 +113,32 @@ impl Heap {
         match self.known_symbol(name) {
             Some(known) => Ok(known),
             None => self.put_symbol(name),
+        }
+    }
+
+    /// NIL.
+    pub fn nil(&mut self) -> Result<Ref, Memory>
+        ensures grows { Grows self.old self.new }
+        ensures made { IfOk result (λ r. IsIn self.new r × (object_at self.new r ≡ NIL)) }
+        ensures err { OnErr result (self.new ≡ self.old) }
+    {
+        if let Some(known) = self.known_nil() {
+            return Ok(known);
+        }
+        let nil = self.symbol(b"NIL")?;
+        self.nil = nil;
+        Ok(nil)
+    }
+
+    // NIL, where it stands in its noted place.
+    fn known_nil(&self) -> Option<Ref>
+        ensures { IfSome result (λ r. IsIn self.now r × (object_at self.now r ≡ NIL)) }
+    {
+        let place = self.nil;
+        if place.index() < self.cells.len() && self.is_nil(Some(place)) {
+            Some(place)
+        } else {
+            None
         }
     }
 
@@ -285,6 +314,22 @@ mod tests {
         assert!(rt; heap.same(pair, pair));
         heap.cut_back(mark);
         assert_eq!(rt; heap.mark().cells(), 1);
+        Ok(())
+    }
+
+    #[test]
+    fn has_one_nil(rt: HostRuntime) -> Result<(), Memory> {
+        let mut heap = Heap::new(rt.alloc())?;
+        let before = heap.symbol(b"BEFORE")?;
+        let nil = heap.nil()?;
+        assert!(rt; heap.is_nil(Some(nil)));
+        assert_eq!(rt; heap.nil()?, nil);
+        assert_eq!(rt; heap.symbol(b"NIL")?, nil);
+        heap.cut_back(heap.mark_behind(before));
+        let other = heap.symbol(b"OTHER")?;
+        let nil = heap.nil()?;
+        assert!(rt; heap.is_nil(Some(nil)));
+        assert!(rt; !heap.same(nil, other));
         Ok(())
     }
 

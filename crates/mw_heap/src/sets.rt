@@ -108,10 +108,6 @@ pub(crate) fn insert_name(
     ensures distinct { OnOk result (IsInjective (bytes_of names.new.keys)) }
     ensures err { OnErr result (names.new.keys ≡ names.old.keys) }
 {
-    if let Some(index) = find_name(names, name) {
-        let _ = names.len();
-        return Ok(index);
-    }
     let owned = Vec::from_slice(alloc, name)?;
     let (index, _) = names.insert_full(owned)?;
     Ok(index)

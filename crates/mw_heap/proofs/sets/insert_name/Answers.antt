@@ -1,13 +1,6 @@
 -- A name is listed already, or goes last.
-use Rattle.std.proofs.Common.{refl, inl}
 use Rattle.mw_heap.proofs.NameSet.{IsInjective-bytes_of, inserted_name}
 use Rattle.mw_heap.proofs.sets.insert_name.Goals as goal
-
-pub returns-in-Some-clause-inserted : goal.returns-in-Some-clause-inserted
-returns-in-Some-clause-inserted c = record { stands = c.in-Some.ensures; change = inl refl }
-
-pub returns-in-Some-clause-distinct : goal.returns-in-Some-clause-distinct
-returns-in-Some-clause-distinct c = IsInjective-bytes_of _ c.len.ensures.unique
 
 pub returns-clause-inserted : goal.returns-clause-inserted
 returns-clause-inserted c =
