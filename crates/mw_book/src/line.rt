@@ -11,7 +11,7 @@ ghost use Rattle.mw_kernel.specs.Fates.{fate_of};
 ghost use Rattle.mw_book.specs.Lines.{line_begun, summary_of, fault_line};
 
 use itoa::Buffer;
-use mw_heap::{Heap, Memory, Ref, View};
+use mw_heap::{Heap, Memory, Ref};
 use mw_kernel::Fate;
 use mw_print::{Printed, print};
 use mw_read::SyntaxKind;
@@ -121,17 +121,14 @@ fn write_symbol(lines: &mut Vec<u8>, heap: &Heap, x: Ref) -> Result<(), Memory>
     }
 }
 
-// Writes a member that is shown, or a dash where there is none or it is no symbol.
+// Writes a member that is shown, or a dash where there is none.
 fn write_shown(lines: &mut Vec<u8>, heap: &Heap, x: Option<Ref>) -> Result<(), Memory>
     requires { IsShown heap.now x }
     ensures { OnOk result (lines.new.items ≡ lines.old.items ++ shown_text heap.now x) }
 {
-    let Some(x) = x else {
-        return write_dash(lines);
-    };
-    match heap.view(x) {
-        View::Symbol => write_symbol(lines, heap, x),
-        _ => write_dash(lines),
+    match x {
+        Some(x) => write_symbol(lines, heap, x),
+        None => write_dash(lines),
     }
 }
 

@@ -11,6 +11,13 @@ pub empty_is : {A : Type 0} (xs : List A) (n : ℕ) → n ≡ length xs → true
 empty_is [] n h e = refl
 empty_is (x ∷ xs) n h e = let k = eqb-true n 0 (sym e) in absurd (omega (arith, k, h))
 
+-- what was kept with these bytes behind it, or these bytes alone, is both
+pub kept_is : (old new seen bytes r : List ℕ) → (0 < length old → new ≡ old ++ bytes) → (length old ≡ 0 → new ≡ old) → seen ≡ new → (0 < length seen → r ≡ seen) → (length seen ≡ 0 → r ≡ bytes) → r ≡ old ++ bytes
+kept_is [] new seen bytes r f g e h k = k (ap length (e ∙ g refl))
+kept_is (b ∷ old) new seen bytes r f g e h k =
+    let i = f (omega arith) in
+    h (omega (arith, ap length (e ∙ i))) ∙ (e ∙ i)
+
 -- a list at one of its indices
 pub split_at : (xs : List ℕ) (n : ℕ) → n < length xs → xs ≡ take n xs ++ get_or xs n 0 ∷ drop (suc n) xs
 split_at [] n h = absurd (omega arith)

@@ -237,7 +237,7 @@ glued_faults e t old (b ∷ rest) z some h k =
 
 -- nothing is glued
 module _ (os : List Object) (t : State) (old mid new : Parser) (i : mid.begun ≡ Nothing) (s : mid.start ≡ old.start) where
-  same_behind : (b : ℕ) → IsBehind old.begun false b → (e : Ending) (y : List ℕ) → meaning_of e t old (b ∷ y) ≡ meaning_of e t mid (b ∷ y)
+  pub same_behind : (b : ℕ) → IsBehind old.begun false b → (e : Ending) (y : List ℕ) → meaning_of e t old (b ∷ y) ≡ meaning_of e t mid (b ∷ y)
   same_behind b h e y =
       ap (resume t) (behind_is old.begun false e old.token.items old.start b y h)
       ∙ ap (λ o. resume t (lexemes_from e o 0 (b ∷ y))) (sym s)

@@ -17,6 +17,7 @@ pub mod Advancing
 pub mod Hashes
 pub mod Beginning
 pub mod Scanning
+pub mod Blanks
 pub mod Ending
 pub mod Emptied
 pub mod Telling

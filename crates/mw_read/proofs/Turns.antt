@@ -331,6 +331,12 @@ ends_waiting os ls m t o l e p (inr q) h =
 pub ends_last : (os : List Object) (ls : List Layer) (l : Layer) (x : ℕ) → EndsWith ls l → IsPile os ls → l ≡ layers.Last x → IsIn os x
 ends_last os ls l x e p q = (layer_lies os e.0 (layers.Last x) (subst (λ u. IsPile os u) (e.1 ∙ ap (λ u. e.0 ++ u ∷ []) q) p)).1
 
+-- what is left where the innermost layer goes
+pub popped_layer : (ls seen new : List Layer) (l m : Layer) (n : ℕ) → EndsWith seen l → seen ≡ ls → l ≡ m → n ≡ length ls → new ≡ take (n - 1) ls → ls ≡ new ++ m ∷ []
+popped_layer ls seen new l m n e s q a b =
+    let f : ls ≡ e.0 ++ m ∷ [] = sym s ∙ (e.1 ∙ ap (λ u. e.0 ++ u ∷ []) q) in
+    f ∙ ap (λ u. u ++ m ∷ []) (sym (popped_is ls e.0 new m n f a b))
+
 pub under_last : (os : List Object) (ls new : List Layer) (l : Layer) (x n : ℕ) (e : EndsWith ls l) → IsPile os ls → l ≡ layers.Last x → n ≡ length ls → new ≡ take (n - 1) ls →
     IsPile os new × (IsInList (pile_of os new) × ((m : BTreeMap ℕ (Option ℕ)) (t : State) (o : ℕ) → Shows os (pile_of os ls) m t → closed_with (pile_of os new) (object_at os x) (labels_of t) ≡ on t (Close o)))
 under_last os ls new l x n e p q a b =

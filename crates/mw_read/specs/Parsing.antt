@@ -1,5 +1,5 @@
 -- What a parser stands for: what is open, and the text that has begun.
-use Rattle.std.specs.Prelude.{◌≡◌, ℕ, ◌+◌, ◌*◌, ◌<◌, ◌≤◌, Bool, true, false, List, [], ◌∷◌, ◌++◌, length, take, drop, Some, if◌then◌else◌}
+use Rattle.std.specs.Prelude.{◌≡◌, ℕ, ◌+◌, ◌*◌, ◌<◌, ◌≤◌, ◌⊎◌, Bool, true, false, List, [], ◌∷◌, ◌++◌, length, take, drop, Some, if◌then◌else◌}
 use Rattle.mw_model.specs.Object.{Object, is_name_byte}
 use Rattle.mw_model.specs.Lexemes as lex
 use Rattle.mw_model.specs.Lexemes.{class, Lexeme, Stray, fault, TOKEN, Ending, Ends, Goes, all_are, is_constituent, is_digit, glued, glued_bar, lexemes_from}
@@ -134,6 +134,13 @@ IsBehind AfterToken g b = g ≡ glued b
 IsBehind AfterBar g b = g ≡ glued_bar b
 IsBehind m g b = ⊥
 
+-- no text goes on here
+abbrev pub IsBetween : Begun → Type 0
+IsBetween Nothing = Unit {0}
+IsBetween AfterToken = Unit {0}
+IsBetween AfterBar = Unit {0}
+IsBetween m = ⊥
+
 -- the first byte is of this class
 abbrev pub IsFirst : lex.Class → List ℕ → Type 0
 IsFirst k [] = ⊥
@@ -145,3 +152,8 @@ Begins Bars x = IsFirst lex.Bar x
 Begins Hash x = IsFirst lex.Hash x
 Begins Token x = IsFirst lex.Constituent x
 Begins m x = ⊥
+
+-- Nothing was taken, or one byte of white space behind what was read.
+abbrev pub Blanks : Parser → List ℕ → ℕ → Parser → Type 0
+Blanks old rest n new =
+    ((n ≡ 0) × (new ≡ old)) ⊎ ((n ≡ 1) × (new ≡ record old { begun = Nothing; start = old.start + 1 }) × IsBetween old.begun × IsFirst lex.White rest)

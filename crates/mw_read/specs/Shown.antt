@@ -1,6 +1,7 @@
 -- The members of an event that its line shows.
-use Rattle.std.specs.Prelude.{◌≡◌, ℕ, List, Option, Some, None}
+use Rattle.std.specs.Prelude.{◌≡◌, ℕ, List, Option, Some, None, true}
 use Rattle.mw_model.specs.Object.{Object}
+use Rattle.mw_model.specs.Primitive.{is_symbol}
 use Rattle.mw_model.specs.Report.{dash, symbol_text, word_text, label_text}
 use Rattle.mw_heap.specs.Objects.{object_at, IsIn}
 
@@ -9,9 +10,10 @@ abbrev pub shown_text : List Object → Option ℕ → List ℕ
 shown_text os None = dash
 shown_text os (Some r) = symbol_text (object_at os r)
 
+-- what is shown is a symbol
 abbrev pub IsShown : List Object → Option ℕ → Type 0
 IsShown os None = Unit {0}
-IsShown os (Some r) = IsIn os r
+IsShown os (Some r) = IsIn os r × (is_symbol (object_at os r) ≡ true)
 
 -- these are shown as the word and the label of the event
 pub record ShowsEvent (os : List Object) (word label : Option ℕ) (e : Object) : Type 0 where

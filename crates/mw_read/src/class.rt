@@ -1,6 +1,6 @@
 //! Classes of bytes.
-ghost use Rattle.std.specs.Prelude.{◌≡◌};
-ghost use Rattle.mw_model.specs.Lexemes.{class, is_constituent, is_digit, is_sign, raised, glued, glued_bar};
+ghost use Rattle.std.specs.Prelude.{◌≡◌, true};
+ghost use Rattle.mw_model.specs.Lexemes.{White, class, is_constituent, is_digit, is_sign, raised, glued, glued_bar};
 ghost use Rattle.mw_model.specs.Object.{is_name_byte};
 ghost use Rattle.mw_read.specs.Codes.{class_of};
 ghost use Rattle.mw_read.specs.Runs.{IsRun};
@@ -285,6 +285,13 @@ pub(crate) fn classify(b: u8) -> Class
     ensures { class_of result ≡ class b }
 {
     CLASSES[b as usize]
+}
+
+/// Is the byte white space?
+pub(crate) fn white(b: u8) -> bool
+    ensures { result ≡ true → class b ≡ White }
+{
+    matches!(classify(b), Class::White)
 }
 
 fn constituent(b: u8) -> bool

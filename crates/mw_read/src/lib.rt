@@ -2,12 +2,15 @@
 #![tactic(auto)]
 
 mod class;
+mod kept;
 mod labels;
 mod members;
+mod name;
 mod parser;
 mod reader;
 mod stack;
 mod step;
+mod texts;
 mod token;
 mod unread;
 

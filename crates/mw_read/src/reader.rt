@@ -109,6 +109,7 @@ impl Reader {
         ensures grows { Grows heap.old heap.new }
         ensures rest { self.new ≡ record self.old { parser = self.new.parser } }
         ensures taken { result.1 ≤ length piece.now }
+        ensures none { IsLast result.0 → result.1 ≡ 0 }
         ensures says { (g : List ℕ) (given : List Object) → Stands heap.old self.old.parser g given → Says heap.new self.old.parser g given piece.now result.0 result.1 self.new.parser }
         ensures ended { IsLast result.0 → HasEndedWith result.0 self.new.parser }
         ensures again { (s : Step) → HasEndedWith s self.old.parser → (result ≡ (s, 0)) × ((self.new ≡ self.old) × (heap.new ≡ heap.old)) }

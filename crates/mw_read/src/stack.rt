@@ -54,6 +54,13 @@ pub(crate) struct Stack {
     pub(crate) big: bool,
 }
 
+// The innermost layer.
+fn top(layers: &[Layer]) -> Option<Layer>
+    ensures { MatchOption result (layers.now ≡ []) (λ l. EndsWith layers.now l) }
+{
+    layers.last().copied()
+}
+
 // `(quote x)`.
 fn quote(heap: &mut Heap, x: Ref) -> Result<Ref, Memory>
     requires { IsIn heap.old x }
@@ -61,7 +68,7 @@ fn quote(heap: &mut Heap, x: Ref) -> Result<Ref, Memory>
     ensures made { IfOk result (λ r. IsIn heap.new r × (object_at heap.new r ≡ quoted (object_at heap.old x))) }
 {
     let word = heap.symbol(b"QUOTE")?;
-    let nil = heap.symbol(b"NIL")?;
+    let nil = heap.nil()?;
     let tail = heap.cons(x, nil)?;
     heap.cons(word, tail)
 }
@@ -85,16 +92,22 @@ fn give(
         Does heap.new layers.new.items labels.new r (give_to (pile_of heap.old layers.old.items) (object_at heap.old x) ks)) }
 {
     let mut x = x;
-    while let Some(layer) = layers.pop() {
+    while let Some(layer) = top(layers) {
         match layer {
-            Layer::Quote => x = quote(heap, x)?,
-            Layer::Mark(n) => end(labels, n, x)?,
+            Layer::Quote => {
+                layers.pop();
+                x = quote(heap, x)?;
+            }
+            Layer::Mark(n) => {
+                layers.pop();
+                end(labels, n, x)?;
+            }
             Layer::Dot => {
+                layers.pop();
                 layers.push(Layer::Last(x))?;
                 return Ok(Outcome::Pending);
             }
-            layer => {
-                layers.push(layer)?;
+            _ => {
                 layers.push(Layer::Item(x))?;
                 return Ok(Outcome::Pending);
             }
@@ -135,7 +148,7 @@ impl Stack {
     fn top(&self) -> Option<Layer>
         ensures { MatchOption result (self.now.layers.items ≡ []) (λ l. EndsWith self.now.layers.items l) }
     {
-        self.layers.last().copied()
+        top(&self.layers)
     }
 
     // Has the innermost list the datum behind its dot, so that nothing may begin?
@@ -261,7 +274,7 @@ impl Stack {
         };
         match top {
             Layer::Opening | Layer::Item(_) => {
-                let nil = heap.symbol(b"NIL")?;
+                let nil = heap.nil()?;
                 self.close_with(heap, nil)
             }
             Layer::Last(x) => {

@@ -79,10 +79,23 @@ fn like_number(token: &[u8]) -> bool
     }
 }
 
+// Does the token begin neither as a number nor as dots do? Then it is a name, and needs no further look.
+fn begins_name(token: &[u8]) -> bool
+    ensures { result ≡ true → IsForm token.now Form.Name }
+{
+    match token {
+        [b, ..] => !digit(*b) && !sign(*b) && *b != 46,
+        [] => false,
+    }
+}
+
 // What the token stands for.
 pub(crate) fn form_of(token: &[u8]) -> Form
     ensures { IsForm token.now result }
 {
+    if begins_name(token) {
+        return Form::Name;
+    }
     if all_digits(token) {
         match decimal(token) {
             Some(n) => Form::Natural(n),

@@ -13,8 +13,8 @@ use Rattle.mw_read.proofs.parser.Parser.advance.Goals as goal
 pub in_token-requires-clause-some : goal.in_token-requires-clause-some
 in_token-requires-clause-some c = inl (subst (λ m. IsStarted m c.args.self.now.token.items) c.in-Token.is c.requires.started)
 
-pub returns-in_ok-end_bars-in-Barred-clause-advances : goal.returns-in_ok-end_bars-in-Barred-clause-advances
-returns-in_ok-end_bars-in-Barred-clause-advances c t h =
+pub returns-in-Barred-clause-advances : goal.returns-in-Barred-clause-advances
+returns-in-Barred-clause-advances c t h =
     let a = c.args.self.now in
     let rest = c.args.rest.now in
     let text = subst (λ m. IsText m a.token.items) c.in-Barred.is c.requires.parser.text in

@@ -2,14 +2,16 @@ use Rattle.std.proofs.Common.{◌+◌, ◌≤◌, subst, length, drop, arith}
 use Rattle.std.proofs.lemmas.List.{length-drop}
 use Rattle.mw_read.specs.Machine.{State}
 use Rattle.mw_read.specs.Held.{Holds}
-use Rattle.mw_read.specs.Parsing.{Moves, Advances}
+use Rattle.mw_read.specs.Parsing.{Moves, Advances, Blanks}
 use Rattle.mw_read.proofs.Growth.{grows_grows}
 use Rattle.mw_read.proofs.Beginning.{rest_is}
-use Rattle.mw_read.proofs.Scanning.{scan_next, scan_reaches, scan_advances}
+use Rattle.mw_read.proofs.Scanning.{Scans, scan_next, scan_reaches, scan_advances}
+use Rattle.mw_read.proofs.Blanks.{blank_scans}
 use Rattle.mw_read.proofs.parser.Parser.scan.Goals as goal
 
-pub loop-at-preserved : goal.loop-at-preserved
-loop-at-preserved c =
+-- the next part of the piece
+next : (c : goal.After-blank-at) → Scans c.args.heap.now c.args.self.now c.args.piece.now c.advance.new.heap c.advance.new.self (c.loop-at.at + c.in_ok-outcome.n)
+next c =
     let at = c.loop-at.at in
     let piece = c.args.piece.now in
     let mid = c.loop-at.self in
@@ -24,6 +26,13 @@ loop-at-preserved c =
     scan_next c.args.heap.now c.args.self.now piece os mid at c.loop-at.invariant os2 new v.grows c.loop-at-test.true n l
     (subst (λ r. Moves r mid (drop at piece) n new) c.in-Pending.is m)
     (λ t h. subst (λ r. Advances os2 t mid (drop at piece) r n new) c.in-Pending.is (f t h))
+
+pub loop-at-preserved : goal.loop-at-preserved
+loop-at-preserved c =
+    let at = c.loop-at.at + c.in_ok-outcome.n in
+    let p = c.advance.new.self in
+    blank_scans c.args.heap.now c.args.self.now c.args.piece.now c.advance.new.heap p at c.blank-at.result c.blank-at.new.self (next c)
+    (subst (λ u. Blanks p u c.blank-at.result c.blank-at.new.self) (rest_is at c.args.piece.now) c.blank-at.ensures)
 
 pub returns-in_default : goal.returns-in_default
 returns-in_default c =

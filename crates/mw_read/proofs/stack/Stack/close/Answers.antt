@@ -11,29 +11,29 @@ pub close_with-requires-clause-stack : goal.close_with-requires-clause-stack
 close_with-requires-clause-stack c =
     let a = c.args.self.now in
     record {
-      pile = is_pile_grows c.args.heap.now c.symbol.new.self a.layers.items c.symbol.ensures.grows c.requires.stack.pile;
-      listed = listed_grows (length c.args.heap.now) (length c.symbol.new.self) a.labels (length_grows c.args.heap.now c.symbol.new.self c.symbol.ensures.grows) c.requires.stack.listed;
+      pile = is_pile_grows c.args.heap.now c.nil.new.self a.layers.items c.nil.ensures.grows c.requires.stack.pile;
+      listed = listed_grows (length c.args.heap.now) (length c.nil.new.self) a.labels (length_grows c.args.heap.now c.nil.new.self c.nil.ensures.grows) c.requires.stack.listed;
     }
 
 pub close_with-requires-clause-list : goal.close_with-requires-clause-list
 close_with-requires-clause-list c =
     let a = c.args.self.now in
-    subst (λ u. IsInList u) (sym (pile_grows c.args.heap.now c.symbol.new.self a.layers.items c.symbol.ensures.grows c.requires.stack.pile))
+    subst (λ u. IsInList u) (sym (pile_grows c.args.heap.now c.nil.new.self a.layers.items c.nil.ensures.grows c.requires.stack.pile))
     (opens_list c.args.heap.now a.layers.items c.in-Some.top c.in-Some.ensures c.requires.stack.pile c.in-Opening.is)
 
 pub returns-in_ok-nil-in-Opening-clause-turn : goal.returns-in_ok-nil-in-Opening-clause-turn
 returns-in_ok-nil-in-Opening-clause-turn c =
     let a = c.args.self.now in
     let os = c.args.heap.now in
-    let os1 = c.symbol.new.self in
+    let os1 = c.nil.new.self in
     let p = pile_of os a.layers.items in
     let i = opens_list os a.layers.items c.in-Some.top c.in-Some.ensures c.requires.stack.pile c.in-Opening.is in
     if_ok_map c.close_with.result
     (λ r f t h.
     subst (λ (w : Turn). Does c.close_with.new.heap c.close_with.new.self.layers.items c.close_with.new.self.labels r w)
-    (ap₂ (λ u y. closed_with u y (labels_of t)) (pile_grows os os1 a.layers.items c.symbol.ensures.grows c.requires.stack.pile) c.in_ok-nil-in-Opening.ensures.made.1
+    (ap₂ (λ u y. closed_with u y (labels_of t)) (pile_grows os os1 a.layers.items c.nil.ensures.grows c.requires.stack.pile) c.in_ok-nil-in-Opening.ensures.made.1
     ∙ sym (close_list c.args.offset p (labels_of t) i) ∙ sym (on_close os p a.labels t c.args.offset h))
-    (f (labels_of t) (agree_grows os os1 a.labels (labels_of t) c.symbol.ensures.grows c.requires.stack.listed (shows_agree os p a.labels t h))))
+    (f (labels_of t) (agree_grows os os1 a.labels (labels_of t) c.nil.ensures.grows c.requires.stack.listed (shows_agree os p a.labels t h))))
     c.close_with.ensures.turn
 
 pub close_with-requires-in-Last-clause-object : goal.close_with-requires-in-Last-clause-object

@@ -1,5 +1,5 @@
-use Rattle.std.proofs.Common.{◌∙◌, ap, sym, refl, subst, true, false, map}
-use Rattle.mw_model.specs.Object.{is_name, Natural, Symbol, name_of_bytes}
+use Rattle.std.proofs.Common.{◌∙◌, sym, refl, subst, true, false, map}
+use Rattle.mw_model.specs.Object.{Natural, Symbol, name_of_bytes}
 use Rattle.mw_model.specs.Lexemes.{raised}
 use Rattle.mw_read.specs.Machine.{on}
 use Rattle.mw_read.specs.Held.{Took}
@@ -7,7 +7,7 @@ use Rattle.mw_read.specs.Lexing.{token_lexeme}
 use Rattle.mw_read.specs.declared.stack.Stack.{Stack}
 use Rattle.mw_read.proofs.Holding.{stack_grows, atom_took, small_natural, large_natural, or_small, or_large, if_ok_all}
 use Rattle.mw_read.proofs.Constituents.{is_name_raised}
-use Rattle.mw_read.proofs.parser.end_token.Goals as goal
+use Rattle.mw_read.proofs.texts.end_token.Goals as goal
 
 pub atom-requires-clause-stack : goal.atom-requires-clause-stack
 atom-requires-clause-stack c = stack_grows c.args.heap.now c.nat.new.self c.args.stack.now c.nat.ensures.grows c.requires.stack
@@ -16,13 +16,11 @@ pub atom-requires-in-Large-clause-stack : goal.atom-requires-in-Large-clause-sta
 atom-requires-in-Large-clause-stack c =
     let k = stack_grows c.args.heap.now c.nat-in-Large.new.self c.args.stack.now c.nat-in-Large.ensures.grows c.requires.stack in record { pile = k.pile; listed = k.listed }
 
-pub symbol-requires : goal.symbol-requires
-symbol-requires c =
-    ap is_name (c.deref.ensures.value ∙ c.in_ok-raise_all-in-Name.ensures)
-    ∙ is_name_raised c.args.token.now (name_of_bytes (map raised c.args.token.now)) c.requires.token c.in-Name.ensures
+pub symbol_of-requires : goal.symbol_of-requires
+symbol_of-requires c = is_name_raised c.args.token.now (name_of_bytes (map raised c.args.token.now)) c.requires.token c.in-Name.ensures
 
 pub atom-requires-in-Name-clause-stack : goal.atom-requires-in-Name-clause-stack
-atom-requires-in-Name-clause-stack c = stack_grows c.args.heap.now c.symbol.new.self c.args.stack.now c.symbol.ensures.grows c.requires.stack
+atom-requires-in-Name-clause-stack c = stack_grows c.args.heap.now c.symbol_of.new.heap c.args.stack.now c.symbol_of.ensures.grows c.requires.stack
 
 pub returns-in_ok-x-in-Natural-clause-took : goal.returns-in_ok-x-in-Natural-clause-took
 returns-in_ok-x-in-Natural-clause-took c =
@@ -53,7 +51,7 @@ returns-in_ok-x-in-Name-clause-took c =
     if_ok_all _ _ _ _ c.atom-in-Name.result
     (λ r a b d e t h f.
     subst (λ u. Took c.atom-in-Name.new.heap c.atom-in-Name.new.self r (on t (token_lexeme c.args.start c.args.glued u))) (sym c.in-Name.ensures)
-    (atom_took c.args.heap.now c.symbol.new.self c.atom-in-Name.new.heap c.args.stack.now c.atom-in-Name.new.self r t y c.in_ok-x-in-Name.x c.args.start h c.symbol.ensures.grows
-    (c.in_ok-x-in-Name.ensures.made.1 ∙ ap (λ u. Symbol (name_of_bytes u)) (c.deref.ensures.value ∙ c.in_ok-raise_all-in-Name.ensures))
+    (atom_took c.args.heap.now c.symbol_of.new.heap c.atom-in-Name.new.heap c.args.stack.now c.atom-in-Name.new.self r t y c.in_ok-x-in-Name.x c.args.start h c.symbol_of.ensures.grows
+    c.in_ok-x-in-Name.ensures.made.1
     a b d (or_small c.atom-in-Name.new.self.big c.args.stack.now.big false refl e)))
     c.atom-in-Name.ensures.stack c.atom-in-Name.ensures.datum c.atom-in-Name.ensures.turn c.atom-in-Name.ensures.big

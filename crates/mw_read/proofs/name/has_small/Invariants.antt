@@ -1,6 +1,6 @@
 use Rattle.std.proofs.Common.{◌≡◌, map, take}
 use Rattle.mw_model.specs.Lexemes.{raised}
-use Rattle.mw_read.proofs.parser.raise_all.Given as goal
+use Rattle.mw_read.proofs.name.has_small.Given as goal
 
 abbrev pub invariant-loop-b : goal.invariant-loop-b
-invariant-loop-b l = l.name.items ≡ map raised (take l.b-index l.token)
+invariant-loop-b l = map raised (take l.b-index l.token) ≡ take l.b-index l.token

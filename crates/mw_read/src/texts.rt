@@ -1,0 +1,261 @@
+//! Texts of more than one byte: tokens, names between bars, labels and comments, and where they end.
+ghost use Rattle.std.specs.Prelude.{◌≡◌, ℕ, ◌+◌, ◌<◌, ◌≤◌, ◌^◌, ◌⊎◌, true, false, List, ◌++◌, length, take, IfOk};
+ghost use Rattle.mw_model.specs.Object.{is_name_byte, name_of_bytes, Symbol};
+ghost use Rattle.mw_model.specs.Lexemes.{all_are, is_constituent, is_digit, token_form, Atom, Ending};
+ghost use Rattle.mw_heap.specs.Objects.{Grows};
+ghost use Rattle.mw_read.specs.Machine.{State, on, is_full};
+ghost use Rattle.mw_read.specs.Stacks.{IsStack};
+ghost use Rattle.mw_read.specs.Held.{Holds, Took};
+ghost use Rattle.mw_read.specs.Parsing.{IsParser, Advances, EndsHash, meaning_of, Moves};
+ghost use Rattle.mw_read.specs.Runs.{StartsWith};
+ghost use Rattle.mw_read.specs.Lexing.{token_lexeme, label_lexeme};
+
+use crate::class::{constituents, digits, glued_to_token, line_bytes, name_bytes};
+use crate::kept::{keep_behind, kept_or};
+use crate::name::symbol_of;
+use crate::parser::{Begun, Parser};
+use crate::stack::{Stack, fault};
+use crate::step::{Outcome, SyntaxKind};
+use crate::token::{Form, form_of, label};
+use mw_heap::{Heap, Memory};
+
+// A token without bars ends: `glued` says whether what stands behind it may not stand there.
+fn end_token(
+    stack: &mut Stack,
+    heap: &mut Heap,
+    name: &mut Vec<u8>,
+    token: &[u8],
+    start: u64,
+    glued: bool,
+) -> Result<Outcome, Memory>
+    requires stack { IsStack heap.old stack.old }
+    requires token { all_are is_constituent token.now ≡ true }
+    requires room { start < 2 ^ 50 }
+    ensures grows { Grows heap.old heap.new }
+    ensures took { IfOk result (λ r. (t : State) → Holds heap.old stack.old t → is_full t ≡ false →
+        Took heap.new stack.new r (on t (token_lexeme start glued (token_form token.now)))) }
+{
+    match form_of(token) {
+        Form::Natural(n) => {
+            let x = heap.nat(n)?;
+            stack.atom(heap, x, start)
+        }
+        Form::Large => {
+            stack.big = true;
+            let x = heap.nat(0)?;
+            stack.atom(heap, x, start)
+        }
+        Form::Name => {
+            let x = symbol_of(heap, name, token)?;
+            stack.atom(heap, x, start)
+        }
+        Form::Dot => {
+            if glued {
+                return Ok(fault(SyntaxKind::Token, start + 1));
+            }
+            stack.dot(start)
+        }
+        Form::Bad => Ok(fault(SyntaxKind::Token, start)),
+    }
+}
+
+impl Parser {
+    // The text that has begun goes on in the next piece.
+    fn pause(&mut self, bytes: &[u8]) -> Result<(Outcome, usize), Memory>
+        ensures paused { IfOk result (λ r. (r.0 ≡ Outcome.Pending) × (r.1 ≡ length bytes.now)) }
+        ensures token { IfOk result (λ r. self.new.token.items ≡ self.old.token.items ++ bytes.now) }
+        ensures same { (self.new.stack ≡ self.old.stack) × ((self.new.begun ≡ self.old.begun) × (self.new.start ≡ self.old.start)) }
+    {
+        self.token.extend_from_slice(bytes)?;
+        Ok((Outcome::Pending, bytes.len()))
+    }
+
+    // A token goes on, and ends where a byte follows it.
+    pub(crate) fn in_token(
+        &mut self,
+        heap: &mut Heap,
+        rest: &[u8],
+    ) -> Result<(Outcome, usize), Memory>
+        requires parser { IsParser heap.old self.old }
+        requires begun { self.old.begun ≡ Begun.Token }
+        requires some { (0 < length self.old.token.items) ⊎ StartsWith is_constituent rest.now }
+        requires room { self.old.start + (length self.old.token.items + length rest.now) < 2 ^ 50 }
+        ensures grows { Grows heap.old heap.new }
+        ensures taken { IfOk result (λ r. r.1 ≤ length rest.now) }
+        ensures starts { IfOk result (λ r. StartsWith is_constituent rest.now → 0 < r.1) }
+        ensures moves { IfOk result (λ r. Moves r.0 self.old rest.now r.1 self.new) }
+        ensures advances { IfOk result (λ r. (t : State) → Holds heap.old self.old.stack t → Advances heap.new t self.old rest.now r.0 r.1 self.new) }
+    {
+        let n = constituents(rest);
+        if n == rest.len() {
+            return self.pause(rest);
+        }
+        let outcome = self.end_token(heap, &rest[..n], glued_to_token(rest[n]))?;
+        Ok((outcome, n))
+    }
+
+    // A token ends behind these bytes.
+    pub(crate) fn end_token(
+        &mut self,
+        heap: &mut Heap,
+        bytes: &[u8],
+        glued: bool,
+    ) -> Result<Outcome, Memory>
+        requires parser { IsParser heap.old self.old }
+        requires token { all_are is_constituent (self.old.token.items ++ bytes.now) ≡ true }
+        requires room { self.old.start + (length self.old.token.items + length bytes.now) < 2 ^ 50 }
+        ensures grows { Grows heap.old heap.new }
+        ensures took { IfOk result (λ r. (t : State) → Holds heap.old self.old.stack t → is_full t ≡ false →
+            Took heap.new self.new.stack r (on t (token_lexeme self.old.start glued (token_form (self.old.token.items ++ bytes.now))))) }
+        ensures begun { self.new.begun ≡ Begun.AfterToken }
+        ensures start { self.new.start ≡ self.old.start + length (self.old.token.items ++ bytes.now) }
+    {
+        let start = self.start;
+        self.begun = Begun::AfterToken;
+        self.start += (self.token.len() + bytes.len()) as u64;
+        keep_behind(&mut self.token, bytes)?;
+        let token = kept_or(&self.token, bytes);
+        end_token(&mut self.stack, heap, &mut self.name, token, start, glued)
+    }
+
+    // A name between bars goes on, up to the closing bar.
+    pub(crate) fn in_bars(
+        &mut self,
+        heap: &mut Heap,
+        rest: &[u8],
+    ) -> Result<(Outcome, usize), Memory>
+        requires parser { IsParser heap.old self.old }
+        requires begun { self.old.begun ≡ Begun.Bars }
+        requires room { self.old.start + (length self.old.token.items + length rest.now) < 2 ^ 50 }
+        ensures grows { Grows heap.old heap.new }
+        ensures taken { IfOk result (λ r. r.1 ≤ length rest.now) }
+        ensures moves { IfOk result (λ r. Moves r.0 self.old rest.now r.1 self.new) }
+        ensures advances { IfOk result (λ r. (t : State) → Holds heap.old self.old.stack t → Advances heap.new t self.old rest.now r.0 r.1 self.new) }
+    {
+        let n = name_bytes(rest);
+        if n == rest.len() {
+            return self.pause(rest);
+        }
+        let length = self.token.len() + n;
+        if rest[n] != b'|' {
+            return Ok((fault(SyntaxKind::Byte, self.start + 1 + length as u64), 0));
+        }
+        if length == 0 {
+            return Ok((fault(SyntaxKind::Token, self.start), 0));
+        }
+        if n + 1 == rest.len() {
+            self.begun = Begun::Barred;
+            self.token.extend_from_slice(&rest[..n])?;
+            return Ok((Outcome::Pending, n + 1));
+        }
+        let outcome = self.end_bars(heap, &rest[..n])?;
+        Ok((outcome, n + 1))
+    }
+
+    // A name between bars ends behind these bytes.
+    pub(crate) fn end_bars(&mut self, heap: &mut Heap, bytes: &[u8]) -> Result<Outcome, Memory>
+        requires parser { IsParser heap.old self.old }
+        requires name { all_are is_name_byte (self.old.token.items ++ bytes.now) ≡ true }
+        requires some { 0 < length (self.old.token.items ++ bytes.now) }
+        requires room { self.old.start + (length self.old.token.items + length bytes.now) < 2 ^ 50 }
+        ensures grows { Grows heap.old heap.new }
+        ensures took { IfOk result (λ r. (t : State) → Holds heap.old self.old.stack t →
+            Took heap.new self.new.stack r (on t (Atom self.old.start (Symbol (name_of_bytes (self.old.token.items ++ bytes.now)))))) }
+        ensures begun { self.new.begun ≡ Begun.AfterBar }
+        ensures start { self.new.start ≡ self.old.start + 2 + length (self.old.token.items ++ bytes.now) }
+    {
+        let start = self.start;
+        self.begun = Begun::AfterBar;
+        self.start += (self.token.len() + bytes.len()) as u64 + 2;
+        if self.token.is_empty() {
+            let x = heap.symbol(bytes)?;
+            return self.stack.atom(heap, x, start);
+        }
+        self.token.extend_from_slice(bytes)?;
+        let x = heap.symbol(&self.token)?;
+        self.stack.atom(heap, x, start)
+    }
+
+    // The digits behind a `#` go on, up to what ends them.
+    pub(crate) fn in_hash(
+        &mut self,
+        heap: &mut Heap,
+        rest: &[u8],
+    ) -> Result<(Outcome, usize), Memory>
+        requires parser { IsParser heap.old self.old }
+        requires begun { self.old.begun ≡ Begun.Hash }
+        requires room { self.old.start + (length self.old.token.items + length rest.now) < 2 ^ 50 }
+        ensures grows { Grows heap.old heap.new }
+        ensures taken { IfOk result (λ r. r.1 ≤ length rest.now) }
+        ensures moves { IfOk result (λ r. Moves r.0 self.old rest.now r.1 self.new) }
+        ensures advances { IfOk result (λ r. (t : State) → Holds heap.old self.old.stack t → Advances heap.new t self.old rest.now r.0 r.1 self.new) }
+    {
+        let n = digits(rest);
+        let length = self.token.len() + n;
+        if length > 9 {
+            return Ok((fault(SyntaxKind::Label, self.start), 0));
+        }
+        self.token.extend_from_slice(&rest[..n])?;
+        if n == rest.len() {
+            return Ok((Outcome::Pending, n));
+        }
+        let outcome = self.end_hash(heap, rest[n])?;
+        Ok((outcome, n + 1))
+    }
+
+    // A label or a reference ends with this byte.
+    fn end_hash(&mut self, heap: &mut Heap, b: u8) -> Result<Outcome, Memory>
+        requires parser { IsParser heap.old self.old }
+        requires digits { all_are is_digit self.old.token.items ≡ true }
+        requires few { length self.old.token.items ≤ 9 }
+        requires room { self.old.start < 2 ^ 50 }
+        ensures grows { Grows heap.old heap.new }
+        ensures took { IfOk result (λ r. (t : State) → Holds heap.old self.old.stack t → is_full t ≡ false →
+            Took heap.new self.new.stack r (on t (label_lexeme self.old.start self.old.token.items b))) }
+        ensures ended { IfOk result (λ r. EndsHash r self.old self.new) }
+    {
+        let start = self.start;
+        if self.token.is_empty() {
+            return Ok(fault(SyntaxKind::Label, start));
+        }
+        let n = label(&self.token);
+        if b == b'=' {
+            self.end_label();
+            return self.stack.mark(n, start);
+        }
+        if b == b'#' {
+            self.end_label();
+            return self.stack.refer(heap, n, start);
+        }
+        Ok(fault(SyntaxKind::Label, start))
+    }
+
+    fn end_label(&mut self)
+        requires { self.old.start + length self.old.token.items < 2 ^ 60 }
+        ensures { self.new ≡ record self.old { begun = Begun.Nothing; start = self.old.start + 2 + length self.old.token.items } }
+    {
+        self.begun = Begun::Nothing;
+        self.start += self.token.len() as u64 + 2;
+    }
+
+    // A comment goes on, up to the end of the line.
+    pub(crate) fn in_comment(&mut self, rest: &[u8]) -> (Outcome, usize)
+        requires begun { self.old.begun ≡ Begun.Comment }
+        requires room { self.old.start + length rest.now < 2 ^ 50 }
+        ensures pending { result.0 ≡ Outcome.Pending }
+        ensures taken { result.1 ≤ length rest.now }
+        ensures stack { self.new.stack ≡ self.old.stack }
+        ensures begun { (self.new.begun ≡ Begun.Nothing) ⊎ (self.new.begun ≡ Begun.Comment) }
+        ensures moves { Moves result.0 self.old rest.now result.1 self.new }
+        ensures passes { (e : Ending) (t : State) (z : List ℕ) → meaning_of e t self.old (take result.1 rest.now ++ z) ≡ meaning_of e t self.new z }
+    {
+        let n = line_bytes(rest);
+        self.start += n as u64;
+        if n == rest.len() {
+            return (Outcome::Pending, n);
+        }
+        self.start += 2;
+        self.begun = Begun::Nothing;
+        (Outcome::Pending, n + 1)
+    }
+}
