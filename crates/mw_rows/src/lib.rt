@@ -6,6 +6,8 @@ mod books;
 #[cfg(test)]
 mod commands;
 #[cfg(test)]
+mod depth;
+#[cfg(test)]
 mod ends;
 #[cfg(test)]
 mod events;
