@@ -98,7 +98,7 @@ pub(crate) fn note_place(places: &mut Vec<Ref>, index: usize, x: Ref) {
     }
 }
 
-// The index of the name, which goes last, in memory of its own, if it is new.
+// The index of the name, which goes last if it is new. Its bytes are copied first, also where it is listed.
 pub(crate) fn insert_name(
     names: &mut IndexSet<Vec<u8>>,
     alloc: Global,
