@@ -6,3 +6,4 @@ pub mod Code
 pub mod Variants
 pub mod Parts
 pub mod PrimitiveNames
+pub mod Packed

@@ -100,7 +100,13 @@ impl Heap {
         requires { IsPart self.now x }
         ensures { result ≡ same_object (part_at self.now x) NIL }
     {
-        self.is_named(x, b"NIL")
+        match x {
+            Some(x) => match self.view(x) {
+                View::Symbol => matches!(self.name_of(x), [b'N', b'I', b'L']),
+                _ => false,
+            },
+            None => true,
+        }
     }
 
     /// Whether two parts are equal.
