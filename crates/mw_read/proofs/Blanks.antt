@@ -7,7 +7,7 @@ use Rattle.mw_model.specs.Lexemes as lex
 use Rattle.mw_read.specs.Machine.{State}
 use Rattle.mw_read.specs.Resume.{resume}
 use Rattle.mw_read.specs.Held.{Holds}
-use Rattle.mw_read.specs.Parsing.{meaning_of, IsBehind, IsBetween, IsFirst, Advances, Moved, Blanks, offset_of, offset_at, weight}
+use Rattle.mw_read.specs.Parsing.{meaning_of, IsBehind, IsBetween, IsFirst, Advances, Moved, PassesWhite, offset_of, offset_at, weight}
 use Rattle.mw_read.specs.declared.parser.Begun.{Begun}
 use Rattle.mw_read.specs.declared.parser.Begun.TheVariants.{Nothing, AfterToken, AfterBar}
 use Rattle.mw_read.specs.declared.parser.Parser.{Parser}
@@ -94,7 +94,7 @@ module _ (os : List Object) (old : Parser) (i : IsBetween old.begun) where
       holds_again = h
 
 -- what a loop over the piece keeps, past white space
-pub blank_scans : (first : List Object) (old : Parser) (piece : List ℕ) (os : List Object) (p : Parser) (at n : ℕ) (new : Parser) → Scans first old piece os p at → Blanks p (drop at piece) n new → Scans first old piece os new (at + n)
+pub blank_scans : (first : List Object) (old : Parser) (piece : List ℕ) (os : List Object) (p : Parser) (at n : ℕ) (new : Parser) → Scans first old piece os p at → PassesWhite p (drop at piece) n new → Scans first old piece os new (at + n)
 blank_scans first old piece os p at n new s (inl h) =
     subst (λ k. Scans first old piece os new (at + k)) (sym h.0)
     (subst (λ k. Scans first old piece os new k) (let e : at ≡ at + 0 = omega arith in e) (subst (λ q. Scans first old piece os q at) (sym h.1) s))
@@ -106,10 +106,10 @@ blank_scans first old piece os p at n new s (inr h) =
     (white_moves os p h.2 (drop at piece) h.3) (white_advances os p h.2 (drop at piece) h.3)))
 
 -- the bytes that are left, and what has begun, are no more
-pub blank_less : (p new : Parser) (rest : List ℕ) (n : ℕ) → Blanks p rest n new → weight new.begun ≤ weight p.begun
+pub blank_less : (p new : Parser) (rest : List ℕ) (n : ℕ) → PassesWhite p rest n new → weight new.begun ≤ weight p.begun
 blank_less p new rest n (inl h) = let e : weight new.begun ≡ weight p.begun = ap (λ q. weight q.begun) h.1 in omega (arith, e)
 blank_less p new rest n (inr h) = let e : weight new.begun ≡ 0 = ap (λ q. weight q.begun) h.1 in omega (arith, e)
 
-pub blank_within : (p new : Parser) (rest : List ℕ) (n : ℕ) → Blanks p rest n new → n ≤ length rest
+pub blank_within : (p new : Parser) (rest : List ℕ) (n : ℕ) → PassesWhite p rest n new → n ≤ length rest
 blank_within p new rest n (inl h) = omega (arith, h.0)
 blank_within p new rest n (inr h) = omega (arith, h.0, some_first lex.White rest h.3)

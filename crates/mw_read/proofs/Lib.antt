@@ -22,3 +22,4 @@ pub mod Ending
 pub mod Emptied
 pub mod Telling
 pub mod Feeding
+mod Raised

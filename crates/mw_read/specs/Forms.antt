@@ -1,8 +1,8 @@
 -- What the code says of a token.
-use Rattle.std.specs.Prelude.{◌≡◌, ℕ, ◌<◌, ◌≤◌, ◌^◌, List, map}
+use Rattle.std.specs.Prelude.{◌≡◌, ℕ, ◌<◌, ◌≤◌, ◌^◌, Bool, false, not, ◌&&◌, List, [], ◌∷◌, map}
 use Rattle.mw_model.specs.Object.{Natural, Symbol, name_of_bytes}
 use Rattle.mw_model.specs.Lexemes as lex
-use Rattle.mw_model.specs.Lexemes.{token_form, raised, Whole}
+use Rattle.mw_model.specs.Lexemes.{token_form, raised, Whole, is_digit, is_sign, is_dot}
 use Rattle.mw_read.specs.declared.token.Form.{Form}
 use Rattle.mw_read.specs.declared.token.Form.TheVariants as forms
 
@@ -12,3 +12,8 @@ IsForm t forms.Large = (n : ℕ) × (token_form t ≡ Whole (Natural n)) × (2 ^
 IsForm t forms.Name = token_form t ≡ Whole (Symbol (name_of_bytes (map raised t)))
 IsForm t forms.Dot = token_form t ≡ lex.Point
 IsForm t forms.Bad = token_form t ≡ lex.Bad
+
+-- the token begins neither as a number does nor as dots do
+abbrev pub begins_name : List ℕ → Bool
+begins_name [] = false
+begins_name (b ∷ t) = not (is_digit b) && (not (is_sign b) && not (is_dot b))

@@ -153,7 +153,7 @@ Begins Hash x = IsFirst lex.Hash x
 Begins Token x = IsFirst lex.Constituent x
 Begins m x = ⊥
 
--- Nothing was taken, or one byte of white space behind what was read.
-abbrev pub Blanks : Parser → List ℕ → ℕ → Parser → Type 0
-Blanks old rest n new =
-    ((n ≡ 0) × (new ≡ old)) ⊎ ((n ≡ 1) × (new ≡ record old { begun = Nothing; start = old.start + 1 }) × IsBetween old.begun × IsFirst lex.White rest)
+-- One byte of white space behind what was read was taken, where one stands there, and else nothing.
+abbrev pub PassesWhite : Parser → List ℕ → ℕ → Parser → Type 0
+PassesWhite old rest n new =
+    ((n ≡ 0) × (new ≡ old) × (IsBetween old.begun → IsFirst lex.White rest → ⊥)) ⊎ ((n ≡ 1) × (new ≡ record old { begun = Nothing; start = old.start + 1 }) × IsBetween old.begun × IsFirst lex.White rest)

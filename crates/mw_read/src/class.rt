@@ -1,5 +1,5 @@
 //! Classes of bytes.
-ghost use Rattle.std.specs.Prelude.{◌≡◌, true};
+ghost use Rattle.std.specs.Prelude.{◌≡◌, ◌≢◌, MatchBool};
 ghost use Rattle.mw_model.specs.Lexemes.{White, class, is_constituent, is_digit, is_sign, raised, glued, glued_bar};
 ghost use Rattle.mw_model.specs.Object.{is_name_byte};
 ghost use Rattle.mw_read.specs.Codes.{class_of};
@@ -289,7 +289,7 @@ pub(crate) fn classify(b: u8) -> Class
 
 /// Is the byte white space?
 pub(crate) fn white(b: u8) -> bool
-    ensures { result ≡ true → class b ≡ White }
+    ensures { MatchBool result (class b ≡ White) (class b ≢ White) }
 {
     matches!(classify(b), Class::White)
 }

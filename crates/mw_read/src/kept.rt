@@ -14,8 +14,8 @@ pub(crate) fn keep_behind(kept: &mut Vec<u8>, bytes: &[u8]) -> Result<(), Memory
     Ok(())
 }
 
-// What was kept, where that has bytes, and else these.
-pub(crate) fn kept_or<'a>(kept: &'a [u8], bytes: &'a [u8]) -> &'a [u8]
+// The whole text: what was kept, where that has bytes, and else these.
+pub(crate) fn whole_text<'a>(kept: &'a [u8], bytes: &'a [u8]) -> &'a [u8]
     ensures kept { 0 < length kept.now → result.now ≡ kept.now }
     ensures none { length kept.now ≡ 0 → result.now ≡ bytes.now }
 {

@@ -5,11 +5,12 @@ ghost use Rattle.mw_model.specs.Lexemes.{Goes};
 ghost use Rattle.mw_heap.specs.Objects.{IsIn, Grows};
 ghost use Rattle.mw_read.specs.Machine.{State};
 ghost use Rattle.mw_read.specs.Held.{Holds};
-ghost use Rattle.mw_read.specs.Parsing.{IsParser, Advances, offset_of, Moves, IsBehind, Begins, IsStarted, Fits, Blanks};
+ghost use Rattle.mw_read.specs.Parsing.{IsParser, Advances, offset_of, Moves, IsBehind, Begins, IsStarted, Fits, PassesWhite};
 ghost use Rattle.mw_read.specs.Standing.{Reaches, Stands, IsStanding, IsFree, Follows, Lasts, Tells, Says, Finishes, IsLast, HasEndedWith, HasEnded};
 
 use crate::class::{Class, classify, glued_to_bar, glued_to_token, white};
 use crate::members::shown;
+use crate::name::Names;
 use crate::stack::{Stack, fault};
 use crate::step::{Outcome, Step, SyntaxKind, lasting};
 use mw_heap::{Heap, Memory, Ref};
@@ -46,7 +47,7 @@ pub(crate) struct Parser {
     pub(crate) token: Vec<u8>,
     // the offset where that text begins
     pub(crate) start: u64,
-    pub(crate) name: Vec<u8>,
+    pub(crate) names: Names,
     // the fault, or the refusal of memory, that was answered
     pub(crate) ended: Option<Step>,
 }
@@ -122,7 +123,7 @@ impl Parser {
                 let (outcome, n) = self.in_hash(heap, &rest[1..])?;
                 Ok((outcome, n + 1))
             }
-            _ => self.in_token(heap, rest),
+            _ => self.in_token::<true>(heap, rest),
         }
     }
 
@@ -162,7 +163,7 @@ impl Parser {
     {
         let glued = match self.begun {
             Begun::Comment => return Ok(self.in_comment(rest)),
-            Begun::Token => return self.in_token(heap, rest),
+            Begun::Token => return self.in_token::<false>(heap, rest),
             Begun::Bars => return self.in_bars(heap, rest),
             Begun::Hash => return self.in_hash(heap, rest),
             Begun::Barred => return Ok((self.end_bars(heap, &[])?, 0)),
@@ -173,10 +174,10 @@ impl Parser {
         self.behind(heap, rest, glued)
     }
 
-    // White space directly behind what was read: how many bytes are taken, none or one.
-    fn blank(&mut self, rest: &[u8]) -> usize
+    // Passes white space directly behind what was read, and answers how many bytes that takes, none or one.
+    fn pass_white(&mut self, rest: &[u8]) -> usize
         requires room { self.old.start + length rest.now < 2 ^ 50 }
-        ensures { Blanks self.old rest.now result self.new }
+        ensures { PassesWhite self.old rest.now result self.new }
     {
         if rest.is_empty() || !white(rest[0]) {
             return 0;
@@ -227,7 +228,7 @@ impl Parser {
             let (outcome, n) = self.advance(heap, &piece[at..])?;
             at += n;
             match outcome {
-                Outcome::Pending => at += self.blank(&piece[at..]),
+                Outcome::Pending => at += self.pass_white(&piece[at..]),
                 outcome => return Ok((outcome, at)),
             }
         }
@@ -243,7 +244,7 @@ impl Parser {
         ensures lasts { IfOk result (λ r. (t : State) → Holds heap.old self.old.stack t → Lasts heap.new t self.old r self.new) }
     {
         match self.begun {
-            Begun::Token => self.end_token(heap, &[], false),
+            Begun::Token => self.end_token::<false>(heap, &[], false),
             Begun::Barred => self.end_bars(heap, &[]),
             Begun::Bars => Ok(fault(SyntaxKind::End, self.offset())),
             Begun::Hash => Ok(fault(SyntaxKind::End, self.offset())),
@@ -279,7 +280,7 @@ impl Parser {
             begun: Begun::Nothing,
             token: Vec::new(alloc),
             start: 0,
-            name: Vec::new(alloc),
+            names: Names::new(alloc),
             ended: None,
         }
     }

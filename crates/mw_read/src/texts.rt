@@ -11,19 +11,20 @@ ghost use Rattle.mw_read.specs.Runs.{StartsWith};
 ghost use Rattle.mw_read.specs.Lexing.{token_lexeme, label_lexeme};
 
 use crate::class::{constituents, digits, glued_to_token, line_bytes, name_bytes};
-use crate::kept::{keep_behind, kept_or};
-use crate::name::symbol_of;
+use crate::kept::{keep_behind, whole_text};
+use crate::name::Names;
 use crate::parser::{Begun, Parser};
 use crate::stack::{Stack, fault};
 use crate::step::{Outcome, SyntaxKind};
 use crate::token::{Form, form_of, label};
 use mw_heap::{Heap, Memory};
 
-// A token without bars ends: `glued` says whether what stands behind it may not stand there.
-fn end_token(
+// A token without bars ends: `glued` says whether what stands behind it may not stand there. `BEGINS` says whether it begins in this
+// piece, as most do: what they go through is compiled by itself, into the one loop that calls it.
+fn end_token<const BEGINS: bool>(
     stack: &mut Stack,
     heap: &mut Heap,
-    name: &mut Vec<u8>,
+    names: &mut Names,
     token: &[u8],
     start: u64,
     glued: bool,
@@ -46,7 +47,7 @@ fn end_token(
             stack.atom(heap, x, start)
         }
         Form::Name => {
-            let x = symbol_of(heap, name, token)?;
+            let x = names.symbol_of(heap, token)?;
             stack.atom(heap, x, start)
         }
         Form::Dot => {
@@ -71,7 +72,7 @@ impl Parser {
     }
 
     // A token goes on, and ends where a byte follows it.
-    pub(crate) fn in_token(
+    pub(crate) fn in_token<const BEGINS: bool>(
         &mut self,
         heap: &mut Heap,
         rest: &[u8],
@@ -90,12 +91,12 @@ impl Parser {
         if n == rest.len() {
             return self.pause(rest);
         }
-        let outcome = self.end_token(heap, &rest[..n], glued_to_token(rest[n]))?;
+        let outcome = self.end_token::<BEGINS>(heap, &rest[..n], glued_to_token(rest[n]))?;
         Ok((outcome, n))
     }
 
     // A token ends behind these bytes.
-    pub(crate) fn end_token(
+    pub(crate) fn end_token<const BEGINS: bool>(
         &mut self,
         heap: &mut Heap,
         bytes: &[u8],
@@ -114,8 +115,8 @@ impl Parser {
         self.begun = Begun::AfterToken;
         self.start += (self.token.len() + bytes.len()) as u64;
         keep_behind(&mut self.token, bytes)?;
-        let token = kept_or(&self.token, bytes);
-        end_token(&mut self.stack, heap, &mut self.name, token, start, glued)
+        let token = whole_text(&self.token, bytes);
+        end_token::<BEGINS>(&mut self.stack, heap, &mut self.names, token, start, glued)
     }
 
     // A name between bars goes on, up to the closing bar.

@@ -1,7 +1,7 @@
 //! What tokens stand for.
 ghost use Rattle.std.specs.Prelude.{◌≡◌, ◌<◌, ◌≤◌, ◌^◌, true, length, MatchOption};
 ghost use Rattle.mw_model.specs.Lexemes.{all_are, is_digit, is_dot, like_number, decimal_value};
-ghost use Rattle.mw_read.specs.Forms.{IsForm};
+ghost use Rattle.mw_read.specs.Forms.{IsForm, begins_name};
 
 use crate::class::{digit, sign};
 
@@ -81,7 +81,8 @@ fn like_number(token: &[u8]) -> bool
 
 // Does the token begin neither as a number nor as dots do? Then it is a name, and needs no further look.
 fn begins_name(token: &[u8]) -> bool
-    ensures { result ≡ true → IsForm token.now Form.Name }
+    ensures exact { result ≡ begins_name token.now }
+    ensures name { result ≡ true → IsForm token.now Form.Name }
 {
     match token {
         [b, ..] => !digit(*b) && !sign(*b) && *b != 46,

@@ -10,20 +10,20 @@ use Rattle.mw_read.proofs.Constituents.{is_name_raised}
 use Rattle.mw_read.proofs.texts.end_token.Goals as goal
 
 pub atom-requires-clause-stack : goal.atom-requires-clause-stack
-atom-requires-clause-stack c = stack_grows c.args.heap.now c.nat.new.self c.args.stack.now c.nat.ensures.grows c.requires.stack
+atom-requires-clause-stack g c = stack_grows c.args.heap.now c.nat.new.self c.args.stack.now c.nat.ensures.grows c.requires.stack
 
 pub atom-requires-in-Large-clause-stack : goal.atom-requires-in-Large-clause-stack
-atom-requires-in-Large-clause-stack c =
+atom-requires-in-Large-clause-stack g c =
     let k = stack_grows c.args.heap.now c.nat-in-Large.new.self c.args.stack.now c.nat-in-Large.ensures.grows c.requires.stack in record { pile = k.pile; listed = k.listed }
 
 pub symbol_of-requires : goal.symbol_of-requires
-symbol_of-requires c = is_name_raised c.args.token.now (name_of_bytes (map raised c.args.token.now)) c.requires.token c.in-Name.ensures
+symbol_of-requires g c = is_name_raised c.args.token.now (name_of_bytes (map raised c.args.token.now)) c.requires.token c.in-Name.ensures
 
 pub atom-requires-in-Name-clause-stack : goal.atom-requires-in-Name-clause-stack
-atom-requires-in-Name-clause-stack c = stack_grows c.args.heap.now c.symbol_of.new.heap c.args.stack.now c.symbol_of.ensures.grows c.requires.stack
+atom-requires-in-Name-clause-stack g c = stack_grows c.args.heap.now c.symbol_of.new.heap c.args.stack.now c.symbol_of.ensures.grows c.requires.stack
 
 pub returns-in_ok-x-in-Natural-clause-took : goal.returns-in_ok-x-in-Natural-clause-took
-returns-in_ok-x-in-Natural-clause-took c =
+returns-in_ok-x-in-Natural-clause-took g c =
     let n = c.in-Natural.n in
     let k = small_natural n c.in-Natural.ensures.1 in
     if_ok_all _ _ _ _ c.atom.result
@@ -34,7 +34,7 @@ returns-in_ok-x-in-Natural-clause-took c =
     c.atom.ensures.stack c.atom.ensures.datum c.atom.ensures.turn c.atom.ensures.big
 
 pub returns-in_ok-x-in-Large-clause-took : goal.returns-in_ok-x-in-Large-clause-took
-returns-in_ok-x-in-Large-clause-took c =
+returns-in_ok-x-in-Large-clause-took g c =
     let y = c.in-Large.ensures in
     let k = large_natural y.0 y.2 in
     let s : Stack = record { layers = c.args.stack.now.layers; labels = c.args.stack.now.labels; big = true } in
@@ -46,7 +46,7 @@ returns-in_ok-x-in-Large-clause-took c =
     c.atom-in-Large.ensures.stack c.atom-in-Large.ensures.datum c.atom-in-Large.ensures.turn c.atom-in-Large.ensures.big
 
 pub returns-in_ok-x-in-Name-clause-took : goal.returns-in_ok-x-in-Name-clause-took
-returns-in_ok-x-in-Name-clause-took c =
+returns-in_ok-x-in-Name-clause-took g c =
     let y = Symbol (name_of_bytes (map raised c.args.token.now)) in
     if_ok_all _ _ _ _ c.atom-in-Name.result
     (λ r a b d e t h f.

@@ -7,7 +7,7 @@ use Rattle.mw_read.proofs.Advancing.{token_advances}
 use Rattle.mw_read.proofs.parser.Parser.in_token.Goals as goal
 
 pub returns-clause-advances : goal.returns-clause-advances
-returns-clause-advances c t h =
+returns-clause-advances g c t h =
     let a = c.args.self.now in
     let rest = c.args.rest.now in
     let n = c.constituents-n.result in

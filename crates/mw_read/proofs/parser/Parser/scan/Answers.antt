@@ -2,7 +2,7 @@ use Rattle.std.proofs.Common.{◌+◌, ◌≤◌, subst, length, drop, arith}
 use Rattle.std.proofs.lemmas.List.{length-drop}
 use Rattle.mw_read.specs.Machine.{State}
 use Rattle.mw_read.specs.Held.{Holds}
-use Rattle.mw_read.specs.Parsing.{Moves, Advances, Blanks}
+use Rattle.mw_read.specs.Parsing.{Moves, Advances, PassesWhite}
 use Rattle.mw_read.proofs.Growth.{grows_grows}
 use Rattle.mw_read.proofs.Beginning.{rest_is}
 use Rattle.mw_read.proofs.Scanning.{Scans, scan_next, scan_reaches, scan_advances}
@@ -10,7 +10,7 @@ use Rattle.mw_read.proofs.Blanks.{blank_scans}
 use Rattle.mw_read.proofs.parser.Parser.scan.Goals as goal
 
 -- the next part of the piece
-next : (c : goal.After-blank-at) → Scans c.args.heap.now c.args.self.now c.args.piece.now c.advance.new.heap c.advance.new.self (c.loop-at.at + c.in_ok-outcome.n)
+next : (c : goal.After-pass_white-at) → Scans c.args.heap.now c.args.self.now c.args.piece.now c.advance.new.heap c.advance.new.self (c.loop-at.at + c.in_ok-outcome.n)
 next c =
     let at = c.loop-at.at in
     let piece = c.args.piece.now in
@@ -31,8 +31,8 @@ pub loop-at-preserved : goal.loop-at-preserved
 loop-at-preserved c =
     let at = c.loop-at.at + c.in_ok-outcome.n in
     let p = c.advance.new.self in
-    blank_scans c.args.heap.now c.args.self.now c.args.piece.now c.advance.new.heap p at c.blank-at.result c.blank-at.new.self (next c)
-    (subst (λ u. Blanks p u c.blank-at.result c.blank-at.new.self) (rest_is at c.args.piece.now) c.blank-at.ensures)
+    blank_scans c.args.heap.now c.args.self.now c.args.piece.now c.advance.new.heap p at c.pass_white-at.result c.pass_white-at.new.self (next c)
+    (subst (λ u. PassesWhite p u c.pass_white-at.result c.pass_white-at.new.self) (rest_is at c.args.piece.now) c.pass_white-at.ensures)
 
 pub returns-in_default : goal.returns-in_default
 returns-in_default c =
