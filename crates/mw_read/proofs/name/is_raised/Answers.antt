@@ -1,4 +1,4 @@
-use Rattle.std.proofs.Common.{◌≡◌, map, length, sym, ap, ◌∙◌, arith}
+use Rattle.std.proofs.Common.{map, length, sym, ap, ◌∙◌, arith}
 use Rattle.std.proofs.lemmas.List.{length-map, get_or-map, take_all}
 use Rattle.mw_model.specs.Object.{same_bytes}
 use Rattle.mw_model.specs.Lexemes.{raised}

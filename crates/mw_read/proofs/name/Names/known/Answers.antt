@@ -1,5 +1,5 @@
 -- The symbol in the slot has the name of the token.
-use Rattle.std.proofs.Common.{◌≡◌, map, sym, ◌∙◌, arith}
+use Rattle.std.proofs.Common.{map, sym, ◌∙◌, arith}
 use Rattle.mw_model.specs.Lexemes.{raised}
 use Rattle.mw_model.proofs.Names.{same_bytes-eq}
 use Rattle.mw_heap.specs.Objects.{object_at}
@@ -9,9 +9,8 @@ use Rattle.mw_read.proofs.name.Names.known.Goals as goal
 pub returns-in-Symbol : goal.returns-in-Symbol
 returns-in-Symbol c =
     let os = c.args.heap.now in
-    let b = map raised c.args.token.now in
-    (
+    let b = map raised c.args.token.now in (
       omega (arith, c.if-index-cells.false, c.index.ensures, c.cells.ensures, c.mark.ensures),
       symbol_by_name (object_at os c.in_ok-place.place) b c.in-Symbol.ensures.shows
-      (c.name_of.ensures ∙ sym (same_bytes-eq b c.name_of.result.now (sym c.is_raised.ensures ∙ c.if-is_raised.true))),
+          (c.name_of.ensures ∙ sym (same_bytes-eq b c.name_of.result.now (sym c.is_raised.ensures ∙ c.if-is_raised.true))),
     )
