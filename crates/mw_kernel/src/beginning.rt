@@ -10,6 +10,7 @@ ghost use Rattle.mw_proof.specs.Known.{known_object};
 ghost use Rattle.mw_preamble.specs.Admitted.{first_definitions};
 ghost use Rattle.mw_kernel.specs.Knowledge.{theory_with, put_all};
 
+use crate::front::with_front;
 use mw_axioms::build;
 use mw_heap::{Heap, Memory, Profile, Ref};
 use mw_preamble::admit_all;
@@ -62,7 +63,7 @@ fn add_axioms(heap: &mut Heap, known: &mut Known, list: Ref, axioms: &[Ref]) -> 
 {
     let mut list = list;
     for axiom in axioms {
-        list = heap.cons(*axiom, list)?;
+        list = with_front(heap, *axiom, list)?;
         known.add(*axiom)?;
     }
     Ok(list)

@@ -19,6 +19,7 @@ use crate::Fate;
 use crate::beginning::begin;
 use crate::claim::claim;
 use crate::fate::{accepted, shown};
+use crate::front::with_front;
 use crate::verify::refusal;
 use crate::word::{Event, event_of};
 use mw_heap::{Heap, Mark, Memory, Ref, Refusal};
@@ -256,7 +257,7 @@ impl Kernel {
     {
         let behind = self.heap.mark_behind(formula);
         self.cut_to(later(behind, self.needed));
-        let theorems = self.heap.cons(formula, self.theorems)?;
+        let theorems = with_front(&mut self.heap, formula, self.theorems)?;
         self.known_theorems.add(formula)?;
         self.theorems = theorems;
         self.needed = self.heap.mark();

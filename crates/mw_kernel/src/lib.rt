@@ -4,6 +4,7 @@
 mod beginning;
 mod claim;
 mod fate;
+mod front;
 mod kernel;
 mod verify;
 mod word;

@@ -19,7 +19,7 @@ loop-axiom-preserved c =
     let next = take_next xs i x c.loop-axiom-test.true c.axiom-item.is in
     let x_in : IsIn os x = subst (IsIn os) (sym c.axiom-item.is) (c.requires.axioms i x c.loop-axiom-test.true) in
     let made = c.in_ok-list.ensures.made in (
-      Grows-trans os l.heap c.cons.new.self g c.cons.ensures.grows,
+      Grows-trans os l.heap c.with_front.new.heap g c.with_front.ensures.grows,
       made.0,
       made.1 ∙ (ap₂ Pair (object_at-Grows os l.heap g x x_in) l.invariant.2 ∙ (sym (put_one (map (object_at os) (take i xs)) (object_at os x) (object_at os c.args.list)) ∙ ap (λ zs. put_all zs (object_at os c.args.list)) (sym (ap (map (object_at os)) next ∙ map-append (object_at os) (take i xs) (x ∷ []))))),
       c.in_ok-add.ensures.added ∙ (ap (λ k. x ∷ k) l.invariant.3 ∙ ap (λ zs. zs ++ c.args.known.now) (sym (ap reverse next ∙ reverse-append (take i xs) (x ∷ [])))),

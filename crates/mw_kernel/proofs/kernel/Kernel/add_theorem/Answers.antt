@@ -10,8 +10,8 @@ use Rattle.mw_kernel.proofs.kernel.Kernel.add_theorem.Goals as goal
 pub invariant_of-self-in_err-add : goal.invariant_of-self-in_err-add
 invariant_of-self-in_err-add c =
     let inside = c.self-2.inside in
-    subst (λ theorems. IsKernel (record { objects = c.cons.new.self; needed = inside.needed; axioms = inside.axioms; theorems = inside.theorems; arity_list = inside.arity_list; steps = inside.steps }) inside.known_axioms theorems inside.arity inside.marks) (sym c.in_err-add.ensures.err)
-    (grown _ _ _ _ _ c.self-2.invariant c.cons.new.self c.cons.ensures.grows)
+    subst (λ theorems. IsKernel (record { objects = c.with_front.new.heap; needed = inside.needed; axioms = inside.axioms; theorems = inside.theorems; arity_list = inside.arity_list; steps = inside.steps }) inside.known_axioms theorems inside.arity inside.marks) (sym c.in_err-add.ensures.err)
+    (grown _ _ _ _ _ c.self-2.invariant c.with_front.new.heap c.with_front.ensures.grows)
 
 heap_is : (c : goal.After-self-1) → c.self-2.inside.heap ≡ take c.later.result c.args.self.now.objects
 heap_is c = ap (λ v. v.objects) (c.self-2.view_is ∙ c.cut_to-2.ensures.objects)
@@ -38,11 +38,11 @@ pub invariant_of-self-2 : goal.invariant_of-self-2
 invariant_of-self-2 c =
     let inside = c.self-2.inside in
     let made = c.in_ok-theorems.ensures.made in
-    subst (λ theorems. IsKernel (record { objects = c.cons.new.self; needed = c.mark-self-inside.result; axioms = inside.axioms; theorems = c.in_ok-theorems.theorems; arity_list = inside.arity_list; steps = inside.steps }) inside.known_axioms theorems inside.arity inside.marks) (sym c.in_ok-add.ensures.added)
-    (subst (λ n. IsKernel (record { objects = c.cons.new.self; needed = n; axioms = inside.axioms; theorems = c.in_ok-theorems.theorems; arity_list = inside.arity_list; steps = inside.steps }) inside.known_axioms (c.args.formula ∷ inside.known_theorems) inside.arity inside.marks) (sym c.mark-self-inside.ensures)
-    (added _ _ _ _ _ c.self-2.invariant c.args.formula c.in_ok-theorems.theorems c.cons.new.self (formula_in c) c.cons.ensures.grows made.0 made.1 (subst IsSound (sym (ap₂ with_theorem (theory_same c) (formula_same c))) c.requires.sound)))
+    subst (λ theorems. IsKernel (record { objects = c.with_front.new.heap; needed = c.mark-self-inside.result; axioms = inside.axioms; theorems = c.in_ok-theorems.theorems; arity_list = inside.arity_list; steps = inside.steps }) inside.known_axioms theorems inside.arity inside.marks) (sym c.in_ok-add.ensures.added)
+    (subst (λ n. IsKernel (record { objects = c.with_front.new.heap; needed = n; axioms = inside.axioms; theorems = c.in_ok-theorems.theorems; arity_list = inside.arity_list; steps = inside.steps }) inside.known_axioms (c.args.formula ∷ inside.known_theorems) inside.arity inside.marks) (sym c.mark-self-inside.ensures)
+    (added _ _ _ _ _ c.self-2.invariant c.args.formula c.in_ok-theorems.theorems c.with_front.new.heap (formula_in c) c.with_front.ensures.grows made.0 made.1 (subst IsSound (sym (ap₂ with_theorem (theory_same c) (formula_same c))) c.requires.sound)))
 
 pub returns-clause-theory : goal.returns-clause-theory
 returns-clause-theory c =
     let made = c.in_ok-theorems.ensures.made in
-    added_theory _ _ _ _ _ c.self-2.invariant c.args.formula c.in_ok-theorems.theorems c.cons.new.self (formula_in c) c.cons.ensures.grows made.0 made.1 ∙ ap₂ with_theorem (theory_same c) (formula_same c)
+    added_theory _ _ _ _ _ c.self-2.invariant c.args.formula c.in_ok-theorems.theorems c.with_front.new.heap (formula_in c) c.with_front.ensures.grows made.0 made.1 ∙ ap₂ with_theorem (theory_same c) (formula_same c)
