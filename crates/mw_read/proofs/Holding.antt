@@ -1,6 +1,6 @@
 -- What a lexeme makes of what a stack holds.
-use Rattle.std.proofs.Common.{◌≡◌, ℕ, Bool, true, false, ◌||◌, List, [], ◌∷◌, length, not, Result, Ok, Err, IfOk, ◌<◌, ◌≤◌, ◌^◌, if◌then◌else◌, lt-ltb, le-ltb, refl, sym, ap, ap₂, ◌∙◌, subst}
-use Rattle.mw_model.specs.Object.{Object, Natural}
+use Rattle.std.proofs.Common.{◌≡◌, ℕ, Bool, true, false, ◌||◌, List, [], ◌∷◌, length, Result, Ok, Err, IfOk, refl, sym, ap, ap₂, ◌∙◌, subst}
+use Rattle.mw_model.specs.Object.{Object}
 use Rattle.mw_model.specs.Lexemes.{Lexeme, Atom, Fault}
 use Rattle.mw_model.specs.Fate.{is_out_of_range}
 use Rattle.mw_heap.specs.Objects.{object_at, Grows}
@@ -119,19 +119,9 @@ atom_took os0 os1 os2 old s r t y x o h g e k d f b =
     took os2 old s r t (Atom o y) os0 h tt k d
     (subst (λ z. Does os2 s.layers.items s.labels r (on (clamp_state t) (Atom o z))) e (f (clamp_state t) (holds_grows os0 os1 old t g h).means)) b
 
-pub small_natural : (n : ℕ) → n < 2 ^ 128 → (clamp (Natural n) ≡ Natural n) × (is_out_of_range (Natural n) ≡ false)
-small_natural n h = let e = lt-ltb n (2 ^ 128) h in (ap (λ v. Natural (if v then n else 0)) e, ap not e)
-
-pub large_natural : (n : ℕ) → 2 ^ 128 ≤ n → (clamp (Natural n) ≡ Natural 0) × (is_out_of_range (Natural n) ≡ true)
-large_natural n h = let e = le-ltb n (2 ^ 128) h in (ap (λ v. Natural (if v then n else 0)) e, ap not e)
-
 pub or_small : (a b c : Bool) → c ≡ false → a ≡ b → a ≡ (b || c)
 or_small a true c e h = h
 or_small a false c e h = h ∙ sym e
-
-pub or_large : (a b c : Bool) → c ≡ true → a ≡ true → a ≡ (b || c)
-or_large a true c e h = h
-or_large a false c e h = h ∙ sym e
 
 pub if_ok_all : {T E : Type 0} (P Q R S : T → Type 0) {V : T → Type 0} (r : Result T E) → ((x : T) → P x → Q x → R x → S x → V x) → IfOk r P → IfOk r Q → IfOk r R → IfOk r S → IfOk r V
 if_ok_all P Q R S (Ok x) f p q s v = f x p q s v

@@ -1,14 +1,13 @@
 -- What the code says of a token.
-use Rattle.std.specs.Prelude.{◌≡◌, ℕ, ◌<◌, ◌≤◌, ◌^◌, Bool, false, not, ◌&&◌, List, [], ◌∷◌, map}
+use Rattle.std.specs.Prelude.{◌≡◌, ℕ, Bool, true, false, not, ◌&&◌, List, [], ◌∷◌, map}
 use Rattle.mw_model.specs.Object.{Natural, Symbol, name_of_bytes}
 use Rattle.mw_model.specs.Lexemes as lex
-use Rattle.mw_model.specs.Lexemes.{token_form, raised, Whole, is_digit, is_sign, is_dot}
+use Rattle.mw_model.specs.Lexemes.{token_form, raised, Whole, all_are, decimal_value, is_digit, is_sign, is_dot}
 use Rattle.mw_read.specs.declared.token.Form.{Form}
 use Rattle.mw_read.specs.declared.token.Form.TheVariants as forms
 
 abbrev pub IsForm : List ℕ → Form → Type 0
-IsForm t (forms.Natural n) = (token_form t ≡ Whole (Natural n)) × (n < 2 ^ 128)
-IsForm t forms.Large = (n : ℕ) × (token_form t ≡ Whole (Natural n)) × (2 ^ 128 ≤ n)
+IsForm t forms.Digits = (all_are is_digit t ≡ true) × (token_form t ≡ Whole (Natural (decimal_value t)))
 IsForm t forms.Name = token_form t ≡ Whole (Symbol (name_of_bytes (map raised t)))
 IsForm t forms.Dot = token_form t ≡ lex.Point
 IsForm t forms.Bad = token_form t ≡ lex.Bad

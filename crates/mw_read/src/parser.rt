@@ -276,6 +276,7 @@ impl Parser {
                 layers: Vec::new(alloc),
                 labels: BTreeMap::new(alloc),
                 big: false,
+                word: None,
             },
             begun: Begun::Nothing,
             token: Vec::new(alloc),

@@ -1,6 +1,6 @@
 //! What is open: the lists, quotes and labels round the place that is read.
 ghost use Rattle.std.specs.Prelude.{◌≡◌, ℕ, List, [], length, IfOk, MatchOption};
-ghost use Rattle.mw_model.specs.Object.{Object};
+ghost use Rattle.mw_model.specs.Object.{Object, symbol};
 ghost use Rattle.mw_model.specs.Lexemes.{Atom, Open, Close, Dot, Quote, Mark, Ref as Refers};
 ghost use Rattle.mw_model.specs.Grammar.{Labels, quoted};
 ghost use Rattle.mw_heap.specs.Objects.{object_at, IsIn, Grows};
@@ -52,6 +52,8 @@ pub(crate) struct Stack {
     pub(crate) labels: BTreeMap<u32, Option<Ref>>,
     // whether a part is a natural of 2^128 or more, which is kept as 0
     pub(crate) big: bool,
+    // where QUOTE may stand, which is looked at before it is trusted
+    pub(crate) word: Option<Ref>,
 }
 
 // The innermost layer.
@@ -61,13 +63,28 @@ fn top(layers: &[Layer]) -> Option<Layer>
     layers.last().copied()
 }
 
+// The symbol QUOTE, where it may stand looked at first. That place is noted anew where it is another.
+fn quote_word(noted: &mut Option<Ref>, heap: &mut Heap) -> Result<Ref, Memory>
+    ensures grows { Grows heap.old heap.new }
+    ensures made { IfOk result (λ r. IsIn heap.new r × (object_at heap.new r ≡ symbol "QUOTE")) }
+{
+    if let Some(place) = *noted {
+        if place.index() < heap.mark().cells() && heap.is_named(Some(place), b"QUOTE") {
+            return Ok(place);
+        }
+    }
+    let word = heap.symbol(b"QUOTE")?;
+    *noted = Some(word);
+    Ok(word)
+}
+
 // `(quote x)`.
-fn quote(heap: &mut Heap, x: Ref) -> Result<Ref, Memory>
+fn quote(noted: &mut Option<Ref>, heap: &mut Heap, x: Ref) -> Result<Ref, Memory>
     requires { IsIn heap.old x }
     ensures grows { Grows heap.old heap.new }
     ensures made { IfOk result (λ r. IsIn heap.new r × (object_at heap.new r ≡ quoted (object_at heap.old x))) }
 {
-    let word = heap.symbol(b"QUOTE")?;
+    let word = quote_word(noted, heap)?;
     let nil = heap.nil()?;
     let tail = heap.cons(x, nil)?;
     heap.cons(word, tail)
@@ -77,6 +94,7 @@ fn quote(heap: &mut Heap, x: Ref) -> Result<Ref, Memory>
 fn give(
     layers: &mut Vec<Layer>,
     labels: &mut BTreeMap<u32, Option<Ref>>,
+    word: &mut Option<Ref>,
     heap: &mut Heap,
     x: Ref,
 ) -> Result<Outcome, Memory>
@@ -96,7 +114,7 @@ fn give(
         match layer {
             Layer::Quote => {
                 layers.pop();
-                x = quote(heap, x)?;
+                x = quote(word, heap, x)?;
             }
             Layer::Mark(n) => {
                 layers.pop();
@@ -174,7 +192,7 @@ impl Stack {
         if self.is_full() {
             return Ok(fault(SyntaxKind::Dot, offset));
         }
-        give(&mut self.layers, &mut self.labels, heap, x)
+        give(&mut self.layers, &mut self.labels, &mut self.word, heap, x)
     }
 
     // A list begins.
@@ -255,7 +273,7 @@ impl Stack {
             return Ok(fault(SyntaxKind::Dot, offset));
         }
         match look(&self.labels, n) {
-            Some(x) => give(&mut self.layers, &mut self.labels, heap, x),
+            Some(x) => give(&mut self.layers, &mut self.labels, &mut self.word, heap, x),
             None => Ok(fault(SyntaxKind::Label, offset)),
         }
     }
@@ -299,6 +317,12 @@ impl Stack {
         ensures big { IfOk result (λ r. self.new.big ≡ self.old.big) }
     {
         let list = fold(&mut self.layers, heap, last)?;
-        give(&mut self.layers, &mut self.labels, heap, list)
+        give(
+            &mut self.layers,
+            &mut self.labels,
+            &mut self.word,
+            heap,
+            list,
+        )
     }
 }

@@ -1,10 +1,12 @@
 //! Texts of more than one byte: tokens, names between bars, labels and comments, and where they end.
-ghost use Rattle.std.specs.Prelude.{◌≡◌, ℕ, ◌+◌, ◌<◌, ◌≤◌, ◌^◌, ◌⊎◌, true, false, List, ◌++◌, length, take, IfOk};
-ghost use Rattle.mw_model.specs.Object.{is_name_byte, name_of_bytes, Symbol};
-ghost use Rattle.mw_model.specs.Lexemes.{all_are, is_constituent, is_digit, token_form, Atom, Ending};
-ghost use Rattle.mw_heap.specs.Objects.{Grows};
+ghost use Rattle.std.specs.Prelude.{◌≡◌, ℕ, ◌+◌, ◌<◌, ◌≤◌, ◌^◌, ◌⊎◌, true, false, ◌||◌, List, ◌++◌, length, take, IfOk, OnOk};
+ghost use Rattle.mw_model.specs.Object.{is_name_byte, name_of_bytes, Natural, Symbol};
+ghost use Rattle.mw_model.specs.Lexemes.{all_are, decimal_value, is_constituent, is_digit, token_form, Atom, Ending};
+ghost use Rattle.mw_model.specs.Fate.{is_out_of_range};
+ghost use Rattle.mw_heap.specs.Objects.{object_at, IsIn, Grows};
 ghost use Rattle.mw_read.specs.Machine.{State, on, is_full};
 ghost use Rattle.mw_read.specs.Stacks.{IsStack};
+ghost use Rattle.mw_read.specs.Clamp.{clamp};
 ghost use Rattle.mw_read.specs.Held.{Holds, Took};
 ghost use Rattle.mw_read.specs.Parsing.{IsParser, Advances, EndsHash, meaning_of, Moves};
 ghost use Rattle.mw_read.specs.Runs.{StartsWith};
@@ -16,8 +18,24 @@ use crate::name::Names;
 use crate::parser::{Begun, Parser};
 use crate::stack::{Stack, fault};
 use crate::step::{Outcome, SyntaxKind};
-use crate::token::{Form, form_of, label};
-use mw_heap::{Heap, Memory};
+use crate::token::{Form, decimal, few_digits, form_of};
+use mw_heap::{Heap, Memory, Ref};
+
+// The natural of these digits. In place of one of 2^128 or more it is 0, and `big` is set.
+fn natural_of(big: &mut bool, heap: &mut Heap, digits: &[u8]) -> Result<Ref, Memory>
+    requires { all_are is_digit digits.now ≡ true }
+    ensures grows { Grows heap.old heap.new }
+    ensures made { IfOk result (λ r. IsIn heap.new r × (object_at heap.new r ≡ clamp (Natural (decimal_value digits.now)))) }
+    ensures big { OnOk result (big.new ≡ (big.old || is_out_of_range (Natural (decimal_value digits.now)))) }
+{
+    match decimal(digits) {
+        Some(n) => heap.nat(n),
+        None => {
+            *big = true;
+            heap.nat(0)
+        }
+    }
+}
 
 // A token without bars ends: `glued` says whether what stands behind it may not stand there. `BEGINS` says whether it begins in this
 // piece, as most do: what they go through is compiled by itself, into the one loop that calls it.
@@ -37,13 +55,8 @@ fn end_token<const BEGINS: bool>(
         Took heap.new stack.new r (on t (token_lexeme start glued (token_form token.now)))) }
 {
     match form_of(token) {
-        Form::Natural(n) => {
-            let x = heap.nat(n)?;
-            stack.atom(heap, x, start)
-        }
-        Form::Large => {
-            stack.big = true;
-            let x = heap.nat(0)?;
+        Form::Digits => {
+            let x = natural_of(&mut stack.big, heap, token)?;
             stack.atom(heap, x, start)
         }
         Form::Name => {
@@ -219,7 +232,7 @@ impl Parser {
         if self.token.is_empty() {
             return Ok(fault(SyntaxKind::Label, start));
         }
-        let n = label(&self.token);
+        let n = few_digits(&self.token);
         if b == b'=' {
             self.end_label();
             return self.stack.mark(n, start);

@@ -8,9 +8,8 @@ use crate::class::{digit, sign};
 /// What a token stands for.
 #[derive(Clone, Copy, Debug, PartialEq, Eq)]
 pub(crate) enum Form {
-    Natural(u128),
-    /// A natural of 2^128 or more.
-    Large,
+    /// A natural, in decimal digits.
+    Digits,
     /// A symbol, whose name is the token with its letters raised.
     Name,
     Dot,
@@ -18,10 +17,13 @@ pub(crate) enum Form {
 }
 
 // The number of these digits, where it is below 2^128.
-fn decimal(digits: &[u8]) -> Option<u128>
+pub(crate) fn decimal(digits: &[u8]) -> Option<u128>
     requires { all_are is_digit digits.now ≡ true }
     ensures { MatchOption result (2 ^ 128 ≤ decimal_value digits.now) (λ n. (n ≡ decimal_value digits.now) × (n < 2 ^ 128)) }
 {
+    if digits.len() <= 9 {
+        return Some(few_digits(digits) as u128);
+    }
     let mut n: u128 = 0;
     for d in digits {
         let value = (*d - 48) as u128;
@@ -33,8 +35,8 @@ fn decimal(digits: &[u8]) -> Option<u128>
     Some(n)
 }
 
-// The number of at most nine digits.
-pub(crate) fn label(digits: &[u8]) -> u32
+// The number of at most nine digits, as most naturals and all labels have.
+pub(crate) fn few_digits(digits: &[u8]) -> u32
     requires digits { all_are is_digit digits.now ≡ true }
     requires few { length digits.now ≤ 9 }
     ensures { result ≡ decimal_value digits.now }
@@ -98,10 +100,7 @@ pub(crate) fn form_of(token: &[u8]) -> Form
         return Form::Name;
     }
     if all_digits(token) {
-        match decimal(token) {
-            Some(n) => Form::Natural(n),
-            None => Form::Large,
-        }
+        Form::Digits
     } else if like_number(token) {
         Form::Bad
     } else if all_dots(token) {

@@ -1,6 +1,6 @@
 use Rattle.std.proofs.Common.{arith}
 use Rattle.mw_read.proofs.Digits.{decimal_next, power_more, power_next, power_small}
-use Rattle.mw_read.proofs.token.label.Goals as goal
+use Rattle.mw_read.proofs.token.few_digits.Goals as goal
 
 pub overflow_mul-n : goal.overflow_mul-n
 overflow_mul-n c = let h = power_small c.loop-d.d-index (omega arith) in omega (arith, h, c.loop-d.invariant.below)
