@@ -9,7 +9,7 @@ fn read(heap: &mut Heap, text: &[u8]) -> Result<Ref, Memory> {
     let mut reader = Reader::new(heap.alloc());
     let (step, _) = reader.step(heap, text);
     match step {
-        Step::Datum(datum) if datum.index() < heap.mark().cells() => Ok(datum),
+        Step::Datum(datum) => Ok(datum),
         _ => Err(Memory),
     }
 }
