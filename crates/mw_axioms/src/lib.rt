@@ -7,6 +7,3 @@ mod piece;
 mod table;
 
 pub use axioms::{Axioms, build};
-
-#[cfg(test)]
-mod tests;

@@ -12,6 +12,3 @@ mod values;
 pub use application::apply;
 pub use applied::Applied;
 pub use rule::base_eval;
-
-#[cfg(test)]
-mod tests;

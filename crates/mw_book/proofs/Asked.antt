@@ -2,7 +2,7 @@
 use Rattle.std.proofs.Common.{List, ℕ, Option}
 use Rattle.mw_model.specs.Command.{Request, Check, Trial, Help, Usage, help_text}
 use Rattle.mw_model.specs.Trial.{trial_book}
-use Rattle.mw_model.specs.Version.{last_line_due}
+use Rattle.mw_kernel.specs.Version.{last_line_due}
 use Rattle.mw_book.specs.Statuses.{IsPartOf}
 use Rattle.mw_book.proofs.Written.{nothing_taken}
 use Rattle.mw_book.proofs.Headlines.{part_none}

@@ -8,7 +8,7 @@ use Rattle.mw_model.specs.Theory.{Theory, initial}
 use Rattle.mw_model.specs.Fate.{fate, next, after}
 use Rattle.mw_model.specs.Printing.{numeral}
 use Rattle.mw_model.specs.Report.{spaced, is_accepted, accepted_among, refused_among, summary, Status}
-use Rattle.mw_model.specs.Version.{as_taken}
+use Rattle.mw_kernel.specs.Version.{as_taken}
 use Rattle.mw_kernel.specs.Knowledge.{theory_of}
 use Rattle.mw_book.specs.Books.{TakesSome}
 use Rattle.mw_book.specs.Checks.{Concludes, IsHalt}

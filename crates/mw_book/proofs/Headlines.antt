@@ -4,7 +4,7 @@ use Rattle.mw_model.specs.Command.{Check}
 use Rattle.mw_model.specs.Grammar.{Book, book, trees}
 use Rattle.mw_model.specs.Report.{Status, Done, SomeRefused, Syntax, report_of, last_line}
 use Rattle.mw_model.specs.Report as report
-use Rattle.mw_model.specs.Version.{taken_book, report_due}
+use Rattle.mw_kernel.specs.Version.{taken_book, report_due}
 use Rattle.mw_port.specs.Ports.{Takes}
 use Rattle.mw_read.specs.Piles.{kind_of}
 use Rattle.mw_read.specs.declared.step.SyntaxKind.{SyntaxKind}

@@ -8,7 +8,7 @@ use Rattle.mw_model.specs.Refusal.{RANGE, Fate, Refused}
 use Rattle.mw_model.specs.Fate.{is_out_of_range, fate, next, after}
 use Rattle.mw_model.specs.Printing.{numeral}
 use Rattle.mw_model.specs.Report.{fate_text, word_text, label_text, line, lines, is_accepted, refused_among}
-use Rattle.mw_model.specs.Version.{as_taken}
+use Rattle.mw_kernel.specs.Version.{as_taken}
 use Rattle.mw_kernel.specs.Knowledge.{theory_of}
 use Rattle.mw_book.specs.declared.judging.Judging.{Judging}
 use Rattle.mw_book.specs.Knowing.{events_of, Judges}

@@ -7,7 +7,7 @@ use Rattle.mw_model.specs.Grammar.{Book, book, reading, limit, cut_short, trees}
 use Rattle.mw_model.specs.Theory.{Theory, initial}
 use Rattle.mw_model.specs.Fate.{fate, next, after}
 use Rattle.mw_model.specs.Report.{line, lines, last_line}
-use Rattle.mw_model.specs.Version.{as_taken, report_due, taken_book}
+use Rattle.mw_kernel.specs.Version.{as_taken, report_due, taken_book}
 use Rattle.mw_read.specs.Parsing.{Fits, meaning_of}
 use Rattle.mw_read.specs.Standing.{Stands, IsFree}
 use Rattle.mw_read.specs.declared.parser.Parser.{Parser}

@@ -6,7 +6,7 @@ use Rattle.mw_model.specs.Refusal.{RANGE, EVENT, Refused, need, refuse}
 use Rattle.mw_model.specs.Reading.{when}
 use Rattle.mw_model.specs.Fate.{EventWord, event_word, is_out_of_range, happens, happens_by, fate, next}
 use Rattle.mw_model.specs.Report.{word_text, label_text}
-use Rattle.mw_model.specs.Version.{is_taken, without_members, as_word_says, as_taken}
+use Rattle.mw_kernel.specs.Version.{is_taken, without_members, as_word_says, as_taken}
 
 word_text-without : (e : Object) → word_text (without_members e) ≡ word_text e
 word_text-without (Pair w (Pair x r)) = refl

@@ -3,7 +3,7 @@ use Rattle.std.proofs.Common.{◌≡◌, ◌∙◌, ℕ, List, [], ◌++◌, Opt
 use Rattle.mw_model.specs.Grammar.{Book, book, trees}
 use Rattle.mw_model.specs.Report.{Status, Done, SomeRefused, Syntax, report_of, last_line}
 use Rattle.mw_model.specs.Trial.{trial_book}
-use Rattle.mw_model.specs.Version.{taken_book, report_due, last_line_due}
+use Rattle.mw_kernel.specs.Version.{taken_book, report_due, last_line_due}
 use Rattle.mw_port.specs.Memories.{no_faults}
 use Rattle.mw_port.specs.Ports.{Rises, Takes}
 use Rattle.mw_read.specs.Piles.{kind_of}

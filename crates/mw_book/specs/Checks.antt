@@ -5,8 +5,8 @@ use Rattle.mw_model.specs.Command.{Check}
 use Rattle.mw_model.specs.Grammar.{book, trees}
 use Rattle.mw_model.specs.Report.{Status, Done, SomeRefused, Syntax}
 use Rattle.mw_model.specs.Trial.{trial_book}
-use Rattle.mw_model.specs.Version.{lines_due, last_line_due}
-use Rattle.mw_model.specs.Headline.{Headline, TrialHeadline}
+use Rattle.mw_kernel.specs.Version.{lines_due, last_line_due}
+use Rattle.mw_book.specs.Headline.{Headline, TrialHeadline}
 use Rattle.mw_port.specs.Ports.{Rises, Gives, Takes, HasEnded}
 use Rattle.mw_read.specs.Piles.{kind_of}
 use Rattle.mw_read.specs.declared.step.SyntaxKind.{SyntaxKind}

@@ -5,7 +5,7 @@ use Rattle.mw_model.specs.Primitive.{One}
 use Rattle.mw_model.specs.Theory.{initial}
 use Rattle.mw_model.specs.Fate.{after}
 use Rattle.mw_model.specs.Report.{lines, refused_among}
-use Rattle.mw_model.specs.Version.{as_taken}
+use Rattle.mw_kernel.specs.Version.{as_taken}
 use Rattle.mw_kernel.specs.Knowledge.{theory_of}
 use Rattle.mw_book.specs.declared.judging.Judging.{Judging}
 

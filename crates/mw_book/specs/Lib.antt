@@ -1,3 +1,4 @@
+pub mod Headline
 pub mod Books
 pub mod Statuses
 pub mod Numbers

@@ -3,8 +3,8 @@ use Rattle.std.specs.Prelude.{◌≡◌, ℕ, Bool, true, false, List, Option, S
 use Rattle.mw_model.specs.Command.{Request, Check, Trial, Help, Usage, asked, help_text}
 use Rattle.mw_model.specs.Report.{Status, Done, SomeRefused, Syntax}
 use Rattle.mw_model.specs.Trial.{trial_book}
-use Rattle.mw_model.specs.Version.{report_due, lines_due, last_line_due}
-use Rattle.mw_model.specs.Headline.{Headline, TrialHeadline}
+use Rattle.mw_kernel.specs.Version.{report_due, lines_due, last_line_due}
+use Rattle.mw_book.specs.Headline.{Headline, TrialHeadline}
 use Rattle.mw_port.specs.Ports.{Gives, Takes}
 use Rattle.mw_read.specs.Piles.{kind_of}
 use Rattle.mw_port.specs.declared.sink.Halt.{Halt}

@@ -29,6 +29,16 @@ const LIMIT: u64 = 1 << 40;
 // How many bytes are read at a time.
 const PIECE: usize = 4096;
 
+// Nothing was read. It stands behind a box, so that the proofs of its owners are short.
+fn begin(alloc: Global, steps: u64) -> Result<Box<Judging>, Memory>
+    ensures judged { IfOk result (λ b. Judged b.value steps []) }
+    ensures lines { IfOk result (λ b. b.value.lines.items ≡ []) }
+    ensures few { IfOk result (λ b. b.value.refused ≤ b.value.events) }
+{
+    let judging = Judging::new(alloc, steps)?;
+    Ok(Box::new(alloc, judging)?)
+}
+
 /// Judges the book on the source and writes its report, the line of each event before more is read.
 pub(crate) fn check<S: Source, K: Sink>(
     alloc: Global,
@@ -40,13 +50,14 @@ pub(crate) fn check<S: Source, K: Sink>(
     ensures source_counts { SourceCounts result (S.faults source.old) (S.faults source.new) }
     ensures sink_counts { SinkCounts result (K.faults sink.old) (K.faults sink.new) }
 {
-    let Ok(mut judging) = Judging::new(alloc, steps) else {
+    let Ok(mut boxed) = begin(alloc, steps) else {
         return Status::Memory;
     };
+    let judging: &mut Judging = &mut boxed;
     // What the report calls accepted is true.
     reached_sound();
-    match read_all(alloc, &mut judging, source, sink) {
-        Ok(fault) => end(&mut judging, fault, sink),
+    match read_all(alloc, judging, source, sink) {
+        Ok(fault) => end(judging, fault, sink),
         Err(status) => status,
     }
 }
@@ -62,14 +73,15 @@ pub(crate) fn trial<S: Source, K: Sink>(
     ensures ends { (m : ℕ) → S.left source.old ≡ Some (trial_book m) → TrialEnds result m steps (K.taken sink.old) (K.taken sink.new) }
     ensures sink_counts { SinkCounts result (K.faults sink.old) (K.faults sink.new) }
 {
-    let Ok(mut judging) = Judging::new(alloc, steps) else {
+    let Ok(mut boxed) = begin(alloc, steps) else {
         return Status::Memory;
     };
+    let judging: &mut Judging = &mut boxed;
     reached_sound();
-    match read_all(alloc, &mut judging, source, &mut Nowhere) {
+    match read_all(alloc, judging, source, &mut Nowhere) {
         Ok(fault) => {
             judging.lines.clear();
-            end(&mut judging, fault, sink)
+            end(judging, fault, sink)
         }
         Err(status) => status,
     }

@@ -76,25 +76,3 @@ fn write_help<K: Sink>(sink: &mut K) -> Result<(), Status>
 {
     write_all(sink, HELP).map_err(status_of)
 }
-
-#[cfg(test)]
-mod tests {
-    use super::judge_trial;
-    use crate::Status;
-    use mw_port::SteadySink;
-    use std::test::Fail;
-
-    const STEPS: u64 = 10_000_000;
-
-    #[test]
-    fn a_trial_of_several_pieces_writes_its_last_line_alone(rt: HostRuntime) -> Result<(), Fail> {
-        let alloc = rt.alloc();
-        let mut sink = SteadySink::new(alloc);
-        assert_eq!(rt; judge_trial(alloc, 100, STEPS, &mut sink), Status::Done);
-        assert_eq!(rt;
-            sink.taken(),
-            b"events 100 accepted 100 refused 0 level 1\n".as_slice()
-        );
-        Ok(())
-    }
-}

@@ -8,7 +8,4 @@ mod shapes;
 
 pub use equal_calls::functional_equality;
 pub use instance::instantiation;
-pub use reduction::beta;
-
-#[cfg(test)]
-mod tests;
+pub use reduction::{beta, reduced};

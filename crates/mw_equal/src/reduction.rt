@@ -34,8 +34,8 @@ pub fn beta(heap: &mut Heap, c: Ref) -> Result<bool, Memory>
     Ok(heap.is_same(right, Some(body)))
 }
 
-// The body of the function with the arguments for its formals.
-fn reduced(heap: &mut Heap, function: Ref, arguments: Ref) -> Result<Ref, Memory>
+/// The body of the function of a lambda call with the arguments for its formals. The only error is want of memory.
+pub fn reduced(heap: &mut Heap, function: Ref, arguments: Ref) -> Result<Ref, Memory>
     requires within { IsIn heap.old function }
     requires arguments_within { IsIn heap.old arguments }
     ensures grows { Grows heap.old heap.new }

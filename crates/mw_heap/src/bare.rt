@@ -48,15 +48,3 @@ pub fn is_bare_name(name: &[u8]) -> bool
 {
     are_bare_bytes(name) && !is_like_number(name) && !are_dots(name)
 }
-
-#[cfg(test)]
-mod tests {
-    use super::*;
-
-    #[test]
-    fn wants_no_bars(rt: HostRuntime) {
-        assert!(rt; is_bare_name(b"SYMBOL-<"));
-        assert!(rt; !is_bare_name(b"-1"));
-        assert!(rt; !is_bare_name(b"car"));
-    }
-}

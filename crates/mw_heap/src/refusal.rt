@@ -82,14 +82,3 @@ impl Refusal {
         }
     }
 }
-
-#[cfg(test)]
-mod tests {
-    use super::*;
-
-    #[test]
-    fn reports_a_reason(rt: HostRuntime) {
-        assert_eq!(rt; Refusal::Nil.number(), 12);
-        assert_eq!(rt; Refusal::Nil.word(), "NIL");
-    }
-}

@@ -9,6 +9,3 @@ mod shapes;
 mod steps;
 
 pub use premises::premises_hold;
-
-#[cfg(test)]
-mod tests;

@@ -6,7 +6,7 @@ use Rattle.mw_model.specs.Theory.{Theory}
 use Rattle.mw_model.specs.Printing.{text_of}
 use Rattle.mw_model.specs.Refusal.{EVENT, RANGE, refuse, need}
 use Rattle.mw_model.specs.Fate.{EventWord, Verify, Define, Skolem, Switch, Eval, Print, DefineAll, SetProfile, event_words, event_word, event_word_among, member_count, with_members, is_out_of_range, happens, happens_by, show, verify}
-use Rattle.mw_model.specs.Version.{is_taken, as_taken, as_word_says, without_members}
+use Rattle.mw_kernel.specs.Version.{is_taken, as_taken, as_word_says, without_members}
 use Rattle.mw_model.proofs.Names.{same_object-eq}
 use Rattle.mw_model.proofs.SameObject.{same_object-swap}
 

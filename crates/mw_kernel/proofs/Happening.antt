@@ -5,7 +5,7 @@ use Rattle.mw_model.specs.Theory.{Theory}
 use Rattle.mw_model.specs.Printing.{text_of}
 use Rattle.mw_model.specs.Refusal.{EVENT, LONG, Accepted, refuse}
 use Rattle.mw_model.specs.Fate.{is_out_of_range, event_word, longest, happens, show}
-use Rattle.mw_model.specs.Version.{as_taken}
+use Rattle.mw_kernel.specs.Version.{as_taken}
 use Rattle.mw_kernel.specs.Words.{verify_event}
 use Rattle.mw_kernel.specs.Fates.{verified}
 use Rattle.mw_kernel.proofs.EventWords.{no_event_happens, print_happens}

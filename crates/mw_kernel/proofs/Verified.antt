@@ -3,8 +3,8 @@ use Rattle.std.proofs.Common.{◌≡◌, ℕ, false, List, None, ap, ap₂, ◌�
 use Rattle.mw_model.specs.Object.{Object, symbol}
 use Rattle.mw_model.specs.Theory.{Theory, IsSound}
 use Rattle.mw_model.specs.Fate.{is_out_of_range, happens}
-use Rattle.mw_model.specs.Headline.{EventKeeps}
-use Rattle.mw_model.specs.Version.{as_taken}
+use Rattle.mw_model.specs.Keeping.{EventKeeps}
+use Rattle.mw_kernel.specs.Version.{as_taken}
 use Rattle.mw_model.specs.Term.{ArityTable}
 use Rattle.mw_heap.specs.Objects.{object_at, IsIn, Grows}
 use Rattle.mw_heap.proofs.Objects.{object_at-Grows}

@@ -5,7 +5,7 @@ ghost use Rattle.mw_model.specs.Primitive.{One, is_symbol, name_of};
 ghost use Rattle.mw_model.specs.Definition.{arity_table};
 ghost use Rattle.mw_model.specs.Theory.{initial, claim, IsSound};
 ghost use Rattle.mw_model.specs.Fate.{fate, next, is_out_of_range};
-ghost use Rattle.mw_model.specs.Version.{as_taken};
+ghost use Rattle.mw_kernel.specs.Version.{as_taken};
 ghost use Rattle.mw_heap.specs.Objects.{object_at, IsIn, Grows};
 ghost use Rattle.mw_model.specs.Term.{ArityTable, formula_object, table_object};
 ghost use Rattle.mw_term.specs.Marking.{AreMarks};

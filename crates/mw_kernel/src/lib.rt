@@ -11,6 +11,3 @@ mod word;
 
 pub use fate::Fate;
 pub use kernel::Kernel;
-
-#[cfg(test)]
-mod tests;

@@ -2,7 +2,7 @@
 ghost use Rattle.std.specs.Prelude.{◌≡◌, ◌<◌, false, IfSome, MatchOption, None};
 ghost use Rattle.mw_model.specs.Object.{has_members, list1, list3};
 ghost use Rattle.mw_model.specs.Fate.{event_word, is_out_of_range};
-ghost use Rattle.mw_model.specs.Version.{as_taken};
+ghost use Rattle.mw_kernel.specs.Version.{as_taken};
 ghost use Rattle.mw_heap.specs.Objects.{object_at, IsIn};
 ghost use Rattle.mw_kernel.specs.Words.{IsEvent};
 

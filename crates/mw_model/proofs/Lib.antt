@@ -46,7 +46,6 @@ mod ExamplesProfile
 mod ExamplesText
 mod ExamplesSyntax
 mod ExamplesTrial
-mod ExamplesVersion
 mod ExamplesCommand
 mod ExamplesLong
 pub mod Numerals

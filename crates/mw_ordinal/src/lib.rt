@@ -19,9 +19,6 @@ mod turn;
 
 pub use heap_order::{is_ordinal, ordinal_less};
 
-#[cfg(test)]
-mod tests;
-
 /// Which objects are ordinals: each natural, no symbol, and of the pairs just those ((e . c) . r) in normal form.
 pub fn shape_of_ordinals()
     ensures naturals { (n : ℕ) → is_ordinal (Natural n) ≡ true }

@@ -14,6 +14,3 @@ pub use source::{Failed, Source};
 pub use standard::{StdSink, StdSource};
 pub use steady::{SteadySink, SteadySource};
 pub use text::Text;
-
-#[cfg(test)]
-mod tests;

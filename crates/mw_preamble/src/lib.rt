@@ -7,6 +7,3 @@ mod rows;
 mod text;
 
 pub use preamble::{Preamble, admit_all};
-
-#[cfg(test)]
-mod tests;

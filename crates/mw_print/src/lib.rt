@@ -10,6 +10,3 @@ mod text;
 
 pub use bytes::Bytes;
 pub use printing::{Printed, print, text_len};
-
-#[cfg(test)]
-mod tests;

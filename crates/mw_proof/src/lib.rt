@@ -9,8 +9,6 @@ mod members;
 mod method;
 mod proofs;
 mod rules;
-#[cfg(test)]
-mod tests;
 
 ghost use Rattle.std.specs.Prelude.{◌≡◌, Some};
 ghost use Rattle.mw_model.specs.Object.{Object, second_of};

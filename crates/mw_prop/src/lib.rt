@@ -9,9 +9,6 @@ ghost use Rattle.mw_heap.specs.Parts.{part_at, IsPart};
 
 use mw_heap::{Heap, Ref};
 
-#[cfg(test)]
-mod tests;
-
 // The heads of the objects of negations and of disjunctions.
 const NOT: &[u8] = b"PNOT*";
 

@@ -17,6 +17,3 @@ mod unread;
 pub use members::shown;
 pub use reader::Reader;
 pub use step::{Step, SyntaxKind};
-
-#[cfg(test)]
-mod tests;

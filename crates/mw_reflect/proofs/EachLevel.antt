@@ -12,7 +12,7 @@ use Rattle.mw_model.specs.Theory.{Theory, initial, IsSound, IsClaimed, claim}
 use Rattle.mw_model.specs.Refusal.{NILVALUE}
 use Rattle.mw_model.specs.Checking.{verdict, judged_by}
 use Rattle.mw_model.specs.Fate.{next, after}
-use Rattle.mw_model.specs.Headline.{EachKeeps}
+use Rattle.mw_model.specs.Keeping.{EachKeeps}
 use Rattle.mw_model.proofs.Names.{name_cases, object_cases}
 use Rattle.mw_model.proofs.Readable.{ReadableFormula, formula_readable, formula_object-one}
 use Rattle.mw_model.proofs.FunctionNames.{table_names}

@@ -11,7 +11,7 @@ use Rattle.mw_model.specs.Judgment.{judge}
 use Rattle.mw_model.specs.BuiltIn.{built_in}
 use Rattle.mw_model.specs.Theory.{Theory, BeginsWith, initial, IsSound, claim}
 use Rattle.mw_model.specs.Fate.{after}
-use Rattle.mw_model.specs.Headline.{EachKeeps}
+use Rattle.mw_model.specs.Keeping.{EachKeeps}
 use Rattle.mw_truth.specs.Reached.{JudgesTruly}
 
 -- (f 'p 'axioms 'theorems 'table), where the table is that of the definitions

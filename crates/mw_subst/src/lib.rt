@@ -12,6 +12,3 @@ pub use read::sigma_of;
 pub use sigma::Sigma;
 pub use steps::Steps;
 pub use walk::{substitute, substitute_counted};
-
-#[cfg(test)]
-mod tests;

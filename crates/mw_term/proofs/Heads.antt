@@ -22,10 +22,10 @@ each_listed xs [] = refl
 each_listed xs (y ∷ ys) = ap (λ b. is_among y xs && b) (each_listed xs ys)
 
 -- on the object of a term, closed is what it is on the term
-closed-object : (xs : List Name) (x : Object) (t : Term) → term_of x ≡ Some t → is_closed_object xs x ≡ is_closed xs t
+pub closed-object : (xs : List Name) (x : Object) (t : Term) → term_of x ≡ Some t → is_closed_object xs x ≡ is_closed xs t
 closed-object xs x t h = ap (λ l. list_all (λ y. is_among y xs) (firsts same_name l)) (object_occurrences-term x t h) ∙ (each_listed xs (variables t) ∙ sym (closed_variables xs t))
 
-formals_are : (o : Option (List Name)) (xs : List Name) → if_formals o ≡ Some xs → (o ≡ Some xs) × (are_formals xs ≡ true)
+pub formals_are : (o : Option (List Name)) (xs : List Name) → if_formals o ≡ Some xs → (o ≡ Some xs) × (are_formals xs ≡ true)
 formals_are None xs h = cc
 formals_are (Some ys) xs h = go (are_formals ys) refl h
   where

@@ -4,10 +4,10 @@ mod Entries
 mod ListMarks
 pub mod Symbols
 mod PartSet
-mod FormalList
-mod Heads
-mod Gathered
+pub mod FormalList
+pub mod Heads
+pub mod Gathered
 mod Gathering
-mod TermOccurrences
+pub mod TermOccurrences
 pub mod CallerLemmas
 pub mod SubstitutionLists

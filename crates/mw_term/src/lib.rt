@@ -3,6 +3,7 @@
 
 mod arity;
 mod cell_mark;
+mod formal_names;
 mod formals;
 mod free;
 mod gather;
@@ -15,10 +16,8 @@ mod substitutions;
 mod variables;
 
 pub use arity::Arity;
+pub use formal_names::Formals;
 pub use gather::vars;
 pub use marks::{Marks, mark_terms};
 pub use substitutions::is_substitution;
 pub use variables::Vars;
-
-#[cfg(test)]
-mod tests;

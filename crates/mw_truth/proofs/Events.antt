@@ -16,7 +16,7 @@ use Rattle.mw_model.specs.Refusal.{Refusal, RANGE, FORMALS, EVENT, STEPS, OVERFL
 use Rattle.mw_model.specs.Checking.{judged, judged_as, or_else, judged_each}
 use Rattle.mw_model.specs.Admission.{Draft, all_of, new_name, new_names, formals_of, add_names, functions, measures, are_closed_by, add_to_theory, define, draft_of, drafts_of, some_drafts, add_witness}
 use Rattle.mw_model.specs.Fate.{EventWord, Verify, Define, Skolem, Switch, Eval, Print, DefineAll, SetProfile, checker_named, longest, show, show_outcome, begin_profile, event_word, is_out_of_range, happens_by, happens}
-use Rattle.mw_model.specs.Headline.{one_or_none, formulas_of_word, formulas_by, EventKeeps}
+use Rattle.mw_model.specs.Keeping.{one_or_none, formulas_of_word, formulas_by, EventKeeps}
 use Rattle.mw_model.proofs.Names.{same_object-eq}
 use Rattle.mw_model.proofs.Formed.{formed}
 use Rattle.mw_model.proofs.NewNames.{each_found, no_if}

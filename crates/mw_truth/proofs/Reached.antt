@@ -12,7 +12,7 @@ use Rattle.mw_model.specs.Theory.{Theory, initial, IsSound}
 use Rattle.mw_model.specs.Refusal.{Refusal, PROOF}
 use Rattle.mw_model.specs.Checking.{no_unless, judged_by}
 use Rattle.mw_model.specs.Fate.{next, after}
-use Rattle.mw_model.specs.Headline.{EventKeeps, EachKeeps}
+use Rattle.mw_model.specs.Keeping.{EventKeeps, EachKeeps}
 use Rattle.mw_model.proofs.Names.{same_object-from}
 use Rattle.mw_model.proofs.Read.{formula_object-one}
 use Rattle.mw_model.proofs.Judging.{judge_good}

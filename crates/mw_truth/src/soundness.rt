@@ -6,7 +6,7 @@ ghost use Rattle.mw_model.specs.Term.{Constant, Equal, formula_object};
 ghost use Rattle.mw_model.specs.Primitive.{Profile, One};
 ghost use Rattle.mw_model.specs.Theory.{Theory, initial, IsSound};
 ghost use Rattle.mw_model.specs.Fate.{after};
-ghost use Rattle.mw_model.specs.Headline.{EventKeeps, EachKeeps};
+ghost use Rattle.mw_model.specs.Keeping.{EventKeeps, EachKeeps};
 ghost use Rattle.mw_truth.specs.Reached.{JudgesTruly, StaysBuiltIn};
 
 /// The initial theory of each profile is sound.

@@ -1,5 +1,5 @@
 -- Nothing was read, or all was.
-use Rattle.std.proofs.Common.{◌++◌, subst}
+use Rattle.std.proofs.Common.{◌++◌, ◌∙◌, ap, subst}
 use Rattle.mw_model.specs.Grammar.{book}
 use Rattle.mw_model.specs.Report.{report_of, last_line}
 use Rattle.mw_book.specs.Knowing.{events_of}
@@ -20,12 +20,12 @@ returns-in-Ok-read_all-clause-ends g c =
     let middle = g.K.Sink.taken c.read_all.new.sink in
     let f = c.in-Ok-read_all.fault in
     let j = c.read_all.new.judging in
-    let w = subst (λ n. ReadWhole n input now first middle f j) c.in-Ok.ensures.judged.steps c.in-Ok-read_all.ensures.whole in
+    let w = subst (λ n. ReadWhole n input now first middle f j) (ap (λ k. k.kernel.steps) c.deref_mut-judging.ensures.value ∙ c.in-Ok.ensures.judged.steps) c.in-Ok-read_all.ensures.whole in
     ends_with N input now first middle f j w c.reached_sound.ensures.events c.end.result (g.K.Sink.taken c.end.new.sink) (c.end.ensures.concludes N w.given w.judged)
 
 pub returns-in-Ok-read_all-clause-source_counts : goal.returns-in-Ok-read_all-clause-source_counts
 returns-in-Ok-read_all-clause-source_counts g c =
-    let N = c.in-Ok.judging.kernel.steps in
+    let N = c.deref_mut-judging.result.now.kernel.steps in
     let w = c.in-Ok-read_all.ensures.whole in
     let f = c.in-Ok-read_all.fault in
     let j = c.read_all.new.judging in

@@ -1,7 +1,7 @@
 -- The book was judged and its lines were dropped, or memory was refused.
-use Rattle.std.proofs.Common.{None, sym, subst}
+use Rattle.std.proofs.Common.{None, ◌∙◌, ap, sym, subst}
 use Rattle.mw_model.specs.Trial.{trial_book}
-use Rattle.mw_model.specs.Version.{last_line_due}
+use Rattle.mw_kernel.specs.Version.{last_line_due}
 use Rattle.mw_book.specs.Checks.{TrialEnds, ReadWhole}
 use Rattle.mw_book.proofs.Written.{nothing_taken}
 use Rattle.mw_book.proofs.TrialHeadlines.{memory_alone, trial_ends}
@@ -14,7 +14,7 @@ returns-in-Ok-read_all-clause-ends g c m holds =
     let now = g.S.Source.left c.read_all.new.source in
     let f = c.in-Ok-read_all.fault in
     let j = c.read_all.new.judging in
-    let w = subst (λ n. ReadWhole n input now None None f j) c.in-Ok.ensures.judged.steps c.in-Ok-read_all.ensures.whole in
+    let w = subst (λ n. ReadWhole n input now None None f j) (ap (λ k. k.kernel.steps) c.deref_mut-judging.ensures.value ∙ c.in-Ok.ensures.judged.steps) c.in-Ok-read_all.ensures.whole in
     let k = w.judged in
     trial_ends m N input now None None f j w holds c.reached_sound.ensures.events c.end.result c.clear.new.self.items (g.K.Sink.taken c.args.sink.now) (g.K.Sink.taken c.end.new.sink)
     c.clear.ensures.items (c.end.ensures.concludes N w.given (record { theory = k.theory; steps = k.steps; counted = k.counted; refused_counted = k.refused_counted }))

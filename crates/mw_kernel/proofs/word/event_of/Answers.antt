@@ -2,7 +2,7 @@
 use Rattle.std.proofs.Common.{◌≡◌, sym, ap, ap₂, ◌∙◌, subst, None, arith}
 use Rattle.mw_model.specs.Object.{Pair, symbol}
 use Rattle.mw_model.specs.Fate.{event_word, is_out_of_range}
-use Rattle.mw_model.specs.Version.{as_taken}
+use Rattle.mw_kernel.specs.Version.{as_taken}
 use Rattle.mw_model.proofs.Names.{same_object-eq}
 use Rattle.mw_heap.specs.Objects.{object_at}
 use Rattle.mw_kernel.proofs.EventWords.{no_verify, no_print, other_word}

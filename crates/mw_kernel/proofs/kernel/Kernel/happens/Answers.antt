@@ -2,7 +2,7 @@
 use Rattle.std.proofs.Common.{◌≡◌, false, None, refl, ap, ◌∙◌, subst}
 use Rattle.mw_model.specs.Fate.{event_word, is_out_of_range, show}
 use Rattle.mw_model.specs.Printing.{text_of}
-use Rattle.mw_model.specs.Version.{as_taken}
+use Rattle.mw_kernel.specs.Version.{as_taken}
 use Rattle.mw_heap.specs.Objects.{object_at}
 use Rattle.mw_kernel.specs.Knowledge.{theory_of}
 use Rattle.mw_kernel.specs.Words.{IsEvent}

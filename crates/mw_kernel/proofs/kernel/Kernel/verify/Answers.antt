@@ -1,7 +1,7 @@
 -- Refused, or a theorem more.
 use Rattle.std.proofs.Common.{option_map, refl, sym, ap, ap₂, ◌∙◌, subst}
 use Rattle.mw_model.specs.Theory.{IsSound}
-use Rattle.mw_model.specs.Version.{as_taken}
+use Rattle.mw_kernel.specs.Version.{as_taken}
 use Rattle.mw_heap.specs.Objects.{object_at}
 use Rattle.mw_heap.specs.Variants.{refusal_of}
 use Rattle.mw_kernel.specs.Knowledge.{theory_of, with_theorem}

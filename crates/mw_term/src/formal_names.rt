@@ -1,0 +1,74 @@
+//! Lists of formals.
+ghost use Rattle.std.specs.Prelude.{◌≡◌, length, option_map, true, IfOk, IfSome};
+ghost use Rattle.mw_model.specs.Term.{Term, is_among, is_closed};
+ghost use Rattle.mw_model.specs.Reading.{term_of};
+ghost use Rattle.mw_model.specs.Primitive.{is_symbol, name_of};
+ghost use Rattle.mw_heap.specs.Objects.{object_at, IsIn};
+ghost use Rattle.mw_term.specs.Parts.{formals_of, names_at, AreSymbols};
+
+use crate::formals::{formal_set, is_among_symbols};
+use crate::free::is_closed;
+use indexmap::IndexSet;
+use mw_heap::{Heap, Memory, Ref};
+use std::marker::Model;
+
+/// Formals, which are distinct variables, as references to their symbols. Seen as the list of these.
+#[derive(Drop)]
+pub struct Formals {
+    symbols: IndexSet<Ref>,
+}
+
+impl Model for Formals {
+    ghost use Rattle.std.specs.Prelude.{List, ℕ};
+
+    ghost Value = { List ℕ };
+
+    ghost view = { λ f. f.symbols.keys };
+}
+
+impl Formals {
+    /// The formals of which `x` is the list, where it is a proper list of distinct variables. The one error is that memory is refused.
+    pub fn of_list(heap: &Heap, x: Ref) -> Result<Option<Formals>, Memory>
+        requires { IsIn heap.now x }
+        ensures formals { IfOk result (λ o. option_map (names_at heap.now) o ≡ formals_of (object_at heap.now x)) }
+        ensures symbols { IfOk result (λ o. IfSome o (AreSymbols heap.now)) }
+    {
+        match formal_set(heap, x, heap.alloc())? {
+            Some(symbols) => Ok(Some(Formals { symbols })),
+            None => Ok(None),
+        }
+    }
+
+    /// The number of formals.
+    pub fn len(&self) -> usize
+        ensures { result ≡ length self.now }
+    {
+        self.symbols.len()
+    }
+
+    /// The references, in order.
+    pub fn as_slice(&self) -> &[Ref]
+        ensures { result.now ≡ self.now }
+    {
+        self.symbols.as_slice()
+    }
+
+    /// Whether the symbol `x` is one of them.
+    pub fn contains(&self, heap: &Heap, x: Ref) -> bool
+        requires within { IsIn heap.now x }
+        requires symbol { is_symbol (object_at heap.now x) ≡ true }
+        requires symbols { AreSymbols heap.now self.now }
+        ensures { result ≡ is_among (name_of (object_at heap.now x)) (names_at heap.now self.now) }
+    {
+        is_among_symbols(heap, &self.symbols, x)
+    }
+
+    /// Whether each free variable of a term is one of them. The one error is that memory is refused.
+    pub fn closes(&self, heap: &Heap, term: Ref) -> Result<bool, Memory>
+        requires within { IsIn heap.now term }
+        requires symbols { AreSymbols heap.now self.now }
+        ensures { IfOk result (λ b. (t : Term) → term_of (object_at heap.now term) ≡ Some t → b ≡ is_closed (names_at heap.now self.now) t) }
+    {
+        Ok(is_closed(heap, &self.symbols, term, heap.alloc())?)
+    }
+}
