@@ -1,0 +1,313 @@
+-- A form by its word and what follows it.
+use Rattle.std.proofs.Common.{◌≡◌, ℕ, Bool, true, false, ◌&&◌, ◌||◌, not, cond, List, Option, Some, None, option_map, refl, sym, ap, ap₂, ◌∙◌, subst}
+use Rattle.mw_model.specs.Object.{Name, Object, Natural, Symbol, Pair, named, symbol, same_name, same_object, nil_name, NIL, T, list2}
+use Rattle.mw_model.specs.Term.{Term, Terms, Constant, Variable, NoTerms, ArityTable}
+use Rattle.mw_model.specs.Reading.{more_terms, constant_of, when}
+use Rattle.mw_model.specs.Expansion.{Abbreviation, AND, OR, COND, LIST, LET, LETSTAR, FIRST, SECOND, THIRD, FOURTH, FIFTH, QUOTE, Other, abbreviation_of, expanded, expanded_each, form, form_with, clause, clauses, cond_term, bindings, let_of, let_star, and_term, or_term, list_term}
+use Rattle.mw_model.proofs.Names.{same_name-eq}
+use Rattle.mw_translate.specs.Meaning.{Meaning, of_term, meaning}
+use Rattle.mw_translate.specs.Forms.{with_terms, place_of, let_form, let_star_form}
+use Rattle.mw_heap.specs.Objects.{object_at, IsIn}
+use Rattle.mw_translate.specs.Memo.{Entries, IsStep}
+use Rattle.mw_translate.specs.Terms.{IsAtom, IsQuoted}
+use Rattle.mw_translate.specs.declared.progress.Progress.{Progress}
+use Rattle.mw_translate.specs.declared.progress.Progress.TheVariants as progress
+use Rattle.mw_translate.specs.Shapes.{is_list1}
+use Rattle.mw_translate.specs.declared.part.Kind.TheVariants as kind
+
+-- what a form expands to, by its word
+abbrev pub by_word : Abbreviation → Name → Object → Option Term
+by_word COND f r = clauses r
+by_word LET f r = let_form r
+by_word LETSTAR f r = let_star_form r
+by_word QUOTE f r = constant_of r
+by_word AND f r = form_with AND f (expanded_each r)
+by_word OR f r = form_with OR f (expanded_each r)
+by_word LIST f r = form_with LIST f (expanded_each r)
+by_word FIRST f r = form_with FIRST f (expanded_each r)
+by_word SECOND f r = form_with SECOND f (expanded_each r)
+by_word THIRD f r = form_with THIRD f (expanded_each r)
+by_word FOURTH f r = form_with FOURTH f (expanded_each r)
+by_word FIFTH f r = form_with FIFTH f (expanded_each r)
+by_word Other f r = form_with Other f (expanded_each r)
+
+no_more : (o : Option Term) → more_terms o None ≡ None
+no_more None = refl
+no_more (Some t) = refl
+
+more_false : (w : Abbreviation) (f : Name) (o : Option Term) → form_with w f (more_terms o None) ≡ None
+more_false w f None = refl
+more_false w f (Some t) = refl
+
+module _ (f : Name) where
+  none_true : (w v : Abbreviation) (s : Name) → w ≡ v → same_name s nil_name ≡ true → (elim w [ COND ↦ Some (Constant NIL) | _ ↦ form v f NoTerms ]) ≡ by_word w f (Symbol s)
+  none_true COND v s e h = ap (λ b. cond b (Some (Constant NIL)) None) (sym h)
+  none_true LET v s e h = ap (λ z. form z f NoTerms) (sym e) ∙ (refl)
+  none_true LETSTAR v s e h = ap (λ z. form z f NoTerms) (sym e) ∙ (refl)
+  none_true QUOTE v s e h = ap (λ z. form z f NoTerms) (sym e) ∙ (refl)
+  none_true AND v s e h = ap (λ z. form z f NoTerms) (sym e) ∙ (ap (λ b. form_with AND f (cond b (Some NoTerms) None)) (sym h))
+  none_true OR v s e h = ap (λ z. form z f NoTerms) (sym e) ∙ (ap (λ b. form_with OR f (cond b (Some NoTerms) None)) (sym h))
+  none_true LIST v s e h = ap (λ z. form z f NoTerms) (sym e) ∙ (ap (λ b. form_with LIST f (cond b (Some NoTerms) None)) (sym h))
+  none_true FIRST v s e h = ap (λ z. form z f NoTerms) (sym e) ∙ (ap (λ b. form_with FIRST f (cond b (Some NoTerms) None)) (sym h))
+  none_true SECOND v s e h = ap (λ z. form z f NoTerms) (sym e) ∙ (ap (λ b. form_with SECOND f (cond b (Some NoTerms) None)) (sym h))
+  none_true THIRD v s e h = ap (λ z. form z f NoTerms) (sym e) ∙ (ap (λ b. form_with THIRD f (cond b (Some NoTerms) None)) (sym h))
+  none_true FOURTH v s e h = ap (λ z. form z f NoTerms) (sym e) ∙ (ap (λ b. form_with FOURTH f (cond b (Some NoTerms) None)) (sym h))
+  none_true FIFTH v s e h = ap (λ z. form z f NoTerms) (sym e) ∙ (ap (λ b. form_with FIFTH f (cond b (Some NoTerms) None)) (sym h))
+  none_true Other v s e h = ap (λ z. form z f NoTerms) (sym e) ∙ (ap (λ b. form_with Other f (cond b (Some NoTerms) None)) (sym h))
+
+  none_false : (w : Abbreviation) (s : Name) → same_name s nil_name ≡ false → None ≡ by_word w f (Symbol s)
+  none_false COND s h = ap (λ b. cond {A = Option Term} b (Some (Constant NIL)) None) (sym h)
+  none_false LET s h = refl
+  none_false LETSTAR s h = refl
+  none_false QUOTE s h = refl
+  none_false AND s h = ap (λ b. form_with AND f (cond b (Some NoTerms) None)) (sym h)
+  none_false OR s h = ap (λ b. form_with OR f (cond b (Some NoTerms) None)) (sym h)
+  none_false LIST s h = ap (λ b. form_with LIST f (cond b (Some NoTerms) None)) (sym h)
+  none_false FIRST s h = ap (λ b. form_with FIRST f (cond b (Some NoTerms) None)) (sym h)
+  none_false SECOND s h = ap (λ b. form_with SECOND f (cond b (Some NoTerms) None)) (sym h)
+  none_false THIRD s h = ap (λ b. form_with THIRD f (cond b (Some NoTerms) None)) (sym h)
+  none_false FOURTH s h = ap (λ b. form_with FOURTH f (cond b (Some NoTerms) None)) (sym h)
+  none_false FIFTH s h = ap (λ b. form_with FIFTH f (cond b (Some NoTerms) None)) (sym h)
+  none_false Other s h = ap (λ b. form_with Other f (cond b (Some NoTerms) None)) (sym h)
+
+  no_members : (w v : Abbreviation) (s : Name) (b : Bool) → w ≡ v → same_name s nil_name ≡ b → when b (elim w [ COND ↦ Some (Constant NIL) | _ ↦ form v f NoTerms ]) ≡ by_word w f (Symbol s)
+  no_members w v s true e h = none_true w v s e h
+  no_members w v s false e h = none_false w s h
+
+  one_true : (w v : Abbreviation) (a : Object) (s : Name) → w ≡ v → same_name s nil_name ≡ true → (elim w [ QUOTE ↦ Some (Constant a) | COND ↦ cond_term (clause a) (Some (Constant NIL)) | _ ↦ form_with v f (more_terms (expanded a) (Some NoTerms)) ]) ≡ by_word w f (Pair a (Symbol s))
+  one_true COND v a s e h = ap (λ b. cond_term (clause a) (cond b (Some (Constant NIL)) None)) (sym h)
+  one_true LET v a s e h = ap (λ z. form_with z f (more_terms (expanded a) (Some NoTerms))) (sym e) ∙ no_let (more_terms (expanded a) (Some NoTerms))
+    where
+      no_let : (p : Option Terms) → form_with LET f p ≡ None
+      no_let None = refl
+      no_let (Some ts) = refl
+  one_true LETSTAR v a s e h = ap (λ z. form_with z f (more_terms (expanded a) (Some NoTerms))) (sym e) ∙ no_let (more_terms (expanded a) (Some NoTerms))
+    where
+      no_let : (p : Option Terms) → form_with LETSTAR f p ≡ None
+      no_let None = refl
+      no_let (Some ts) = refl
+  one_true QUOTE v a s e h = ap (λ b. cond b (Some (Constant a)) None) (sym h)
+  one_true AND v a s e h = ap (λ z. form_with z f (more_terms (expanded a) (Some NoTerms))) (sym e) ∙ (ap (λ b. form_with AND f (more_terms (expanded a) (cond b (Some NoTerms) None))) (sym h))
+  one_true OR v a s e h = ap (λ z. form_with z f (more_terms (expanded a) (Some NoTerms))) (sym e) ∙ (ap (λ b. form_with OR f (more_terms (expanded a) (cond b (Some NoTerms) None))) (sym h))
+  one_true LIST v a s e h = ap (λ z. form_with z f (more_terms (expanded a) (Some NoTerms))) (sym e) ∙ (ap (λ b. form_with LIST f (more_terms (expanded a) (cond b (Some NoTerms) None))) (sym h))
+  one_true FIRST v a s e h = ap (λ z. form_with z f (more_terms (expanded a) (Some NoTerms))) (sym e) ∙ (ap (λ b. form_with FIRST f (more_terms (expanded a) (cond b (Some NoTerms) None))) (sym h))
+  one_true SECOND v a s e h = ap (λ z. form_with z f (more_terms (expanded a) (Some NoTerms))) (sym e) ∙ (ap (λ b. form_with SECOND f (more_terms (expanded a) (cond b (Some NoTerms) None))) (sym h))
+  one_true THIRD v a s e h = ap (λ z. form_with z f (more_terms (expanded a) (Some NoTerms))) (sym e) ∙ (ap (λ b. form_with THIRD f (more_terms (expanded a) (cond b (Some NoTerms) None))) (sym h))
+  one_true FOURTH v a s e h = ap (λ z. form_with z f (more_terms (expanded a) (Some NoTerms))) (sym e) ∙ (ap (λ b. form_with FOURTH f (more_terms (expanded a) (cond b (Some NoTerms) None))) (sym h))
+  one_true FIFTH v a s e h = ap (λ z. form_with z f (more_terms (expanded a) (Some NoTerms))) (sym e) ∙ (ap (λ b. form_with FIFTH f (more_terms (expanded a) (cond b (Some NoTerms) None))) (sym h))
+  one_true Other v a s e h = ap (λ z. form_with z f (more_terms (expanded a) (Some NoTerms))) (sym e) ∙ (ap (λ b. form_with Other f (more_terms (expanded a) (cond b (Some NoTerms) None))) (sym h))
+
+  one_false : (w : Abbreviation) (a : Object) (s : Name) → same_name s nil_name ≡ false → None ≡ by_word w f (Pair a (Symbol s))
+  one_false COND a s h = sym (ap (λ b. cond_term (clause a) (cond b (Some (Constant NIL)) None)) h ∙ no_rest (clause a))
+    where
+      no_rest : (o : Option (Term × Term)) → cond_term o None ≡ None
+      no_rest None = refl
+      no_rest (Some p) = refl
+  one_false LET a s h = refl
+  one_false LETSTAR a s h = refl
+  one_false QUOTE a s h = ap (λ b. cond {A = Option Term} b (Some (Constant a)) None) (sym h)
+  one_false AND a s h = sym (ap (λ b. form_with AND f (more_terms (expanded a) (cond b (Some NoTerms) None))) h ∙ more_false AND f (expanded a))
+  one_false OR a s h = sym (ap (λ b. form_with OR f (more_terms (expanded a) (cond b (Some NoTerms) None))) h ∙ more_false OR f (expanded a))
+  one_false LIST a s h = sym (ap (λ b. form_with LIST f (more_terms (expanded a) (cond b (Some NoTerms) None))) h ∙ more_false LIST f (expanded a))
+  one_false FIRST a s h = sym (ap (λ b. form_with FIRST f (more_terms (expanded a) (cond b (Some NoTerms) None))) h ∙ more_false FIRST f (expanded a))
+  one_false SECOND a s h = sym (ap (λ b. form_with SECOND f (more_terms (expanded a) (cond b (Some NoTerms) None))) h ∙ more_false SECOND f (expanded a))
+  one_false THIRD a s h = sym (ap (λ b. form_with THIRD f (more_terms (expanded a) (cond b (Some NoTerms) None))) h ∙ more_false THIRD f (expanded a))
+  one_false FOURTH a s h = sym (ap (λ b. form_with FOURTH f (more_terms (expanded a) (cond b (Some NoTerms) None))) h ∙ more_false FOURTH f (expanded a))
+  one_false FIFTH a s h = sym (ap (λ b. form_with FIFTH f (more_terms (expanded a) (cond b (Some NoTerms) None))) h ∙ more_false FIFTH f (expanded a))
+  one_false Other a s h = sym (ap (λ b. form_with Other f (more_terms (expanded a) (cond b (Some NoTerms) None))) h ∙ more_false Other f (expanded a))
+
+  one_member : (w v : Abbreviation) (a : Object) (s : Name) (b : Bool) → w ≡ v → same_name s nil_name ≡ b → when b (elim w [ QUOTE ↦ Some (Constant a) | COND ↦ cond_term (clause a) (Some (Constant NIL)) | _ ↦ form_with v f (more_terms (expanded a) (Some NoTerms)) ]) ≡ by_word w f (Pair a (Symbol s))
+  one_member w v a s true e h = one_true w v a s e h
+  one_member w v a s false e h = one_false w a s h
+
+  more_members : (w v : Abbreviation) (a b z : Object) → w ≡ v → (elim w [ COND ↦ cond_term (clause a) (cond_term (clause b) (clauses z)) | LET ↦ when (same_object z NIL) (let_of (bindings a) (expanded b)) | LETSTAR ↦ when (same_object z NIL) (let_star a (expanded b)) | _ ↦ form_with v f (more_terms (expanded a) (more_terms (expanded b) (expanded_each z))) ]) ≡ by_word w f (Pair a (Pair b z))
+  more_members COND v a b z e = refl
+  more_members LET v a b z e = refl
+  more_members LETSTAR v a b z e = refl
+  more_members QUOTE v a b z e = ap (λ u. form_with u f (more_terms (expanded a) (more_terms (expanded b) (expanded_each z)))) (sym e) ∙ go (more_terms (expanded a) (more_terms (expanded b) (expanded_each z)))
+    where
+      go : (p : Option Terms) → form_with QUOTE f p ≡ None
+      go None = refl
+      go (Some ts) = refl
+  more_members AND v a b z e = ap (λ u. form_with u f (more_terms (expanded a) (more_terms (expanded b) (expanded_each z)))) (sym e)
+  more_members OR v a b z e = ap (λ u. form_with u f (more_terms (expanded a) (more_terms (expanded b) (expanded_each z)))) (sym e)
+  more_members LIST v a b z e = ap (λ u. form_with u f (more_terms (expanded a) (more_terms (expanded b) (expanded_each z)))) (sym e)
+  more_members FIRST v a b z e = ap (λ u. form_with u f (more_terms (expanded a) (more_terms (expanded b) (expanded_each z)))) (sym e)
+  more_members SECOND v a b z e = ap (λ u. form_with u f (more_terms (expanded a) (more_terms (expanded b) (expanded_each z)))) (sym e)
+  more_members THIRD v a b z e = ap (λ u. form_with u f (more_terms (expanded a) (more_terms (expanded b) (expanded_each z)))) (sym e)
+  more_members FOURTH v a b z e = ap (λ u. form_with u f (more_terms (expanded a) (more_terms (expanded b) (expanded_each z)))) (sym e)
+  more_members FIFTH v a b z e = ap (λ u. form_with u f (more_terms (expanded a) (more_terms (expanded b) (expanded_each z)))) (sym e)
+  more_members Other v a b z e = ap (λ u. form_with u f (more_terms (expanded a) (more_terms (expanded b) (expanded_each z)))) (sym e)
+
+  number_end : (w : Abbreviation) (n : ℕ) → None ≡ by_word w f (Natural n)
+  number_end COND n = refl
+  number_end LET n = refl
+  number_end LETSTAR n = refl
+  number_end QUOTE n = refl
+  number_end AND n = refl
+  number_end OR n = refl
+  number_end LIST n = refl
+  number_end FIRST n = refl
+  number_end SECOND n = refl
+  number_end THIRD n = refl
+  number_end FOURTH n = refl
+  number_end FIFTH n = refl
+  number_end Other n = refl
+
+  number_second : (w : Abbreviation) (a : Object) (n : ℕ) → None ≡ by_word w f (Pair a (Natural n))
+  number_second COND a n = sym (no_rest (clause a))
+    where
+      no_rest : (o : Option (Term × Term)) → cond_term o None ≡ None
+      no_rest None = refl
+      no_rest (Some p) = refl
+  number_second LET a n = refl
+  number_second LETSTAR a n = refl
+  number_second QUOTE a n = refl
+  number_second AND a n = sym (more_false AND f (expanded a))
+  number_second OR a n = sym (more_false OR f (expanded a))
+  number_second LIST a n = sym (more_false LIST f (expanded a))
+  number_second FIRST a n = sym (more_false FIRST f (expanded a))
+  number_second SECOND a n = sym (more_false SECOND f (expanded a))
+  number_second THIRD a n = sym (more_false THIRD f (expanded a))
+  number_second FOURTH a n = sym (more_false FOURTH f (expanded a))
+  number_second FIFTH a n = sym (more_false FIFTH f (expanded a))
+  number_second Other a n = sym (more_false Other f (expanded a))
+
+  pub form_word : (r : Object) → expanded (Pair (Symbol f) r) ≡ by_word (abbreviation_of f) f r
+  form_word (Natural n) = number_end (abbreviation_of f) n
+  form_word (Symbol s) = no_members (abbreviation_of f) (abbreviation_of f) s (same_name s nil_name) refl refl
+  form_word (Pair a (Natural n)) = number_second (abbreviation_of f) a n
+  form_word (Pair a (Symbol s)) = one_member (abbreviation_of f) (abbreviation_of f) a s (same_name s nil_name) refl refl
+  form_word (Pair a (Pair b z)) = more_members (abbreviation_of f) (abbreviation_of f) a b z refl
+
+module _ (A : ArityTable) (x f r : Object) (name : Name) (named_is : f ≡ Symbol name) (shape : x ≡ Pair f r) where
+  -- the meaning of a form, by its word
+  pub form_meaning : (w : Abbreviation) → abbreviation_of name ≡ w → meaning A kind.Term x ≡ of_term A (by_word w name r)
+  form_meaning w h = ap (λ y. of_term A (expanded y)) (shape ∙ ap (λ g. Pair g r) named_is) ∙ (ap (of_term A) (form_word name r) ∙ ap (λ v. of_term A (by_word v name r)) h)
+
+-- the same meanings as those of parts
+module _ (A : ArityTable) (f : Name) (r : Object) where
+  pub and_part : of_term A (by_word AND f r) ≡ meaning A kind.And r
+  and_part = ap (of_term A) (go (expanded_each r))
+    where
+      go : (p : Option Terms) → form_with AND f p ≡ option_map and_term p
+      go None = refl
+      go (Some ts) = refl
+
+  pub or_part : of_term A (by_word OR f r) ≡ meaning A kind.Or r
+  or_part = ap (of_term A) (go (expanded_each r))
+    where
+      go : (p : Option Terms) → form_with OR f p ≡ option_map or_term p
+      go None = refl
+      go (Some ts) = refl
+
+  pub list_part : of_term A (by_word LIST f r) ≡ meaning A kind.List r
+  list_part = ap (of_term A) (go (expanded_each r))
+    where
+      go : (p : Option Terms) → form_with LIST f p ≡ option_map list_term p
+      go None = refl
+      go (Some ts) = refl
+
+  pub first_part : of_term A (by_word FIRST f r) ≡ of_term A (with_terms (place_of 0) (expanded_each r))
+  first_part = ap (of_term A) (go (expanded_each r))
+    where
+      go : (p : Option Terms) → form_with FIRST f p ≡ with_terms (place_of 0) p
+      go None = refl
+      go (Some ts) = refl
+
+  pub second_part : of_term A (by_word SECOND f r) ≡ of_term A (with_terms (place_of 1) (expanded_each r))
+  second_part = ap (of_term A) (go (expanded_each r))
+    where
+      go : (p : Option Terms) → form_with SECOND f p ≡ with_terms (place_of 1) p
+      go None = refl
+      go (Some ts) = refl
+
+  pub third_part : of_term A (by_word THIRD f r) ≡ of_term A (with_terms (place_of 2) (expanded_each r))
+  third_part = ap (of_term A) (go (expanded_each r))
+    where
+      go : (p : Option Terms) → form_with THIRD f p ≡ with_terms (place_of 2) p
+      go None = refl
+      go (Some ts) = refl
+
+  pub fourth_part : of_term A (by_word FOURTH f r) ≡ of_term A (with_terms (place_of 3) (expanded_each r))
+  fourth_part = ap (of_term A) (go (expanded_each r))
+    where
+      go : (p : Option Terms) → form_with FOURTH f p ≡ with_terms (place_of 3) p
+      go None = refl
+      go (Some ts) = refl
+
+  pub fifth_part : of_term A (by_word FIFTH f r) ≡ of_term A (with_terms (place_of 4) (expanded_each r))
+  fifth_part = ap (of_term A) (go (expanded_each r))
+    where
+      go : (p : Option Terms) → form_with FIFTH f p ≡ with_terms (place_of 4) p
+      go None = refl
+      go (Some ts) = refl
+
+-- of another word than QUOTE
+pub no_quote : (f : Name) → abbreviation_of f ≡ Other → same_name f (named "QUOTE") ≡ false
+no_quote f h = go (same_name f (named "QUOTE")) refl
+  where
+    go : (b : Bool) → same_name f (named "QUOTE") ≡ b → b ≡ false
+    go true e = let k : QUOTE ≡ Other = sym (ap abbreviation_of (same_name-eq f (named "QUOTE") e)) ∙ h in cc
+    go false e = refl
+
+-- a constant that is quoted
+module _ (A : ArityTable) (f : Name) (is_quote : f ≡ named "QUOTE") where
+  pub quoted : (r : Object) → is_list1 r ≡ true → of_term A (by_word QUOTE f r) ≡ Some (Pair (Symbol f) r, 0)
+  quoted (Natural n) h = cc
+  quoted (Symbol s) h = cc
+  quoted (Pair a (Natural n)) h = cc
+  quoted (Pair a (Symbol s)) h =
+      ap (λ b. of_term A (cond b (Some (Constant a)) None)) h
+      ∙ ap₂ (λ g t. Some (Pair (Symbol g) (Pair a (Symbol t)), 0)) (sym is_quote) (sym (same_name-eq s nil_name h))
+  quoted (Pair a (Pair b z)) h = cc
+
+pub unquoted : (A : ArityTable) (f : Name) (r : Object) → is_list1 r ≡ false → of_term A (by_word QUOTE f r) ≡ None
+unquoted A f (Natural n) h = refl
+unquoted A f (Symbol s) h = refl
+unquoted A f (Pair a (Natural n)) h = refl
+unquoted A f (Pair a (Symbol s)) h = ap (λ b. of_term A (cond b (Some (Constant a)) None)) h
+unquoted A f (Pair a (Pair b z)) h = refl
+
+-- another word than the first
+skip : (b : Bool) (w rest : Abbreviation) → (w ≡ QUOTE → ⊥) → cond b w rest ≡ QUOTE → rest ≡ QUOTE
+skip true w rest h e = absurd (h e)
+skip false w rest h e = e
+
+-- the word QUOTE is that of one name
+pub quote_is : (f : Name) → abbreviation_of f ≡ QUOTE → f ≡ named "QUOTE"
+quote_is f h = go (same_name (named "QUOTE") f) refl (skip (same_name (named "FIFTH") f) FIFTH _ (λ e. cc) (skip (same_name (named "FOURTH") f) FOURTH _ (λ e. cc) (skip (same_name (named "THIRD") f) THIRD _ (λ e. cc) (skip (same_name (named "SECOND") f) SECOND _ (λ e. cc) (skip (same_name (named "FIRST") f) FIRST _ (λ e. cc) (skip (same_name (named "LET*") f) LETSTAR _ (λ e. cc) (skip (same_name (named "LET") f) LET _ (λ e. cc) (skip (same_name (named "LIST") f) LIST _ (λ e. cc) (skip (same_name (named "COND") f) COND _ (λ e. cc) (skip (same_name (named "OR") f) OR _ (λ e. cc) (skip (same_name (named "AND") f) AND _ (λ e. cc) h)))))))))))
+  where
+    go : (b : Bool) → same_name (named "QUOTE") f ≡ b → cond b QUOTE Other ≡ QUOTE → f ≡ named "QUOTE"
+    go true e k = sym (same_name-eq (named "QUOTE") f e)
+    go false e k = cc
+
+-- a quoted constant goes on as itself
+pub quote-step : (A : ArityTable) (os : List Object) (es : Entries) (goal : Option Meaning) (x rest : ℕ) (f : Name) (s : Progress) → f ≡ named "QUOTE" → IsIn os x → object_at os x ≡ Pair (Symbol f) (object_at os rest) → goal ≡ of_term A (by_word QUOTE f (object_at os rest)) → IsQuoted os x rest s → IsStep A os os es goal x s
+quote-step A os es goal x rest f (progress.Made m) q i shape e h =
+    (subst (IsIn os) (sym h.1) i, e ∙ (quoted A f q (object_at os rest) h.0 ∙ ap₂ (λ o n. Some (o, n)) (sym shape ∙ ap (object_at os) (sym h.1)) (sym h.2)))
+quote-step A os es goal x rest f (progress.Wants p) q i shape e h = absurd h
+quote-step A os es goal x rest f progress.Fails q i shape e h = e ∙ unquoted A f (object_at os rest) h
+
+-- an atom goes on as itself
+pub atom-step : (A : ArityTable) (old new : List Object) (es : Entries) (goal : Option Meaning) (x r : ℕ) (s : Progress) → IsIn new r → goal ≡ Some (object_at new r, 0) → IsAtom r s → IsStep A old new es goal x s
+atom-step A old new es goal x r (progress.Made m) i e h = (subst (IsIn new) (sym h.0) i, e ∙ ap₂ (λ o n. Some (o, n)) (ap (object_at new) (sym h.0)) (sym h.1))
+atom-step A old new es goal x r (progress.Wants p) i e h = absurd h
+atom-step A old new es goal x r progress.Fails i e h = absurd h
+
+-- T and NIL, and another symbol
+constant-by : (A : ArityTable) (f : Name) (a b : Bool) → same_name f (named "T") ≡ a → same_name f nil_name ≡ b → (a || b) ≡ true → of_term A (Some (cond a (Constant T) (cond b (Constant NIL) (Variable f)))) ≡ Some (list2 (symbol "QUOTE") (Symbol f), 0)
+constant-by A f true b p q h = ap (λ g. Some (list2 (symbol "QUOTE") (Symbol g), 0)) (sym (same_name-eq f (named "T") p))
+constant-by A f false true p q h = ap (λ g. Some (list2 (symbol "QUOTE") (Symbol g), 0)) (sym (same_name-eq f nil_name q))
+constant-by A f false false p q h = cc
+
+pub constant_symbol : (A : ArityTable) (f : Name) → (same_name f (named "T") || same_name f nil_name) ≡ true → meaning A kind.Term (Symbol f) ≡ Some (list2 (symbol "QUOTE") (Symbol f), 0)
+constant_symbol A f h = constant-by A f (same_name f (named "T")) (same_name f nil_name) refl refl h
+
+variable-by : (A : ArityTable) (f : Name) (a b : Bool) → same_name f (named "T") ≡ a → same_name f nil_name ≡ b → (a || b) ≡ false → of_term A (Some (cond a (Constant T) (cond b (Constant NIL) (Variable f)))) ≡ Some (Symbol f, 0)
+variable-by A f true b p q h = cc
+variable-by A f false true p q h = cc
+variable-by A f false false p q h = ap₂ (λ a b. cond {A = Option Meaning} (not a && not b) (Some (Symbol f, 0)) None) p q
+
+pub variable_symbol : (A : ArityTable) (f : Name) → (same_name f (named "T") || same_name f nil_name) ≡ false → meaning A kind.Term (Symbol f) ≡ Some (Symbol f, 0)
+variable_symbol A f h = variable-by A f (same_name f (named "T")) (same_name f nil_name) refl refl h

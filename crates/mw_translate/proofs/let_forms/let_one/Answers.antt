@@ -1,0 +1,19 @@
+-- One name and one value.
+use Rattle.std.proofs.Common.{[], ◌∷◌, ap, ◌∙◌}
+use Rattle.mw_model.specs.Object.{list1}
+use Rattle.mw_model.specs.Term.{NoTerms, More}
+use Rattle.mw_heap.proofs.Objects.{object_at-Grows, Grows-trans}
+use Rattle.mw_translate.proofs.let_forms.let_one.Goals as goal
+
+pub returns-clause-made : goal.returns-clause-made
+returns-clause-made c = λ A x t b n v e h.
+    let h0 = c.args.heap.now in
+    let h1 = c.list_of_one.new.heap in
+    let h2 = c.list_of_one-2.new.heap in
+    let g1 = c.in_ok-names.ensures.grows in
+    let g2 = c.in_ok-values.ensures.grows in
+    c.in_ok-let_call.ensures.made A (x ∷ []) (More t NoTerms) b
+    (object_at-Grows h1 h2 g2 c.in_ok-names.names c.in_ok-names.ensures.made.0 ∙ (c.in_ok-names.ensures.made.1 ∙ ap list1 n))
+    (c.in_ok-values.ensures.made.1 ∙ ap list1 (object_at-Grows h0 h1 g1 c.args.binding.second c.requires.value_in ∙ v))
+    (object_at-Grows h0 h2 (Grows-trans h0 h1 h2 g1 g2) c.args.body c.requires.body_in ∙ e)
+    h

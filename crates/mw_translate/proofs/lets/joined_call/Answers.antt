@@ -1,0 +1,25 @@
+-- The formals, the actuals, and the call.
+use Rattle.std.proofs.Common.{ap₂, ◌∙◌}
+use Rattle.mw_model.specs.Object.{Pair, symbol, list3}
+use Rattle.mw_heap.proofs.Objects.{object_at-Grows, IsIn-Grows}
+use Rattle.mw_translate.specs.Lets.{append_object}
+use Rattle.mw_translate.proofs.lets.joined_call.Goals as goal
+
+pub returns-clause-made : goal.returns-clause-made
+returns-clause-made c =
+    let h0 = c.args.heap.now in
+    let h1 = c.append.new.heap in
+    let h2 = c.append-2.new.heap in
+    let h3 = c.call_of_two.new.heap in
+    let g1 = c.in_ok-formals.ensures.grows in
+    let g2 = c.in_ok-actuals.ensures.grows in
+    let g3 = c.in_ok-head.ensures.grows in
+    let formals = object_at-Grows h1 h2 g2 c.in_ok-formals.formals c.in_ok-formals.ensures.made.0 ∙ c.in_ok-formals.ensures.made.1 in
+    let body = object_at-Grows h1 h2 g2 c.args.body (IsIn-Grows h0 h1 g1 c.args.body c.requires.body_in) ∙ object_at-Grows h0 h1 g1 c.args.body c.requires.body_in in
+    let actuals =
+    object_at-Grows h2 h3 g3 c.in_ok-actuals.actuals c.in_ok-actuals.ensures.made.0
+    ∙ (c.in_ok-actuals.ensures.made.1
+    ∙ ap₂ append_object (object_at-Grows h0 h1 g1 c.args.values c.requires.values_in) (object_at-Grows h0 h1 g1 c.args.others c.requires.others_in)) in (
+      c.in_ok-cons.ensures.made.0,
+      c.in_ok-cons.ensures.made.1 ∙ ap₂ Pair (c.in_ok-head.ensures.made.1 ∙ ap₂ (list3 (symbol "LAMBDA")) formals body) actuals,
+    )

@@ -1,0 +1,195 @@
+-- A form goes on by its word.
+use Rattle.std.proofs.Common.{◌≡◌, ◌++◌, ◌+◌, sym, ap, ap₂, ◌∙◌, refl, arith}
+use Rattle.mw_model.specs.Object.{Pair, name_of_bytes}
+use Rattle.mw_model.specs.Primitive.{name_of}
+use Rattle.mw_model.specs.Expansion.{abbreviation_of, AND, OR, COND, LIST, LET, LETSTAR, FIRST, SECOND, THIRD, FOURTH, FIFTH, QUOTE, Other, form_with, expanded_each}
+use Rattle.mw_model.proofs.Names.{name_of_bytes-bytes}
+use Rattle.mw_heap.specs.Objects.{object_at}
+use Rattle.mw_term.proofs.Symbols.{symbol_is}
+use Rattle.mw_translate.specs.Words.{abbreviation}
+use Rattle.mw_translate.specs.Forms.{with_terms, place_of, let_form, let_star_form}
+use Rattle.mw_translate.specs.Meaning.{meaning, of_term}
+use Rattle.mw_translate.specs.declared.part.Kind.TheVariants as kind
+use Rattle.mw_translate.proofs.Combine.{at, forward-step, step_same}
+use Rattle.mw_translate.proofs.Forms.{form_meaning, and_part, or_part, list_part, first_part, second_part, third_part, fourth_part, fifth_part, no_quote, quote_is, quote-step}
+use Rattle.mw_translate.proofs.terms.step_form.Goals as goal
+
+pub step_call-requires-clause-no_quote : goal.step_call-requires-clause-no_quote
+step_call-requires-clause-no_quote c =
+    let os = c.args.heap.now in
+    let A = c.args.newer.now ++ c.args.older.now in
+    let es = c.args.memo.now.made.entries in
+    let f = object_at os c.args.head in
+    let r = object_at os c.args.rest in
+    let name = name_of f in
+    let nm : name_of_bytes c.name_of.result.now ≡ name = ap name_of_bytes (sym c.name_of.ensures) ∙ name_of_bytes-bytes name in
+    no_quote name (ap abbreviation_of (sym nm) ∙ (sym c.word_of.ensures ∙ ap abbreviation c.in-Other.is))
+
+pub returns-in-Quote-clause-step : goal.returns-in-Quote-clause-step
+returns-in-Quote-clause-step c =
+    let os = c.args.heap.now in
+    let A = c.args.newer.now ++ c.args.older.now in
+    let es = c.args.memo.now.made.entries in
+    let f = object_at os c.args.head in
+    let r = object_at os c.args.rest in
+    let name = name_of f in
+    let nm : name_of_bytes c.name_of.result.now ≡ name = ap name_of_bytes (sym c.name_of.ensures) ∙ name_of_bytes-bytes name in
+    let w : abbreviation_of name ≡ QUOTE = ap abbreviation_of (sym nm) ∙ (sym c.word_of.ensures ∙ ap abbreviation c.in-Quote.is) in
+    let e = form_meaning A (object_at os c.args.x) f r name (symbol_is f c.requires.symbol) c.requires.form QUOTE w in
+    quote-step A os es (meaning A kind.Term (object_at os c.args.x)) c.args.x c.args.rest name c.step_quote.result (quote_is name w) c.requires.within (c.requires.form ∙ ap₂ Pair (symbol_is f c.requires.symbol) refl) e c.step_quote.ensures
+
+pub returns-in-And-clause-step : goal.returns-in-And-clause-step
+returns-in-And-clause-step c =
+    let os = c.args.heap.now in
+    let A = c.args.newer.now ++ c.args.older.now in
+    let es = c.args.memo.now.made.entries in
+    let f = object_at os c.args.head in
+    let r = object_at os c.args.rest in
+    let name = name_of f in
+    let nm : name_of_bytes c.name_of.result.now ≡ name = ap name_of_bytes (sym c.name_of.ensures) ∙ name_of_bytes-bytes name in
+    let w : abbreviation_of name ≡ AND = ap abbreviation_of (sym nm) ∙ (sym c.word_of.ensures ∙ ap abbreviation c.in-And.is) in
+    let e = form_meaning A (object_at os c.args.x) f r name (symbol_is f c.requires.symbol) c.requires.form AND w in
+    forward-step A os es (meaning A kind.Term (object_at os c.args.x)) c.args.x (at kind.And c.args.rest) c.forward_to.result c.requires.made (e ∙ and_part A name r) c.requires.rest_before c.forward_to.ensures
+
+pub returns-in-Or-clause-step : goal.returns-in-Or-clause-step
+returns-in-Or-clause-step c =
+    let os = c.args.heap.now in
+    let A = c.args.newer.now ++ c.args.older.now in
+    let es = c.args.memo.now.made.entries in
+    let f = object_at os c.args.head in
+    let r = object_at os c.args.rest in
+    let name = name_of f in
+    let nm : name_of_bytes c.name_of.result.now ≡ name = ap name_of_bytes (sym c.name_of.ensures) ∙ name_of_bytes-bytes name in
+    let w : abbreviation_of name ≡ OR = ap abbreviation_of (sym nm) ∙ (sym c.word_of.ensures ∙ ap abbreviation c.in-Or.is) in
+    let e = form_meaning A (object_at os c.args.x) f r name (symbol_is f c.requires.symbol) c.requires.form OR w in
+    forward-step A os es (meaning A kind.Term (object_at os c.args.x)) c.args.x (at kind.Or c.args.rest) c.forward_to-in-Or.result c.requires.made (e ∙ or_part A name r) c.requires.rest_before c.forward_to-in-Or.ensures
+
+pub returns-in-List-clause-step : goal.returns-in-List-clause-step
+returns-in-List-clause-step c =
+    let os = c.args.heap.now in
+    let A = c.args.newer.now ++ c.args.older.now in
+    let es = c.args.memo.now.made.entries in
+    let f = object_at os c.args.head in
+    let r = object_at os c.args.rest in
+    let name = name_of f in
+    let nm : name_of_bytes c.name_of.result.now ≡ name = ap name_of_bytes (sym c.name_of.ensures) ∙ name_of_bytes-bytes name in
+    let w : abbreviation_of name ≡ LIST = ap abbreviation_of (sym nm) ∙ (sym c.word_of.ensures ∙ ap abbreviation c.in-List.is) in
+    let e = form_meaning A (object_at os c.args.x) f r name (symbol_is f c.requires.symbol) c.requires.form LIST w in
+    forward-step A os es (meaning A kind.Term (object_at os c.args.x)) c.args.x (at kind.List c.args.rest) c.forward_to-in-List.result c.requires.made (e ∙ list_part A name r) c.requires.rest_before c.forward_to-in-List.ensures
+
+pub returns-in-Cond-clause-step : goal.returns-in-Cond-clause-step
+returns-in-Cond-clause-step c =
+    let os = c.args.heap.now in
+    let A = c.args.newer.now ++ c.args.older.now in
+    let es = c.args.memo.now.made.entries in
+    let f = object_at os c.args.head in
+    let r = object_at os c.args.rest in
+    let name = name_of f in
+    let nm : name_of_bytes c.name_of.result.now ≡ name = ap name_of_bytes (sym c.name_of.ensures) ∙ name_of_bytes-bytes name in
+    let w : abbreviation_of name ≡ COND = ap abbreviation_of (sym nm) ∙ (sym c.word_of.ensures ∙ ap abbreviation c.in-Cond.is) in
+    let e = form_meaning A (object_at os c.args.x) f r name (symbol_is f c.requires.symbol) c.requires.form COND w in
+    forward-step A os es (meaning A kind.Term (object_at os c.args.x)) c.args.x (at kind.Cond c.args.rest) c.forward_to-in-Cond.result c.requires.made e c.requires.rest_before c.forward_to-in-Cond.ensures
+
+pub returns-in_ok-step_let-in-Let-clause-step : goal.returns-in_ok-step_let-in-Let-clause-step
+returns-in_ok-step_let-in-Let-clause-step c =
+    let os = c.args.heap.now in
+    let A = c.args.newer.now ++ c.args.older.now in
+    let es = c.args.memo.now.made.entries in
+    let f = object_at os c.args.head in
+    let r = object_at os c.args.rest in
+    let name = name_of f in
+    let nm : name_of_bytes c.name_of.result.now ≡ name = ap name_of_bytes (sym c.name_of.ensures) ∙ name_of_bytes-bytes name in
+    let w : abbreviation_of name ≡ LET = ap abbreviation_of (sym nm) ∙ (sym c.word_of.ensures ∙ ap abbreviation c.in-Let.is) in
+    let e = form_meaning A (object_at os c.args.x) f r name (symbol_is f c.requires.symbol) c.requires.form LET w in
+    step_same A os c.step_let.new.heap es (meaning A kind.Term (object_at os c.args.x)) (of_term A (let_form r)) (c.args.rest + 1) c.args.x c.in_ok-step_let-in-Let.field-0 e (omega (arith, c.requires.rest_before)) (c.in_ok-step_let-in-Let.ensures.step A c.requires.made)
+
+pub returns-in_ok-step_let_star-in-LetStar-clause-step : goal.returns-in_ok-step_let_star-in-LetStar-clause-step
+returns-in_ok-step_let_star-in-LetStar-clause-step c =
+    let os = c.args.heap.now in
+    let A = c.args.newer.now ++ c.args.older.now in
+    let es = c.args.memo.now.made.entries in
+    let f = object_at os c.args.head in
+    let r = object_at os c.args.rest in
+    let name = name_of f in
+    let nm : name_of_bytes c.name_of.result.now ≡ name = ap name_of_bytes (sym c.name_of.ensures) ∙ name_of_bytes-bytes name in
+    let w : abbreviation_of name ≡ LETSTAR = ap abbreviation_of (sym nm) ∙ (sym c.word_of.ensures ∙ ap abbreviation c.in-LetStar.is) in
+    let e = form_meaning A (object_at os c.args.x) f r name (symbol_is f c.requires.symbol) c.requires.form LETSTAR w in
+    step_same A os c.step_let_star.new.heap es (meaning A kind.Term (object_at os c.args.x)) (of_term A (let_star_form r)) (c.args.rest + 1) c.args.x c.in_ok-step_let_star-in-LetStar.field-0 e (omega (arith, c.requires.rest_before)) (c.in_ok-step_let_star-in-LetStar.ensures.step A c.requires.made)
+
+pub returns-in_ok-step_place-in-First-clause-step : goal.returns-in_ok-step_place-in-First-clause-step
+returns-in_ok-step_place-in-First-clause-step c =
+    let os = c.args.heap.now in
+    let A = c.args.newer.now ++ c.args.older.now in
+    let es = c.args.memo.now.made.entries in
+    let f = object_at os c.args.head in
+    let r = object_at os c.args.rest in
+    let name = name_of f in
+    let nm : name_of_bytes c.name_of.result.now ≡ name = ap name_of_bytes (sym c.name_of.ensures) ∙ name_of_bytes-bytes name in
+    let w : abbreviation_of name ≡ FIRST = ap abbreviation_of (sym nm) ∙ (sym c.word_of.ensures ∙ ap abbreviation c.in-First.is) in
+    let e = form_meaning A (object_at os c.args.x) f r name (symbol_is f c.requires.symbol) c.requires.form FIRST w in
+    step_same A os c.step_place.new.heap es (meaning A kind.Term (object_at os c.args.x)) (of_term A (with_terms (place_of 0) (expanded_each r))) (c.args.rest + 1) c.args.x c.in_ok-step_place-in-First.field-0 (e ∙ first_part A name r) (omega (arith, c.requires.rest_before)) c.in_ok-step_place-in-First.ensures.step
+
+pub returns-in_ok-step_place-in-Second-clause-step : goal.returns-in_ok-step_place-in-Second-clause-step
+returns-in_ok-step_place-in-Second-clause-step c =
+    let os = c.args.heap.now in
+    let A = c.args.newer.now ++ c.args.older.now in
+    let es = c.args.memo.now.made.entries in
+    let f = object_at os c.args.head in
+    let r = object_at os c.args.rest in
+    let name = name_of f in
+    let nm : name_of_bytes c.name_of.result.now ≡ name = ap name_of_bytes (sym c.name_of.ensures) ∙ name_of_bytes-bytes name in
+    let w : abbreviation_of name ≡ SECOND = ap abbreviation_of (sym nm) ∙ (sym c.word_of.ensures ∙ ap abbreviation c.in-Second.is) in
+    let e = form_meaning A (object_at os c.args.x) f r name (symbol_is f c.requires.symbol) c.requires.form SECOND w in
+    step_same A os c.step_place-in-Second.new.heap es (meaning A kind.Term (object_at os c.args.x)) (of_term A (with_terms (place_of 1) (expanded_each r))) (c.args.rest + 1) c.args.x c.in_ok-step_place-in-Second.field-0 (e ∙ second_part A name r) (omega (arith, c.requires.rest_before)) c.in_ok-step_place-in-Second.ensures.step
+
+pub returns-in_ok-step_place-in-Third-clause-step : goal.returns-in_ok-step_place-in-Third-clause-step
+returns-in_ok-step_place-in-Third-clause-step c =
+    let os = c.args.heap.now in
+    let A = c.args.newer.now ++ c.args.older.now in
+    let es = c.args.memo.now.made.entries in
+    let f = object_at os c.args.head in
+    let r = object_at os c.args.rest in
+    let name = name_of f in
+    let nm : name_of_bytes c.name_of.result.now ≡ name = ap name_of_bytes (sym c.name_of.ensures) ∙ name_of_bytes-bytes name in
+    let w : abbreviation_of name ≡ THIRD = ap abbreviation_of (sym nm) ∙ (sym c.word_of.ensures ∙ ap abbreviation c.in-Third.is) in
+    let e = form_meaning A (object_at os c.args.x) f r name (symbol_is f c.requires.symbol) c.requires.form THIRD w in
+    step_same A os c.step_place-in-Third.new.heap es (meaning A kind.Term (object_at os c.args.x)) (of_term A (with_terms (place_of 2) (expanded_each r))) (c.args.rest + 1) c.args.x c.in_ok-step_place-in-Third.field-0 (e ∙ third_part A name r) (omega (arith, c.requires.rest_before)) c.in_ok-step_place-in-Third.ensures.step
+
+pub returns-in_ok-step_place-in-Fourth-clause-step : goal.returns-in_ok-step_place-in-Fourth-clause-step
+returns-in_ok-step_place-in-Fourth-clause-step c =
+    let os = c.args.heap.now in
+    let A = c.args.newer.now ++ c.args.older.now in
+    let es = c.args.memo.now.made.entries in
+    let f = object_at os c.args.head in
+    let r = object_at os c.args.rest in
+    let name = name_of f in
+    let nm : name_of_bytes c.name_of.result.now ≡ name = ap name_of_bytes (sym c.name_of.ensures) ∙ name_of_bytes-bytes name in
+    let w : abbreviation_of name ≡ FOURTH = ap abbreviation_of (sym nm) ∙ (sym c.word_of.ensures ∙ ap abbreviation c.in-Fourth.is) in
+    let e = form_meaning A (object_at os c.args.x) f r name (symbol_is f c.requires.symbol) c.requires.form FOURTH w in
+    step_same A os c.step_place-in-Fourth.new.heap es (meaning A kind.Term (object_at os c.args.x)) (of_term A (with_terms (place_of 3) (expanded_each r))) (c.args.rest + 1) c.args.x c.in_ok-step_place-in-Fourth.field-0 (e ∙ fourth_part A name r) (omega (arith, c.requires.rest_before)) c.in_ok-step_place-in-Fourth.ensures.step
+
+pub returns-in_ok-step_place-in-Fifth-clause-step : goal.returns-in_ok-step_place-in-Fifth-clause-step
+returns-in_ok-step_place-in-Fifth-clause-step c =
+    let os = c.args.heap.now in
+    let A = c.args.newer.now ++ c.args.older.now in
+    let es = c.args.memo.now.made.entries in
+    let f = object_at os c.args.head in
+    let r = object_at os c.args.rest in
+    let name = name_of f in
+    let nm : name_of_bytes c.name_of.result.now ≡ name = ap name_of_bytes (sym c.name_of.ensures) ∙ name_of_bytes-bytes name in
+    let w : abbreviation_of name ≡ FIFTH = ap abbreviation_of (sym nm) ∙ (sym c.word_of.ensures ∙ ap abbreviation c.in-Fifth.is) in
+    let e = form_meaning A (object_at os c.args.x) f r name (symbol_is f c.requires.symbol) c.requires.form FIFTH w in
+    step_same A os c.step_place-in-Fifth.new.heap es (meaning A kind.Term (object_at os c.args.x)) (of_term A (with_terms (place_of 4) (expanded_each r))) (c.args.rest + 1) c.args.x c.in_ok-step_place-in-Fifth.field-0 (e ∙ fifth_part A name r) (omega (arith, c.requires.rest_before)) c.in_ok-step_place-in-Fifth.ensures.step
+
+pub returns-in_ok-step_call-in-Other-clause-step : goal.returns-in_ok-step_call-in-Other-clause-step
+returns-in_ok-step_call-in-Other-clause-step c =
+    let os = c.args.heap.now in
+    let A = c.args.newer.now ++ c.args.older.now in
+    let es = c.args.memo.now.made.entries in
+    let f = object_at os c.args.head in
+    let r = object_at os c.args.rest in
+    let name = name_of f in
+    let nm : name_of_bytes c.name_of.result.now ≡ name = ap name_of_bytes (sym c.name_of.ensures) ∙ name_of_bytes-bytes name in
+    let w : abbreviation_of name ≡ Other = ap abbreviation_of (sym nm) ∙ (sym c.word_of.ensures ∙ ap abbreviation c.in-Other.is) in
+    let e = form_meaning A (object_at os c.args.x) f r name (symbol_is f c.requires.symbol) c.requires.form Other w in
+    step_same A os c.step_call.new.heap es (meaning A kind.Term (object_at os c.args.x)) (of_term A (form_with Other name (expanded_each r))) (c.args.rest + 1) c.args.x c.in_ok-step_call-in-Other.field-0 e (omega (arith, c.requires.rest_before)) c.in_ok-step_call-in-Other.ensures.step

@@ -1,0 +1,168 @@
+//! Calls of functions and of lambdas.
+ghost use Rattle.std.specs.Prelude.{◌≡◌, ◌<◌, ◌+◌, ◌++◌, ◌&&◌, ◌||◌, not, eqb, true, false, Some, IfOk};
+ghost use Rattle.mw_model.specs.Object.{Pair, is_name, name_of_bytes, named, same_name};
+ghost use Rattle.mw_model.specs.Term.{Term, ArityTable};
+ghost use Rattle.mw_model.specs.Reading.{term_of};
+ghost use Rattle.mw_model.specs.Primitive.{is_pair, is_symbol, name_of};
+ghost use Rattle.mw_model.specs.Expansion.{Other, form_with, expanded, expanded_each};
+ghost use Rattle.mw_heap.specs.Objects.{object_at, IsIn, Grows};
+ghost use Rattle.mw_translate.specs.Checked.{takes as takes_count, call_made, head_made, IsMade};
+ghost use Rattle.mw_translate.specs.Meaning.{of_term};
+ghost use Rattle.mw_translate.specs.Memo.{AreMade, IsStep, IsStepOf};
+ghost use Rattle.mw_translate.specs.declared.part.Kind.TheVariants as kind;
+
+use crate::build::list_of_three;
+use crate::made::Made;
+use crate::memo::Memo;
+use crate::part::{Kind, Part};
+use crate::progress::Progress;
+use crate::shape::two_members;
+use crate::table::takes;
+use crate::word::is_same_name;
+use mw_heap::{Heap, Memory, Ref, View};
+use mw_term::{Arity, Formals};
+
+// Whether the function of this name may be called with so many actuals. IF takes three, whatever else a table says of it.
+fn is_call(newer: &Arity, older: &Arity, name: &[u8], count: u64) -> bool
+    requires { is_name name.now ≡ true }
+    ensures { result ≡ (takes_count (newer.now ++ older.now) (name_of_bytes name.now) count && (not (same_name (name_of_bytes name.now) (named "IF")) || eqb count 3)) }
+{
+    takes(newer, older, name, count) && (!is_same_name(name, b"IF") || count == 3)
+}
+
+// (head . actuals), where the function may be called with so many.
+fn checked_call(
+    heap: &mut Heap,
+    newer: &Arity,
+    older: &Arity,
+    head: Ref,
+    actuals: Made,
+) -> Result<Progress, Memory>
+    requires head_in { IsIn heap.old head }
+    requires symbol { is_symbol (object_at heap.old head) ≡ true }
+    requires actuals_in { IsIn heap.old actuals.object }
+    ensures grows { Grows heap.old heap.new }
+    ensures made { IfOk result (IsMade heap.new (call_made (newer.now ++ older.now) (name_of (object_at heap.old head)) (object_at heap.old actuals.object) actuals.count)) }
+{
+    if !is_call(newer, older, heap.name_of(head), actuals.count) {
+        return Ok(Progress::Fails);
+    }
+    Ok(Progress::Made(Made {
+        object: heap.cons(head, actuals.object)?,
+        count: 0,
+    }))
+}
+
+// A call of a function, whose name is no word of an abbreviation.
+pub(crate) fn step_call(
+    heap: &mut Heap,
+    newer: &Arity,
+    older: &Arity,
+    memo: &Memo,
+    head: Ref,
+    rest: Ref,
+) -> Result<Progress, Memory>
+    requires head_in { IsIn heap.old head }
+    requires symbol { is_symbol (object_at heap.old head) ≡ true }
+    requires rest_in { IsIn heap.old rest }
+    requires no_quote { same_name (name_of (object_at heap.old head)) (named "QUOTE") ≡ false }
+    requires made { AreMade (newer.now ++ older.now) heap.old memo.now.made.entries }
+    ensures grows { Grows heap.old heap.new }
+    ensures step { IfOk result (IsStep (newer.now ++ older.now) heap.old heap.new memo.now.made.entries (of_term (newer.now ++ older.now) (form_with Other (name_of (object_at heap.old head)) (expanded_each (object_at heap.old rest)))) (rest + 1)) }
+{
+    let terms = Part {
+        kind: Kind::Terms,
+        cell: rest,
+    };
+    match memo.find(&terms) {
+        Some(actuals) => Ok(checked_call(heap, newer, older, head, actuals)?),
+        None => Ok(Progress::Wants(terms)),
+    }
+}
+
+// A call of a lambda.
+pub(crate) fn step_lambda(
+    heap: &mut Heap,
+    memo: &Memo,
+    head: Ref,
+    rest: Ref,
+    x: Ref,
+) -> Result<Progress, Memory>
+    requires within { IsIn heap.old x }
+    requires head_in { IsIn heap.old head }
+    requires rest_in { IsIn heap.old rest }
+    requires head_before { head < x }
+    requires rest_before { rest < x }
+    requires call { object_at heap.old x ≡ Pair (object_at heap.old head) (object_at heap.old rest) }
+    requires pair { is_pair (object_at heap.old head) ≡ true }
+    requires made { (A : ArityTable) × AreMade A heap.old memo.now.made.entries }
+    ensures grows { Grows heap.old heap.new }
+    ensures step { (A : ArityTable) → AreMade A heap.old memo.now.made.entries → IfOk result (IsStepOf A heap.old heap.new memo.now.made.entries kind.Term x) }
+{
+    let lambda = Part {
+        kind: Kind::Head,
+        cell: head,
+    };
+    let terms = Part {
+        kind: Kind::Terms,
+        cell: rest,
+    };
+    match memo.find_both(&lambda, &terms) {
+        Ok((a, b)) => {
+            if a.count != b.count {
+                return Ok(Progress::Fails);
+            }
+            Ok(Progress::Made(Made {
+                object: heap.cons(a.object, b.object)?,
+                count: 0,
+            }))
+        }
+        Err(wanted) => Ok(Progress::Wants(wanted)),
+    }
+}
+
+// The head (lambda xs body), where xs is a list of formals, and the body has no other variables.
+fn closed_head(heap: &mut Heap, lambda: Ref, list: Ref, body: Ref) -> Result<Progress, Memory>
+    requires lambda_in { IsIn heap.old lambda }
+    requires list_in { IsIn heap.old list }
+    requires body_in { IsIn heap.old body }
+    ensures grows { Grows heap.old heap.new }
+    ensures head { (t : Term) → term_of (object_at heap.old body) ≡ Some t → IfOk result (IsMade heap.new (head_made (object_at heap.old lambda) (object_at heap.old list) (object_at heap.old body) t)) }
+{
+    let Some(formals) = Formals::of_list(heap, list)? else {
+        return Ok(Progress::Fails);
+    };
+    if !formals.closes(heap, body)? {
+        return Ok(Progress::Fails);
+    }
+    Ok(Progress::Made(Made {
+        object: list_of_three(heap, lambda, list, body)?,
+        count: formals.len() as u64,
+    }))
+}
+
+// The head of a lambda call.
+pub(crate) fn step_head(heap: &mut Heap, memo: &Memo, x: Ref) -> Result<Progress, Memory>
+    requires within { IsIn heap.old x }
+    requires made { (A : ArityTable) × AreMade A heap.old memo.now.made.entries }
+    ensures grows { Grows heap.old heap.new }
+    ensures step { (A : ArityTable) → AreMade A heap.old memo.now.made.entries → IfOk result (IsStepOf A heap.old heap.new memo.now.made.entries kind.Head x) }
+{
+    let View::Pair(lambda, members) = heap.view(x) else {
+        return Ok(Progress::Fails);
+    };
+    let Some(two) = two_members(heap, members) else {
+        return Ok(Progress::Fails);
+    };
+    if !heap.is_named(Some(lambda), b"LAMBDA") {
+        return Ok(Progress::Fails);
+    }
+    let term = Part {
+        kind: Kind::Term,
+        cell: two.second,
+    };
+    match memo.find(&term) {
+        Some(made) => Ok(closed_head(heap, lambda, two.first, made.object)?),
+        None => Ok(Progress::Wants(term)),
+    }
+}

@@ -1,0 +1,147 @@
+//! Calls of lambdas that LET and LET* stand for.
+ghost use Rattle.std.specs.Prelude.{◌≡◌, ◌<◌, ◌+◌, List, length, true, Some, IfOk, IfSome, OnOk};
+ghost use Rattle.mw_model.specs.Object.{Name, NIL};
+ghost use Rattle.mw_model.specs.Term.{Term, Terms, ArityTable, variables, is_term, are_terms, names_object, term_object, terms_object};
+ghost use Rattle.mw_model.specs.Primitive.{is_symbol};
+ghost use Rattle.mw_model.specs.Reading.{term_of};
+ghost use Rattle.mw_model.specs.Expansion.{without};
+ghost use Rattle.mw_heap.specs.Objects.{object_at, IsIn, Grows};
+ghost use Rattle.mw_term.specs.Parts.{names_at, AreSymbols};
+ghost use Rattle.mw_translate.specs.Lets.{append_object, prepend, extended_object, AreAllIn, AreMembers, AddsOther, IsLet};
+
+use crate::build::{call_of_two, list_of_one};
+use mw_heap::{Heap, Memory, Ref, View};
+use mw_term::{Formals, vars};
+
+// Adds the variable x where it is no formal.
+fn add_other(heap: &Heap, formals: &Formals, others: &mut Vec<Ref>, x: Ref) -> Result<(), Memory>
+    requires within { IsIn heap.now x }
+    requires symbol { is_symbol (object_at heap.now x) ≡ true }
+    requires symbols { AreSymbols heap.now formals.now }
+    requires others { AreSymbols heap.now others.old.items }
+    ensures { OnOk result (AddsOther heap.now (names_at heap.now formals.now) others.old.items others.new.items x) }
+{
+    if formals.contains(heap, x) {
+        return Ok(());
+    }
+    others.push(x)?;
+    Ok(())
+}
+
+// The free variables of a term that are no formals.
+fn other_variables(heap: &Heap, formals: &Formals, term: Ref) -> Result<Vec<Ref>, Memory>
+    requires within { IsIn heap.now term }
+    requires symbols { AreSymbols heap.now formals.now }
+    ensures symbols { IfOk result (λ v. AreSymbols heap.now v.items) }
+    ensures others { IfOk result (λ v. (t : Term) → term_of (object_at heap.now term) ≡ Some t → names_at heap.now v.items ≡ without (variables t) (names_at heap.now formals.now)) }
+{
+    let mut others = Vec::new(heap.alloc());
+    let variables = vars(heap, term)?;
+    for x in variables.as_slice() {
+        add_other(heap, formals, &mut others, *x)?;
+    }
+    Ok(others)
+}
+
+// The members of a list.
+fn members_of(heap: &Heap, list: Ref) -> Result<Vec<Ref>, Memory>
+    requires { IsIn heap.now list }
+    ensures within { IfOk result (λ v. AreAllIn heap.now v.items) }
+    ensures members { IfOk result (λ v. AreMembers heap.now (object_at heap.now list) v.items) }
+{
+    let mut members = Vec::new(heap.alloc());
+    let mut rest = list;
+    while let View::Pair(first, more) = heap.view(rest) {
+        members.push(first)?;
+        rest = more;
+    }
+    Ok(members)
+}
+
+/// Makes the list that begins with these, in order, and goes on as another. The one error is that memory is refused.
+pub fn put_before(heap: &mut Heap, front: Vec<Ref>, back: Ref) -> Result<Ref, Memory>
+    requires front_in { AreAllIn heap.old front.items }
+    requires back_in { IsIn heap.old back }
+    ensures grows { Grows heap.old heap.new }
+    ensures made { IfOk result (λ r. IsIn heap.new r × (object_at heap.new r ≡ prepend heap.old front.items (object_at heap.old back))) }
+{
+    let mut front = front;
+    let mut list = back;
+    while let Some(member) = front.pop() {
+        list = heap.cons(member, list)?;
+    }
+    Ok(list)
+}
+
+// The members of one list, and then another list.
+fn append(heap: &mut Heap, front: Ref, back: Ref) -> Result<Ref, Memory>
+    requires front_in { IsIn heap.old front }
+    requires back_in { IsIn heap.old back }
+    ensures grows { Grows heap.old heap.new }
+    ensures made { IfOk result (λ r. IsIn heap.new r × (object_at heap.new r ≡ append_object (object_at heap.old front) (object_at heap.old back))) }
+{
+    let members = members_of(heap, front)?;
+    Ok(put_before(heap, members, back)?)
+}
+
+// The call of a lambda with these formals and actuals, and the others after both.
+fn joined_call(
+    heap: &mut Heap,
+    names: Ref,
+    values: Ref,
+    others: Ref,
+    body: Ref,
+) -> Result<Ref, Memory>
+    requires names_in { IsIn heap.old names }
+    requires values_in { IsIn heap.old values }
+    requires others_in { IsIn heap.old others }
+    requires body_in { IsIn heap.old body }
+    ensures grows { Grows heap.old heap.new }
+    ensures made { IfOk result (λ r. IsIn heap.new r × (object_at heap.new r ≡ extended_object (object_at heap.old names) (object_at heap.old values) (object_at heap.old others) (object_at heap.old body))) }
+{
+    let formals = append(heap, names, others)?;
+    let actuals = append(heap, values, others)?;
+    let head = call_of_two(heap, b"LAMBDA", formals, body)?;
+    Ok(heap.cons(head, actuals)?)
+}
+
+// The call of a lambda with these formals and actuals, and other variables that stand for themselves.
+fn extended_call(
+    heap: &mut Heap,
+    names: Ref,
+    values: Ref,
+    others: Vec<Ref>,
+    body: Ref,
+) -> Result<Ref, Memory>
+    requires names_in { IsIn heap.old names }
+    requires values_in { IsIn heap.old values }
+    requires others_in { AreAllIn heap.old others.items }
+    requires body_in { IsIn heap.old body }
+    ensures grows { Grows heap.old heap.new }
+    ensures made { IfOk result (λ r. IsIn heap.new r × (object_at heap.new r ≡ extended_object (object_at heap.old names) (object_at heap.old values) (prepend heap.old others.items NIL) (object_at heap.old body))) }
+{
+    let nil = heap.nil()?;
+    let list = put_before(heap, others, nil)?;
+    Ok(joined_call(heap, names, values, list, body)?)
+}
+
+// The call of a lambda whose formals are the names, and the other variables of the body, where the names are formals.
+pub(crate) fn let_call(
+    heap: &mut Heap,
+    names: Ref,
+    values: Ref,
+    body: Ref,
+) -> Result<Option<Ref>, Memory>
+    requires names_in { IsIn heap.old names }
+    requires values_in { IsIn heap.old values }
+    requires body_in { IsIn heap.old body }
+    ensures grows { Grows heap.old heap.new }
+    ensures within { IfOk result (λ o. IfSome o (IsIn heap.new)) }
+    ensures made { (A : ArityTable) (xs : List Name) (ts : Terms) (b : Term) → object_at heap.old names ≡ names_object xs → object_at heap.old values ≡ terms_object ts → object_at heap.old body ≡ term_object b → is_term A b ≡ true → IfOk result (IsLet heap.new xs ts b) }
+{
+    let Some(formals) = Formals::of_list(heap, names)? else {
+        return Ok(None);
+    };
+    let others = other_variables(heap, &formals, body)?;
+    Ok(Some(extended_call(heap, names, values, others, body)?))
+}

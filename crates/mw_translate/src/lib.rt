@@ -1,0 +1,24 @@
+//! Expansion of raw terms: abbreviations, plain numbers, T and NIL.
+#![tactic(auto)]
+
+mod build;
+mod calls;
+mod expansion;
+mod folds;
+mod let_forms;
+mod lets;
+mod lists;
+mod made;
+mod memo;
+mod part;
+mod places;
+mod progress;
+mod shape;
+mod table;
+mod terms;
+mod walk;
+mod word;
+
+pub use build::{call_of_one, call_of_two, list_of_one, list_of_two, quoted_symbol};
+pub use expansion::{Expanded, arities_of, expand, expand_under};
+pub use lets::put_before;
