@@ -1,0 +1,452 @@
+//! Raw terms, and the terms that they expand to.
+ghost use Rattle.std.specs.Prelude.{◌≡◌, ◌↔◌, true, IsTrue};
+ghost use Rattle.mw_model.specs.Object.{is_name};
+ghost use Rattle.mw_heap.specs.Objects.{IsIn};
+
+use mw_heap::{Heap, Memory, Ref};
+use mw_read::{Reader, Step};
+use mw_term::Arity;
+use mw_translate::{Expanded, expand, expand_under};
+use std::alloc::{AllocError, Global};
+use std::test::Fail;
+
+// A raw term, and the term that it expands to.
+struct Row {
+    raw: &'static [u8],
+    term: &'static [u8],
+}
+
+const CONNECTIVES: [Row; 11] = [
+    Row {
+        raw: b"(and)",
+        term: b"'t ",
+    },
+    Row {
+        raw: b"(and x)",
+        term: b"x ",
+    },
+    Row {
+        raw: b"(and x y 5)",
+        term: b"(if x (if y '5 'nil) 'nil)",
+    },
+    Row {
+        raw: b"(or)",
+        term: b"'nil ",
+    },
+    Row {
+        raw: b"(or x)",
+        term: b"x ",
+    },
+    Row {
+        raw: b"(or x y t)",
+        term: b"(if x x (if y y 't))",
+    },
+    Row {
+        raw: b"(cond)",
+        term: b"'nil ",
+    },
+    Row {
+        raw: b"(cond (x 1) (y 2) (t nil))",
+        term: b"(if x '1 (if y '2 (if 't 'nil 'nil)))",
+    },
+    Row {
+        raw: b"(list)",
+        term: b"'nil ",
+    },
+    Row {
+        raw: b"(list x 'x (list y))",
+        term: b"(cons x (cons 'x (cons (cons y 'nil) 'nil)))",
+    },
+    Row {
+        raw: b"(and (or x y) (cond (x (list))))",
+        term: b"(if (if x x y) (if x 'nil 'nil) 'nil)",
+    },
+];
+
+const PLACES: [Row; 5] = [
+    Row {
+        raw: b"(first x)",
+        term: b"(car x)",
+    },
+    Row {
+        raw: b"(second x)",
+        term: b"(car (cdr x))",
+    },
+    Row {
+        raw: b"(third x)",
+        term: b"(car (cdr (cdr x)))",
+    },
+    Row {
+        raw: b"(fourth x)",
+        term: b"(car (cdr (cdr (cdr x))))",
+    },
+    Row {
+        raw: b"(fifth (list x))",
+        term: b"(car (cdr (cdr (cdr (cdr (cons x 'nil))))))",
+    },
+];
+
+// The variables of a body that are not bound stand for themselves, in the order in which they first occur.
+const BINDINGS: [Row; 6] = [
+    Row {
+        raw: b"(let () (f x y))",
+        term: b"((lambda (x y) (f x y)) x y)",
+    },
+    Row {
+        raw: b"(let ((x t) (z y)) (f x (f y w)))",
+        term: b"((lambda (x z y w) (f x (f y w))) 't y y w)",
+    },
+    Row {
+        raw: b"(let* () (f x y))",
+        term: b"(f x y)",
+    },
+    Row {
+        raw: b"(let* ((x t)) (f x y))",
+        term: b"((lambda (x y) (f x y)) 't y)",
+    },
+    Row {
+        raw: b"(let* ((x (car y)) (x (cdr x)) (y x)) (f x y))",
+        term: b"((lambda (x) ((lambda (x) ((lambda (y x) (f x y)) x x)) (cdr x))) (car y))",
+    },
+    Row {
+        raw: b"((lambda (x) (list x)) (and y 1))",
+        term: b"((lambda (x) (cons x 'nil)) (if y '1 'nil))",
+    },
+];
+
+const NO_TERMS: [&[u8]; 24] = [
+    b"(f x)",
+    b"(g x)",
+    b"(if x y)",
+    b"(f x . y)",
+    b"(1 x)",
+    b"(and x . y)",
+    b"(or x (g x))",
+    b"(list . 5)",
+    b"(cond x)",
+    b"(cond (x))",
+    b"(cond (x y z))",
+    b"(cond (x y) . z)",
+    b"(first)",
+    b"(second x y)",
+    b"(fifth x . y)",
+    b"(let ((x 1)))",
+    b"(let ((x 1)) x x)",
+    b"(let ((x 1) (x 2)) x)",
+    b"(let ((t 1)) x)",
+    b"(let* ((x)) x)",
+    b"(let* ((x 1) . y) x)",
+    b"(quote)",
+    b"(quote x y)",
+    b"((lambda (x) (f x y)) x)",
+];
+
+fn is_in(heap: &Heap, x: Ref) -> bool
+    ensures { IsTrue result ↔ IsIn heap.now x }
+{
+    x.index() < heap.mark().cells()
+}
+
+// The first datum of a text.
+fn read(heap: &mut Heap, text: &[u8]) -> Result<Ref, Memory> {
+    let mut reader = Reader::new(heap.alloc());
+    let (step, _) = reader.step(heap, text);
+    match step {
+        Step::Datum(datum) => Ok(datum),
+        _ => Err(Memory),
+    }
+}
+
+fn expanded(heap: &mut Heap, arity: &Arity, raw: Ref) -> Expanded {
+    if is_in(heap, raw) {
+        expand(heap, raw, arity, &[])
+    } else {
+        Expanded::Memory
+    }
+}
+
+// Whether one text expands to another.
+fn expands_to(heap: &mut Heap, arity: &Arity, raw: &[u8], term: &[u8]) -> Result<bool, Memory> {
+    let raw = read(heap, raw)?;
+    let term = read(heap, term)?;
+    Ok(expanded(heap, arity, raw) == Expanded::Term(term))
+}
+
+// Whether each raw text expands to its term.
+fn are_right(heap: &mut Heap, arity: &Arity, rows: &[Row]) -> Result<bool, Memory> {
+    for row in rows {
+        if !expands_to(heap, arity, row.raw, row.term)? {
+            return Ok(false);
+        }
+    }
+    Ok(true)
+}
+
+// Whether no text expands to a term.
+fn are_no_terms(heap: &mut Heap, arity: &Arity, texts: &[&[u8]]) -> Result<bool, Memory> {
+    for text in texts {
+        let raw = read(heap, text)?;
+        if expanded(heap, arity, raw) != Expanded::NotTerm {
+            return Ok(false);
+        }
+    }
+    Ok(true)
+}
+
+fn boxed(alloc: Global) -> Result<Box<Heap>, Memory> {
+    let heap = Heap::new(alloc)?;
+    Ok(Box::new(alloc, heap)?)
+}
+
+fn add(arity: &mut Arity, name: &[u8], count: u64) -> Result<(), Memory>
+    requires { is_name name.now ≡ true }
+{
+    match arity.lookup(name) {
+        Some(_) => Ok(()),
+        None => arity.add(name, count),
+    }
+}
+
+fn add_all(arity: &mut Arity) -> Result<(), Memory> {
+    add(arity, b"IF", 3)?;
+    add(arity, b"CONS", 2)?;
+    add(arity, b"CAR", 1)?;
+    add(arity, b"CDR", 1)?;
+    add(arity, b"F", 2)
+}
+
+// The arities of IF, CONS, CAR and CDR, and of F, which takes two.
+fn arities(alloc: Global) -> Result<Box<Arity>, Memory> {
+    let mut arity = Box::new(alloc, Arity::new(alloc))?;
+    add_all(&mut arity)?;
+    Ok(arity)
+}
+
+#[test]
+fn connectives_are_conditionals(rt: HostRuntime) -> Result<(), Fail> {
+    let mut heap = boxed(rt.alloc())?;
+    let arity = arities(rt.alloc())?;
+    assert!(rt; are_right(&mut heap, &arity, &CONNECTIVES)?);
+    Ok(())
+}
+
+#[test]
+fn places_are_cars_of_cdrs(rt: HostRuntime) -> Result<(), Fail> {
+    let mut heap = boxed(rt.alloc())?;
+    let arity = arities(rt.alloc())?;
+    assert!(rt; are_right(&mut heap, &arity, &PLACES)?);
+    Ok(())
+}
+
+#[test]
+fn bindings_are_lambda_calls(rt: HostRuntime) -> Result<(), Fail> {
+    let mut heap = boxed(rt.alloc())?;
+    let arity = arities(rt.alloc())?;
+    assert!(rt; are_right(&mut heap, &arity, &BINDINGS)?);
+    Ok(())
+}
+
+#[test]
+fn wrong_shapes_are_no_terms(rt: HostRuntime) -> Result<(), Fail> {
+    let mut heap = boxed(rt.alloc())?;
+    let arity = arities(rt.alloc())?;
+    assert!(rt; are_no_terms(&mut heap, &arity, &NO_TERMS)?);
+    Ok(())
+}
+
+// A raw term with a part that comes many times, and the term that it expands to, whose middle has as many parts around it.
+struct LongRow {
+    head: &'static str,
+    part: &'static str,
+    tail: &'static str,
+    before: &'static str,
+    middle: &'static str,
+    after: &'static str,
+    times: usize,
+}
+
+const LONG_ROWS: [LongRow; 4] = [
+    LongRow {
+        head: "(and",
+        part: " x",
+        tail: " x)",
+        before: "(if x ",
+        middle: "x",
+        after: " 'nil)",
+        times: 100_000,
+    },
+    LongRow {
+        head: "(cond",
+        part: " (x 5)",
+        tail: ")",
+        before: "(if x '5 ",
+        middle: "'nil",
+        after: ")",
+        times: 100_000,
+    },
+    LongRow {
+        head: "(list",
+        part: " x",
+        tail: ")",
+        before: "(cons x ",
+        middle: "'nil",
+        after: ")",
+        times: 100_000,
+    },
+    LongRow {
+        head: "(let* (",
+        part: "(x (car x))",
+        tail: ") x)",
+        before: "((lambda (x) ",
+        middle: "x",
+        after: ") (car x))",
+        times: 2_000,
+    },
+];
+
+// The text so many times.
+fn repeated(alloc: Global, text: &str, times: usize) -> Result<String, AllocError> {
+    let mut all = String::new(alloc);
+    for _ in 0..times {
+        all.push_str(text)?;
+    }
+    Ok(all)
+}
+
+fn raw_text(alloc: Global, row: &LongRow) -> Result<String, AllocError> {
+    let parts = repeated(alloc, row.part, row.times)?;
+    format!(in alloc; "{}{parts}{}", row.head, row.tail)
+}
+
+fn term_text(alloc: Global, row: &LongRow) -> Result<String, AllocError> {
+    let before = repeated(alloc, row.before, row.times)?;
+    let after = repeated(alloc, row.after, row.times)?;
+    format!(in alloc; "{before}{}{after}", row.middle)
+}
+
+// Whether a long raw text expands to its term.
+fn is_long_right(heap: &mut Heap, arity: &Arity, row: &LongRow) -> Result<bool, Memory> {
+    let raw = raw_text(heap.alloc(), row)?;
+    let term = term_text(heap.alloc(), row)?;
+    expands_to(heap, arity, raw.as_bytes(), term.as_bytes())
+}
+
+fn are_long_right(heap: &mut Heap, arity: &Arity) -> Result<bool, Memory> {
+    for row in &LONG_ROWS {
+        if !is_long_right(heap, arity, row)? {
+            return Ok(false);
+        }
+    }
+    Ok(true)
+}
+
+#[test]
+fn long_forms_are_expanded_in_time(rt: HostRuntime) -> Result<(), Fail> {
+    let mut heap = boxed(rt.alloc())?;
+    let arity = arities(rt.alloc())?;
+    assert!(rt; are_long_right(&mut heap, &arity)?);
+    Ok(())
+}
+
+// A call whose actuals are both the call before it, sixty deep: as a tree it has 2^60 variables.
+fn doubled(alloc: Global) -> Result<String, AllocError> {
+    let mut term = String::from_str(alloc, "#1=(f x x)")?;
+    for k in 1..60 {
+        let next = k + 1;
+        term = format!(in alloc; "#{next}=(f {term} #{k}#)")?;
+    }
+    Ok(term)
+}
+
+// The same of lists of two, and the conses that they expand to.
+fn doubled_list(alloc: Global) -> Result<String, AllocError> {
+    let mut term = String::from_str(alloc, "#1=(list x x)")?;
+    for k in 1..60 {
+        let next = k + 1;
+        term = format!(in alloc; "#{next}=(list {term} #{k}#)")?;
+    }
+    Ok(term)
+}
+
+fn doubled_conses(alloc: Global) -> Result<String, AllocError> {
+    let mut term = String::from_str(alloc, "#1=(cons x (cons x 'nil))")?;
+    for k in 1..60 {
+        let next = k + 1;
+        term = format!(in alloc; "#{next}=(cons {term} (cons #{k}# 'nil))")?;
+    }
+    Ok(term)
+}
+
+fn is_doubled_kept(heap: &mut Heap, arity: &Arity) -> Result<bool, Memory> {
+    let term = doubled(heap.alloc())?;
+    expands_to(heap, arity, term.as_bytes(), term.as_bytes())
+}
+
+fn is_doubled_list_right(heap: &mut Heap, arity: &Arity) -> Result<bool, Memory> {
+    let raw = doubled_list(heap.alloc())?;
+    let term = doubled_conses(heap.alloc())?;
+    expands_to(heap, arity, raw.as_bytes(), term.as_bytes())
+}
+
+#[test]
+fn shared_parts_are_expanded_once(rt: HostRuntime) -> Result<(), Fail> {
+    let mut heap = boxed(rt.alloc())?;
+    let arity = arities(rt.alloc())?;
+    assert!(rt; is_doubled_kept(&mut heap, &arity)?);
+    assert!(rt; is_doubled_list_right(&mut heap, &arity)?);
+    Ok(())
+}
+
+// Whether a text is a term under two tables.
+fn is_term_under(
+    heap: &mut Heap,
+    newer: &Arity,
+    older: &Arity,
+    text: &[u8],
+) -> Result<bool, Memory> {
+    let raw = read(heap, text)?;
+    if is_in(heap, raw) {
+        Ok(expand_under(heap, raw, newer, older) == Expanded::Term(raw))
+    } else {
+        Err(Memory)
+    }
+}
+
+// Whether F may be called with no argument, and with two.
+fn calls_under(heap: &mut Heap, newer: &Arity, older: &Arity) -> Result<(bool, bool), Memory> {
+    let none = is_term_under(heap, newer, older, b"(f)")?;
+    let two = is_term_under(heap, newer, older, b"(f x x)")?;
+    Ok((none, two))
+}
+
+// Whether (F) is a term where F is new and takes no argument.
+fn is_new_call(heap: &mut Heap, arity: &Arity) -> Result<bool, Memory> {
+    let f = heap.symbol(b"F")?;
+    let nil = heap.nil()?;
+    let call = heap.cons(f, nil)?;
+    Ok(expand(heap, call, arity, &[(f, 0)]) == Expanded::Term(call))
+}
+
+// The arity of an F that takes no argument.
+fn newer_arity(alloc: Global) -> Result<Box<Arity>, Memory> {
+    let mut arity = Box::new(alloc, Arity::new(alloc))?;
+    add(&mut arity, b"F", 0)?;
+    Ok(arity)
+}
+
+#[test]
+fn newer_functions_count_first(rt: HostRuntime) -> Result<(), Fail> {
+    let mut heap = boxed(rt.alloc())?;
+    let newer = newer_arity(rt.alloc())?;
+    let older = arities(rt.alloc())?;
+    assert_eq!(rt; calls_under(&mut heap, &newer, &older)?, (true, false));
+    Ok(())
+}
+
+#[test]
+fn new_functions_are_called(rt: HostRuntime) -> Result<(), Fail> {
+    let mut heap = boxed(rt.alloc())?;
+    let arity = arities(rt.alloc())?;
+    assert!(rt; is_new_call(&mut heap, &arity)?);
+    Ok(())
+}
