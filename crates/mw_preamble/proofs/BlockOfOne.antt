@@ -1,8 +1,8 @@
 -- A definition that means a well-made block is what the table takes for it.
-use Rattle.std.proofs.Common.{◌≡◌, ℕ, zero, suc, true, ◌&&◌, List, [], ◌∷◌, slice_get, Option, Some, None, refl, ap, ◌∙◌, subst}
+use Rattle.std.proofs.Common.{◌≡◌, ℕ, zero, suc, true, ◌&&◌, List, [], ◌∷◌, slice_get, Some, None, refl, ap, ◌∙◌, subst}
 use Rattle.std.proofs.lemmas.Bool.{and_parts}
 use Rattle.mw_model.specs.Object.{Name, Object}
-use Rattle.mw_model.specs.Term.{Term, term_object, is_term, is_closed, are_formals}
+use Rattle.mw_model.specs.Term.{Term, is_term, is_closed, are_formals}
 use Rattle.mw_model.specs.Reading.{names_of, term_of}
 use Rattle.mw_model.specs.Primitive.{Profile}
 use Rattle.mw_model.specs.Definition.{Function as Defined, Block, Functions, Choice, definitions, arities, add_functions, are_new, are_functions, is_block}
@@ -10,9 +10,7 @@ use Rattle.mw_model.proofs.Formed.{formed}
 use Rattle.mw_model.proofs.Read.{term_read}
 use Rattle.mw_model.proofs.Readable.{names_read}
 use Rattle.mw_model.proofs.ReadBack.{some_one}
-use Rattle.mw_heap.specs.Objects.{object_at}
-use Rattle.mw_code.specs.Coded.{members}
-use Rattle.mw_code.specs.Blocks.{Spelling, IsHead, AreHeads, IsBodyOf, IsBlockOf}
+use Rattle.mw_code.specs.Blocks.{Spelling, IsHead, IsBodyOf, IsBlockOf}
 use Rattle.mw_preamble.specs.declared.definition.Definition.{Definition}
 use Rattle.mw_preamble.specs.declared.definition.Definition.TheVariants.{Function, Witness}
 use Rattle.mw_preamble.specs.Entries.{IsBlock, IsFunction, IsWitness}

@@ -1,9 +1,9 @@
 -- A walk over rows: the blocks that are defined, and those whose rows are left.
-use Rattle.std.proofs.Common.{◌≡◌, ℕ, Bool, true, false, ◌&&◌, List, [], ◌∷◌, refl, sym, ap, ◌∙◌, subst}
+use Rattle.std.proofs.Common.{◌≡◌, ℕ, true, false, List, [], ◌∷◌, refl, sym, ap, ◌∙◌, subst}
 use Rattle.std.proofs.lemmas.Bool.{and_parts}
-use Rattle.mw_model.specs.Object.{Object, Pair, NIL}
+use Rattle.mw_model.specs.Object.{Object, Pair}
 use Rattle.mw_model.specs.Primitive.{Profile, One, is_pair}
-use Rattle.mw_model.specs.Definition.{Function, Block, Functions, Choice, definitions, arities, is_block, are_blocks}
+use Rattle.mw_model.specs.Definition.{Block, Functions, Choice, definitions, arities, is_block, are_blocks}
 use Rattle.mw_model.specs.BuiltIn.{built_in}
 use Rattle.mw_model.proofs.BuiltInRead.{well_made}
 use Rattle.mw_heap.specs.Objects.{object_at, IsIn}
@@ -105,6 +105,10 @@ module _ (os : List Object) (P : Profile) (all : List Block) where
   Defines-end rest es t h e =
       let d = all-done h.left h.done (object_at os rest) h.all_are h.rows h.single e in
       (subst (AreEntries os es) (sym d) h.entries, subst (λ D. StandsFor os t (definitions P D)) (sym d) h.table)
+
+pub of-one : definitions One first_definitions.blocks ≡ first_definitions
+unfolding first_definitions
+of-one = refl
 
 single : are_single (turned (built_in One) []) ≡ true
 single = refl

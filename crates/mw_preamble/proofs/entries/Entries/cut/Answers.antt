@@ -1,5 +1,5 @@
 -- The oldest blocks are those of the oldest lists.
-use Rattle.std.proofs.Common.{◌≡◌, List, Vec, map, take, sym, ap, ◌∙◌}
+use Rattle.std.proofs.Common.{map, take, sym, ap, ◌∙◌}
 use Rattle.std.proofs.lemmas.List.{take-map}
 use Rattle.mw_preamble.proofs.entries.Entries.cut.Goals as goal
 
