@@ -4,3 +4,7 @@ pub mod RowShape
 pub mod PrimitiveTable
 pub mod RowsWalk
 pub mod FirstRows
+pub mod CallerLemmas
+pub mod AxiomParts
+pub mod BlockOfOne
+pub mod DefineWalk

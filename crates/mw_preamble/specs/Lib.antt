@@ -1,2 +1,4 @@
 pub mod Admitted
+pub mod Entries
 pub mod Rows
+pub mod Defining

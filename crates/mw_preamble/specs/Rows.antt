@@ -1,5 +1,5 @@
 -- The rows that are read: of each built-in definition its name, how many arguments it takes, and its axiom.
-use Rattle.std.specs.Prelude.{ℕ, ◌^◌, Bool, true, false, ◌&&◌, ltb, List, [], ◌∷◌, length}
+use Rattle.std.specs.Prelude.{◌≡◌, ℕ, ◌^◌, Bool, true, false, ◌&&◌, ltb, List, [], ◌∷◌, length}
 use Rattle.mw_model.specs.Object.{Name, Object, Natural, Symbol, Pair, NIL, cdr}
 use Rattle.mw_model.specs.Term.{Formula, formula_object, ArityTable, arity_of}
 use Rattle.mw_model.specs.Primitive.{One}
@@ -52,3 +52,37 @@ with_rows A x = A
 abbrev pub axioms_of : Object → List Object
 axioms_of (Pair x rest) = axiom_of x ∷ axioms_of rest
 axioms_of x = []
+
+-- The parts of a pair; what is no pair is its own part.
+abbrev pub first_part : Object → Object
+first_part (Pair a b) = a
+first_part x = x
+
+abbrev pub second_part : Object → Object
+second_part (Pair a b) = b
+second_part x = x
+
+-- the row of a block of one
+abbrev pub IsRowOf : Block → Object → Type 0
+IsRowOf (Functions (h ∷ [])) x = x ≡ row h.name (length h.formals) (function_axiom h)
+IsRowOf (Choice g y xs b) x = x ≡ row g (length xs) (choice_axiom g y xs b)
+IsRowOf _ x = ⊥
+
+abbrev pub is_single : Block → Bool
+is_single (Functions (h ∷ [])) = true
+is_single (Choice g y xs b) = true
+is_single _ = false
+
+abbrev pub are_single : List Block → Bool
+are_single [] = true
+are_single (B ∷ Bs) = is_single B && are_single Bs
+
+-- the rows of blocks that stand oldest first
+abbrev pub rows_of : List Block → Object
+rows_of [] = NIL
+rows_of (B ∷ Bs) = block_rows B (rows_of Bs)
+
+-- the blocks one after the other before those that are there
+abbrev pub turned : List Block → List Block → List Block
+turned [] D = D
+turned (B ∷ Bs) D = turned Bs (B ∷ D)

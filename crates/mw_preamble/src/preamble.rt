@@ -3,29 +3,62 @@ ghost use Rattle.std.specs.Prelude.{◌≡◌, IfOk, map, All};
 ghost use Rattle.mw_model.specs.Term.{formula_object};
 ghost use Rattle.mw_model.specs.Definition.{arity_table};
 ghost use Rattle.mw_heap.specs.Objects.{object_at, IsIn, Grows};
+ghost use Rattle.mw_code.specs.Tables.{StandsFor};
 ghost use Rattle.mw_preamble.specs.Admitted.{first_definitions, axioms_in_order};
+ghost use Rattle.mw_preamble.specs.Entries.{AreEntries};
+ghost use Rattle.mw_preamble.specs.Rows.{first_rows};
 
+use crate::Entries;
+use crate::define::define_rows;
 use crate::primitives::primitive_arities;
 use crate::rows::{admit_rows, read_rows};
 use mw_axioms::Axioms;
-use mw_heap::{Heap, Memory};
+use mw_code::Table;
+use mw_heap::{Heap, Memory, Profile, Ref};
 use mw_term::Arity;
 
-/// What the built-in definitions bring: their axioms, in order, and the table of the primitives' arities and theirs.
+/// What the built-in definitions bring: they themselves, each a block of one, their axioms, in order, the table of the primitives'
+/// arities and theirs, and the table of their code.
 #[derive(Drop)]
 pub struct Preamble {
+    pub definitions: Entries,
     pub axioms: Axioms,
     pub arity: Arity,
+    // It stands behind a box, so that the proofs of its owners are short.
+    pub table: Box<Table>,
 }
 
-/// Makes the axioms of the built-in definitions of the first profile, and the arity table that begins a theory.
+/// Makes the axioms, the entries and the code of the built-in definitions of the first profile, and the arity table that begins a
+/// theory.
 pub fn admit_all(heap: &mut Heap) -> Result<Preamble, Memory>
     ensures grows { Grows heap.old heap.new }
+    ensures definitions { IfOk result (λ p. AreEntries heap.new p.definitions first_definitions.blocks) }
     ensures within { IfOk result (λ p. All (IsIn heap.new) p.axioms) }
     ensures axioms { IfOk result (λ p. map (object_at heap.new) p.axioms ≡ map formula_object (axioms_in_order first_definitions.blocks)) }
     ensures arity { IfOk result (λ p. p.arity ≡ arity_table first_definitions) }
+    ensures table { IfOk result (λ p. StandsFor heap.new p.table.value first_definitions) }
 {
     let rows = read_rows(heap)?;
-    let arity = primitive_arities(heap.alloc())?;
-    admit_rows(heap, rows, arity)
+    let mut arity = primitive_arities(heap.alloc())?;
+    let axioms = admit_rows(heap, rows, &mut arity)?;
+    let (definitions, table) = define_all(heap, rows)?;
+    Ok(Preamble {
+        definitions,
+        axioms,
+        arity,
+        table,
+    })
+}
+
+// The entries and the code of the rows.
+fn define_all(heap: &Heap, rows: Ref) -> Result<(Entries, Box<Table>), Memory>
+    requires within { IsIn heap.now rows }
+    requires rows { object_at heap.now rows ≡ first_rows }
+    ensures definitions { IfOk result (λ d. AreEntries heap.now d.0 first_definitions.blocks) }
+    ensures table { IfOk result (λ d. StandsFor heap.now d.1.value first_definitions) }
+{
+    let mut boxed = Box::new(heap.alloc(), Table::new(heap.alloc(), Profile::One))?;
+    let table: &mut Table = &mut boxed;
+    let definitions = define_rows(heap, rows, table)?;
+    Ok((definitions, boxed))
 }

@@ -3,7 +3,6 @@ ghost use Rattle.std.specs.Prelude.{◌≡◌, ◌++◌, [], ◌∷◌, true, If
 ghost use Rattle.mw_heap.specs.Objects.{object_at, IsIn, Grows};
 ghost use Rattle.mw_preamble.specs.Rows.{first_rows, is_row, are_rows, with_row, with_rows, axiom_of, axioms_of};
 
-use crate::Preamble;
 use crate::text::ROWS;
 use mw_axioms::Axioms;
 use mw_heap::{Heap, Memory, Ref, View};
@@ -24,25 +23,22 @@ pub(crate) fn read_rows(heap: &mut Heap) -> Result<Ref, Memory>
     }
 }
 
-// Admits the rows of a list, in order.
-pub(crate) fn admit_rows(heap: &Heap, rows: Ref, mut arity: Arity) -> Result<Preamble, Memory>
+// Adds what the rows of a list name to the table, in order, and gives their axioms.
+pub(crate) fn admit_rows(heap: &Heap, rows: Ref, arity: &mut Arity) -> Result<Axioms, Memory>
     requires within { IsIn heap.now rows }
-    requires rows { are_rows arity (object_at heap.now rows) ≡ true }
-    ensures within { IfOk result (λ p. All (IsIn heap.now) p.axioms) }
-    ensures axioms { IfOk result (λ p. map (object_at heap.now) p.axioms ≡ axioms_of (object_at heap.now rows)) }
-    ensures arity { IfOk result (λ p. p.arity ≡ with_rows arity (object_at heap.now rows)) }
+    requires rows { are_rows arity.old (object_at heap.now rows) ≡ true }
+    ensures within { IfOk result (λ a. All (IsIn heap.now) a) }
+    ensures axioms { IfOk result (λ a. map (object_at heap.now) a ≡ axioms_of (object_at heap.now rows)) }
+    ensures arity { OnOk result (arity.new ≡ with_rows arity.old (object_at heap.now rows)) }
 {
     let mut axioms = Vec::new(heap.alloc());
     let mut rest = rows;
     while let View::Pair(row, more) = heap.view(rest) {
-        let axiom = admit_row(heap, row, &mut arity)?;
+        let axiom = admit_row(heap, row, arity)?;
         axioms.push(axiom)?;
         rest = more;
     }
-    Ok(Preamble {
-        axioms: Axioms::from_vec(axioms),
-        arity,
-    })
+    Ok(Axioms::from_vec(axioms))
 }
 
 // Adds what a row names to the table, and gives its axiom.
