@@ -1,0 +1,17 @@
+//! Tests of the crates that hold the rules of proof, of judging and of the kernel: a file for each.
+#![tactic(auto)]
+
+#[cfg(test)]
+mod base;
+#[cfg(test)]
+mod equal;
+#[cfg(test)]
+mod induct;
+#[cfg(test)]
+mod kernel;
+#[cfg(test)]
+mod preamble;
+#[cfg(test)]
+mod proof;
+#[cfg(test)]
+mod prop;
