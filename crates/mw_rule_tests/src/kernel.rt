@@ -101,7 +101,7 @@ fn claims(kernel: &mut Kernel) -> Result<bool, Memory> {
     Ok(claim == read(kernel, CLAIM)?)
 }
 
-fn shown(kernel: &mut Kernel) -> Result<Shown, Memory> {
+fn shown_by(kernel: &mut Kernel) -> Result<Shown, Memory> {
     let claims = claims(kernel)?;
     Ok(Shown {
         level: kernel.level(),
@@ -132,9 +132,9 @@ fn shown_around(
     kernel: &mut Kernel,
     event: &[u8],
 ) -> Result<(Shown, Option<Refusal>, Shown), Memory> {
-    let before = shown(kernel)?;
+    let before = shown_by(kernel)?;
     let refusal = refusal(kernel, event)?;
-    Ok((before, refusal, shown(kernel)?))
+    Ok((before, refusal, shown_by(kernel)?))
 }
 
 #[test]
