@@ -3,17 +3,11 @@
 #![tactic(auto)]
 
 #[cfg(test)]
-mod axioms;
-#[cfg(test)]
 mod heap;
-#[cfg(test)]
-mod ordinal;
 #[cfg(test)]
 mod port;
 #[cfg(test)]
 mod print;
-#[cfg(test)]
-mod read;
 #[cfg(test)]
 mod subst;
 #[cfg(test)]

@@ -14,11 +14,13 @@ fn shows(heap: &Heap, x: Ref, text: &[u8]) -> Result<bool, Memory> {
     }
     let mut out = b"> ".to_vec(heap.alloc())?;
     let printed = print(heap, x, &mut out);
-    Ok(printed == Printed::Ok
-        && out.as_slice().starts_with(b"> ".as_slice())
-        && out.as_slice().ends_with(text)
-        && out.len() == 2 + text.len()
-        && text_len(heap, x) == text.len() as u64)
+    Ok(
+        printed == Printed::Ok
+            && out.as_slice().starts_with(b"> ".as_slice())
+            && out.as_slice().ends_with(text)
+            && out.len() == 2 + text.len()
+            && text_len(heap, x) == text.len() as u64,
+    )
 }
 
 // Whether the text of an object is too long to be shown, and nothing is written.
@@ -28,9 +30,7 @@ fn is_long(heap: &Heap, x: Ref) -> Result<bool, Memory> {
     }
     let mut out = b"> ".to_vec(heap.alloc())?;
     let printed = print(heap, x, &mut out);
-    Ok(printed == Printed::Long
-        && out.as_slice() == b"> ".as_slice()
-        && text_len(heap, x) == 65537)
+    Ok(printed == Printed::Long && out.as_slice() == b"> ".as_slice() && text_len(heap, x) == 65537)
 }
 
 fn shows_natural(heap: &mut Heap, n: u128, text: &[u8]) -> Result<bool, Memory> {

@@ -53,7 +53,10 @@ fn lists_the_oldest_first(arity: &mut Arity) -> Result<[bool; 2], Memory> {
 #[test]
 fn arities_are_added_and_cut(rt: HostRuntime) -> Result<(), Fail> {
     let mut arity = boxed_arity(rt.alloc())?;
-    assert_eq!(rt; adds_and_cuts(&mut arity)?, [(1, Some(1), None), (0, None, None)]);
+    assert_eq!(rt;
+        adds_and_cuts(&mut arity)?,
+        [(1, Some(1), None), (0, None, None)]
+    );
     Ok(())
 }
 
@@ -97,7 +100,10 @@ fn marks_both(heap: &mut Heap, arity: &Arity) -> Result<[(bool, bool); 2], Memor
 fn terms_and_formulas_are_marked(rt: HostRuntime) -> Result<(), Fail> {
     let mut heap = boxed(rt.alloc())?;
     let arity = car_arity(rt.alloc())?;
-    assert_eq!(rt; marks_both(&mut heap, &arity)?, [(true, false), (false, true)]);
+    assert_eq!(rt;
+        marks_both(&mut heap, &arity)?,
+        [(true, false), (false, true)]
+    );
     Ok(())
 }
 
