@@ -23,3 +23,5 @@ mod pieces;
 mod row;
 #[cfg(test)]
 mod shared;
+#[cfg(test)]
+mod trial;

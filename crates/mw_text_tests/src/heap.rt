@@ -1,0 +1,82 @@
+//! Objects that are kept once, names in their order, and the words that the crates above share.
+use mw_forms::boxed;
+use mw_heap::{Heap, Memory, Refusal, View, is_bare_name};
+use std::test::Fail;
+
+// What a natural over 2^32 and a pair of it are seen as, whether the pair is kept once, and how many objects stay without it.
+fn keeps_a_pair_once(heap: &mut Heap) -> Result<(bool, bool, bool, usize), Memory> {
+    let large = heap.nat(1 << 100)?;
+    let mark = heap.mark();
+    let pair = heap.cons(large, large)?;
+    let again = heap.cons(large, large)?;
+    let is_large = heap.view(large) == View::Nat(1 << 100);
+    let is_pair = heap.view(pair) == View::Pair(large, large);
+    let is_same = heap.same(pair, again);
+    heap.cut_back(mark);
+    Ok((is_large, is_pair, is_same, heap.mark().cells()))
+}
+
+// Whether NIL is found by its name, and made anew after it was forgotten.
+fn has_one_nil(heap: &mut Heap) -> Result<[bool; 4], Memory> {
+    let before = heap.symbol(b"BEFORE")?;
+    let nil = heap.nil()?;
+    let is_nil = heap.is_nil(Some(nil));
+    let is_named = heap.symbol(b"NIL")? == nil;
+    heap.cut_back(heap.mark_behind(before));
+    let other = heap.symbol(b"OTHER")?;
+    let again = heap.nil()?;
+    Ok([
+        is_nil,
+        is_named,
+        heap.is_nil(Some(again)),
+        !heap.same(again, other),
+    ])
+}
+
+// What is said of the symbols CAR and CDR, of which CAR came first.
+fn orders_names(heap: &mut Heap) -> Result<[bool; 6], Memory> {
+    let car = heap.symbol(b"CAR")?;
+    let cdr = heap.symbol(b"CDR")?;
+    Ok([
+        heap.name_of(car) == b"CAR".as_slice(),
+        heap.symbol_less(car, cdr),
+        !heap.symbol_less(car, car),
+        heap.nth(0) == car,
+        heap.lengths(car) == (3, 6),
+        heap.mark_behind(cdr) == heap.mark(),
+    ])
+}
+
+#[test]
+fn a_pair_is_kept_once(rt: HostRuntime) -> Result<(), Fail> {
+    let mut heap = boxed(rt.alloc())?;
+    assert_eq!(rt; keeps_a_pair_once(&mut heap)?, (true, true, true, 1));
+    Ok(())
+}
+
+#[test]
+fn there_is_one_nil(rt: HostRuntime) -> Result<(), Fail> {
+    let mut heap = boxed(rt.alloc())?;
+    assert_eq!(rt; has_one_nil(&mut heap)?, [true; 4]);
+    Ok(())
+}
+
+#[test]
+fn names_are_ordered(rt: HostRuntime) -> Result<(), Fail> {
+    let mut heap = boxed(rt.alloc())?;
+    assert_eq!(rt; orders_names(&mut heap)?, [true; 6]);
+    Ok(())
+}
+
+#[test]
+fn some_names_want_no_bars(rt: HostRuntime) {
+    assert!(rt; is_bare_name(b"SYMBOL-<"));
+    assert!(rt; !is_bare_name(b"-1"));
+    assert!(rt; !is_bare_name(b"car"));
+}
+
+#[test]
+fn a_refusal_has_its_number_and_word(rt: HostRuntime) {
+    assert_eq!(rt; Refusal::Nil.number(), 12);
+    assert_eq!(rt; Refusal::Nil.word(), "NIL");
+}
