@@ -1,14 +1,92 @@
--- Which objects are events that this version takes, and what happens by them.
-use Rattle.std.proofs.Common.{◌≡◌, ℕ, Bool, true, false, not, ◌||◌, cond, Option, Some, None, refl, ap, ap₂, ◌∙◌}
-use Rattle.mw_model.specs.Object.{Name, Object, Natural, Symbol, Pair, named, symbol, same_name, same_object, list2, list3, has_members}
+-- Which objects are events of which word, and what happens by an event whose word is taken, and by one whose word is not.
+use Rattle.std.proofs.Common.{◌≡◌, ℕ, ◌<◌, Bool, true, false, not, ◌||◌, cond, List, Option, Some, None, refl, sym, ap, ap₂, ◌∙◌, subst, arith}
+use Rattle.mw_model.specs.Object.{Name, Object, Natural, Symbol, Pair, named, symbol, same_name, same_object, has_members}
 use Rattle.mw_model.specs.Reading.{when}
 use Rattle.mw_model.specs.Theory.{Theory}
-use Rattle.mw_model.specs.Printing.{text_of}
 use Rattle.mw_model.specs.Refusal.{EVENT, RANGE, refuse, need}
-use Rattle.mw_model.specs.Fate.{EventWord, Verify, Define, Skolem, Switch, Eval, Print, DefineAll, SetProfile, event_words, event_word, event_word_among, member_count, with_members, is_out_of_range, happens, happens_by, show, verify}
-use Rattle.mw_kernel.specs.Version.{is_taken, as_taken, as_word_says, without_members}
-use Rattle.mw_model.proofs.Names.{same_object-eq}
+use Rattle.mw_model.specs.Fate.{EventWord, Verify, Define, Skolem, Switch, Eval, Print, DefineAll, SetProfile, event_words, event_word, event_word_among, member_count, with_members, is_out_of_range, happens, happens_by}
 use Rattle.mw_model.proofs.SameObject.{same_object-swap}
+use Rattle.mw_model.proofs.ReadBack.{when_some}
+use Rattle.mw_heap.specs.Objects.{object_at}
+use Rattle.mw_kernel.specs.Version.{is_taken, as_taken, as_word_says, without_members}
+use Rattle.mw_kernel.specs.EventWords.{word_at, word_symbol, members_after}
+use Rattle.mw_kernel.specs.Words.{event_object, StandsBefore, IsEvent, IsEventOf}
+use Rattle.mw_kernel.specs.declared.word.Word.{Word}
+use Rattle.mw_kernel.specs.declared.word.Word.TheVariants as word
+use Rattle.mw_kernel.specs.declared.event.Event.{Event}
+use Rattle.mw_kernel.specs.declared.event.Event.TheVariants as event
+
+-- a symbol that is none of the words
+abbrev from_profile : (f : Bool) → Option EventWord
+from_profile f = cond f (Some SetProfile) (None)
+
+abbrev from_defineall : (a f : Bool) → Option EventWord
+from_defineall a f = cond a (Some DefineAll) (from_profile f)
+
+abbrev from_print : (p a f : Bool) → Option EventWord
+from_print p a f = cond p (Some Print) (from_defineall a f)
+
+abbrev from_eval : (e p a f : Bool) → Option EventWord
+from_eval e p a f = cond e (Some Eval) (from_print p a f)
+
+abbrev from_switch : (w e p a f : Bool) → Option EventWord
+from_switch w e p a f = cond w (Some Switch) (from_eval e p a f)
+
+abbrev from_skolem : (k w e p a f : Bool) → Option EventWord
+from_skolem k w e p a f = cond k (Some Skolem) (from_switch w e p a f)
+
+abbrev from_define : (d k w e p a f : Bool) → Option EventWord
+from_define d k w e p a f = cond d (Some Define) (from_skolem k w e p a f)
+
+abbrev from_verify : (v d k w e p a f : Bool) → Option EventWord
+from_verify v d k w e p a f = cond v (Some Verify) (from_define d k w e p a f)
+
+none_of : (v d k w e p a f : Bool) → v ≡ false → d ≡ false → k ≡ false → w ≡ false → e ≡ false → p ≡ false → a ≡ false → f ≡ false → from_verify v d k w e p a f ≡ None
+none_of v d k w e p a f hv hd hk hw he hp ha hf =
+    ap (λ b. cond b (Some Verify) (from_define d k w e p a f)) hv
+    ∙ (ap (λ b. cond b (Some Define) (from_skolem k w e p a f)) hd
+    ∙ (ap (λ b. cond b (Some Skolem) (from_switch w e p a f)) hk
+    ∙ (ap (λ b. cond b (Some Switch) (from_eval e p a f)) hw
+    ∙ (ap (λ b. cond b (Some Eval) (from_print p a f)) he
+    ∙ (ap (λ b. cond b (Some Print) (from_defineall a f)) hp
+    ∙ (ap (λ b. cond b (Some DefineAll) (from_profile f)) ha
+    ∙ (ap (λ b. cond b (Some SetProfile) (None)) hf)))))))
+
+pub no_word_at : (x : Object) → same_object x (symbol "VERIFY") ≡ false → same_object x (symbol "DEFINE") ≡ false → same_object x (symbol "SKOLEM") ≡ false → same_object x (symbol "SWITCH") ≡ false → same_object x (symbol "EVAL") ≡ false → same_object x (symbol "PRINT") ≡ false → same_object x (symbol "DEFINE-ALL") ≡ false → same_object x (symbol "PROFILE") ≡ false → word_at x ≡ None
+no_word_at (Natural n) hv hd hk hw he hp ha hf = refl
+no_word_at (Pair a b) hv hd hk hw he hp ha hf = refl
+no_word_at (Symbol s) hv hd hk hw he hp ha hf =
+    none_of (same_name (named "VERIFY") s) (same_name (named "DEFINE") s) (same_name (named "SKOLEM") s) (same_name (named "SWITCH") s) (same_name (named "EVAL") s) (same_name (named "PRINT") s) (same_name (named "DEFINE-ALL") s) (same_name (named "PROFILE") s)
+    (same_object-swap (symbol "VERIFY") (Symbol s) ∙ hv) (same_object-swap (symbol "DEFINE") (Symbol s) ∙ hd) (same_object-swap (symbol "SKOLEM") (Symbol s) ∙ hk) (same_object-swap (symbol "SWITCH") (Symbol s) ∙ hw) (same_object-swap (symbol "EVAL") (Symbol s) ∙ he) (same_object-swap (symbol "PRINT") (Symbol s) ∙ hp) (same_object-swap (symbol "DEFINE-ALL") (Symbol s) ∙ ha) (same_object-swap (symbol "PROFILE") (Symbol s) ∙ hf)
+
+pub no_event_word : (first rest : Object) → word_at first ≡ None → event_word (Pair first rest) ≡ None
+no_event_word (Natural n) rest h = refl
+no_event_word (Pair a b) rest h = refl
+no_event_word (Symbol s) rest h = ap (with_members (Pair (Symbol s) rest)) h
+
+-- another number of members
+pub other_members : (w : Word) (first rest : Object) → first ≡ word_symbol w → has_members (members_after w) rest ≡ false → event_word (Pair first rest) ≡ None
+other_members word.Verify first rest is h = ap (λ x. event_word (Pair x rest)) is ∙ ap (λ b. when b (Some Verify)) h
+other_members word.Define first rest is h = ap (λ x. event_word (Pair x rest)) is ∙ ap (λ b. when b (Some Define)) h
+other_members word.Skolem first rest is h = ap (λ x. event_word (Pair x rest)) is ∙ ap (λ b. when b (Some Skolem)) h
+other_members word.Switch first rest is h = ap (λ x. event_word (Pair x rest)) is ∙ ap (λ b. when b (Some Switch)) h
+other_members word.Eval first rest is h = ap (λ x. event_word (Pair x rest)) is ∙ ap (λ b. when b (Some Eval)) h
+other_members word.Print first rest is h = ap (λ x. event_word (Pair x rest)) is ∙ ap (λ b. when b (Some Print)) h
+other_members word.DefineAll first rest is h = ap (λ x. event_word (Pair x rest)) is ∙ ap (λ b. when b (Some DefineAll)) h
+other_members word.Profile first rest is h = ap (λ x. event_word (Pair x rest)) is ∙ ap (λ b. when b (Some SetProfile)) h
+
+before-later : (m x : ℕ) → m < x → (e : Event) → StandsBefore m e → StandsBefore x e
+before-later m x l (event.Verify a b c) h = (omega (arith, l, h.0), omega (arith, l, h.1), omega (arith, l, h.2))
+before-later m x l (event.Define a b c d e) h = (omega (arith, l, h.0), omega (arith, l, h.1), omega (arith, l, h.2), omega (arith, l, h.3), omega (arith, l, h.4))
+before-later m x l (event.Skolem a b c d) h = (omega (arith, l, h.0), omega (arith, l, h.1), omega (arith, l, h.2), omega (arith, l, h.3))
+before-later m x l (event.Switch a) h = omega (arith, l, h)
+before-later m x l (event.Eval a) h = omega (arith, l, h)
+before-later m x l (event.Print a) h = omega (arith, l, h)
+before-later m x l (event.DefineAll a b) h = (omega (arith, l, h.0), omega (arith, l, h.1))
+before-later m x l (event.Profile a) h = omega (arith, l, h)
+
+pub is_event : (os : List Object) (w : Word) (x first members : ℕ) (e : Event) → object_at os x ≡ Pair (object_at os first) (object_at os members) → object_at os first ≡ word_symbol w → members < x → IsEventOf os w members e → IsEvent os x e
+is_event os w x first members e is word_is l h = (is ∙ (ap (λ y. Pair y (object_at os members)) word_is ∙ sym h.0), before-later members x l e h.1)
 
 or_left : (a b : Bool) → (a || b) ≡ false → a ≡ false
 or_left false b h = refl
@@ -17,23 +95,6 @@ or_left true b z = cc
 or_right : (a b : Bool) → (a || b) ≡ false → b ≡ false
 or_right false b h = h
 or_right true b z = cc
-
--- an object in the range is taken as its word says
-in_range : (e : Object) → is_out_of_range e ≡ false → as_taken e ≡ as_word_says (event_word e) e
-in_range e h = ap (λ b. cond b e (as_word_says (event_word e) e)) h
-
-no_word : (e : Object) → is_out_of_range e ≡ false → event_word e ≡ None → event_word (as_taken e) ≡ None
-no_word e h k = ap event_word (in_range e h ∙ ap (λ o. as_word_says o e) k) ∙ k
-
-pub no_verify : (w r : Object) → same_object w (symbol "VERIFY") ≡ true → is_out_of_range (Pair w r) ≡ false → has_members 3 r ≡ false → event_word (as_taken (Pair w r)) ≡ None
-no_verify w r is h k =
-    let e : Pair w r ≡ Pair (symbol "VERIFY") r = ap (λ x. Pair x r) (same_object-eq w (symbol "VERIFY") is) in
-    no_word (Pair w r) h (ap event_word e ∙ ap (λ b. when b (Some Verify)) k)
-
-pub no_print : (w r : Object) → same_object w (symbol "PRINT") ≡ true → is_out_of_range (Pair w r) ≡ false → has_members 1 r ≡ false → event_word (as_taken (Pair w r)) ≡ None
-no_print w r is h k =
-    let e : Pair w r ≡ Pair (symbol "PRINT") r = ap (λ x. Pair x r) (same_object-eq w (symbol "PRINT") is) in
-    no_word (Pair w r) h (ap event_word e ∙ ap (λ b. when b (Some Print)) k)
 
 -- what is left of an event that is not taken is none
 no_members : (s : Name) (w : EventWord) → with_members (Pair (Symbol s) (Natural 0)) (Some w) ≡ None
@@ -61,53 +122,16 @@ not_taken s (Natural m) w h = ap (with_members (Pair (Symbol s) (Natural 0))) h 
 not_taken s (Symbol t) w h = ap (with_members (Pair (Symbol s) (Natural 0))) h ∙ no_members s w
 not_taken s (Pair a r) w h = ap (with_members (Pair (Symbol s) (Pair a (Natural 0)))) h ∙ one_member s a w
 
-abbrev IsUntaken : Option EventWord → Type 0
-IsUntaken None = Unit {0}
-IsUntaken (Some w) = is_taken w ≡ false
+among-some : (e : Object) (o : Option EventWord) (w : EventWord) → with_members e o ≡ Some w → o ≡ Some w
+among-some e None w h = cc
+among-some e (Some v) w h = (when_some (has_members (member_count v) e) (Some v) w h).1
 
--- the words but VERIFY and PRINT
-abbrev other_among : (d k w e a p : Bool) → Option EventWord
-other_among d k w e a p = cond d (Some Define) (cond k (Some Skolem) (cond w (Some Switch) (cond e (Some Eval) (cond a (Some DefineAll) (cond p (Some SetProfile) None)))))
-
-others_untaken : (d k w e a p : Bool) → IsUntaken (other_among d k w e a p)
-others_untaken true k w e a p = refl
-others_untaken false true w e a p = refl
-others_untaken false false true e a p = refl
-others_untaken false false false true a p = refl
-others_untaken false false false false true p = refl
-others_untaken false false false false false true = refl
-others_untaken false false false false false false = tt
-
-abbrev by_words : (v p d k w e a f : Bool) → Option EventWord
-by_words v p d k w e a f = cond v (Some Verify) (cond d (Some Define) (cond k (Some Skolem) (cond w (Some Switch) (cond e (Some Eval) (cond p (Some Print) (cond a (Some DefineAll) (cond f (Some SetProfile) None)))))))
-
-by_words_untaken : (v p d k w e a f : Bool) → v ≡ false → p ≡ false → IsUntaken (by_words v p d k w e a f)
-by_words_untaken false false d k w e a f h i = others_untaken d k w e a f
-by_words_untaken true p d k w e a f z i = cc
-by_words_untaken false true d k w e a f h z = cc
-
-untaken : (s : Name) → same_object (Symbol s) (symbol "VERIFY") ≡ false → same_object (Symbol s) (symbol "PRINT") ≡ false → IsUntaken (event_word_among event_words s)
-untaken s v p =
-    by_words_untaken (same_name (named "VERIFY") s) (same_name (named "PRINT") s) (same_name (named "DEFINE") s) (same_name (named "SKOLEM") s) (same_name (named "SWITCH") s) (same_name (named "EVAL") s) (same_name (named "DEFINE-ALL") s) (same_name (named "PROFILE") s)
-    (same_object-swap (symbol "VERIFY") (Symbol s) ∙ v) (same_object-swap (symbol "PRINT") (Symbol s) ∙ p)
-
-pub other_word : (w r : Object) → same_object w (symbol "VERIFY") ≡ false → same_object w (symbol "PRINT") ≡ false → is_out_of_range (Pair w r) ≡ false → event_word (as_taken (Pair w r)) ≡ None
-other_word (Natural n) r v p h = no_word (Pair (Natural n) r) h refl
-other_word (Pair a b) r v p h = no_word (Pair (Pair a b) r) h refl
-other_word (Symbol s) r v p h = go (event_word_among event_words s) refl (untaken s v p)
-  where
-    e : Object
-    e = Pair (Symbol s) r
-
-    counted : (w : EventWord) → event_word_among event_words s ≡ Some w → is_taken w ≡ false → (b : Bool) → has_members (member_count w) e ≡ b → event_word (as_taken e) ≡ None
-    counted w k n false c = no_word e h (ap (with_members e) k ∙ ap (λ t. when t (Some w)) c)
-    counted w k n true c =
-        let is : event_word e ≡ Some w = ap (with_members e) k ∙ ap (λ t. when t (Some w)) c in
-        ap event_word (in_range e h ∙ (ap (λ o. as_word_says o e) is ∙ ap (λ t. cond t e (without_members e)) n)) ∙ not_taken s r w k
-
-    go : (o : Option EventWord) → event_word_among event_words s ≡ o → IsUntaken o → event_word (as_taken e) ≡ None
-    go None k u = no_word e h (ap (with_members e) k)
-    go (Some w) k u = counted w k u (has_members (member_count w) e) refl
+without-none : (e : Object) (w : EventWord) → event_word e ≡ Some w → event_word (without_members e) ≡ None
+without-none (Natural n) w h = cc
+without-none (Symbol s) w h = cc
+without-none (Pair (Natural n) r) w h = cc
+without-none (Pair (Pair a b) r) w h = cc
+without-none (Pair (Symbol s) r) w h = not_taken s r w (among-some (Pair (Symbol s) r) (event_word_among event_words s) w h)
 
 -- what is taken of an object in the range is in the range
 without_in_range : (e : Object) → is_out_of_range e ≡ false → is_out_of_range (without_members e) ≡ false
@@ -118,34 +142,30 @@ without_in_range (Pair w (Symbol s)) h = ap (λ b. b || false) (or_left (is_out_
 without_in_range (Pair w (Pair a r)) h =
     ap₂ (λ b c. b || (c || false)) (or_left (is_out_of_range w) (is_out_of_range a || is_out_of_range r) h) (or_left (is_out_of_range a) (is_out_of_range r) (or_right (is_out_of_range w) (is_out_of_range a || is_out_of_range r) h))
 
-word_in_range : (e : Object) → is_out_of_range e ≡ false → (o : Option EventWord) → is_out_of_range (as_word_says o e) ≡ false
-word_in_range e h None = h
-word_in_range e h (Some w) = go (is_taken w)
-  where
-    go : (b : Bool) → is_out_of_range (cond b e (without_members e)) ≡ false
-    go true = h
-    go false = without_in_range e h
+module _ (t : Theory) (N : ℕ) (e : Object) (in_range : is_out_of_range e ≡ false) where
+  -- an object in the range is taken as its word says
+  as_says : as_taken e ≡ as_word_says (event_word e) e
+  as_says = ap (λ b. cond b e (as_word_says (event_word e) e)) in_range
 
-taken_in_range : (e : Object) → is_out_of_range e ≡ false → is_out_of_range (as_taken e) ≡ false
-taken_in_range e h = ap is_out_of_range (in_range e h) ∙ word_in_range e h (event_word e)
-
-module _ (t : Theory) (N : ℕ) where
-  happens_first : (e : Object) → is_out_of_range e ≡ false → (o : Option EventWord) → event_word e ≡ o → happens t N e ≡ need t EVENT o (λ w. happens_by w t N e)
+  first : (x : Object) → is_out_of_range x ≡ false → (o : Option EventWord) → event_word x ≡ o → happens t N x ≡ need t EVENT o (λ w. happens_by w t N x)
   unfolding need
-  happens_first e h o k = ap (λ b. need t RANGE (when (not b) (Some e)) (λ x. need t EVENT (event_word x) (λ w. happens_by w t N x))) h ∙ ap (λ p. need t EVENT p (λ w. happens_by w t N e)) k
+  first x h o k = ap (λ b. need t RANGE (when (not b) (Some x)) (λ y. need t EVENT (event_word y) (λ w. happens_by w t N y))) h ∙ ap (λ p. need t EVENT p (λ w. happens_by w t N x)) k
 
-  pub no_event_happens : (e : Object) → is_out_of_range e ≡ false → event_word (as_taken e) ≡ None → happens t N (as_taken e) ≡ refuse t EVENT
+  pub none_happens : event_word e ≡ None → refuse t EVENT ≡ happens t N (as_taken e)
   unfolding need
-  no_event_happens e h k = happens_first (as_taken e) (taken_in_range e h) None k
+  none_happens none =
+      let same : as_taken e ≡ e = as_says ∙ ap (λ o. as_word_says o e) none in
+      sym (ap (happens t N) same ∙ first e in_range None none)
 
-  pub verify_happens : (a b c : Object) → is_out_of_range (Pair (symbol "VERIFY") (list3 a b c)) ≡ false → happens t N (as_taken (Pair (symbol "VERIFY") (list3 a b c))) ≡ verify t N (Pair (symbol "VERIFY") (list3 a b c))
-  unfolding need
-  verify_happens a b c h =
-      let e = Pair (symbol "VERIFY") (list3 a b c) in
-      ap (happens t N) (in_range e h) ∙ happens_first e h (Some Verify) refl
+  module _ (w : EventWord) (is : event_word e ≡ Some w) where
+    pub word_happens : is_taken w ≡ true → happens_by w t N e ≡ happens t N (as_taken e)
+    unfolding need
+    word_happens taken =
+        let same : as_taken e ≡ e = as_says ∙ (ap (λ o. as_word_says o e) is ∙ ap (λ b. cond b e (without_members e)) taken) in
+        sym (ap (happens t N) same ∙ first e in_range (Some w) is)
 
-  pub print_happens : (a : Object) → is_out_of_range (list2 (symbol "PRINT") a) ≡ false → happens t N (as_taken (list2 (symbol "PRINT") a)) ≡ show t (text_of a)
-  unfolding need
-  print_happens a h =
-      let e = list2 (symbol "PRINT") a in
-      ap (happens t N) (in_range e h) ∙ happens_first e h (Some Print) refl
+    pub untaken_happens : is_taken w ≡ false → refuse t EVENT ≡ happens t N (as_taken e)
+    unfolding need
+    untaken_happens untaken =
+        let same : as_taken e ≡ without_members e = as_says ∙ (ap (λ o. as_word_says o e) is ∙ ap (λ b. cond b e (without_members e)) untaken) in
+        sym (ap (happens t N) same ∙ first (without_members e) (without_in_range e in_range) None (without-none e w is))

@@ -6,15 +6,21 @@ use Rattle.std.proofs.lemmas.List.Elements.{All-head, All-tail, All-cons, All-ni
 use Rattle.mw_model.specs.Object.{Object, Pair, NIL}
 use Rattle.mw_model.specs.Term.{ArityTable, formula_object, table_object}
 use Rattle.mw_model.specs.Primitive.{One}
-use Rattle.mw_model.specs.Definition.{Block, arity_table, block_axioms}
+use Rattle.mw_model.specs.Definition.{Block, definitions, arity_table, block_axioms}
 use Rattle.mw_model.specs.Axioms.{primitive_axioms}
 use Rattle.mw_model.specs.Theory.{axioms_of, initial, IsSound}
 use Rattle.mw_heap.specs.Objects.{object_at, IsIn, Grows}
-use Rattle.mw_heap.proofs.Objects.{Grows-trans, IsIn-Grows, object_at-Grows}
+use Rattle.mw_heap.proofs.Objects.{Grows-refl, Grows-trans, IsIn-Grows, object_at-Grows, take-Grows}
 use Rattle.mw_term.proofs.CallerLemmas.{AreMarks-none}
 use Rattle.mw_proof.specs.Known.{known_object}
-use Rattle.mw_preamble.specs.Admitted.{first_definitions, axioms_in_order}
-use Rattle.mw_kernel.specs.Knowledge.{Knowledge, theory_with, put_all, IsKernel}
+use Rattle.mw_code.specs.declared.table.Table.{Table}
+use Rattle.mw_code.specs.Tables.{StandsFor}
+use Rattle.mw_preamble.specs.Admitted.{definitions_of, first_definitions, axioms_in_order}
+use Rattle.mw_preamble.specs.declared.definition.Definition.{Definition}
+use Rattle.mw_preamble.specs.Entries.{AreEntries}
+use Rattle.mw_kernel.specs.Entered.{blocks_read}
+use Rattle.mw_kernel.proofs.Entered.{blocks-read}
+use Rattle.mw_kernel.specs.Knowledge.{Knowledge, theory_with, theory_of, put_all, IsKernel}
 use Rattle.mw_kernel.proofs.Listing.{put_formulas}
 
 put_more : (xs ys : List Object) (list : Object) → put_all (xs ++ ys) list ≡ put_all ys (put_all xs list)
@@ -48,12 +54,12 @@ map_grown old new g (x ∷ xs) h = ap₂ (λ y ys. y ∷ ys) (object_at-Grows ol
 pub all_grown : (old new : List Object) → Grows old new → (xs : List ℕ) → All (IsIn old) xs → All (IsIn new) xs
 all_grown old new g xs h = λ i d l. IsIn-Grows old new g _ (h i d l)
 
-first_theory : theory_with (axioms_of One first_definitions.blocks) NIL ≡ initial One
-unfolding first_definitions
+first_theory : theory_with (axioms_of One first_definitions.blocks) NIL first_definitions ≡ initial One
+unfolding definitions_of
 first_theory = refl
 
-abbrev pub begun : List Object → (axioms theorems arity_list steps : ℕ) → Knowledge
-begun q axioms theorems arity_list steps = record { objects = q; needed = length q; axioms = axioms; theorems = theorems; arity_list = arity_list; steps = steps }
+abbrev pub begun : List Object → (axioms theorems arity_list : ℕ) → List (List Definition) → ℕ → Knowledge
+begun q axioms theorems arity_list entries steps = record { objects = q; needed = length q; axioms = axioms; theorems = theorems; arity_list = arity_list; entries = entries; steps = steps }
 
 -- The heaps after the axioms of the primitives, those of the definitions, NIL, and each of the two lists.
 pub record Begins (a b n p q : List Object) (primitives definitions : List ℕ) (nil first second : ℕ) (known : List ℕ) : Type 0 where
@@ -103,8 +109,8 @@ module _ (a b n p q : List Object) (primitives definitions : List ℕ) (nil firs
       (known_put q primitives [] ∙ (ap₂ put_all (map_grown a q a_last primitives h.primitives_in ∙ sym (map_grown a n (Grows-trans a b n h.a_grows h.b_grows) primitives h.primitives_in)) (sym h.nil_is) ∙ sym h.first_is))
       ∙ sym h.second_is))
 
-  pub begun_theory : theory_with (object_at q second) (object_at q nil) ≡ initial One
-  begun_theory = ap₂ theory_with second_axioms nil_last ∙ first_theory
+  pub begun_theory : theory_with (object_at q second) (object_at q nil) first_definitions ≡ initial One
+  begun_theory = ap₂ (λ x y. theory_with x y first_definitions) second_axioms nil_last ∙ first_theory
 
   pub nil_kept : IsIn q nil
   nil_kept = IsIn-Grows n q (Grows-trans n p q h.n_grows h.p_grows) nil h.nil_in
@@ -115,18 +121,30 @@ module _ (a b n p q : List Object) (primitives definitions : List ℕ) (nil firs
       (all_put (IsIn q) definitions (reverse primitives ++ []) (all_grown b q b_last definitions h.definitions_in) (all_put (IsIn q) primitives [] (all_grown a q a_last primitives h.primitives_in) (All-nil (IsIn q))))
 
 -- What the kernel holds at the start.
-pub begins : (q : List Object) (axioms nil arity_list : ℕ) (known : List ℕ) (A : ArityTable) (steps : ℕ) → IsIn q axioms → IsIn q nil → IsIn q arity_list → All (IsIn q) known → known_object q known ≡ object_at q axioms → theory_with (object_at q axioms) (object_at q nil) ≡ initial One → object_at q arity_list ≡ table_object (arity_table first_definitions) → A ≡ arity_table first_definitions → IsSound (initial One) → IsKernel (begun q axioms nil arity_list steps) known [] A []
-begins q axioms nil arity_list known A steps axioms_in nil_in arity_list_in known_in known_is theory listed arities sound = record {
-  kept = omega arith;
-  axioms_kept = axioms_in;
-  theorems_kept = nil_in;
-  arity_list_kept = arity_list_in;
-  each_axiom_kept = known_in;
-  each_theorem_kept = All-nil (λ x. x < length q);
-  axioms_known = known_is;
-  theorems_known = sym (ap (λ t. t.theorems) theory);
-  arities_listed = listed ∙ ap table_object (sym arities);
-  arities = arities;
-  marked = AreMarks-none A q;
-  sound = subst IsSound (sym theory) sound;
-}
+module _ (q : List Object) (axioms nil arity_list : ℕ) (entries : List (List Definition)) (known : List ℕ) (A : ArityTable) (code : Table) (steps : ℕ) (entered : AreEntries q entries first_definitions.blocks) (theory : theory_with (object_at q axioms) (object_at q nil) first_definitions ≡ initial One) (sound : IsSound (initial One)) where
+  definitions_are : definitions One (blocks_read q entries) ≡ first_definitions
+  unfolding definitions_of
+  definitions_are = ap (definitions One) (blocks-read q One entries first_definitions.blocks entered sound.made)
+
+  pub begun_initial : theory_of (begun q axioms nil arity_list entries steps) ≡ initial One
+  begun_initial = ap (theory_with (object_at q axioms) (object_at q nil)) definitions_are ∙ theory
+
+  pub begins : IsIn q axioms → IsIn q nil → IsIn q arity_list → All (IsIn q) known → known_object q known ≡ object_at q axioms → object_at q arity_list ≡ table_object (arity_table first_definitions) → A ≡ arity_table first_definitions → StandsFor q code first_definitions → IsKernel (begun q axioms nil arity_list entries steps) known [] A [] code
+  begins axioms_in nil_in arity_list_in known_in known_is listed arities coded =
+      let whole = sym (take-Grows q q (Grows-refl q)) in
+      record {
+        kept = omega arith;
+        axioms_kept = axioms_in;
+        theorems_kept = nil_in;
+        arity_list_kept = arity_list_in;
+        each_axiom_kept = known_in;
+        each_theorem_kept = All-nil (λ x. x < length q);
+        axioms_known = known_is;
+        theorems_known = sym (ap (λ t. t.theorems) theory);
+        arities_listed = listed ∙ ap table_object (sym arities);
+        arities = arities ∙ ap arity_table (sym definitions_are);
+        marked = AreMarks-none A q;
+        entered = subst (λ os. AreEntries os entries (blocks_read q entries)) whole (subst (λ D. AreEntries q entries D.blocks) (sym definitions_are) entered);
+        coded = subst (λ os. StandsFor os code (definitions One (blocks_read q entries))) whole (subst (StandsFor q code) (sym definitions_are) coded);
+        sound = subst IsSound (sym begun_initial) sound;
+      }

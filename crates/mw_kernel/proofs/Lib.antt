@@ -1,3 +1,4 @@
+pub mod Entered
 pub mod Keeping
 pub mod Refusing
 pub mod EventWords
@@ -5,3 +6,4 @@ pub mod Verified
 pub mod Happening
 pub mod Listing
 pub mod Initial
+pub mod Evaluating

@@ -3,7 +3,7 @@ use Rattle.std.proofs.Common.{◌≡◌, ℕ, Bool, true, false, cond, Option, S
 use Rattle.mw_model.specs.Object.{Object, Pair, list3, second_of, same_object}
 use Rattle.mw_model.specs.Term.{ArityTable, Formula, is_formula, formula_object}
 use Rattle.mw_model.specs.Reading.{that, formula_of, formula_under}
-use Rattle.mw_model.specs.Primitive.{One, is_symbol}
+use Rattle.mw_model.specs.Primitive.{is_symbol}
 use Rattle.mw_model.specs.Definition.{arity_table, is_present}
 use Rattle.mw_model.specs.Judgment.{judge}
 use Rattle.mw_model.specs.Theory.{Theory}
@@ -12,13 +12,8 @@ use Rattle.mw_model.specs.Checking.{no_unless, judged_by, judged, judged_as}
 use Rattle.mw_model.specs.Fate.{verify}
 use Rattle.mw_model.proofs.ReadBack.{when_some, formula_back}
 use Rattle.mw_proof.specs.Step.{is_proof}
-use Rattle.mw_preamble.specs.Admitted.{first_definitions}
 use Rattle.mw_kernel.specs.Knowledge.{with_theorem}
 use Rattle.mw_kernel.specs.Fates.{refusal_by, by_refusal, verified}
-
-pub first_profile : first_definitions.profile ≡ One
-unfolding first_definitions
-first_profile = refl
 
 pub refused_name : (n f c p : Bool) → n ≡ false → Some NAME ≡ refusal_by n f c p
 refused_name false f c p h = refl

@@ -15,7 +15,7 @@ is_taken Print = true
 is_taken Define = false
 is_taken Skolem = false
 is_taken Switch = false
-is_taken Eval = false
+is_taken Eval = true
 is_taken DefineAll = false
 is_taken SetProfile = false
 

@@ -7,13 +7,16 @@ ghost use Rattle.mw_model.specs.Definition.{arity_table};
 ghost use Rattle.mw_model.specs.Theory.{initial};
 ghost use Rattle.mw_heap.specs.Objects.{object_at, IsIn, Grows};
 ghost use Rattle.mw_proof.specs.Known.{known_object};
+ghost use Rattle.mw_code.specs.Tables.{StandsFor};
 ghost use Rattle.mw_preamble.specs.Admitted.{first_definitions};
+ghost use Rattle.mw_preamble.specs.Entries.{AreEntries};
 ghost use Rattle.mw_kernel.specs.Knowledge.{theory_with, put_all};
 
 use crate::front::with_front;
 use mw_axioms::build;
+use mw_code::Table;
 use mw_heap::{Heap, Memory, Profile, Ref};
-use mw_preamble::admit_all;
+use mw_preamble::{Entries, admit_all};
 use mw_proof::Known;
 use mw_term::Arity;
 
@@ -25,22 +28,26 @@ pub(crate) struct Beginning {
     pub arity: Arity,
     // the same as a list in the heap
     pub arity_list: Ref,
+    pub entries: Entries,
+    pub table: Box<Table>,
 }
 
 /// Makes the initial theory of the first profile, and adds its axioms to those that are known, of which there are none.
 pub(crate) fn begin(heap: &mut Heap, known: &mut Known) -> Result<Beginning, Memory>
     requires none { known.old ≡ [] }
-    ensures theory { IfOk result (λ b. theory_with (object_at heap.new b.axioms) (object_at heap.new b.theorems) ≡ initial One) }
+    ensures theory { IfOk result (λ b. theory_with (object_at heap.new b.axioms) (object_at heap.new b.theorems) first_definitions ≡ initial One) }
     ensures axioms_in { IfOk result (λ b. IsIn heap.new b.axioms) }
     ensures theorems_in { IfOk result (λ b. IsIn heap.new b.theorems) }
     ensures known_in { OnOk result (All (IsIn heap.new) known.new) }
     ensures known { IfOk result (λ b. known_object heap.new known.new ≡ object_at heap.new b.axioms) }
     ensures arities { IfOk result (λ b. b.arity ≡ arity_table first_definitions) }
+    ensures entries { IfOk result (λ b. AreEntries heap.new b.entries first_definitions.blocks) }
+    ensures table { IfOk result (λ b. StandsFor heap.new b.table.value first_definitions) }
     ensures arity_list_in { IfOk result (λ b. IsIn heap.new b.arity_list) }
     ensures arity_list { IfOk result (λ b. object_at heap.new b.arity_list ≡ table_object (arity_table first_definitions)) }
 {
     let primitives = build(heap, Profile::One)?;
-    let preamble = admit_all(heap)?;
+    let preamble = admit_all(heap, Profile::One)?;
     let arity_list = list_arities(heap, &preamble.arity)?;
     let nil = heap.symbol(b"NIL")?;
     let axioms = add_axioms(heap, known, nil, primitives.as_slice())?;
@@ -50,6 +57,8 @@ pub(crate) fn begin(heap: &mut Heap, known: &mut Known) -> Result<Beginning, Mem
         theorems: nil,
         arity: preamble.arity,
         arity_list,
+        entries: preamble.definitions,
+        table: preamble.table,
     })
 }
 

@@ -4,7 +4,7 @@ ghost use Rattle.mw_model.specs.Object.{Object, Symbol, NIL};
 ghost use Rattle.mw_model.specs.Primitive.{One, is_symbol, name_of};
 ghost use Rattle.mw_model.specs.Definition.{arity_table};
 ghost use Rattle.mw_model.specs.Theory.{initial, claim, IsSound};
-ghost use Rattle.mw_model.specs.Fate.{fate, next, is_out_of_range};
+ghost use Rattle.mw_model.specs.Fate.{fate, next, eval, is_out_of_range};
 ghost use Rattle.mw_kernel.specs.Version.{as_taken};
 ghost use Rattle.mw_heap.specs.Objects.{object_at, IsIn, Grows};
 ghost use Rattle.mw_model.specs.Term.{ArityTable, formula_object, table_object};
@@ -12,17 +12,21 @@ ghost use Rattle.mw_term.specs.Marking.{AreMarks};
 ghost use Rattle.mw_read.specs.Standing.{Stands, IsStanding, Follows, Says, IsLast, HasEndedWith, HasEnded};
 ghost use Rattle.mw_read.specs.Feeding.{IsAwaiting, IsReady, Continues};
 ghost use Rattle.mw_kernel.specs.Knowledge.{theory_of, with_theorem};
-ghost use Rattle.mw_kernel.specs.Words.{verify_event};
+ghost use Rattle.mw_kernel.specs.Words.{verify_event, eval_event};
 ghost use Rattle.mw_kernel.specs.Fates.{fate_of, verified, KeepsRoom};
 
 use crate::Fate;
 use crate::beginning::begin;
 use crate::claim::claim;
+use crate::eval::evaluated;
+use crate::event::{Event, event_of};
 use crate::fate::{accepted, shown};
 use crate::front::with_front;
 use crate::verify::refusal;
-use crate::word::{Event, event_of};
+use mw_code::Table;
 use mw_heap::{Heap, Mark, Memory, Ref, Refusal};
+use mw_machine::Machine;
+use mw_preamble::Entries;
 use mw_proof::Known;
 use mw_read::{Reader, Step};
 use mw_term::{Arity, Marks};
@@ -40,6 +44,9 @@ pub struct Kernel {
     needed: Mark,
     arity: Arity,
     marks: Marks,
+    entries: Entries,
+    table: Box<Table>,
+    machine: Machine,
     known_axioms: Known,
     known_theorems: Known,
     // the same as lists in the heap
@@ -57,13 +64,13 @@ impl Model for Kernel {
 
     ghost coded = { coded_knowledge };
 
-    ghost view = { λ k. record { objects = k.heap; needed = k.needed; axioms = k.axioms; theorems = k.theorems; arity_list = k.arity_list; steps = k.steps } };
+    ghost view = { λ k. record { objects = k.heap; needed = k.needed; axioms = k.axioms; theorems = k.theorems; arity_list = k.arity_list; entries = k.entries; steps = k.steps } };
 
-    ghost invariant = { λ k. IsKernel (record { objects = k.heap; needed = k.needed; axioms = k.axioms; theorems = k.theorems; arity_list = k.arity_list; steps = k.steps }) k.known_axioms k.known_theorems k.arity k.marks };
+    ghost invariant = { λ k. IsKernel (record { objects = k.heap; needed = k.needed; axioms = k.axioms; theorems = k.theorems; arity_list = k.arity_list; entries = k.entries; steps = k.steps }) k.known_axioms k.known_theorems k.arity k.marks k.table.value };
 }
 
 impl Kernel {
-    /// The initial theory of the first profile. `steps` limits each run of a switched checker and each EVAL; this version has neither.
+    /// The initial theory of the first profile. `steps` limits each EVAL.
     pub fn new(alloc: Global, steps: u64) -> Result<Kernel, Memory>
         ensures theory { IfOk result (λ k. theory_of k ≡ initial One) }
         ensures steps { IfOk result (λ k. k.steps ≡ steps) }
@@ -78,6 +85,9 @@ impl Kernel {
             heap,
             arity: beginning.arity,
             marks: Marks::new(alloc),
+            entries: beginning.entries,
+            table: beginning.table,
+            machine: Machine::new(alloc),
             known_axioms,
             known_theorems: Known::new(alloc),
             axioms: beginning.axioms,
@@ -208,12 +218,18 @@ impl Kernel {
             return Ok(Fate::Refused(Refusal::Event));
         };
         match members {
-            Event::Print(x) => shown(&self.heap, x),
             Event::Verify {
                 name,
                 formula,
                 proof,
             } => self.verify(name, formula, proof),
+            Event::Eval(term) => self.eval(term),
+            Event::Print(x) => shown(&self.heap, x),
+            Event::Define { .. } => Ok(Fate::Refused(Refusal::Event)),
+            Event::Skolem { .. } => Ok(Fate::Refused(Refusal::Event)),
+            Event::Switch(_) => Ok(Fate::Refused(Refusal::Event)),
+            Event::DefineAll { .. } => Ok(Fate::Refused(Refusal::Event)),
+            Event::Profile(_) => Ok(Fate::Refused(Refusal::Event)),
         }
     }
 
@@ -245,6 +261,23 @@ impl Kernel {
         }
         self.add_theorem(formula)?;
         Ok(accepted(&self.heap))
+    }
+
+    // The fate of an EVAL, by which the theory stays.
+    fn eval(&mut self, term: Ref) -> Result<Fate, Memory>
+        requires { IsIn self.old.objects term }
+        ensures fate { IfOk result (λ f. fate_of f ≡ (eval (theory_of self.old) self.old.steps (eval_event (object_at self.old.objects term))).0) }
+        ensures theory { theory_of self.new ≡ theory_of self.old }
+        ensures rest { self.new ≡ record self.old { objects = self.new.objects } }
+    {
+        evaluated(
+            &mut self.heap,
+            term,
+            &self.arity,
+            &mut self.table,
+            &mut self.machine,
+            self.steps,
+        )
     }
 
     // Adds a theorem. Of the objects that the theory does not need, only those that came before it stay.

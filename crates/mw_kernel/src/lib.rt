@@ -3,9 +3,12 @@
 
 mod beginning;
 mod claim;
+mod eval;
+mod event;
 mod fate;
 mod front;
 mod kernel;
+mod members;
 mod verify;
 mod word;
 

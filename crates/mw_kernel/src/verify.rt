@@ -1,12 +1,11 @@
 //! The tests of a VERIFY.
 ghost use Rattle.std.specs.Prelude.{◌≡◌, All, IfOk, option_map};
-ghost use Rattle.mw_model.specs.Primitive.{is_symbol};
-ghost use Rattle.mw_model.specs.Definition.{arity_table};
+ghost use Rattle.mw_model.specs.Primitive.{One, is_symbol};
+ghost use Rattle.mw_model.specs.Definition.{Definitions, arity_table};
 ghost use Rattle.mw_heap.specs.Objects.{object_at, IsIn, Grows};
 ghost use Rattle.mw_heap.specs.Variants.{refusal_of};
 ghost use Rattle.mw_term.specs.Marking.{AreMarks};
 ghost use Rattle.mw_proof.specs.Known.{known_object};
-ghost use Rattle.mw_preamble.specs.Admitted.{first_definitions};
 ghost use Rattle.mw_kernel.specs.Knowledge.{theory_with};
 ghost use Rattle.mw_kernel.specs.Fates.{verify_refusal};
 
@@ -30,11 +29,10 @@ pub(crate) fn refusal(
     requires proof { IsIn heap.old proof }
     requires axioms { All (IsIn heap.old) axioms.now }
     requires theorems { All (IsIn heap.old) theorems.now }
-    requires arities { arity.now ≡ arity_table first_definitions }
     requires marked { AreMarks arity.now heap.old marks.old }
     ensures grows { Grows heap.old heap.new }
     ensures marked { AreMarks arity.now heap.new marks.new }
-    ensures refusal { IfOk result (λ r. option_map refusal_of r ≡ verify_refusal (theory_with (known_object heap.old axioms.now) (known_object heap.old theorems.now)) (object_at heap.old name) (object_at heap.old formula) (object_at heap.old proof)) }
+    ensures refusal { IfOk result (λ r. (D : Definitions) → arity.now ≡ arity_table D → D.profile ≡ One → option_map refusal_of r ≡ verify_refusal (theory_with (known_object heap.old axioms.now) (known_object heap.old theorems.now) D) (object_at heap.old name) (object_at heap.old formula) (object_at heap.old proof)) }
 {
     if !is_symbol(heap, name) {
         return Ok(Some(Refusal::Name));

@@ -9,28 +9,28 @@ variables-names : (xs : List Name) → terms_object (variable_terms xs) ≡ name
 variables-names [] = refl
 variables-names (x ∷ xs) = ap (Pair (Symbol x)) (variables-names xs)
 
-abbrev pub second_of : Object → Object
-second_of x = first_part (second_part x)
+abbrev pub second_member : Object → Object
+second_member x = first_part (second_part x)
 
-abbrev pub third_of : Object → Object
-third_of x = second_of (second_part x)
+abbrev pub third_member : Object → Object
+third_member x = second_member (second_part x)
 
 module _ (x : Object) (h : Function) (e : x ≡ formula_object (function_axiom h)) where
-  pub function-formals : second_part (second_of x) ≡ names_object h.formals
-  function-formals = ap (λ y. second_part (second_of y)) e ∙ variables-names h.formals
+  pub function-formals : second_part (second_member x) ≡ names_object h.formals
+  function-formals = ap (λ y. second_part (second_member y)) e ∙ variables-names h.formals
 
-  pub function-body : third_of x ≡ term_object h.body
-  function-body = ap third_of e
+  pub function-body : third_member x ≡ term_object h.body
+  function-body = ap third_member e
 
 module _ (x : Object) (g y : Name) (xs : List Name) (b : Term) (e : x ≡ formula_object (choice_axiom g y xs b)) where
   abbrev lambda : Object → Object
-  lambda z = first_part (second_of (second_of (third_of z)))
+  lambda z = first_part (second_member (second_member (third_member z)))
 
-  pub witness-bound : first_part (second_of (lambda x)) ≡ Symbol y
-  witness-bound = ap (λ z. first_part (second_of (lambda z))) e
+  pub witness-bound : first_part (second_member (lambda x)) ≡ Symbol y
+  witness-bound = ap (λ z. first_part (second_member (lambda z))) e
 
-  pub witness-free : second_part (second_of (lambda x)) ≡ names_object xs
-  witness-free = ap (λ z. second_part (second_of (lambda z))) e
+  pub witness-free : second_part (second_member (lambda x)) ≡ names_object xs
+  witness-free = ap (λ z. second_part (second_member (lambda z))) e
 
-  pub witness-body : third_of (lambda x) ≡ term_object b
-  witness-body = ap (λ z. third_of (lambda z)) e
+  pub witness-body : third_member (lambda x) ≡ term_object b
+  witness-body = ap (λ z. third_member (lambda z)) e

@@ -2,7 +2,7 @@
 use Rattle.std.proofs.Common.{◌≡◌, ℕ, true, false, List, [], ◌∷◌, refl, sym, ap, ◌∙◌, subst}
 use Rattle.std.proofs.lemmas.Bool.{and_parts}
 use Rattle.mw_model.specs.Object.{Object, Pair}
-use Rattle.mw_model.specs.Primitive.{Profile, One, is_pair}
+use Rattle.mw_model.specs.Primitive.{Profile, is_pair}
 use Rattle.mw_model.specs.Definition.{Block, Functions, Choice, definitions, arities, is_block, are_blocks}
 use Rattle.mw_model.specs.BuiltIn.{built_in}
 use Rattle.mw_model.proofs.BuiltInRead.{well_made}
@@ -10,9 +10,9 @@ use Rattle.mw_heap.specs.Objects.{object_at, IsIn}
 use Rattle.mw_code.specs.declared.table.Table.{Table}
 use Rattle.mw_code.specs.Tables.{StandsFor}
 use Rattle.mw_preamble.specs.declared.definition.Definition.{Definition}
-use Rattle.mw_preamble.specs.Admitted.{first_definitions}
+use Rattle.mw_preamble.specs.Admitted.{definitions_of}
 use Rattle.mw_preamble.specs.Entries.{AreEntries}
-use Rattle.mw_preamble.specs.Rows.{block_rows, rows_before, first_rows, IsRowOf, is_single, are_single, rows_of, turned}
+use Rattle.mw_preamble.specs.Rows.{block_rows, rows_before, built_in_rows, IsRowOf, is_single, are_single, rows_of, turned}
 use Rattle.mw_preamble.specs.Defining.{IsNextRow}
 
 turned-rows : (D left : List Block) → rows_before D (rows_of left) ≡ rows_of (turned D left)
@@ -106,23 +106,23 @@ module _ (os : List Object) (P : Profile) (all : List Block) where
       let d = all-done h.left h.done (object_at os rest) h.all_are h.rows h.single e in
       (subst (AreEntries os es) (sym d) h.entries, subst (λ D. StandsFor os t (definitions P D)) (sym d) h.table)
 
-pub of-one : definitions One first_definitions.blocks ≡ first_definitions
-unfolding first_definitions
-of-one = refl
+pub definitions-same : (P : Profile) → definitions P (definitions_of P).blocks ≡ definitions_of P
+unfolding definitions_of
+definitions-same P = refl
 
-single : are_single (turned (built_in One) []) ≡ true
-single = refl
+single : (P : Profile) → are_single (turned (built_in P) []) ≡ true
+single P = refl
 
-pub Defines-begin : (os : List Object) (rows : ℕ) (t : Table) → IsIn os rows → object_at os rows ≡ first_rows → StandsFor os t (definitions One []) → Defines os One first_definitions.blocks rows [] t
-unfolding first_rows first_definitions
-Defines-begin os rows t within is empty = record {
+pub Defines-begin : (P : Profile) (os : List Object) (rows : ℕ) (t : Table) → IsIn os rows → object_at os rows ≡ built_in_rows P → StandsFor os t (definitions P []) → Defines os P (definitions_of P).blocks rows [] t
+unfolding built_in_rows definitions_of
+Defines-begin P os rows t within is empty = record {
   within = within;
-  left = turned (built_in One) [];
+  left = turned (built_in P) [];
   done = [];
-  all_are = sym (turned-back (built_in One) []);
-  rows = is ∙ turned-rows (built_in One) [];
-  single = single;
-  made = well_made One;
+  all_are = sym (turned-back (built_in P) []);
+  rows = is ∙ turned-rows (built_in P) [];
+  single = single P;
+  made = well_made P;
   entries = refl;
   table = empty;
 }

@@ -3,8 +3,8 @@ pub mod ReadAlone
 pub mod RowShape
 pub mod PrimitiveTable
 pub mod RowsWalk
-pub mod FirstRows
+pub mod BuiltInRows
 pub mod CallerLemmas
 pub mod AxiomParts
-pub mod BlockOfOne
+pub mod BlockSpelled
 pub mod DefineWalk

@@ -1,11 +1,12 @@
 -- The entries of the table of the primitives, added one after the other.
-use Rattle.std.proofs.Common.{◌≡◌, ℕ, ◌+◌, ◌<◌, Bool, true, None, ◌&&◌, List, [], ◌∷◌, length, get_or, drop, refl, sym, ap, ◌∙◌, subst, drop-cons, add-one}
+use Rattle.std.proofs.Common.{◌≡◌, ℕ, ◌+◌, ◌<◌, Bool, true, None, ◌&&◌, List, [], ◌∷◌, length, get_or, drop, refl, sym, ap, ap₂, ◌∙◌, subst, drop-cons, add-one}
 use Rattle.std.proofs.lemmas.Bool.{and_parts}
 use Rattle.mw_model.specs.Object.{name_of_bytes}
 use Rattle.mw_model.specs.Term.{ArityTable, arity_of}
-use Rattle.mw_model.specs.Primitive.{One, primitive_arities}
+use Rattle.mw_model.specs.Primitive.{One, Two, primitive_arities}
 use Rattle.mw_model.specs.Definition.{is_absent}
 use Rattle.mw_heap.specs.declared.primitive.Primitive.{Primitive}
+use Rattle.mw_heap.specs.declared.primitive.Primitive.TheVariants.{Times}
 use Rattle.mw_heap.specs.PrimitiveNames.{primitive_bytes}
 use Rattle.mw_preamble.specs.declared.primitives.TheConstants.{PRIMITIVES}
 use Rattle.mw_preamble.proofs.RowShape.{absent_none}
@@ -44,3 +45,10 @@ turn A es i d bytes within new is =
       made = ap (with_entries A) (sym next);
     } in
     subst (λ b. Turn A es i b e.1) (sym is) turned
+
+-- the product is another name than those of the shared primitives, and the last one of the second profile
+pub product_new : (A : ArityTable) (bytes : List ℕ) → A ≡ primitive_arities One → bytes ≡ primitive_bytes Times → arity_of A (name_of_bytes bytes) ≡ None
+product_new A bytes table name = ap₂ (λ T b. arity_of T (name_of_bytes b)) table name
+
+pub product_added : (A : ArityTable) (bytes : List ℕ) → A ≡ primitive_arities One → bytes ≡ primitive_bytes Times → (name_of_bytes bytes, 2) ∷ A ≡ primitive_arities Two
+product_added A bytes table name = ap₂ (λ T b. (name_of_bytes b, 2) ∷ T) table name

@@ -2,7 +2,7 @@
 use Rattle.std.specs.Prelude.{◌≡◌, ℕ, ◌^◌, Bool, true, false, ◌&&◌, ltb, List, [], ◌∷◌, length}
 use Rattle.mw_model.specs.Object.{Name, Object, Natural, Symbol, Pair, NIL, cdr}
 use Rattle.mw_model.specs.Term.{Formula, formula_object, ArityTable, arity_of}
-use Rattle.mw_model.specs.Primitive.{One}
+use Rattle.mw_model.specs.Primitive.{Profile}
 use Rattle.mw_model.specs.Definition.{Function, Block, Functions, Choice, function_axiom, choice_axiom, is_absent}
 use Rattle.mw_model.specs.BuiltIn.{built_in}
 
@@ -25,8 +25,8 @@ rows_before [] rest = rest
 rows_before (B ∷ D) rest = rows_before D (block_rows B rest)
 
 -- They are long: a proof opens them by name alone.
-unfoldable pub first_rows : Object
-first_rows = rows_before (built_in One) NIL
+unfoldable pub built_in_rows : Profile → Object
+built_in_rows P = rows_before (built_in P) NIL
 
 -- A row that may be added to the table: its function is new.
 abbrev pub is_row : ArityTable → Object → Bool

@@ -1,13 +1,14 @@
 //! Entries and code of the definitions in the rows.
 ghost use Rattle.std.specs.Prelude.{◌≡◌, List, [], ◌∷◌, IfOk, OnOk};
-ghost use Rattle.mw_model.specs.Primitive.{Profile, One};
+ghost use Rattle.mw_model.specs.Primitive.{Profile};
 ghost use Rattle.mw_model.specs.Definition.{Block, definitions};
 ghost use Rattle.mw_heap.specs.Objects.{object_at, IsIn};
+ghost use Rattle.mw_heap.specs.Variants.{profile_of};
 ghost use Rattle.mw_code.specs.Tables.{StandsFor};
-ghost use Rattle.mw_preamble.specs.Admitted.{first_definitions};
+ghost use Rattle.mw_preamble.specs.Admitted.{definitions_of};
 ghost use Rattle.mw_preamble.specs.Entries.{AreEntries};
-ghost use Rattle.mw_preamble.specs.Rows.{IsRowOf, first_rows};
-ghost use Rattle.mw_preamble.specs.Defining.{IsNext, IsNextRow, spelling_of};
+ghost use Rattle.mw_preamble.specs.Rows.{IsRowOf, built_in_rows};
+ghost use Rattle.mw_preamble.specs.Defining.{IsNext, IsNextRow};
 
 use crate::read::definition_of;
 use crate::{Definition, Entries};
@@ -17,10 +18,10 @@ use mw_heap::{Heap, Memory, Ref, View};
 // Adds the definitions of the rows to the table, in order, and answers them.
 pub(crate) fn define_rows(heap: &Heap, rows: Ref, table: &mut Table) -> Result<Entries, Memory>
     requires within { IsIn heap.now rows }
-    requires rows { object_at heap.now rows ≡ first_rows }
-    requires empty { StandsFor heap.now table.old (definitions One []) }
-    ensures entries { IfOk result (λ e. AreEntries heap.now e first_definitions.blocks) }
-    ensures table { OnOk result (StandsFor heap.now table.new first_definitions) }
+    requires rows { object_at heap.now rows ≡ built_in_rows (profile_of table.old.profile) }
+    requires empty { StandsFor heap.now table.old (definitions (profile_of table.old.profile) []) }
+    ensures entries { IfOk result (λ e. AreEntries heap.now e (definitions_of (profile_of table.old.profile)).blocks) }
+    ensures table { OnOk result (StandsFor heap.now table.new (definitions_of (profile_of table.old.profile))) }
 {
     let mut entries = Entries::new(heap.alloc());
     let mut rest = rows;
@@ -32,12 +33,7 @@ pub(crate) fn define_rows(heap: &Heap, rows: Ref, table: &mut Table) -> Result<E
 }
 
 // Adds the definition of a row to the table and to the entries, as a block of one.
-fn define_row(
-    heap: &Heap,
-    row: Ref,
-    table: &mut Table,
-    entries: &mut Entries,
-) -> Result<(), Memory>
+fn define_row(heap: &Heap, row: Ref, table: &mut Table, entries: &mut Entries) -> Result<(), Memory>
     requires within { IsIn heap.now row }
     requires next { (P : Profile) × (D : List Block) × (B : Block) × IsNextRow heap.now P D B row × StandsFor heap.now table.old (definitions P D) }
     ensures entries { (D : List Block) (B : Block) → IsRowOf B (object_at heap.now row) → AreEntries heap.now entries.old D → OnOk result (AreEntries heap.now entries.new (B ∷ D)) }
@@ -54,19 +50,5 @@ fn add_code(heap: &Heap, table: &mut Table, definition: &Definition) -> Result<(
     requires { (P : Profile) × (D : List Block) × (B : Block) × IsNext heap.now P D B definition.now × StandsFor heap.now table.old (definitions P D) }
     ensures { (P : Profile) (D : List Block) (B : Block) → IsNext heap.now P D B definition.now → StandsFor heap.now table.old (definitions P D) → OnOk result (StandsFor heap.now table.new (definitions P (B ∷ D))) }
 {
-    table.add(heap, &[spelling(definition)])
-}
-
-// The name, the formals, and the body that has code: a witness has no code.
-fn spelling(definition: &Definition) -> (Ref, Ref, Option<Ref>)
-    ensures { result ≡ spelling_of definition.now }
-{
-    match *definition {
-        Definition::Function {
-            name,
-            formals,
-            body,
-        } => (name, formals, Some(body)),
-        Definition::Witness { name, free, .. } => (name, free, None),
-    }
+    table.add(heap, &[definition.spelling()])
 }

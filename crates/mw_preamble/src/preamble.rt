@@ -3,10 +3,11 @@ ghost use Rattle.std.specs.Prelude.{◌≡◌, IfOk, map, All};
 ghost use Rattle.mw_model.specs.Term.{formula_object};
 ghost use Rattle.mw_model.specs.Definition.{arity_table};
 ghost use Rattle.mw_heap.specs.Objects.{object_at, IsIn, Grows};
+ghost use Rattle.mw_heap.specs.Variants.{profile_of};
 ghost use Rattle.mw_code.specs.Tables.{StandsFor};
-ghost use Rattle.mw_preamble.specs.Admitted.{first_definitions, axioms_in_order};
+ghost use Rattle.mw_preamble.specs.Admitted.{definitions_of, axioms_in_order};
 ghost use Rattle.mw_preamble.specs.Entries.{AreEntries};
-ghost use Rattle.mw_preamble.specs.Rows.{first_rows};
+ghost use Rattle.mw_preamble.specs.Rows.{built_in_rows};
 
 use crate::Entries;
 use crate::define::define_rows;
@@ -28,20 +29,19 @@ pub struct Preamble {
     pub table: Box<Table>,
 }
 
-/// Makes the axioms, the entries and the code of the built-in definitions of the first profile, and the arity table that begins a
-/// theory.
-pub fn admit_all(heap: &mut Heap) -> Result<Preamble, Memory>
+/// Makes the axioms, the entries and the code of the built-in definitions of the profile, and the arity table that begins a theory.
+pub fn admit_all(heap: &mut Heap, profile: Profile) -> Result<Preamble, Memory>
     ensures grows { Grows heap.old heap.new }
-    ensures definitions { IfOk result (λ p. AreEntries heap.new p.definitions first_definitions.blocks) }
+    ensures definitions { IfOk result (λ p. AreEntries heap.new p.definitions (definitions_of (profile_of profile)).blocks) }
     ensures within { IfOk result (λ p. All (IsIn heap.new) p.axioms) }
-    ensures axioms { IfOk result (λ p. map (object_at heap.new) p.axioms ≡ map formula_object (axioms_in_order first_definitions.blocks)) }
-    ensures arity { IfOk result (λ p. p.arity ≡ arity_table first_definitions) }
-    ensures table { IfOk result (λ p. StandsFor heap.new p.table.value first_definitions) }
+    ensures axioms { IfOk result (λ p. map (object_at heap.new) p.axioms ≡ map formula_object (axioms_in_order (definitions_of (profile_of profile)).blocks)) }
+    ensures arity { IfOk result (λ p. p.arity ≡ arity_table (definitions_of (profile_of profile))) }
+    ensures table { IfOk result (λ p. StandsFor heap.new p.table.value (definitions_of (profile_of profile))) }
 {
-    let rows = read_rows(heap)?;
-    let mut arity = primitive_arities(heap.alloc())?;
+    let rows = read_rows(heap, profile)?;
+    let mut arity = primitive_arities(heap.alloc(), profile)?;
     let axioms = admit_rows(heap, rows, &mut arity)?;
-    let (definitions, table) = define_all(heap, rows)?;
+    let (definitions, table) = define_all(heap, rows, profile)?;
     Ok(Preamble {
         definitions,
         axioms,
@@ -50,14 +50,14 @@ pub fn admit_all(heap: &mut Heap) -> Result<Preamble, Memory>
     })
 }
 
-// The entries and the code of the rows.
-fn define_all(heap: &Heap, rows: Ref) -> Result<(Entries, Box<Table>), Memory>
+// The entries and the code of the profile's rows.
+fn define_all(heap: &Heap, rows: Ref, profile: Profile) -> Result<(Entries, Box<Table>), Memory>
     requires within { IsIn heap.now rows }
-    requires rows { object_at heap.now rows ≡ first_rows }
-    ensures definitions { IfOk result (λ d. AreEntries heap.now d.0 first_definitions.blocks) }
-    ensures table { IfOk result (λ d. StandsFor heap.now d.1.value first_definitions) }
+    requires rows { object_at heap.now rows ≡ built_in_rows (profile_of profile) }
+    ensures definitions { IfOk result (λ d. AreEntries heap.now d.0 (definitions_of (profile_of profile)).blocks) }
+    ensures table { IfOk result (λ d. StandsFor heap.now d.1.value (definitions_of (profile_of profile))) }
 {
-    let mut boxed = Box::new(heap.alloc(), Table::new(heap.alloc(), Profile::One))?;
+    let mut boxed = Box::new(heap.alloc(), Table::new(heap.alloc(), profile))?;
     let table: &mut Table = &mut boxed;
     let definitions = define_rows(heap, rows, table)?;
     Ok((definitions, boxed))

@@ -2,12 +2,13 @@
 ghost use Rattle.std.specs.Prelude.{◌≡◌, IfOk};
 ghost use Rattle.mw_model.specs.Primitive.{One};
 ghost use Rattle.mw_model.specs.Primitive as model;
+ghost use Rattle.mw_heap.specs.Variants.{profile_of};
 
-use mw_heap::{Memory, Primitive};
+use mw_heap::{Memory, Primitive, Profile};
 use mw_term::Arity;
 use std::alloc::Global;
 
-// The primitives of the first profile, and how many arguments each takes, in order.
+// The primitives of both profiles, and how many arguments each takes, in order.
 static PRIMITIVES: [(Primitive, u64); 12] = [
     (Primitive::If, 3),
     (Primitive::Equal, 2),
@@ -23,8 +24,22 @@ static PRIMITIVES: [(Primitive, u64); 12] = [
     (Primitive::Minus, 2),
 ];
 
-// The table of the primitives.
-pub(crate) fn primitive_arities(alloc: Global) -> Result<Arity, Memory>
+// The table of the profile's primitives.
+pub(crate) fn primitive_arities(alloc: Global, profile: Profile) -> Result<Arity, Memory>
+    ensures { IfOk result (λ a. a ≡ model.primitive_arities (profile_of profile)) }
+{
+    let mut arity = shared_arities(alloc)?;
+    match profile {
+        Profile::One => Ok(arity),
+        Profile::Two => {
+            arity.add(Primitive::Times.name(), 2)?;
+            Ok(arity)
+        }
+    }
+}
+
+// The table of the primitives of both profiles, which are those of the first.
+fn shared_arities(alloc: Global) -> Result<Arity, Memory>
     ensures { IfOk result (λ a. a ≡ model.primitive_arities One) }
 {
     let mut arity = Arity::new(alloc);

@@ -1,22 +1,36 @@
 //! Admission of the rows of the list.
 ghost use Rattle.std.specs.Prelude.{◌≡◌, ◌++◌, [], ◌∷◌, true, IfOk, OnOk, map, All};
+ghost use Rattle.mw_model.specs.Printing.{text_of};
+ghost use Rattle.mw_heap.specs.Variants.{profile_of};
 ghost use Rattle.mw_heap.specs.Objects.{object_at, IsIn, Grows};
-ghost use Rattle.mw_preamble.specs.Rows.{first_rows, is_row, are_rows, with_row, with_rows, axiom_of, axioms_of};
+ghost use Rattle.mw_preamble.specs.Rows.{built_in_rows, is_row, are_rows, with_row, with_rows, axiom_of, axioms_of};
 
-use crate::text::ROWS;
+use crate::text::{AFTER, BEFORE, differing};
 use mw_axioms::Axioms;
-use mw_heap::{Heap, Memory, Ref, View};
+use mw_heap::{Heap, Memory, Profile, Ref, View};
 use mw_read::{Reader, Step};
 use mw_term::Arity;
+use std::alloc::Global;
 
-// Reads the list of the rows.
-pub(crate) fn read_rows(heap: &mut Heap) -> Result<Ref, Memory>
+// The text of the profile's rows.
+fn rows_text(alloc: Global, profile: Profile) -> Result<Vec<u8>, Memory>
+    ensures { IfOk result (λ t. t.items ≡ text_of (built_in_rows (profile_of profile))) }
+{
+    let mut text = Vec::from_slice(alloc, BEFORE)?;
+    text.extend_from_slice(differing(profile))?;
+    text.extend_from_slice(AFTER)?;
+    Ok(text)
+}
+
+// Reads the list of the profile's rows.
+pub(crate) fn read_rows(heap: &mut Heap, profile: Profile) -> Result<Ref, Memory>
     ensures grows { Grows heap.old heap.new }
     ensures within { IfOk result (IsIn heap.new) }
-    ensures rows { IfOk result (λ r. object_at heap.new r ≡ first_rows) }
+    ensures rows { IfOk result (λ r. object_at heap.new r ≡ built_in_rows (profile_of profile)) }
 {
+    let text = rows_text(heap.alloc(), profile)?;
     let mut reader = Reader::new(heap.alloc());
-    let (step, _) = reader.step(heap, ROWS);
+    let (step, _) = reader.step(heap, text.as_slice());
     match step {
         Step::Datum(rows) => Ok(rows),
         _ => Err(Memory),

@@ -1,7 +1,12 @@
-//! The built-in definitions as text.
+//! The built-in definitions as text, in pieces. The text is a list of rows, the oldest first: the name of a function or witness, how many
+//! arguments it takes, and then its axiom.
+ghost use Rattle.std.specs.Prelude.{◌≡◌};
+ghost use Rattle.mw_preamble.specs.Texts.{differing};
 
-// A list of rows, the oldest first: the name of a function or witness, how many arguments it takes, and behind these its axiom.
-pub(crate) static ROWS: &[u8] =
+use mw_heap::Profile;
+
+// The rows of both profiles up to those that differ.
+pub(crate) static BEFORE: &[u8] =
     b"((RANK 1 PEQUAL* (RANK X) (IF (CONSP X) (+ (QUOTE 1) (+ (RANK (CAR X)) (RANK (CDR X)))) (QUOTE 0))) \
      (ORD< 2 PEQUAL* (ORD< X Y) (IF (CONSP X) (IF (CONSP Y) (IF (EQUAL (CAR (CAR X)) (CAR (CAR Y))) (IF (EQUAL (CDR (CAR X)) \
       (CDR (CAR Y))) (ORD< (CDR X) (CDR Y)) (< (CDR (CAR X)) (CDR (CAR Y)))) (ORD< (CAR (CAR X)) (CAR (CAR Y)))) (QUOTE NIL)) \
@@ -99,16 +104,33 @@ pub(crate) static ROWS: &[u8] =
       (LOGIC.LAST-DISJUNCT C) C)) \
      (LOGIC.BETA-REDUCTION-OKP 1 PEQUAL* (LOGIC.BETA-REDUCTION-OKP C) ((LAMBDA (L C) (IF (EQUAL (CAR C) (QUOTE PEQUAL*)) (IF \
       (CONSP (CAR L)) (EQUAL (CAR (CDR (CDR C))) (LOGIC.SUBSTITUTE (CAR (CDR (CDR (CAR L)))) (LOGIC.PAIR (CAR (CDR (CAR L))) \
-      (CDR L)))) (QUOTE NIL)) (QUOTE NIL))) (CAR (CDR C)) C)) \
-     (LOGIC.PRIMITIVEP 1 PEQUAL* (LOGIC.PRIMITIVEP F) (LOGIC.MEMBERP F (QUOTE \
+      (CDR L)))) (QUOTE NIL)) (QUOTE NIL))) (CAR (CDR C)) C)) ";
+
+// The rows that differ, in the first profile.
+pub(crate) static OF_ONE: &[u8] =
+    b"(LOGIC.PRIMITIVEP 1 PEQUAL* (LOGIC.PRIMITIVEP F) (LOGIC.MEMBERP F (QUOTE \
       (IF EQUAL CONSP CONS CAR CDR SYMBOLP SYMBOL-< NATP < + -)))) \
      (LOGIC.APPLY 2 PEQUAL* (LOGIC.APPLY F A) ((LAMBDA (X Y Z F) (IF (EQUAL F (QUOTE IF)) (IF X Y Z) (IF (EQUAL F \
       (QUOTE EQUAL)) (EQUAL X Y) (IF (EQUAL F (QUOTE CONSP)) (CONSP X) (IF (EQUAL F (QUOTE CONS)) (CONS X Y) (IF (EQUAL F \
       (QUOTE CAR)) (CAR X) (IF (EQUAL F (QUOTE CDR)) (CDR X) (IF (EQUAL F (QUOTE SYMBOLP)) (SYMBOLP X) (IF (EQUAL F \
       (QUOTE SYMBOL-<)) (SYMBOL-< X Y) (IF (EQUAL F (QUOTE NATP)) (NATP X) (IF (EQUAL F (QUOTE <)) (< X Y) (IF (EQUAL F \
       (QUOTE +)) (+ X Y) (IF (EQUAL F (QUOTE -)) (- X Y) (QUOTE NIL)))))))))))))) (CAR A) (CAR (CDR A)) (CAR (CDR \
-      (CDR A))) F)) \
-     (LOGIC.BASE-EVAL-OKP 1 PEQUAL* (LOGIC.BASE-EVAL-OKP C) ((LAMBDA (L R C) (IF (EQUAL (CAR C) (QUOTE PEQUAL*)) (IF \
+      (CDR A))) F)) ";
+
+// The rows that differ, in the second profile, which has a product.
+pub(crate) static OF_TWO: &[u8] =
+    b"(LOGIC.PRIMITIVEP 1 PEQUAL* (LOGIC.PRIMITIVEP F) (LOGIC.MEMBERP F (QUOTE \
+      (IF EQUAL CONSP CONS CAR CDR SYMBOLP SYMBOL-< NATP < + - *)))) \
+     (LOGIC.APPLY 2 PEQUAL* (LOGIC.APPLY F A) ((LAMBDA (X Y Z F) (IF (EQUAL F (QUOTE IF)) (IF X Y Z) (IF (EQUAL F \
+      (QUOTE EQUAL)) (EQUAL X Y) (IF (EQUAL F (QUOTE CONSP)) (CONSP X) (IF (EQUAL F (QUOTE CONS)) (CONS X Y) (IF (EQUAL F \
+      (QUOTE CAR)) (CAR X) (IF (EQUAL F (QUOTE CDR)) (CDR X) (IF (EQUAL F (QUOTE SYMBOLP)) (SYMBOLP X) (IF (EQUAL F \
+      (QUOTE SYMBOL-<)) (SYMBOL-< X Y) (IF (EQUAL F (QUOTE NATP)) (NATP X) (IF (EQUAL F (QUOTE <)) (< X Y) (IF (EQUAL F \
+      (QUOTE +)) (+ X Y) (IF (EQUAL F (QUOTE -)) (- X Y) (IF (EQUAL F (QUOTE *)) (* X Y) (QUOTE NIL))))))))))))))) (CAR A) \
+      (CAR (CDR A)) (CAR (CDR (CDR A))) F)) ";
+
+// The rows of both profiles after those.
+pub(crate) static AFTER: &[u8] =
+    b"(LOGIC.BASE-EVAL-OKP 1 PEQUAL* (LOGIC.BASE-EVAL-OKP C) ((LAMBDA (L R C) (IF (EQUAL (CAR C) (QUOTE PEQUAL*)) (IF \
       (CONSP L) (IF (LOGIC.PRIMITIVEP (CAR L)) (IF (LOGIC.CONST-LISTP (CDR L)) (IF (LOGIC.CONSTANTP R) (EQUAL (CAR (CDR R)) \
       (LOGIC.APPLY (CAR L) (LOGIC.UNQUOTE-LIST (CDR L)))) (QUOTE NIL)) (QUOTE NIL)) (QUOTE NIL)) (QUOTE NIL)) (QUOTE NIL))) \
       (CAR (CDR C)) (CAR (CDR (CDR C))) C)) \
@@ -154,3 +176,13 @@ pub(crate) static ROWS: &[u8] =
      (LOGIC.PROVABLEP 4 PEQUAL* (LOGIC.PROVABLEP X AXIOMS THMS ATBL) ((LAMBDA (PROOF X AXIOMS THMS ATBL) (IF \
       (LOGIC.PROOFP PROOF AXIOMS THMS ATBL) (EQUAL (LOGIC.CONCLUSION PROOF) X) (QUOTE NIL))) \
       (LOGIC.PROVABLE-WITNESS X AXIOMS THMS ATBL) X AXIOMS THMS ATBL)))";
+
+// The rows that differ.
+pub(crate) fn differing(profile: Profile) -> &'static [u8]
+    ensures { result.now ≡ differing profile }
+{
+    match profile {
+        Profile::One => OF_ONE,
+        Profile::Two => OF_TWO,
+    }
+}

@@ -4,7 +4,7 @@ use mw_book::Status;
 use mw_read::SyntaxKind;
 use std::test::Fail;
 
-const BOOKS: [Row; 7] = [
+const BOOKS: [Row; 8] = [
     Row {
         book: "; Equality of a thing with itself is an axiom of the logic.
 (verify refl (pequal* x x) (axiom (pequal* x x)))
@@ -81,6 +81,28 @@ events 4 accepted 4 refused 0 level 1
 events 2 accepted 2 refused 0 level 1
 ",
         status: Status::Done,
+    },
+    Row {
+        book: "(eval (+ (+ 1 1) 1))
+(eval (let ((x 1)) (list x (first '(7 8)))))
+(eval (logic.len '(a b c)))
+(eval (if (consp 'a) (car 'a) 'none))
+(eval (car 1 2))
+(eval (cons x x))
+(eval (+ 340282366920938463463374607431768211455 1))
+(eval (logic.provablep '(pequal* x x) nil nil nil))
+",
+        report: "1 EVAL - accepted 3
+2 EVAL - accepted (1 7)
+3 EVAL - accepted 3
+4 EVAL - accepted NONE
+5 EVAL - refused TERM
+6 EVAL - refused VARIABLES
+7 EVAL - refused OVERFLOW
+8 EVAL - refused WITNESS
+events 8 accepted 4 refused 4 level 1
+",
+        status: Status::SomeRefused,
     },
     Row {
         book: "(verify z (pequal* t nil) (axiom (pequal* t nil)))

@@ -12,9 +12,13 @@ mod depth;
 #[cfg(test)]
 mod ends;
 #[cfg(test)]
+mod evals;
+#[cfg(test)]
 mod events;
 #[cfg(test)]
 mod faults;
+#[cfg(test)]
+mod hostile;
 #[cfg(test)]
 mod induction;
 #[cfg(test)]

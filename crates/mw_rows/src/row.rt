@@ -40,7 +40,17 @@ pub(crate) fn text_of(alloc: Global, sink: &MemSink) -> Result<String, AllocErro
 
 /// What the program answers to a book that it reads in pieces of so many bytes.
 pub(crate) fn answer_to(alloc: Global, book: &str, size: usize) -> Result<Answer, AllocError> {
-    let words = texts(alloc, &["check"])?;
+    answer_within(alloc, &["check"], book, size)
+}
+
+/// What the program that is called with these words answers to a book that it reads in pieces of so many bytes.
+pub(crate) fn answer_within(
+    alloc: Global,
+    words: &[&str],
+    book: &str,
+    size: usize,
+) -> Result<Answer, AllocError> {
+    let words = texts(alloc, words)?;
     let mut source = source_of(alloc, book, size)?;
     let mut sink = MemSink::new(alloc, Vec::new(alloc));
     let status = run(alloc, &words, &mut source, &mut sink);

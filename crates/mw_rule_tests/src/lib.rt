@@ -4,4 +4,14 @@
 #[cfg(test)]
 mod base;
 #[cfg(test)]
+mod equal;
+#[cfg(test)]
+mod induct;
+#[cfg(test)]
+mod kernel;
+#[cfg(test)]
+mod preamble;
+#[cfg(test)]
+mod proof;
+#[cfg(test)]
 mod prop;

@@ -67,7 +67,7 @@ variables-refused before y ys h = variables-append before (y ∷ ys) ∙ (ap (λ
 pub differ-sym : (x y : Name) → same_name y x ≡ false → same_name x y ≡ false
 differ-sym x y h = name_differ-from x y (λ e. name_differ y x h (sym e))
 
-distinct-refused : (before : List Name) (y : Name) (ys : List Name) → is_among y before ≡ true → are_distinct (before ++ y ∷ ys) ≡ false
+pub distinct-refused : (before : List Name) (y : Name) (ys : List Name) → is_among y before ≡ true → are_distinct (before ++ y ∷ ys) ≡ false
 distinct-refused [] y ys h = cc
 distinct-refused (x ∷ xs) y ys h = go (same_name y x) refl (distinct-refused xs y ys) h
   where
@@ -77,7 +77,7 @@ distinct-refused (x ∷ xs) y ys h = go (same_name y x) refl (distinct-refused x
         ap (λ b. not b && are_distinct (xs ++ y ∷ ys)) there
     go false e rest k = ap (λ b. not (is_among x (xs ++ y ∷ ys)) && b) (rest k) ∙ and_false (not (is_among x (xs ++ y ∷ ys)))
 
-distinct-push : (before : List Name) (y : Name) → are_distinct before ≡ true → is_among y before ≡ false → are_distinct (before ++ y ∷ []) ≡ true
+pub distinct-push : (before : List Name) (y : Name) → are_distinct before ≡ true → is_among y before ≡ false → are_distinct (before ++ y ∷ []) ≡ true
 distinct-push [] y d h = refl
 distinct-push (x ∷ xs) y d h =
     let p = and_parts (not (is_among x xs)) (are_distinct xs) d in

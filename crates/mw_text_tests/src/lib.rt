@@ -3,11 +3,17 @@
 #![tactic(auto)]
 
 #[cfg(test)]
+mod axioms;
+#[cfg(test)]
 mod heap;
+#[cfg(test)]
+mod ordinal;
 #[cfg(test)]
 mod port;
 #[cfg(test)]
 mod print;
+#[cfg(test)]
+mod read;
 #[cfg(test)]
 mod subst;
 #[cfg(test)]

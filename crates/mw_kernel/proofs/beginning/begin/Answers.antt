@@ -4,6 +4,9 @@ use Rattle.std.specs.List.{All}
 use Rattle.mw_model.specs.Term.{table_object}
 use Rattle.mw_heap.specs.Objects.{object_at, IsIn, Grows}
 use Rattle.mw_heap.proofs.Objects.{Grows-trans, IsIn-Grows, object_at-Grows}
+use Rattle.mw_code.proofs.CallerLemmas.{stands-grows}
+use Rattle.mw_preamble.specs.Admitted.{first_definitions}
+use Rattle.mw_preamble.proofs.CallerLemmas.{AreEntries-grows}
 use Rattle.mw_kernel.specs.Knowledge.{put_all}
 use Rattle.mw_kernel.proofs.Initial.{all_grown, Begins, begun_theory, known_begun, known_last, nil_kept}
 use Rattle.mw_kernel.proofs.beginning.begin.Goals as goal
@@ -69,3 +72,12 @@ returns-clause-arity_list c =
     let made = c.in_ok-arity_list.ensures.list in
     object_at-Grows _ _ (listed_grows c) c.in_ok-arity_list.arity_list made.0
     ∙ (made.1 ∙ ap table_object c.in_ok-preamble.ensures.arity)
+
+pub returns-clause-table : goal.returns-clause-table
+returns-clause-table c =
+    let code = c.in_ok-preamble.preamble.table.value in
+    stands-grows c.admit_all.new.heap c.add_axioms-2.new.heap (Grows-trans _ _ _ c.list_arities.ensures.grows (listed_grows c)) code.signature code.profile code.functions.items code.code.items code.kept first_definitions c.in_ok-preamble.ensures.table
+
+pub returns-clause-entries : goal.returns-clause-entries
+returns-clause-entries c =
+    AreEntries-grows c.admit_all.new.heap c.add_axioms-2.new.heap (Grows-trans _ _ _ c.list_arities.ensures.grows (listed_grows c)) c.in_ok-preamble.preamble.definitions first_definitions.blocks c.in_ok-preamble.ensures.definitions

@@ -2,7 +2,7 @@
 use Rattle.std.proofs.Common.{[], ◌∷◌, sym, subst}
 use Rattle.mw_model.specs.Definition.{definitions}
 use Rattle.mw_code.specs.Blocks.{IsBlockOf}
-use Rattle.mw_preamble.proofs.BlockOfOne.{block_of_one}
+use Rattle.mw_preamble.proofs.BlockSpelled.{block-spelled}
 use Rattle.mw_preamble.proofs.define.add_code.Goals as goal
 
 pub add-requires : goal.add-requires
@@ -16,7 +16,7 @@ add-requires c =
         definitions P D,
         B,
         c.requires.4,
-        subst (λ m. IsBlockOf os (definitions P D) (m ∷ []) B) (sym c.spelling.ensures) (block_of_one os P D B c.args.definition.now c.requires.3),
+        subst (λ m. IsBlockOf os (definitions P D) (m ∷ []) B) (sym c.spelling.ensures) (block-spelled os P D (c.args.definition.now ∷ []) B c.requires.3.means c.requires.3.made),
       );
     }
 
@@ -24,4 +24,4 @@ pub returns : goal.returns
 returns c P D B next stands =
     let os = c.args.heap.now in
     c.add.ensures.added (definitions P D) B stands
-    (subst (λ m. IsBlockOf os (definitions P D) (m ∷ []) B) (sym c.spelling.ensures) (block_of_one os P D B c.args.definition.now next))
+    (subst (λ m. IsBlockOf os (definitions P D) (m ∷ []) B) (sym c.spelling.ensures) (block-spelled os P D (c.args.definition.now ∷ []) B next.means next.made))

@@ -1,13 +1,15 @@
 -- By the event's word.
 use Rattle.std.proofs.Common.{◌≡◌, false, None, refl, ap, ◌∙◌, subst}
 use Rattle.mw_model.specs.Fate.{event_word, is_out_of_range, show}
+use Rattle.mw_model.specs.Fate as model
 use Rattle.mw_model.specs.Printing.{text_of}
-use Rattle.mw_kernel.specs.Version.{as_taken}
 use Rattle.mw_heap.specs.Objects.{object_at}
 use Rattle.mw_kernel.specs.Knowledge.{theory_of}
-use Rattle.mw_kernel.specs.Words.{IsEvent}
-use Rattle.mw_kernel.specs.declared.word.Event.TheVariants.{Verify, Print}
-use Rattle.mw_kernel.proofs.Happening.{IfOk-map, OnOk-map, OnOk-from, show_stays, none_happens, shown_happens, verified_happens}
+use Rattle.mw_kernel.specs.Words.{IsEvent, eval_event}
+use Rattle.mw_kernel.specs.declared.event.Event.{Event}
+use Rattle.mw_kernel.specs.declared.event.Event.TheVariants.{Verify, Define, Skolem, Switch, Eval, Print, DefineAll, Profile}
+use Rattle.mw_kernel.proofs.Happening.{IfOk-map, OnOk-map, OnOk-from, show_stays, eval_stays, shown_happens, evaluated_happens, verified_happens}
+use Rattle.mw_kernel.proofs.EventWords.{none_happens, untaken_happens}
 use Rattle.mw_kernel.proofs.kernel.Kernel.happens.Goals as goal
 
 pub returns-in_default-clause-fate : goal.returns-in_default-clause-fate
@@ -16,7 +18,7 @@ returns-in_default-clause-fate c =
     let heap_is = ap (λ v. v.objects) c.self.view_is in
     let x = object_at old.objects c.args.event in
     let in_range = subst (λ os. is_out_of_range (object_at os c.args.event) ≡ false) heap_is c.event_of.ensures.in_range in
-    let none = subst (λ os. event_word (as_taken (object_at os c.args.event)) ≡ None) heap_is c.in_default.ensures.event in
+    let none = subst (λ os. event_word (object_at os c.args.event) ≡ None) heap_is c.in_default.ensures.event in
     ap (λ r. r.0) (none_happens (theory_of old) old.steps x in_range none)
 
 pub returns-in_default-clause-theory : goal.returns-in_default-clause-theory
@@ -25,7 +27,7 @@ returns-in_default-clause-theory c =
     let heap_is = ap (λ v. v.objects) c.self.view_is in
     let x = object_at old.objects c.args.event in
     let in_range = subst (λ os. is_out_of_range (object_at os c.args.event) ≡ false) heap_is c.event_of.ensures.in_range in
-    let none = subst (λ os. event_word (as_taken (object_at os c.args.event)) ≡ None) heap_is c.in_default.ensures.event in
+    let none = subst (λ os. event_word (object_at os c.args.event) ≡ None) heap_is c.in_default.ensures.event in
     ap (λ r. r.1) (none_happens (theory_of old) old.steps x in_range none)
 
 pub returns-in-Print-clause-fate : goal.returns-in-Print-clause-fate
@@ -70,3 +72,114 @@ returns-in-Verify-clause-theory c =
     let in_range = subst (λ os. is_out_of_range (object_at os c.args.event) ≡ false) heap_is c.event_of.ensures.in_range in
     let event = subst (λ os. IsEvent os c.args.event (Verify m.name m.formula m.proof)) heap_is (subst (IsEvent c.self.inside.heap c.args.event) m.is c.in-Some.ensures.event) in
     OnOk-map c.verify.result _ _ (λ h. h ∙ ap (λ r. r.1) (verified_happens t old.steps x in_range refl (object_at old.objects m.name) (object_at old.objects m.formula) (object_at old.objects m.proof) event.0)) c.verify.ensures.theory
+
+pub returns-in-Eval-clause-fate : goal.returns-in-Eval-clause-fate
+returns-in-Eval-clause-fate c =
+    let old = c.args.self.now in
+    let t = theory_of old in
+    let heap_is = ap (λ v. v.objects) c.self.view_is in
+    let x = object_at old.objects c.args.event in
+    let in_range = subst (λ os. is_out_of_range (object_at os c.args.event) ≡ false) heap_is c.event_of.ensures.in_range in
+    let event = subst (λ os. IsEvent os c.args.event (Eval c.in-Eval.term)) heap_is (subst (IsEvent c.self.inside.heap c.args.event) c.in-Eval.is c.in-Some.ensures.event) in
+    IfOk-map c.eval.result _ _ (λ f h. h ∙ ap (λ r. r.0) (evaluated_happens t old.steps x in_range (object_at old.objects c.in-Eval.term) event.0)) c.eval.ensures.fate
+
+pub returns-in-Eval-clause-theory : goal.returns-in-Eval-clause-theory
+returns-in-Eval-clause-theory c =
+    let old = c.args.self.now in
+    let t = theory_of old in
+    let heap_is = ap (λ v. v.objects) c.self.view_is in
+    let x = object_at old.objects c.args.event in
+    let in_range = subst (λ os. is_out_of_range (object_at os c.args.event) ≡ false) heap_is c.event_of.ensures.in_range in
+    let event = subst (λ os. IsEvent os c.args.event (Eval c.in-Eval.term)) heap_is (subst (IsEvent c.self.inside.heap c.args.event) c.in-Eval.is c.in-Some.ensures.event) in
+    let y = object_at old.objects c.in-Eval.term in
+    OnOk-from c.eval.result _ (c.eval.ensures.theory ∙ (eval_stays t old.steps (eval_event y) ∙ ap (λ r. r.1) (evaluated_happens t old.steps x in_range y event.0)))
+
+pub returns-in-Define-clause-fate : goal.returns-in-Define-clause-fate
+returns-in-Define-clause-fate c =
+    let old = c.args.self.now in
+    let heap_is = ap (λ v. v.objects) c.self.view_is in
+    let x = object_at old.objects c.args.event in
+    let in_range = subst (λ os. is_out_of_range (object_at os c.args.event) ≡ false) heap_is c.event_of.ensures.in_range in
+    let event = subst (λ os. IsEvent os c.args.event (Define c.in-Define.name c.in-Define.formals c.in-Define.body c.in-Define.measure c.in-Define.proofs)) heap_is (subst (IsEvent c.self.inside.heap c.args.event) c.in-Define.is c.in-Some.ensures.event) in
+    ap (λ r. r.0) (untaken_happens (theory_of old) old.steps x in_range model.Define (ap event_word event.0) refl)
+
+pub returns-in-Define-clause-theory : goal.returns-in-Define-clause-theory
+returns-in-Define-clause-theory c =
+    let old = c.args.self.now in
+    let heap_is = ap (λ v. v.objects) c.self.view_is in
+    let x = object_at old.objects c.args.event in
+    let in_range = subst (λ os. is_out_of_range (object_at os c.args.event) ≡ false) heap_is c.event_of.ensures.in_range in
+    let event = subst (λ os. IsEvent os c.args.event (Define c.in-Define.name c.in-Define.formals c.in-Define.body c.in-Define.measure c.in-Define.proofs)) heap_is (subst (IsEvent c.self.inside.heap c.args.event) c.in-Define.is c.in-Some.ensures.event) in
+    ap (λ r. r.1) (untaken_happens (theory_of old) old.steps x in_range model.Define (ap event_word event.0) refl)
+
+pub returns-in-Skolem-clause-fate : goal.returns-in-Skolem-clause-fate
+returns-in-Skolem-clause-fate c =
+    let old = c.args.self.now in
+    let heap_is = ap (λ v. v.objects) c.self.view_is in
+    let x = object_at old.objects c.args.event in
+    let in_range = subst (λ os. is_out_of_range (object_at os c.args.event) ≡ false) heap_is c.event_of.ensures.in_range in
+    let event = subst (λ os. IsEvent os c.args.event (Skolem c.in-Skolem.name c.in-Skolem.bound c.in-Skolem.free c.in-Skolem.body)) heap_is (subst (IsEvent c.self.inside.heap c.args.event) c.in-Skolem.is c.in-Some.ensures.event) in
+    ap (λ r. r.0) (untaken_happens (theory_of old) old.steps x in_range model.Skolem (ap event_word event.0) refl)
+
+pub returns-in-Skolem-clause-theory : goal.returns-in-Skolem-clause-theory
+returns-in-Skolem-clause-theory c =
+    let old = c.args.self.now in
+    let heap_is = ap (λ v. v.objects) c.self.view_is in
+    let x = object_at old.objects c.args.event in
+    let in_range = subst (λ os. is_out_of_range (object_at os c.args.event) ≡ false) heap_is c.event_of.ensures.in_range in
+    let event = subst (λ os. IsEvent os c.args.event (Skolem c.in-Skolem.name c.in-Skolem.bound c.in-Skolem.free c.in-Skolem.body)) heap_is (subst (IsEvent c.self.inside.heap c.args.event) c.in-Skolem.is c.in-Some.ensures.event) in
+    ap (λ r. r.1) (untaken_happens (theory_of old) old.steps x in_range model.Skolem (ap event_word event.0) refl)
+
+pub returns-in-Switch-clause-fate : goal.returns-in-Switch-clause-fate
+returns-in-Switch-clause-fate c =
+    let old = c.args.self.now in
+    let heap_is = ap (λ v. v.objects) c.self.view_is in
+    let x = object_at old.objects c.args.event in
+    let in_range = subst (λ os. is_out_of_range (object_at os c.args.event) ≡ false) heap_is c.event_of.ensures.in_range in
+    let event = subst (λ os. IsEvent os c.args.event (Switch c.in-Switch.field-0)) heap_is (subst (IsEvent c.self.inside.heap c.args.event) c.in-Switch.is c.in-Some.ensures.event) in
+    ap (λ r. r.0) (untaken_happens (theory_of old) old.steps x in_range model.Switch (ap event_word event.0) refl)
+
+pub returns-in-Switch-clause-theory : goal.returns-in-Switch-clause-theory
+returns-in-Switch-clause-theory c =
+    let old = c.args.self.now in
+    let heap_is = ap (λ v. v.objects) c.self.view_is in
+    let x = object_at old.objects c.args.event in
+    let in_range = subst (λ os. is_out_of_range (object_at os c.args.event) ≡ false) heap_is c.event_of.ensures.in_range in
+    let event = subst (λ os. IsEvent os c.args.event (Switch c.in-Switch.field-0)) heap_is (subst (IsEvent c.self.inside.heap c.args.event) c.in-Switch.is c.in-Some.ensures.event) in
+    ap (λ r. r.1) (untaken_happens (theory_of old) old.steps x in_range model.Switch (ap event_word event.0) refl)
+
+pub returns-in-DefineAll-clause-fate : goal.returns-in-DefineAll-clause-fate
+returns-in-DefineAll-clause-fate c =
+    let old = c.args.self.now in
+    let heap_is = ap (λ v. v.objects) c.self.view_is in
+    let x = object_at old.objects c.args.event in
+    let in_range = subst (λ os. is_out_of_range (object_at os c.args.event) ≡ false) heap_is c.event_of.ensures.in_range in
+    let event = subst (λ os. IsEvent os c.args.event (DefineAll c.in-DefineAll.definitions c.in-DefineAll.proofs)) heap_is (subst (IsEvent c.self.inside.heap c.args.event) c.in-DefineAll.is c.in-Some.ensures.event) in
+    ap (λ r. r.0) (untaken_happens (theory_of old) old.steps x in_range model.DefineAll (ap event_word event.0) refl)
+
+pub returns-in-DefineAll-clause-theory : goal.returns-in-DefineAll-clause-theory
+returns-in-DefineAll-clause-theory c =
+    let old = c.args.self.now in
+    let heap_is = ap (λ v. v.objects) c.self.view_is in
+    let x = object_at old.objects c.args.event in
+    let in_range = subst (λ os. is_out_of_range (object_at os c.args.event) ≡ false) heap_is c.event_of.ensures.in_range in
+    let event = subst (λ os. IsEvent os c.args.event (DefineAll c.in-DefineAll.definitions c.in-DefineAll.proofs)) heap_is (subst (IsEvent c.self.inside.heap c.args.event) c.in-DefineAll.is c.in-Some.ensures.event) in
+    ap (λ r. r.1) (untaken_happens (theory_of old) old.steps x in_range model.DefineAll (ap event_word event.0) refl)
+
+pub returns-in-Profile-clause-fate : goal.returns-in-Profile-clause-fate
+returns-in-Profile-clause-fate c =
+    let old = c.args.self.now in
+    let heap_is = ap (λ v. v.objects) c.self.view_is in
+    let x = object_at old.objects c.args.event in
+    let in_range = subst (λ os. is_out_of_range (object_at os c.args.event) ≡ false) heap_is c.event_of.ensures.in_range in
+    let event = subst (λ os. IsEvent os c.args.event (Profile c.in-Profile.field-0)) heap_is (subst (IsEvent c.self.inside.heap c.args.event) c.in-Profile.is c.in-Some.ensures.event) in
+    ap (λ r. r.0) (untaken_happens (theory_of old) old.steps x in_range model.SetProfile (ap event_word event.0) refl)
+
+pub returns-in-Profile-clause-theory : goal.returns-in-Profile-clause-theory
+returns-in-Profile-clause-theory c =
+    let old = c.args.self.now in
+    let heap_is = ap (λ v. v.objects) c.self.view_is in
+    let x = object_at old.objects c.args.event in
+    let in_range = subst (λ os. is_out_of_range (object_at os c.args.event) ≡ false) heap_is c.event_of.ensures.in_range in
+    let event = subst (λ os. IsEvent os c.args.event (Profile c.in-Profile.field-0)) heap_is (subst (IsEvent c.self.inside.heap c.args.event) c.in-Profile.is c.in-Some.ensures.event) in
+    ap (λ r. r.1) (untaken_happens (theory_of old) old.steps x in_range model.SetProfile (ap event_word event.0) refl)

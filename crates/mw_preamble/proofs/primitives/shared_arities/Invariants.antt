@@ -2,7 +2,7 @@
 use Rattle.std.proofs.Common.{◌≡◌, true, drop}
 use Rattle.mw_model.specs.Primitive.{One, primitive_arities}
 use Rattle.mw_preamble.proofs.PrimitiveTable.{are_new, with_entries}
-use Rattle.mw_preamble.proofs.primitives.primitive_arities.Given as goal
+use Rattle.mw_preamble.proofs.primitives.shared_arities.Given as goal
 
 abbrev pub invariant-loop-primitive : goal.invariant-loop-primitive
 invariant-loop-primitive l = record {

@@ -3,7 +3,7 @@ use Rattle.std.proofs.Common.{ap, ◌∙◌, sym}
 use Rattle.mw_model.specs.Object.{Pair, NIL}
 use Rattle.mw_model.proofs.Names.{same_object-eq}
 use Rattle.mw_heap.specs.Objects.{object_at}
-use Rattle.mw_kernel.proofs.word.one_member.Goals as goal
+use Rattle.mw_kernel.proofs.members.one_member.Goals as goal
 
 pub returns-in-Pair : goal.returns-in-Pair
 returns-in-Pair c =

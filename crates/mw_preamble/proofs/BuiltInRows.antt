@@ -3,11 +3,11 @@ use Rattle.std.proofs.Common.{◌≡◌, true, List, [], ◌∷◌, ◌++◌, ma
 use Rattle.std.proofs.lemmas.List.{map-append}
 use Rattle.mw_model.specs.Object.{Object, NIL}
 use Rattle.mw_model.specs.Term.{ArityTable, formula_object}
-use Rattle.mw_model.specs.Primitive.{Profile, One, primitive_arities}
+use Rattle.mw_model.specs.Primitive.{Profile, One, Two, primitive_arities}
 use Rattle.mw_model.specs.Definition.{Function, Block, Functions, Choice, function_axiom, function_axioms, block_axioms, add_functions, add_block, arities, arity_table}
 use Rattle.mw_model.specs.BuiltIn.{built_in}
-use Rattle.mw_preamble.specs.Admitted.{first_definitions, axioms_in_order}
-use Rattle.mw_preamble.specs.Rows.{function_rows, block_rows, rows_before, first_rows, are_rows, with_rows, axioms_of}
+use Rattle.mw_preamble.specs.Admitted.{definitions_of, axioms_in_order}
+use Rattle.mw_preamble.specs.Rows.{function_rows, block_rows, rows_before, built_in_rows, are_rows, with_rows, axioms_of}
 
 axioms_of-functions : (B : List Function) (rest : Object) → axioms_of (function_rows B rest) ≡ map formula_object (function_axioms B) ++ axioms_of rest
 axioms_of-functions [] rest = refl
@@ -38,14 +38,15 @@ with_rows-rows : (P : Profile) (D : List Block) (rest : Object) → with_rows (p
 with_rows-rows P [] rest = refl
 with_rows-rows P (B ∷ D) rest = with_rows-rows P D (block_rows B rest) ∙ with_rows-block (arities P D) B rest
 
-pub first_axioms : axioms_of first_rows ≡ map formula_object (axioms_in_order first_definitions.blocks)
-unfolding first_rows first_definitions
-first_axioms = axioms_of-rows (built_in One) NIL ∙ append-nil (map formula_object (axioms_in_order (built_in One)))
+pub axioms_of-built_in : (P : Profile) → axioms_of (built_in_rows P) ≡ map formula_object (axioms_in_order (definitions_of P).blocks)
+unfolding built_in_rows definitions_of
+axioms_of-built_in P = axioms_of-rows (built_in P) NIL ∙ append-nil (map formula_object (axioms_in_order (built_in P)))
 
-pub first_arities : with_rows (primitive_arities One) first_rows ≡ arity_table first_definitions
-unfolding first_rows first_definitions
-first_arities = with_rows-rows One (built_in One) NIL
+pub with_rows-built_in : (P : Profile) → with_rows (primitive_arities P) (built_in_rows P) ≡ arity_table (definitions_of P)
+unfolding built_in_rows definitions_of
+with_rows-built_in P = with_rows-rows P (built_in P) NIL
 
-pub first_new : are_rows (primitive_arities One) first_rows ≡ true
-unfolding first_rows
-first_new = refl
+pub built_in-new : (P : Profile) → are_rows (primitive_arities P) (built_in_rows P) ≡ true
+unfolding built_in_rows
+built_in-new One = refl
+built_in-new Two = refl

@@ -1,0 +1,27 @@
+-- How much is left to do for jobs.
+use Rattle.std.specs.Prelude.{ℕ, ◌+◌, List, [], ◌∷◌, Option, Some, None}
+use Rattle.mw_model.specs.Object.{Object}
+use Rattle.mw_model.specs.Term.{Term}
+use Rattle.mw_model.specs.Reading.{term_of}
+use Rattle.mw_heap.specs.Objects.{object_at}
+use Rattle.mw_code.specs.declared.job.Job.{Job}
+use Rattle.mw_code.specs.declared.job.Job.TheVariants.{Value as TheValue, Rest as TheRest, Branch as TheBranch}
+use Rattle.mw_code.specs.Weights.{jobs}
+
+-- the jobs of a term, where there is one
+abbrev pub jobs_or : Option Term → ℕ
+jobs_or None = 0
+jobs_or (Some t) = jobs t
+
+abbrev pub jobs_at : List Object → ℕ → ℕ
+jobs_at os x = jobs_or (term_of (object_at os x))
+
+-- a job, and those that come of it
+abbrev pub load_of : List Object → Job → ℕ
+load_of os (TheValue task) = jobs_at os task.term
+load_of os (TheRest test then after) = 2 + (jobs_at os test + jobs_at os then.term)
+load_of os (TheBranch p height) = 1
+
+abbrev pub load : List Object → List Job → ℕ
+load os [] = 0
+load os (j ∷ js) = load_of os j + load os js

@@ -1,0 +1,73 @@
+//! The members of short lists.
+ghost use Rattle.std.specs.Prelude.{◌≡◌, ◌<◌, false, MatchOption};
+ghost use Rattle.mw_model.specs.Object.{Pair, has_members, list1, list2, list3, list4};
+ghost use Rattle.mw_heap.specs.Objects.{object_at, IsIn};
+
+use mw_heap::{Heap, Ref, View};
+
+/// The member of a list of one.
+pub(crate) fn one_member(heap: &Heap, x: Ref) -> Option<Ref>
+    requires { IsIn heap.now x }
+    ensures { MatchOption result (has_members 1 (object_at heap.now x) ≡ false) (λ m. (object_at heap.now x ≡ list1 (object_at heap.now m)) × (m < x)) }
+{
+    match heap.view(x) {
+        View::Pair(first, rest) if heap.is_nil(Some(rest)) => Some(first),
+        _ => None,
+    }
+}
+
+/// The members of a list of two.
+pub(crate) fn two_members(heap: &Heap, x: Ref) -> Option<(Ref, Ref)>
+    requires { IsIn heap.now x }
+    ensures { MatchOption result (has_members 2 (object_at heap.now x) ≡ false) (λ m. (object_at heap.now x ≡ list2 (object_at heap.now m.0) (object_at heap.now m.1)) × (m.0 < x) × (m.1 < x)) }
+{
+    let View::Pair(first, rest) = heap.view(x) else {
+        return None;
+    };
+    match one_member(heap, rest) {
+        Some(second) => Some((first, second)),
+        None => None,
+    }
+}
+
+/// The members of a list of three.
+pub(crate) fn three_members(heap: &Heap, x: Ref) -> Option<(Ref, Ref, Ref)>
+    requires { IsIn heap.now x }
+    ensures { MatchOption result (has_members 3 (object_at heap.now x) ≡ false) (λ m. (object_at heap.now x ≡ list3 (object_at heap.now m.0) (object_at heap.now m.1) (object_at heap.now m.2)) × (m.0 < x) × (m.1 < x) × (m.2 < x)) }
+{
+    let View::Pair(first, rest) = heap.view(x) else {
+        return None;
+    };
+    match two_members(heap, rest) {
+        Some(others) => Some((first, others.0, others.1)),
+        None => None,
+    }
+}
+
+/// The members of a list of four.
+pub(crate) fn four_members(heap: &Heap, x: Ref) -> Option<(Ref, Ref, Ref, Ref)>
+    requires { IsIn heap.now x }
+    ensures { MatchOption result (has_members 4 (object_at heap.now x) ≡ false) (λ m. (object_at heap.now x ≡ list4 (object_at heap.now m.0) (object_at heap.now m.1) (object_at heap.now m.2) (object_at heap.now m.3)) × (m.0 < x) × (m.1 < x) × (m.2 < x) × (m.3 < x)) }
+{
+    let View::Pair(first, rest) = heap.view(x) else {
+        return None;
+    };
+    match three_members(heap, rest) {
+        Some(others) => Some((first, others.0, others.1, others.2)),
+        None => None,
+    }
+}
+
+/// The members of a list of five.
+pub(crate) fn five_members(heap: &Heap, x: Ref) -> Option<(Ref, Ref, Ref, Ref, Ref)>
+    requires { IsIn heap.now x }
+    ensures { MatchOption result (has_members 5 (object_at heap.now x) ≡ false) (λ m. (object_at heap.now x ≡ Pair (object_at heap.now m.0) (list4 (object_at heap.now m.1) (object_at heap.now m.2) (object_at heap.now m.3) (object_at heap.now m.4))) × (m.0 < x) × (m.1 < x) × (m.2 < x) × (m.3 < x) × (m.4 < x)) }
+{
+    let View::Pair(first, rest) = heap.view(x) else {
+        return None;
+    };
+    match four_members(heap, rest) {
+        Some(others) => Some((first, others.0, others.1, others.2, others.3)),
+        None => None,
+    }
+}

@@ -1,0 +1,108 @@
+//! What EVAL shows, and within how many units.
+use crate::row::{Answer, Row, answer_within, wrong_answers};
+use mw_book::Status;
+use std::alloc::{AllocError, Global};
+use std::test::Fail;
+
+const VALUES: [Row; 1] = [Row {
+    book: "(eval (+ 340282366920938463463374607431768211455 1))
+        (eval ((lambda (x y) (cons y x)) 1 2))
+        (eval (symbol-< 7 'z))
+        (eval (if nil (+ 1 1) 2))
+        (eval x)
+        (eval (let ((x 1)) (list x (first '(7 8)))))
+        (eval (ordp '((1 . 1) . 0)))
+        (eval (ordp '((0 . 1) . 0)))
+        (eval (ord< 5 '((1 . 1) . 0)))
+        (eval (ord< '((1 . 2) . 0) '((1 . 1) . 9)))
+        (eval (logic.proofp '(axiom (pequal* x x)) '((pequal* x x)) nil nil))
+        (eval (logic.proofp '(axiom (pequal* x x)) nil nil nil))
+        (eval (logic.provablep '(pequal* x x) nil nil nil))
+        (eval (cons 'zz 1))
+        (eval (equal '(zz . 1) (cons 'zz 1)))
+        (eval (car 1 2))
+        (eval (* 2 3))
+        (eval (twice 4))
+        (eval (lambda (x) x))
+        (eval 340282366920938463463374607431768211456)
+        (eval 1 2)
+        (verify a (pequal* x x) (theorem (pequal* x x)))
+        (eval (logic.len '(1 2 3)))",
+    report: "1 EVAL - refused OVERFLOW
+2 EVAL - accepted (2 . 1)
+3 EVAL - accepted T
+4 EVAL - accepted 2
+5 EVAL - refused VARIABLES
+6 EVAL - accepted (1 7)
+7 EVAL - accepted T
+8 EVAL - accepted NIL
+9 EVAL - accepted T
+10 EVAL - accepted NIL
+11 EVAL - accepted T
+12 EVAL - accepted NIL
+13 EVAL - refused WITNESS
+14 EVAL - accepted (ZZ . 1)
+15 EVAL - accepted T
+16 EVAL - refused TERM
+17 EVAL - refused TERM
+18 EVAL - refused TERM
+19 EVAL - refused TERM
+20 EVAL - refused RANGE
+21 EVAL - refused EVENT
+22 VERIFY A refused PROOF
+23 EVAL - accepted 3
+events 23 accepted 13 refused 10 level 1
+",
+    status: Status::SomeRefused,
+}];
+
+// A number of units, what is evaluated within it, and the end of the event's line.
+const LIMITED: [(&str, &str, &str); 10] = [
+    ("1", "(+ (+ 1 1) 1)", "refused STEPS"),
+    ("2", "(+ (+ 1 1) 1)", "accepted 3"),
+    ("1", "((lambda (x y) (cons y x)) 1 2)", "accepted (2 . 1)"),
+    ("13", "(logic.len '(1 2 3))", "refused STEPS"),
+    ("14", "(logic.len '(1 2 3))", "accepted 3"),
+    ("1", "(or (+ 1 1) 2)", "refused STEPS"),
+    ("2", "(or (+ 1 1) 2)", "accepted 2"),
+    ("1", "(if nil (car (car 1)) 2)", "accepted 2"),
+    ("3", "(equal (cons 1 2) (cons 1 2))", "accepted T"),
+    (
+        "1",
+        "(+ 340282366920938463463374607431768211455 1)",
+        "refused OVERFLOW",
+    ),
+];
+
+// The answer to an EVAL within so many units.
+fn answer_of(alloc: Global, steps: &str, term: &str) -> Result<Answer, AllocError> {
+    let book = format!(in alloc; "(eval {term})")?;
+    answer_within(alloc, &["check", "--steps", steps], book.as_str(), 4096)
+}
+
+// The EVALs whose lines are not those expected.
+fn wrong_limits(alloc: Global) -> Result<String, AllocError> {
+    let mut wrong = String::new(alloc);
+    for (steps, term, end) in LIMITED {
+        let line = format!(in alloc; "1 EVAL - {end}\n")?;
+        let answer = answer_of(alloc, steps, term)?;
+        if !answer.report.as_str().starts_with(line.as_str()) {
+            writeln!(wrong, "{steps} {term}")?;
+        }
+    }
+    Ok(wrong)
+}
+
+#[test]
+fn terms_are_evaluated(rt: HostRuntime) -> Result<(), Fail> {
+    let wrong = wrong_answers(rt.alloc(), &VALUES, 4096)?;
+    assert_eq!(rt; wrong.as_str(), "");
+    Ok(())
+}
+
+#[test]
+fn units_are_counted(rt: HostRuntime) -> Result<(), Fail> {
+    let wrong = wrong_limits(rt.alloc())?;
+    assert_eq!(rt; wrong.as_str(), "");
+    Ok(())
+}

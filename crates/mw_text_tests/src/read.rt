@@ -1,0 +1,129 @@
+//! A book in pieces of several sizes, faults that stay, steps, and what is shown of an event.
+ghost use Rattle.std.specs.Prelude.{◌≡◌, ◌<◌, IfOk};
+ghost use Rattle.mw_read.specs.Standing.{IsStanding, IsFree};
+ghost use Rattle.mw_read.specs.Feeding.{IsAwaiting, UnreadFollows};
+ghost use Rattle.mw_read.specs.declared.step.Step.TheVariants as steps;
+
+use mw_forms::{boxed, form, is_in};
+use mw_heap::{Heap, Memory, Ref};
+use mw_read::{Reader, Step, SyntaxKind, shown};
+use std::test::Fail;
+
+const BOOK: &[u8] = b"(a . 1)'b |c d|; behind this a label\n12 (#10=(x)#10#) last";
+
+// The data that come next, up to the answer that is none.
+fn next_data(heap: &mut Heap, reader: &mut Reader, data: &mut Vec<Ref>) -> Result<Step, Memory>
+    requires stands { IsStanding heap.old reader.old.parser }
+    requires follows { UnreadFollows reader.old }
+    ensures more { IfOk result (λ s. s ≡ steps.More → IsStanding heap.new reader.new.parser × IsAwaiting reader.new × IsFree reader.new.parser) }
+{
+    loop {
+        match reader.next(heap) {
+            Step::Datum(x) => data.push(x)?,
+            step => return Ok(step),
+        }
+    }
+}
+
+// The data of a book that is fed in pieces of this size, and the answer behind them.
+fn read_book(heap: &mut Heap, book: &[u8], size: usize) -> Result<(Vec<Ref>, Step), Memory>
+    requires { 0 < size }
+{
+    let mut reader = Reader::new(heap.alloc());
+    let mut data = Vec::new(heap.alloc());
+    for piece in book.chunks(size) {
+        reader.feed(piece)?;
+        let step = next_data(heap, &mut reader, &mut data)?;
+        if !matches!(step, Step::More) {
+            return Ok((data, step));
+        }
+    }
+    reader.finish();
+    let step = next_data(heap, &mut reader, &mut data)?;
+    Ok((data, step))
+}
+
+// How many data the book has, the answer behind them, and in pieces of how many sizes from 1 to 8 it gives other data or another answer.
+fn reads_in_pieces(heap: &mut Heap) -> Result<(usize, Step, usize), Memory> {
+    let (whole, end) = read_book(heap, BOOK, BOOK.len())?;
+    let mut others = 0usize;
+    for size in 1..9 {
+        let (data, last) = read_book(heap, BOOK, size)?;
+        if data.as_slice() != whole.as_slice() || last != end {
+            others = others.saturating_add(1);
+        }
+    }
+    Ok((whole.len(), end, others))
+}
+
+#[test]
+fn pieces_of_each_size_give_the_same_data(rt: HostRuntime) -> Result<(), Fail> {
+    let mut heap = boxed(rt.alloc())?;
+    assert_eq!(rt; reads_in_pieces(&mut heap)?, (6, Step::End, 0));
+    Ok(())
+}
+
+// The answers to a book that has a fault behind its first datum, the last where no more bytes come.
+fn answers_a_fault(heap: &mut Heap) -> Result<[Step; 3], Memory> {
+    let mut reader = Reader::new(heap.alloc());
+    reader.feed(b"1 ) 2")?;
+    let first = reader.next(heap);
+    let second = reader.next(heap);
+    reader.finish();
+    let third = reader.next(heap);
+    Ok([first, second, third])
+}
+
+// Whether the answers are the datum, and then the fault each time.
+fn keeps_a_fault(heap: &mut Heap) -> Result<bool, Memory> {
+    let one = heap.nat(1)?;
+    let fault = Step::Syntax(SyntaxKind::Close, 2);
+    Ok(answers_a_fault(heap)? == [Step::Datum(one), fault, fault])
+}
+
+#[test]
+fn a_fault_stays_the_answer(rt: HostRuntime) -> Result<(), Fail> {
+    let mut heap = boxed(rt.alloc())?;
+    assert!(rt; keeps_a_fault(&mut heap)?);
+    Ok(())
+}
+
+// Whether the first step is the datum AB, which takes two bytes.
+fn takes_a_datum(heap: &mut Heap) -> Result<bool, Memory> {
+    let name = heap.symbol(b"AB")?;
+    let mut reader = Reader::new(heap.alloc());
+    Ok(reader.step(heap, b"ab cd") == (Step::Datum(name), 2))
+}
+
+#[test]
+fn a_step_takes_what_its_datum_takes(rt: HostRuntime) -> Result<(), Fail> {
+    let mut heap = boxed(rt.alloc())?;
+    assert!(rt; takes_a_datum(&mut heap)?);
+    Ok(())
+}
+
+// Whether an event's line shows these.
+fn shows(heap: &Heap, event: Ref, word: Option<Ref>, label: Option<Ref>) -> bool {
+    is_in(heap, event) && shown(heap, event) == (word, label)
+}
+
+// Whether VERIFY and A are shown of (VERIFY A), PRINT alone of (PRINT A), and nothing of A.
+fn shows_events(heap: &mut Heap) -> Result<[bool; 3], Memory> {
+    let verify = heap.symbol(b"VERIFY")?;
+    let print = heap.symbol(b"PRINT")?;
+    let a = heap.symbol(b"A")?;
+    let labelled = form(heap, b"VERIFY", &[a])?;
+    let printed = form(heap, b"PRINT", &[a])?;
+    Ok([
+        shows(heap, labelled, Some(verify), Some(a)),
+        shows(heap, printed, Some(print), None),
+        shows(heap, a, None, None),
+    ])
+}
+
+#[test]
+fn an_event_shows_its_word_and_label(rt: HostRuntime) -> Result<(), Fail> {
+    let mut heap = boxed(rt.alloc())?;
+    assert_eq!(rt; shows_events(&mut heap)?, [true; 3]);
+    Ok(())
+}
