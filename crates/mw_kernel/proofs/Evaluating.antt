@@ -1,5 +1,5 @@
 -- The tests of an EVAL, and its fate by its run.
-use Rattle.std.proofs.Common.{◌≡◌, ℕ, suc, Bool, true, false, ◌&&◌, nat_eq, List, [], ◌∷◌, length, map, Option, Some, None, refl, sym, ap, ◌∙◌, subst, rules}
+use Rattle.std.proofs.Common.{◌≡◌, ℕ, suc, true, false, nat_eq, List, [], ◌∷◌, length, map, Some, None, refl, sym, ap, ◌∙◌, subst, rules}
 use Rattle.mw_model.specs.Object.{Name, Object, Symbol}
 use Rattle.mw_model.specs.Term.{Term, ArityTable, variables, is_term, is_closed, term_object}
 use Rattle.mw_model.specs.Reading.{term_of, when}
@@ -13,7 +13,7 @@ use Rattle.mw_model.proofs.Closed.{each_among, closed_variables}
 use Rattle.mw_model.proofs.Formed.{formed}
 use Rattle.mw_model.proofs.Read.{term_read}
 use Rattle.mw_truth.proofs.Drafted.{expand-term}
-use Rattle.mw_heap.specs.Objects.{object_at, IsIn, Grows}
+use Rattle.mw_heap.specs.Objects.{object_at, Grows}
 use Rattle.mw_code.specs.declared.table.Table.{Table}
 use Rattle.mw_code.specs.Tables.{StandsFor, IsClosedTerm}
 use Rattle.mw_code.proofs.CallerLemmas.{stands-grows}

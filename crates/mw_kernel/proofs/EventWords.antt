@@ -1,5 +1,5 @@
 -- Which objects are events of which word, and what happens by an event whose word is taken, and by one whose word is not.
-use Rattle.std.proofs.Common.{◌≡◌, ℕ, ◌<◌, Bool, true, false, not, ◌||◌, cond, List, Option, Some, None, refl, sym, ap, ap₂, ◌∙◌, subst, arith}
+use Rattle.std.proofs.Common.{◌≡◌, ℕ, ◌<◌, Bool, true, false, not, ◌||◌, cond, List, Option, Some, None, refl, sym, ap, ap₂, ◌∙◌, arith}
 use Rattle.mw_model.specs.Object.{Name, Object, Natural, Symbol, Pair, named, symbol, same_name, same_object, has_members}
 use Rattle.mw_model.specs.Reading.{when}
 use Rattle.mw_model.specs.Theory.{Theory}
@@ -10,7 +10,7 @@ use Rattle.mw_model.proofs.ReadBack.{when_some}
 use Rattle.mw_heap.specs.Objects.{object_at}
 use Rattle.mw_kernel.specs.Version.{is_taken, as_taken, as_word_says, without_members}
 use Rattle.mw_kernel.specs.EventWords.{word_at, word_symbol, members_after}
-use Rattle.mw_kernel.specs.Words.{event_object, StandsBefore, IsEvent, IsEventOf}
+use Rattle.mw_kernel.specs.Words.{StandsBefore, IsEvent, IsEventOf}
 use Rattle.mw_kernel.specs.declared.word.Word.{Word}
 use Rattle.mw_kernel.specs.declared.word.Word.TheVariants as word
 use Rattle.mw_kernel.specs.declared.event.Event.{Event}

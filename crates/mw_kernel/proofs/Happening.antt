@@ -1,17 +1,20 @@
 -- What happens by an event, whose object is told.
-use Rattle.std.proofs.Common.{◌≡◌, ℕ, Bool, true, false, cond, ltb, List, [], length, Option, Some, None, Result, Ok, Err, IfOk, OnOk, OnErr, refl, sym, ap, ◌∙◌}
+use Rattle.std.proofs.Common.{◌≡◌, ℕ, Bool, true, false, cond, ltb, List, [], ◌∷◌, length, Option, Some, None, Result, Ok, Err, IfOk, OnOk, OnErr, refl, sym, ap, ◌∙◌, subst}
 use Rattle.mw_model.specs.Object.{Object, second_of}
 use Rattle.mw_model.specs.Term.{Term, is_closed}
 use Rattle.mw_model.specs.Reading.{when}
 use Rattle.mw_model.specs.Definition.{arity_table}
 use Rattle.mw_model.specs.Expansion.{expand}
 use Rattle.mw_model.specs.Evaluation.{Outcome, Value, Steps, Overflow, Witness, evaluate}
-use Rattle.mw_model.specs.Theory.{Theory}
+use Rattle.mw_model.specs.Theory.{Theory, IsSound}
 use Rattle.mw_model.specs.Printing.{text_of}
-use Rattle.mw_model.specs.Refusal.{TERM, VARIABLES, LONG, Accepted, refuse, need}
-use Rattle.mw_model.specs.Fate.{Print, Eval, is_out_of_range, event_word, longest, happens, show, show_outcome, eval}
+use Rattle.mw_model.specs.Refusal.{TERM, VARIABLES, LONG, Fate, Accepted, refuse, need}
+use Rattle.mw_model.specs.Admission.{some_drafts, define_one, define_all, skolem}
+use Rattle.mw_model.specs.Keeping.{EventKeeps}
+use Rattle.mw_model.specs.Fate.{Define, Skolem, DefineAll, Print, Eval, is_out_of_range, event_word, longest, happens, show, show_outcome, eval}
 use Rattle.mw_kernel.specs.Version.{as_taken}
-use Rattle.mw_kernel.specs.Words.{verify_event, eval_event, print_event}
+use Rattle.mw_kernel.specs.Words.{verify_event, define_event, skolem_event, eval_event, print_event, define_all_event}
+use Rattle.mw_kernel.specs.Admitting.{defined}
 use Rattle.mw_kernel.specs.Fates.{verified}
 use Rattle.mw_kernel.proofs.EventWords.{word_happens}
 use Rattle.mw_kernel.proofs.Verified.{happens_verified}
@@ -70,3 +73,17 @@ module _ (t : Theory) (N : ℕ) (x : Object) (in_range : is_out_of_range x ≡ f
 
   pub verified_happens : t.checker ≡ None → (a b p : Object) → x ≡ verify_event a b p → verified t a b p ≡ happens t N (as_taken x)
   verified_happens built_in a b p is = sym (ap (λ e. happens t N (as_taken e)) is ∙ happens_verified t built_in N a b p (verify_in_range a b p is))
+
+  pub defined_happens : (a b c d p : Object) → x ≡ define_event a b c d p → defined t N (Some (record { name = a; formals = b; body = c; measure = d } ∷ [])) p ≡ happens t N (as_taken x)
+  unfolding need
+  defined_happens a b c d p is = ap (define_one t N) (sym is) ∙ word_happens t N x in_range Define (ap event_word is) refl
+
+  pub all_defined_happens : (ds p : Object) → x ≡ define_all_event ds p → defined t N (some_drafts ds) p ≡ happens t N (as_taken x)
+  all_defined_happens ds p is = ap (define_all t N) (sym is) ∙ word_happens t N x in_range DefineAll (ap event_word is) refl
+
+  pub skolem_happens : (a b c d : Object) → x ≡ skolem_event a b c d → skolem t (skolem_event a b c d) ≡ happens t N (as_taken x)
+  skolem_happens a b c d is = ap (skolem t) (sym is) ∙ word_happens t N x in_range Skolem (ap event_word is) refl
+
+  -- what an event comes to is a sound theory
+  pub sound_after : (r : Fate × Theory) → r ≡ happens t N (as_taken x) → EventKeeps t N (as_taken x) → IsSound r.1
+  sound_after r is keeps = subst (λ q. IsSound q.1) (sym is) keeps.sound

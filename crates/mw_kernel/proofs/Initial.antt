@@ -35,19 +35,19 @@ axioms_put (B ∷ D) =
     ∙ (put_more (map formula_object (axioms_in_order D)) (map formula_object (block_axioms B)) (axioms_of One [])
     ∙ (ap (put_all (map formula_object (block_axioms B))) (axioms_put D) ∙ put_formulas (block_axioms B) (axioms_of One D)))
 
-known_put : (os : List Object) (xs k : List ℕ) → known_object os (reverse xs ++ k) ≡ put_all (map (object_at os) xs) (known_object os k)
+pub known_put : (os : List Object) (xs k : List ℕ) → known_object os (reverse xs ++ k) ≡ put_all (map (object_at os) xs) (known_object os k)
 known_put os [] k = refl
 known_put os (x ∷ xs) k =
     ap (known_object os) (ap (λ l. l ++ k) (reverse-append (x ∷ []) xs) ∙ append_assoc (reverse xs) (x ∷ []) k)
     ∙ known_put os xs (x ∷ k)
 
-all_put : (P : ℕ → Type 0) (xs k : List ℕ) → All P xs → All P k → All P (reverse xs ++ k)
+pub all_put : (P : ℕ → Type 0) (xs k : List ℕ) → All P xs → All P k → All P (reverse xs ++ k)
 all_put P [] k h i = i
 all_put P (x ∷ xs) k h i =
     subst (All P) (sym (ap (λ l. l ++ k) (reverse-append (x ∷ []) xs) ∙ append_assoc (reverse xs) (x ∷ []) k))
     (all_put P xs (x ∷ k) (All-tail P x xs h) (All-cons P x k (All-head P x xs h) i))
 
-map_grown : (old new : List Object) → Grows old new → (xs : List ℕ) → All (IsIn old) xs → map (object_at new) xs ≡ map (object_at old) xs
+pub map_grown : (old new : List Object) → Grows old new → (xs : List ℕ) → All (IsIn old) xs → map (object_at new) xs ≡ map (object_at old) xs
 map_grown old new g [] h = refl
 map_grown old new g (x ∷ xs) h = ap₂ (λ y ys. y ∷ ys) (object_at-Grows old new g x (All-head (IsIn old) x xs h)) (map_grown old new g xs (All-tail (IsIn old) x xs h))
 

@@ -24,25 +24,12 @@ refused_formula true false c p h k = refl
 refused_formula true true c p h z = cc
 refused_formula false f c p z k = cc
 
-pub refused_conclusion : (n f c p : Bool) → n ≡ true → f ≡ true → c ≡ false → Some CONCLUSION ≡ refusal_by n f c p
-refused_conclusion true true false p h k l = refl
-refused_conclusion true true true p h k z = cc
-refused_conclusion true false c p h z l = cc
-refused_conclusion false f c p z k l = cc
-
-pub refused_proof : (n f c p : Bool) → n ≡ true → f ≡ true → c ≡ true → p ≡ false → Some PROOF ≡ refusal_by n f c p
-refused_proof true true true false h k l m = refl
-refused_proof true true true true h k l z = cc
-refused_proof true true false p h k z m = cc
-refused_proof true false c p h z l m = cc
-refused_proof false f c p z k l m = cc
-
-pub not_refused : (n f c p : Bool) → n ≡ true → f ≡ true → c ≡ true → p ≡ true → None ≡ refusal_by n f c p
-not_refused true true true true h k l m = refl
-not_refused true true true false h k l z = cc
-not_refused true true false p h k z m = cc
-not_refused true false c p h z l m = cc
-not_refused false f c p z k l m = cc
+pub proof_refused : (n f c : Bool) (found : Option Formula) → n ≡ true → f ≡ true → cond c (no_unless PROOF found) (Some CONCLUSION) ≡ refusal_by n f c (is_present found)
+proof_refused true true true (Some F) h k = refl
+proof_refused true true true None h k = refl
+proof_refused true true false found h k = refl
+proof_refused true false c found h k = cc
+proof_refused false f c found h k = cc
 
 that_some : {X : Type 0} (test : X → Bool) (o : Option X) (x : X) → that test o ≡ Some x → o ≡ Some x
 that_some test None x h = cc

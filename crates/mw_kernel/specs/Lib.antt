@@ -4,5 +4,9 @@ pub mod Code
 pub mod EventWords
 pub mod Words
 pub mod Fates
+pub mod Proofs
 pub mod Version
 pub mod Evaluating
+pub mod Adding
+pub mod Admitting
+pub mod Defining

@@ -12,11 +12,11 @@ use Rattle.mw_model.specs.Report.{Report, report_of, lines, last_line}
 abbrev pub is_taken : EventWord → Bool
 is_taken Verify = true
 is_taken Print = true
-is_taken Define = false
-is_taken Skolem = false
+is_taken Define = true
+is_taken Skolem = true
 is_taken Switch = false
 is_taken Eval = true
-is_taken DefineAll = false
+is_taken DefineAll = true
 is_taken SetProfile = false
 
 -- the word and what would be the label, and nothing that is an event

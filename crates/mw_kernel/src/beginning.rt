@@ -12,7 +12,8 @@ ghost use Rattle.mw_preamble.specs.Admitted.{first_definitions};
 ghost use Rattle.mw_preamble.specs.Entries.{AreEntries};
 ghost use Rattle.mw_kernel.specs.Knowledge.{theory_with, put_all};
 
-use crate::front::with_front;
+use crate::adding::add_known;
+use crate::front::{with_all, with_pair};
 use mw_axioms::build;
 use mw_code::Table;
 use mw_heap::{Heap, Memory, Profile, Ref};
@@ -70,11 +71,8 @@ fn add_axioms(heap: &mut Heap, known: &mut Known, list: Ref, axioms: &[Ref]) -> 
     ensures list { IfOk result (λ r. IsIn heap.new r × (object_at heap.new r ≡ put_all (map (object_at heap.old) axioms.now) (object_at heap.old list))) }
     ensures known { OnOk result (known.new ≡ reverse axioms.now ++ known.old) }
 {
-    let mut list = list;
-    for axiom in axioms {
-        list = with_front(heap, *axiom, list)?;
-        known.add(*axiom)?;
-    }
+    let list = with_all(heap, axioms, list)?;
+    add_known(known, axioms)?;
     Ok(list)
 }
 
@@ -99,7 +97,5 @@ fn add_arity(heap: &mut Heap, list: Ref, name: &[u8], count: u64) -> Result<Ref,
     ensures list { IfOk result (λ r. IsIn heap.new r × (object_at heap.new r ≡ Pair (Pair (Symbol (name_of_bytes name.now)) (Natural count)) (object_at heap.old list))) }
 {
     let name = heap.symbol(name)?;
-    let count = heap.nat(count as u128)?;
-    let entry = heap.cons(name, count)?;
-    heap.cons(entry, list)
+    with_pair(heap, name, count, list)
 }

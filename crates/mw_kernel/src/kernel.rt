@@ -2,8 +2,9 @@
 ghost use Rattle.std.specs.Prelude.{◌≡◌, ℕ, ◌≤◌, ◌⊎◌, false, true, List, length, max, take, option_map, IfOk, IfSome, OnOk, OnErr};
 ghost use Rattle.mw_model.specs.Object.{Object, Symbol, NIL};
 ghost use Rattle.mw_model.specs.Primitive.{One, is_symbol, name_of};
-ghost use Rattle.mw_model.specs.Definition.{arity_table};
+ghost use Rattle.mw_model.specs.Definition.{Block, arity_table};
 ghost use Rattle.mw_model.specs.Theory.{initial, claim, IsSound};
+ghost use Rattle.mw_model.specs.Admission.{add_to_theory};
 ghost use Rattle.mw_model.specs.Fate.{fate, next, eval, is_out_of_range};
 ghost use Rattle.mw_kernel.specs.Version.{as_taken};
 ghost use Rattle.mw_heap.specs.Objects.{object_at, IsIn, Grows};
@@ -13,20 +14,26 @@ ghost use Rattle.mw_read.specs.Standing.{Stands, IsStanding, Follows, Says, IsLa
 ghost use Rattle.mw_read.specs.Feeding.{IsAwaiting, IsReady, Continues};
 ghost use Rattle.mw_kernel.specs.Knowledge.{theory_of, with_theorem};
 ghost use Rattle.mw_kernel.specs.Words.{verify_event, eval_event};
+ghost use Rattle.mw_kernel.specs.Admitting.{AreWithin, drafts_given, defined, skolem_at};
+ghost use Rattle.mw_kernel.specs.Defining.{IsNewBlock};
 ghost use Rattle.mw_kernel.specs.Fates.{fate_of, verified, KeepsRoom};
 
 use crate::Fate;
+use crate::adding::{Lists, add_block};
+use crate::admitting::{Drafts, admit, functions_of, witness_of};
 use crate::beginning::begin;
 use crate::claim::claim;
 use crate::eval::evaluated;
 use crate::event::{Event, event_of};
 use crate::fate::{accepted, shown};
 use crate::front::with_front;
+use crate::proofs::{list_members, refusal_of_proofs};
 use crate::verify::refusal;
 use mw_code::Table;
+use mw_define::{Admitted, Draft, admit_witness};
 use mw_heap::{Heap, Mark, Memory, Ref, Refusal};
 use mw_machine::Machine;
-use mw_preamble::Entries;
+use mw_preamble::{Definition, Entries};
 use mw_proof::Known;
 use mw_read::{Reader, Step};
 use mw_term::{Arity, Marks};
@@ -214,6 +221,7 @@ impl Kernel {
         ensures steps { self.new.steps ≡ self.old.steps }
         ensures kept { IfOk result (λ f. KeepsRoom f self.old.needed self.new.needed) }
     {
+        events_keep();
         let Some(members) = event_of(&self.heap, event) else {
             return Ok(Fate::Refused(Refusal::Event));
         };
@@ -225,10 +233,32 @@ impl Kernel {
             } => self.verify(name, formula, proof),
             Event::Eval(term) => self.eval(term),
             Event::Print(x) => shown(&self.heap, x),
-            Event::Define { .. } => Ok(Fate::Refused(Refusal::Event)),
-            Event::Skolem { .. } => Ok(Fate::Refused(Refusal::Event)),
+            Event::Define {
+                name,
+                formals,
+                body,
+                measure,
+                proofs,
+            } => {
+                let draft = Draft {
+                    name,
+                    formals,
+                    body,
+                    measure,
+                };
+                self.define(Drafts::One(draft), proofs)
+            }
+            Event::Skolem {
+                name,
+                bound,
+                free,
+                body,
+            } => self.skolem(name, bound, free, body),
             Event::Switch(_) => Ok(Fate::Refused(Refusal::Event)),
-            Event::DefineAll { .. } => Ok(Fate::Refused(Refusal::Event)),
+            Event::DefineAll {
+                definitions,
+                proofs,
+            } => self.define(Drafts::All(definitions), proofs),
             Event::Profile(_) => Ok(Fate::Refused(Refusal::Event)),
         }
     }
@@ -278,6 +308,90 @@ impl Kernel {
             &mut self.machine,
             self.steps,
         )
+    }
+
+    // The fate of a SKOLEM.
+    fn skolem(&mut self, name: Ref, bound: Ref, free: Ref, body: Ref) -> Result<Fate, Memory>
+        requires name { IsIn self.old.objects name }
+        requires bound { IsIn self.old.objects bound }
+        requires free { IsIn self.old.objects free }
+        requires body { IsIn self.old.objects body }
+        requires sound { IsSound (skolem_at self.old.objects (theory_of self.old) name bound free body).1 }
+        ensures fate { IfOk result (λ f. fate_of f ≡ (skolem_at self.old.objects (theory_of self.old) name bound free body).0) }
+        ensures theory { OnOk result (theory_of self.new ≡ (skolem_at self.old.objects (theory_of self.old) name bound free body).1) }
+        ensures err { OnErr result (theory_of self.new ≡ theory_of self.old) }
+        ensures steps { self.new.steps ≡ self.old.steps }
+        ensures kept { IfOk result (λ f. KeepsRoom f self.old.needed self.new.needed) }
+    {
+        let owed = match admit_witness(&mut self.heap, name, bound, free, body, &self.arity) {
+            Admitted::Obligations(owed) => owed,
+            Admitted::Refused(reason) => return Ok(Fate::Refused(reason)),
+            Admitted::Memory => return Err(Memory),
+        };
+        let witness = witness_of(name, bound, free, owed.entries.as_slice());
+        self.add_definitions(&[witness], owed.axioms)?;
+        Ok(accepted(&self.heap))
+    }
+
+    // The fate of a DEFINE or a DEFINE-ALL that gives these functions, with these proofs.
+    fn define(&mut self, drafts: Drafts, proofs: Ref) -> Result<Fate, Memory>
+        requires drafts { AreWithin self.old.objects drafts }
+        requires proofs { IsIn self.old.objects proofs }
+        requires sound { IsSound (defined (theory_of self.old) self.old.steps (drafts_given self.old.objects drafts) (object_at self.old.objects proofs)).1 }
+        ensures fate { IfOk result (λ f. fate_of f ≡ (defined (theory_of self.old) self.old.steps (drafts_given self.old.objects drafts) (object_at self.old.objects proofs)).0) }
+        ensures theory { OnOk result (theory_of self.new ≡ (defined (theory_of self.old) self.old.steps (drafts_given self.old.objects drafts) (object_at self.old.objects proofs)).1) }
+        ensures err { OnErr result (theory_of self.new ≡ theory_of self.old) }
+        ensures steps { self.new.steps ≡ self.old.steps }
+        ensures kept { IfOk result (λ f. KeepsRoom f self.old.needed self.new.needed) }
+    {
+        let owed = match admit(&mut self.heap, drafts, &self.arity) {
+            Admitted::Obligations(owed) => owed,
+            Admitted::Refused(reason) => return Ok(Fate::Refused(reason)),
+            Admitted::Memory => return Err(Memory),
+        };
+        let refused = refusal_of_proofs(
+            &mut self.heap,
+            owed.obligations,
+            proofs,
+            &self.known_axioms,
+            &self.known_theorems,
+            &self.arity,
+            &mut self.marks,
+        )?;
+        if let Some(reason) = refused {
+            return Ok(Fate::Refused(reason));
+        }
+        let block = functions_of(self.heap.alloc(), owed.entries.as_slice())?;
+        self.add_definitions(block.as_slice(), owed.axioms)?;
+        Ok(accepted(&self.heap))
+    }
+
+    // Adds a block of definitions with the list of its axioms.
+    fn add_definitions(&mut self, block: &[Definition], axioms: Ref) -> Result<(), Memory>
+        requires block { (B : Block) × IsNewBlock self.old block.now axioms B }
+        ensures theory { (B : Block) → IsNewBlock self.old block.now axioms B → OnOk result (theory_of self.new ≡ add_to_theory (theory_of self.old) B) }
+        ensures err { OnErr result (theory_of self.new ≡ theory_of self.old) }
+        ensures steps { self.new.steps ≡ self.old.steps }
+    {
+        let members = list_members(&self.heap, axioms)?;
+        let lists = add_block(
+            &mut self.heap,
+            block,
+            members.as_slice(),
+            Lists {
+                axioms: self.axioms,
+                arity_list: self.arity_list,
+            },
+            &mut self.arity,
+            &mut self.entries,
+            &mut self.table,
+            &mut self.known_axioms,
+        )?;
+        self.axioms = lists.axioms;
+        self.arity_list = lists.arity_list;
+        self.marks = Marks::new(self.heap.alloc());
+        self.needed = self.heap.mark();
+        Ok(())
     }
 
     // Adds a theorem. Of the objects that the theory does not need, only those that came before it stay.

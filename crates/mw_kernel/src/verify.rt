@@ -9,8 +9,9 @@ ghost use Rattle.mw_proof.specs.Known.{known_object};
 ghost use Rattle.mw_kernel.specs.Knowledge.{theory_with};
 ghost use Rattle.mw_kernel.specs.Fates.{verify_refusal};
 
-use mw_heap::{Heap, Memory, Profile, Ref, Refusal, View};
-use mw_proof::{Judged, Known, judge};
+use crate::proofs::refusal_of_proof;
+use mw_heap::{Heap, Memory, Ref, Refusal, View};
+use mw_proof::Known;
 use mw_term::{Arity, Marks};
 
 /// Why a VERIFY of these members is refused, where it is. The tests come in the order of their numbers.
@@ -42,14 +43,7 @@ pub(crate) fn refusal(
     if !marks.is_formula(formula) {
         return Ok(Some(Refusal::Formula));
     }
-    if !heap.is_same(heap.second_of(proof), Some(formula)) {
-        return Ok(Some(Refusal::Conclusion));
-    }
-    match judge(heap, proof, axioms, theorems, arity, Profile::One, marks) {
-        Judged::Good => Ok(None),
-        Judged::Bad => Ok(Some(Refusal::Proof)),
-        Judged::Memory => Err(Memory),
-    }
+    refusal_of_proof(heap, formula, proof, axioms, theorems, arity, marks)
 }
 
 // Whether an object is a symbol.

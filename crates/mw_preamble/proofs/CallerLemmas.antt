@@ -29,7 +29,7 @@ module _ (old new : List Object) (grows : Grows old new) where
   functions-grow (Witness name bound free body ∷ ds) [] h = absurd h
   functions-grow (Witness name bound free body ∷ ds) (k ∷ B) h = absurd h
 
-  block-grows : (ds : List Definition) (B : Block) → IsBlock old ds B → IsBlock new ds B
+  pub block-grows : (ds : List Definition) (B : Block) → IsBlock old ds B → IsBlock new ds B
   block-grows ds (Functions B) h = functions-grow ds B h
   block-grows (Witness name bound free body ∷ []) (Choice g y xs b) h = record {
     name_in = IsIn-Grows old new grows name h.name_in;

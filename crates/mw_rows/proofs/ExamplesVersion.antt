@@ -5,7 +5,7 @@ use Rattle.mw_model.specs.Report.{Done, SomeRefused}
 use Rattle.mw_kernel.specs.Version.{report_due}
 use Rattle.mw_model.proofs.Examples.{says}
 
-words_of_later_versions_are_refused_with_their_labels : report_due (codes "(define k (x) x nil ()) (eval 1) (switch f) (print 2)") 10000000 ≡ says ("1 DEFINE K refused EVENT" ∷ "2 EVAL - accepted 1" ∷ "3 SWITCH F refused EVENT" ∷ "4 PRINT - accepted 2" ∷ "events 4 accepted 2 refused 2 level 1" ∷ []) SomeRefused
+words_of_later_versions_are_refused_with_their_labels : report_due (codes "(define k (x) x nil ()) (eval 1) (switch f) (print 2)") 10000000 ≡ says ("1 DEFINE K accepted" ∷ "2 EVAL - accepted 1" ∷ "3 SWITCH F refused EVENT" ∷ "4 PRINT - accepted 2" ∷ "events 4 accepted 3 refused 1 level 1" ∷ []) SomeRefused
 unfolding need must unless
 words_of_later_versions_are_refused_with_their_labels = refl
 

@@ -197,7 +197,7 @@ const NO_EVENTS: [Row; 9] = [
         status: Status::SomeRefused,
     },
     Row {
-        book: "(define k (x) x nil ())",
+        book: "(define k (x) x nil)",
         report: "1 DEFINE K refused EVENT\nevents 1 accepted 0 refused 1 level 1\n",
         status: Status::SomeRefused,
     },

@@ -76,6 +76,47 @@ fn answer_on_actuals(alloc: Global, count: usize) -> Result<Answer, AllocError> 
     answer_to(alloc, book.as_str(), 4096)
 }
 
+// The answer to a DEFINE after that of a function of two arguments, with a body in which sixty labels stand for 2^60 calls of the older one.
+fn answer_on_shared_body(alloc: Global) -> Result<Answer, AllocError> {
+    let body = shared_term(alloc, "two")?;
+    let book = format!(in alloc;
+        "(define two (x y) (cons x y) nil ()) (define big (x) {body} nil ())"
+    )?;
+    answer_to(alloc, book.as_str(), 4096)
+}
+
+// The answer to a DEFINE of a function that calls itself on each of 2^60 ways through sixty tests.
+fn answer_on_shared_obligations(alloc: Global) -> Result<Answer, AllocError> {
+    let mut body = String::from_str(alloc, "#1=(f x)")?;
+    for k in 1..60 {
+        let next = k + 1;
+        body = format!(in alloc; "#{next}=(if (equal x {k}) {body} #{k}#)")?;
+    }
+    let book = format!(in alloc; "(define f (x) {body} x ())")?;
+    answer_to(alloc, book.as_str(), 4096)
+}
+
+// The answer to a block of so many functions and an EVAL of the last but one.
+fn answer_on_block(alloc: Global, count: usize) -> Result<Answer, AllocError> {
+    let mut members = String::new(alloc);
+    for k in 0..count {
+        write!(members, "(f{k} (x) x nil)")?;
+    }
+    let book = format!(in alloc; "(define-all ({members}) ()) (eval (f1998 7))")?;
+    answer_to(alloc, book.as_str(), 4096)
+}
+
+// The answer to so many definitions, each of which calls the one before it, and an EVAL of one of them.
+fn answer_on_definitions(alloc: Global, count: usize) -> Result<Answer, AllocError> {
+    let mut book = String::from_str(alloc, "(define f0 (x) x nil ())")?;
+    for k in 1..count {
+        let before = k - 1;
+        write!(book, "(define f{k} (x) (f{before} x) nil ())")?;
+    }
+    book.push_str("(eval (f4998 7))")?;
+    answer_to(alloc, book.as_str(), 4096)
+}
+
 const CHECK: [&str; 1] = ["check"];
 
 #[test]
@@ -102,6 +143,37 @@ fn code_past_the_bound_is_out_of_memory(rt: HostRuntime) -> Result<(), Fail> {
     assert_eq!(rt; shared.status, Status::Memory);
     let pairs = answer_on_shared(rt.alloc(), "cons")?;
     assert_eq!(rt; pairs.status, Status::Memory);
+    Ok(())
+}
+
+#[test]
+fn definitions_past_the_bounds_are_out_of_memory(rt: HostRuntime) -> Result<(), Fail> {
+    let calls = answer_on_shared_body(rt.alloc())?;
+    assert_eq!(rt; calls.status, Status::Memory);
+    let obligations = answer_on_shared_obligations(rt.alloc())?;
+    assert_eq!(rt; obligations.status, Status::Memory);
+    Ok(())
+}
+
+#[test]
+fn a_block_may_be_long(rt: HostRuntime) -> Result<(), Fail> {
+    let answer = answer_on_block(rt.alloc(), 2_000)?;
+    assert_eq!(rt;
+        answer.report.as_str(),
+        "1 DEFINE-ALL - accepted\n2 EVAL - accepted 7\nevents 2 accepted 2 refused 0 level 1\n"
+    );
+    Ok(())
+}
+
+#[test]
+fn a_book_may_define_many_functions(rt: HostRuntime) -> Result<(), Fail> {
+    let answer = answer_on_definitions(rt.alloc(), 5_000)?;
+    assert!(rt;
+        answer.report.as_str().ends_with(
+            "5001 EVAL - accepted 7\nevents 5001 accepted 5001 refused 0 level 1\n"
+        )
+    );
+    assert_eq!(rt; answer.status, Status::Done);
     Ok(())
 }
 

@@ -8,6 +8,8 @@ mod calls;
 #[cfg(test)]
 mod commands;
 #[cfg(test)]
+mod definitions;
+#[cfg(test)]
 mod depth;
 #[cfg(test)]
 mod ends;
@@ -23,6 +25,8 @@ mod hostile;
 mod induction;
 #[cfg(test)]
 mod pieces;
+#[cfg(test)]
+mod ranks;
 #[cfg(test)]
 mod row;
 #[cfg(test)]

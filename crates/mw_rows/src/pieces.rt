@@ -12,7 +12,7 @@ const BOOK: &str = "; a ) and a |
 (print 340282366920938463463374607431768211456)
 ";
 
-// A book that defines a checker, proves what it claims and switches to it, all of which this version refuses.
+// A book that defines a checker, proves what it claims and switches to it, which this version refuses.
 const SWITCH: &str = "(define never (x axioms thms atbl) nil nil ())
 (verify claim
  #1=(por* #2=(pequal* (never x axioms thms atbl) 'nil)
@@ -37,11 +37,11 @@ events 5 accepted 2 refused 3 level 1
     },
     Row {
         book: SWITCH,
-        report: "1 DEFINE NEVER refused EVENT
-2 VERIFY CLAIM refused FORMULA
+        report: "1 DEFINE NEVER accepted
+2 VERIFY CLAIM accepted
 3 SWITCH NEVER refused EVENT
 4 VERIFY REFL accepted
-events 4 accepted 1 refused 3 level 1
+events 4 accepted 3 refused 1 level 1
 ",
         status: Status::SomeRefused,
     },

@@ -1,10 +1,6 @@
 //! Raw terms, and the terms that they expand to.
-ghost use Rattle.std.specs.Prelude.{◌≡◌, ◌↔◌, true, IsTrue};
-ghost use Rattle.mw_model.specs.Object.{is_name};
-ghost use Rattle.mw_heap.specs.Objects.{IsIn};
-
+use crate::shared::{add, arities, boxed, is_in, read};
 use mw_heap::{Heap, Memory, Ref};
-use mw_read::{Reader, Step};
 use mw_term::Arity;
 use mw_translate::{Expanded, expand, expand_under};
 use std::alloc::{AllocError, Global};
@@ -141,22 +137,6 @@ const NO_TERMS: [&[u8]; 24] = [
     b"((lambda (x) (f x y)) x)",
 ];
 
-fn is_in(heap: &Heap, x: Ref) -> bool
-    ensures { IsTrue result ↔ IsIn heap.now x }
-{
-    x.index() < heap.mark().cells()
-}
-
-// The first datum of a text.
-fn read(heap: &mut Heap, text: &[u8]) -> Result<Ref, Memory> {
-    let mut reader = Reader::new(heap.alloc());
-    let (step, _) = reader.step(heap, text);
-    match step {
-        Step::Datum(datum) => Ok(datum),
-        _ => Err(Memory),
-    }
-}
-
 fn expanded(heap: &mut Heap, arity: &Arity, raw: Ref) -> Expanded {
     if is_in(heap, raw) {
         expand(heap, raw, arity, &[])
@@ -191,35 +171,6 @@ fn are_no_terms(heap: &mut Heap, arity: &Arity, texts: &[&[u8]]) -> Result<bool,
         }
     }
     Ok(true)
-}
-
-fn boxed(alloc: Global) -> Result<Box<Heap>, Memory> {
-    let heap = Heap::new(alloc)?;
-    Ok(Box::new(alloc, heap)?)
-}
-
-fn add(arity: &mut Arity, name: &[u8], count: u64) -> Result<(), Memory>
-    requires { is_name name.now ≡ true }
-{
-    match arity.lookup(name) {
-        Some(_) => Ok(()),
-        None => arity.add(name, count),
-    }
-}
-
-fn add_all(arity: &mut Arity) -> Result<(), Memory> {
-    add(arity, b"IF", 3)?;
-    add(arity, b"CONS", 2)?;
-    add(arity, b"CAR", 1)?;
-    add(arity, b"CDR", 1)?;
-    add(arity, b"F", 2)
-}
-
-// The arities of IF, CONS, CAR and CDR, and of F, which takes two.
-fn arities(alloc: Global) -> Result<Box<Arity>, Memory> {
-    let mut arity = Box::new(alloc, Arity::new(alloc))?;
-    add_all(&mut arity)?;
-    Ok(arity)
 }
 
 #[test]

@@ -1,5 +1,4 @@
 -- The code of the call is gone, and what was there stands.
-use Rattle.std.proofs.Common.{[]}
 use Rattle.mw_kernel.proofs.eval.run_term.Goals as goal
 
 pub returns-clause-table : goal.returns-clause-table

@@ -1,5 +1,5 @@
 -- The run leaves the theory.
-use Rattle.std.proofs.Common.{◌≡◌, sym, ap, ◌∙◌, subst}
+use Rattle.std.proofs.Common.{sym, ap, ◌∙◌, subst}
 use Rattle.mw_model.specs.Primitive.{One}
 use Rattle.mw_model.specs.Definition.{definitions}
 use Rattle.mw_model.specs.Fate.{eval}

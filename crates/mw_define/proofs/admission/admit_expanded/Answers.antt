@@ -1,0 +1,34 @@
+-- The last tests.
+use Rattle.std.proofs.Common.{refl, inr, ap, ◌∙◌}
+use Rattle.mw_model.specs.Definition.{function_axioms}
+use Rattle.mw_model.specs.RulesInduction.{formulas_object}
+use Rattle.mw_heap.proofs.Objects.{object_at-Grows, IsIn-Grows}
+use Rattle.mw_define.proofs.Expanding.{each-expanded-Grows, functions-Grows}
+use Rattle.mw_define.proofs.BlockRead.{closed-all}
+use Rattle.mw_define.proofs.admission.admit_expanded.Goals as goal
+
+pub returns-in_default-2-clause-admitted : goal.returns-in_default-2-clause-admitted
+returns-in_default-2-clause-admitted c =
+    inr (refl, closed-all c.args.heap.now c.args.block.now c.in-Some.entries.items (rw c.in-Some.is at c.in_ok-entries.ensures), rw c.in_default-2.is at c.in_ok-obligations.ensures.listed)
+
+pub list_axioms-requires : goal.list_axioms-requires
+list_axioms-requires c = each-expanded-Grows c.args.heap.now c.list_obligations.new.heap c.in_ok-obligations.ensures.grows c.args.block.now c.requires.expanded
+
+pub returns-clause-admitted : goal.returns-clause-admitted
+returns-clause-admitted c =
+    let os = c.args.heap.now in
+    let mid = c.list_obligations.new.heap in
+    let new = c.list_axioms.new.heap in
+    let r = c.in-Some-2.obligations in
+    let g = c.in_ok-axioms.ensures.grows in
+    let q = rw c.in-Some-2.is at c.in_ok-obligations.ensures.listed in
+    record {
+      obligations = record {
+        flat = q.flat;
+        within = IsIn-Grows mid new g r q.within;
+        obligations = object_at-Grows mid new g r q.within ∙ q.obligations;
+      };
+      axioms_in = c.in_ok-axioms.ensures.made.0;
+      axioms = c.in_ok-axioms.ensures.made.1 ∙ ap (λ B. formulas_object (function_axioms B)) (functions-Grows os mid c.in_ok-obligations.ensures.grows c.args.block.now c.requires.expanded);
+      entries = rw c.in-Some.is at c.in_ok-entries.ensures;
+    }

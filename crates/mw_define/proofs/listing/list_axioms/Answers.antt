@@ -1,0 +1,25 @@
+-- The list of what was made.
+use Rattle.std.proofs.Common.{ap, ◌∙◌}
+use Rattle.mw_model.specs.Object.{NIL}
+use Rattle.mw_translate.specs.Lets.{prepend}
+use Rattle.mw_translate.proofs.Appended.{all_in-Grows, prepend-Grows}
+use Rattle.mw_define.proofs.BlockAxioms.{axioms-in, listed-axioms}
+use Rattle.mw_define.proofs.listing.list_axioms.Goals as goal
+
+pub put_before-requires-clause-front_in : goal.put_before-requires-clause-front_in
+put_before-requires-clause-front_in c =
+    all_in-Grows c.axioms_of.new.heap c.nil.new.self c.in_ok-axioms.axioms.items c.in_ok-nil.ensures.grows
+    (axioms-in c.args.heap.now c.axioms_of.new.heap c.args.block.now c.in_ok-axioms.axioms.items c.in_ok-axioms.ensures.made)
+
+pub returns-clause-made : goal.returns-clause-made
+returns-clause-made c =
+    let os = c.args.heap.now in
+    let mid = c.axioms_of.new.heap in
+    let new = c.nil.new.self in
+    let rs = c.in_ok-axioms.axioms.items in
+    let k = c.in_ok-put_before.ensures.made in (
+      k.0,
+      k.1
+          ∙ (ap (prepend new rs) c.in_ok-nil.ensures.made.1
+          ∙ (prepend-Grows mid new rs NIL c.in_ok-nil.ensures.grows (axioms-in os mid c.args.block.now rs c.in_ok-axioms.ensures.made) ∙ listed-axioms os mid c.args.block.now rs c.in_ok-axioms.ensures.made)),
+    )

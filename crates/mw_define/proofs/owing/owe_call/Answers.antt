@@ -1,0 +1,26 @@
+-- The obligation of one call.
+use Rattle.std.proofs.Common.{◌∷◌, [], sym, subst}
+use Rattle.mw_heap.specs.Objects.{object_at}
+use Rattle.mw_define.specs.Owed.{Adds}
+use Rattle.mw_define.proofs.OwedSoFar.{adds-later}
+use Rattle.mw_define.proofs.OwedCalls.{the_formula, one-formula, formula-is, formula-read}
+use Rattle.mw_define.proofs.owing.owe_call.Goals as goal
+
+pub returns-clause-owed : goal.returns-clause-owed
+returns-clause-owed c =
+    let os = c.args.heap.now in
+    let new = c.obligation.new.heap in
+    let es = c.args.block.now in
+    let rs = c.args.names.now.keys in
+    let function = c.args.function.now in
+    let called = c.function_named-called.result in
+    let f = c.args.call.now in
+    let b = c.requires.block in
+    let n = c.requires.named in
+    let k = c.function_named-called.ensures in
+    let h = c.requires.call.0 in
+    let t = c.requires.call.1 in
+    let F = the_formula os es rs b function called f n k h t in
+    subst (Adds os new c.args.owed.now.keys c.add_formula.new.owed.keys) (sym (one-formula os es rs b function called f n k h t))
+    (adds-later os new new c.args.owed.now.keys c.add_formula.new.owed.keys (F ∷ []) c.in_ok-formula.ensures.grows
+    (c.in_ok-add_formula.ensures F (formula-is os es rs b function called f n k h t (object_at new c.in_ok-formula.formula) c.in_ok-formula.ensures.made.1) (formula-read os es rs b function called f n k h t)))

@@ -1,0 +1,6 @@
+-- What the calls so far owe.
+use Rattle.mw_define.proofs.OwedBlock.{CallsSoFar}
+use Rattle.mw_define.proofs.owing.owe_calls.Given as goal
+
+abbrev pub invariant-loop-call : goal.invariant-loop-call
+invariant-loop-call l = CallsSoFar l.fn.heap l.heap l.fn.block l.fn.function l.fn.owed.keys l.owed.keys l.fn.calls l.call-index

@@ -1,0 +1,19 @@
+-- The measure is that of the function.
+use Rattle.std.proofs.Common.{◌≡◌, ◌∷◌, [], Some, sym, ap, ◌∙◌}
+use Rattle.mw_model.specs.Reading.{term_of}
+use Rattle.mw_model.specs.Primitive.{name_of}
+use Rattle.mw_model.specs.Obligation.{ordinal_formula, measure_of}
+use Rattle.mw_heap.specs.Objects.{object_at}
+use Rattle.mw_define.specs.Blocks.{measures_at}
+use Rattle.mw_define.proofs.OwedSoFar.{adds-later}
+use Rattle.mw_define.proofs.OwedCalls.{ordinal-read}
+use Rattle.mw_define.proofs.owing.owe_ordinal.Goals as goal
+
+pub returns-clause-owed : goal.returns-clause-owed
+returns-clause-owed c =
+    let os = c.args.heap.now in
+    let new = c.is_ordinal.new.heap in
+    let m = measure_of (measures_at os c.args.block.now) (name_of (object_at os c.args.function.now.name)) in
+    let read : term_of (object_at os c.args.function.now.measure) ≡ Some m = c.requires.expanded.measure ∙ ap Some (sym c.requires.measure) in
+    adds-later os new new c.args.owed.now.keys c.add_formula.new.owed.keys (ordinal_formula m ∷ []) c.in_ok-formula.ensures.grows
+    (c.in_ok-add_formula.ensures (ordinal_formula m) (c.in_ok-formula.ensures.made.1 m read) (ordinal-read (object_at os c.args.function.now.measure) m read))

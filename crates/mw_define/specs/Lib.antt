@@ -1,0 +1,9 @@
+pub mod Axioms
+pub mod Collecting
+pub mod Mentioning
+pub mod Testing
+pub mod Descent
+pub mod Tests
+pub mod Blocks
+pub mod Owed
+pub mod BlockTests

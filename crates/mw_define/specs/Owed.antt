@@ -1,0 +1,96 @@
+-- What a block owes, as references to its formulas.
+use Rattle.std.specs.Prelude.{◌≡◌, ℕ, Bool, true, false, List, [], ◌∷◌, ◌++◌, map, Option, Some, None, MatchOption}
+use Rattle.mw_model.specs.Object.{Object, NIL}
+use Rattle.mw_model.specs.Term.{Formula, formula_object, firsts, are_distinct}
+use Rattle.mw_model.specs.Same.{same_formula}
+use Rattle.mw_model.specs.Reading.{formula_of}
+use Rattle.mw_model.specs.Primitive.{name_of}
+use Rattle.mw_model.specs.Definition.{function_named}
+use Rattle.mw_model.specs.Obligation.{RecursiveCall, recursive_calls, obligation, ordinal_formula, measure_of, is_empty, some_nested, is_nested, calls_none, owed, obligations}
+use Rattle.mw_model.specs.RulesInduction.{formulas_object}
+use Rattle.mw_heap.specs.Objects.{object_at, IsIn}
+use Rattle.mw_term.specs.Parts.{names_at, AreSymbols}
+use Rattle.mw_translate.specs.Lets.{prepend, AreAllIn}
+use Rattle.mw_define.specs.declared.draft.Draft.{Draft as Given}
+use Rattle.mw_define.specs.declared.recursion.Recursion.{Recursion}
+use Rattle.mw_define.specs.declared.recursion.Recursion.TheVariants as recursion
+use Rattle.mw_define.specs.Blocks.{functions_at, measures_at, function_at, measure_at, draft_names, AreExpanded, IsExpanded}
+
+-- formulas that are read back from their objects
+abbrev pub IsReadBack : Formula → Type 0
+IsReadBack F = formula_of (formula_object F) ≡ Some F
+
+abbrev pub AreReadBack : List Formula → Type 0
+AreReadBack [] = Unit {0}
+AreReadBack (F ∷ Fs) = IsReadBack F × AreReadBack Fs
+
+-- the formulas, each once, in the order in which they first came
+pub record AreOwed (os : List Object) (rs : List ℕ) (Fs : List Formula) : Type 0 where
+  pub read : AreReadBack Fs
+  pub within : AreAllIn os rs
+  pub formulas : map (object_at os) rs ≡ map formula_object (firsts same_formula Fs)
+
+-- more formulas came
+abbrev pub Adds : List Object → List Object → List ℕ → List ℕ → List Formula → Type 0
+Adds old new rs more Gs = (Fs : List Formula) → AreOwed old rs Fs → AreOwed new more (Fs ++ Gs)
+
+-- expanded drafts with the references to their names, of which none comes twice
+pub record AreBlock (os : List Object) (rs : List ℕ) (es : List Given) : Type 0 where
+  pub expanded : AreExpanded os es
+  pub symbols : AreSymbols os rs
+  pub refs : rs ≡ draft_names es
+  pub distinct : are_distinct (names_at os rs) ≡ true
+
+-- e is the function of this name
+pub record IsNamed (os : List Object) (es : List Given) (name : ℕ) (e : Given) : Type 0 where
+  pub same : e.name ≡ name
+  pub expanded : IsExpanded os e
+  pub function : function_named (functions_at os es) (name_of (object_at os name)) ≡ Some (function_at os e)
+  pub measure : measure_of (measures_at os es) (name_of (object_at os name)) ≡ measure_at os e
+
+-- what a function owes at some of its calls
+abbrev pub owed_at : List Object → List Given → Given → List RecursiveCall → List Formula
+owed_at os es e calls = map (obligation (functions_at os es) (measures_at os es) (function_at os e)) calls
+
+abbrev pub calls_of : List Object → List Given → Given → List RecursiveCall
+calls_of os es e = recursive_calls (functions_at os es) (function_at os e)
+
+-- what one function owes was added, and whether it has no recursive calls
+pub record OwesBy (old new : List Object) (es : List Given) (e : Given) (rs more : List ℕ) (none : Bool) : Type 0 where
+  pub flat : some_nested (functions_at old es) (calls_of old es e) ≡ false
+  pub empty : is_empty (calls_of old es e) ≡ none
+  pub adds : Adds old new rs more (ordinal_formula (measure_of (measures_at old es) (name_of (object_at old e.name))) ∷ owed_at old es e (calls_of old es e))
+
+abbrev pub OwesOne : List Object → List Object → List Given → Given → List ℕ → List ℕ → Recursion → Type 0
+OwesOne old new es e rs more recursion.Nested = some_nested (functions_at old es) (calls_of old es e) ≡ true
+OwesOne old new es e rs more recursion.Absent = OwesBy old new es e rs more true
+OwesOne old new es e rs more recursion.Present = OwesBy old new es e rs more false
+
+-- what functions come to with one more
+abbrev pub joined : Recursion → Recursion → Recursion
+joined r recursion.Absent = r
+joined r recursion.Present = recursion.Present
+joined r recursion.Nested = recursion.Nested
+
+-- what these functions of the block owe was added, and whether they have no recursive calls
+pub record OwesEach (old new : List Object) (es some : List Given) (rs more : List ℕ) (none : Bool) : Type 0 where
+  pub flat : is_nested (functions_at old es) (functions_at old some) ≡ false
+  pub empty : calls_none (functions_at old es) (functions_at old some) ≡ none
+  pub adds : Adds old new rs more (owed (functions_at old es) (measures_at old es) (functions_at old some))
+
+abbrev pub OwesAll : List Object → List Object → List Given → List ℕ → List ℕ → Recursion → Type 0
+OwesAll old new es rs more recursion.Nested = is_nested (functions_at old es) (functions_at old es) ≡ true
+OwesAll old new es rs more recursion.Absent = OwesEach old new es es rs more true
+OwesAll old new es rs more recursion.Present = OwesEach old new es es rs more false
+
+-- nothing where calls are nested, NIL where there are none, or the list of the formulas
+abbrev pub IsListed : List Object → List Object → Recursion → List ℕ → Option ℕ → Type 0
+IsListed old new recursion.Nested rs o = o ≡ None
+IsListed old new recursion.Absent rs o = MatchOption o ⊥ (λ r. IsIn new r × (object_at new r ≡ NIL))
+IsListed old new recursion.Present rs o = MatchOption o ⊥ (λ r. IsIn new r × (object_at new r ≡ prepend old rs NIL))
+
+-- the list of the obligations
+pub record IsOwedList (old new : List Object) (es : List Given) (r : ℕ) : Type 0 where
+  pub flat : is_nested (functions_at old es) (functions_at old es) ≡ false
+  pub within : IsIn new r
+  pub obligations : object_at new r ≡ formulas_object (obligations (functions_at old es) (measures_at old es))

@@ -1,0 +1,115 @@
+//! Admission of blocks of functions.
+ghost use Rattle.std.specs.Prelude.{◌∷◌, [], map, IfOk};
+ghost use Rattle.mw_model.specs.Admission.{some_drafts};
+ghost use Rattle.mw_heap.specs.Objects.{object_at, IsIn, Grows};
+ghost use Rattle.mw_define.specs.Blocks.{draft_at, IsDraftIn, AreDraftsIn, AreNames};
+ghost use Rattle.mw_define.specs.Owed.{AreBlock};
+ghost use Rattle.mw_define.specs.BlockTests.{IsBlock, IsBlockOf, IsExpandedBlock};
+
+use crate::admitted::{Admitted, Owed};
+use crate::block::{close_all, expand_all, names_of, pairs_of};
+use crate::draft::Draft;
+use crate::drafts::read_drafts;
+use crate::listing::{list_axioms, list_obligations};
+use indexmap::IndexSet;
+use mw_heap::{Heap, Memory, Ref, Refusal};
+use mw_term::Arity;
+
+// The block of these expanded drafts, whose last tests are to be made.
+fn admit_expanded(
+    heap: &mut Heap,
+    names: &IndexSet<Ref>,
+    block: &[Draft],
+) -> Result<Admitted, Memory>
+    requires { AreBlock heap.old names.now.keys block.now }
+    ensures grows { Grows heap.old heap.new }
+    ensures admitted { IfOk result (IsExpandedBlock heap.old heap.new block.now) }
+{
+    let Some(entries) = close_all(heap, block)? else {
+        return Ok(Admitted::Refused(Refusal::Variables));
+    };
+    let Some(obligations) = list_obligations(heap, names, block)? else {
+        return Ok(Admitted::Refused(Refusal::Nested));
+    };
+    let axioms = list_axioms(heap, block)?;
+    Ok(Admitted::Obligations(Owed {
+        obligations,
+        axioms,
+        entries,
+    }))
+}
+
+// The block of these drafts, whose names passed.
+fn admit_named(
+    heap: &mut Heap,
+    names: &IndexSet<Ref>,
+    drafts: &[Draft],
+    arity: &Arity,
+) -> Result<Admitted, Memory>
+    requires within { AreDraftsIn heap.old drafts.now }
+    requires names { AreNames arity.now heap.old drafts.now names.now.keys }
+    ensures grows { Grows heap.old heap.new }
+    ensures admitted { IfOk result (IsBlock arity.now (map (draft_at heap.old) drafts.now) heap.new) }
+{
+    let Some(pairs) = pairs_of(heap, drafts)? else {
+        return Ok(Admitted::Refused(Refusal::Formals));
+    };
+    let Some(block) = expand_all(heap, drafts, pairs.as_slice(), arity)? else {
+        return Ok(Admitted::Refused(Refusal::Term));
+    };
+    Ok(admit_expanded(heap, names, block.as_slice())?)
+}
+
+// The block of these drafts.
+fn admit_drafts(heap: &mut Heap, drafts: &[Draft], arity: &Arity) -> Result<Admitted, Memory>
+    requires { AreDraftsIn heap.old drafts.now }
+    ensures grows { Grows heap.old heap.new }
+    ensures admitted { IfOk result (IsBlock arity.now (map (draft_at heap.old) drafts.now) heap.new) }
+{
+    match names_of(heap, drafts, arity)? {
+        Some(names) => Ok(admit_named(heap, &names, drafts, arity)?),
+        None => Ok(Admitted::Refused(Refusal::Name)),
+    }
+}
+
+// The block of a list of drafts.
+fn admit_list(heap: &mut Heap, defs: Ref, arity: &Arity) -> Result<Admitted, Memory>
+    requires { IsIn heap.old defs }
+    ensures grows { Grows heap.old heap.new }
+    ensures admitted { IfOk result (IsBlockOf arity.now (some_drafts (object_at heap.old defs)) heap.new) }
+{
+    match read_drafts(heap, defs)? {
+        Some(drafts) => Ok(admit_drafts(heap, drafts.as_slice(), arity)?),
+        None => Ok(Admitted::Refused(Refusal::Event)),
+    }
+}
+
+/// Tests a block of functions that may call each other: `defs` is a list of one or more lists (NAME FORMALS BODY MEASURE), with a raw
+/// body and a raw measure. The first test that fails, each made for all of them before the next, is the reason of the refusal: that
+/// `defs` is such a list, that the names are new and none comes twice, that each has a list of formals, that the bodies expand to
+/// terms, where the functions may be called, and the measures to terms, where they may not, that both have no variables but the
+/// formals, and that no function of the block is called in an actual of a call of one. Where all pass it answers the obligations, in
+/// order and each once, the axioms, and the entries. A block whose calls take more than 2^24 looks is answered as out of memory.
+pub fn admit_block(heap: &mut Heap, defs: Ref, arity: &Arity) -> Admitted
+    requires { IsIn heap.old defs }
+    ensures grows { Grows heap.old heap.new }
+    ensures admitted { IsBlockOf arity.now (some_drafts (object_at heap.old defs)) heap.new result }
+{
+    match admit_list(heap, defs, arity) {
+        Ok(admitted) => admitted,
+        Err(_) => Admitted::Memory,
+    }
+}
+
+/// Tests a function that may call itself, given by its name, the list of its formals, its raw body and its raw measure, as
+/// `admit_block` does a block of it alone.
+pub fn admit_function(heap: &mut Heap, draft: Draft, arity: &Arity) -> Admitted
+    requires { IsDraftIn heap.old draft }
+    ensures grows { Grows heap.old heap.new }
+    ensures admitted { IsBlock arity.now (draft_at heap.old draft ∷ []) heap.new result }
+{
+    match admit_drafts(heap, &[draft], arity) {
+        Ok(admitted) => admitted,
+        Err(_) => Admitted::Memory,
+    }
+}

@@ -1,0 +1,73 @@
+//! Axioms of definitions.
+ghost use Rattle.std.specs.Prelude.{◌≡◌, IfOk};
+ghost use Rattle.mw_model.specs.Object.{Pair, symbol, list3};
+ghost use Rattle.mw_model.specs.Rules.{equal_object};
+ghost use Rattle.mw_heap.specs.Objects.{object_at, IsIn, Grows};
+ghost use Rattle.mw_define.specs.Axioms.{quoted_nil, choice_object};
+
+use mw_heap::{Heap, Memory, Ref};
+use mw_translate::{call_of_one, call_of_two, quoted_symbol};
+
+// The call of a lambda with the bound variable and the free ones on the witness and the free ones.
+fn chosen(heap: &mut Heap, name: Ref, formals: Ref, free: Ref, body: Ref) -> Result<Ref, Memory>
+    requires name_in { IsIn heap.old name }
+    requires formals_in { IsIn heap.old formals }
+    requires free_in { IsIn heap.old free }
+    requires body_in { IsIn heap.old body }
+    ensures grows { Grows heap.old heap.new }
+    ensures made { IfOk result (λ r. IsIn heap.new r × (object_at heap.new r ≡ Pair (list3 (symbol "LAMBDA") (object_at heap.old formals) (object_at heap.old body)) (Pair (Pair (object_at heap.old name) (object_at heap.old free)) (object_at heap.old free)))) }
+{
+    let call = heap.cons(name, free)?;
+    let actuals = heap.cons(call, free)?;
+    let head = call_of_two(heap, b"LAMBDA", formals, body)?;
+    Ok(heap.cons(head, actuals)?)
+}
+
+// x = 'nil.
+pub(crate) fn equal_nil(heap: &mut Heap, x: Ref) -> Result<Ref, Memory>
+    requires { IsIn heap.old x }
+    ensures grows { Grows heap.old heap.new }
+    ensures made { IfOk result (λ r. IsIn heap.new r × (object_at heap.new r ≡ equal_object (object_at heap.old x) quoted_nil)) }
+{
+    let nil = quoted_symbol(heap, b"NIL")?;
+    Ok(call_of_two(heap, b"PEQUAL*", x, nil)?)
+}
+
+// body = 'nil or not (the body where the witness stands for the bound variable) = 'nil.
+pub(crate) fn choice_axiom(
+    heap: &mut Heap,
+    name: Ref,
+    formals: Ref,
+    free: Ref,
+    body: Ref,
+) -> Result<Ref, Memory>
+    requires name_in { IsIn heap.old name }
+    requires formals_in { IsIn heap.old formals }
+    requires free_in { IsIn heap.old free }
+    requires body_in { IsIn heap.old body }
+    ensures grows { Grows heap.old heap.new }
+    ensures made { IfOk result (λ r. IsIn heap.new r × (object_at heap.new r ≡ choice_object (object_at heap.old name) (object_at heap.old formals) (object_at heap.old free) (object_at heap.old body))) }
+{
+    let call = chosen(heap, name, formals, free, body)?;
+    let none = equal_nil(heap, body)?;
+    let fails = equal_nil(heap, call)?;
+    let holds = call_of_one(heap, b"PNOT*", fails)?;
+    Ok(call_of_two(heap, b"POR*", none, holds)?)
+}
+
+// (name . formals) = body.
+pub(crate) fn function_axiom(
+    heap: &mut Heap,
+    name: Ref,
+    formals: Ref,
+    body: Ref,
+) -> Result<Ref, Memory>
+    requires name_in { IsIn heap.old name }
+    requires formals_in { IsIn heap.old formals }
+    requires body_in { IsIn heap.old body }
+    ensures grows { Grows heap.old heap.new }
+    ensures made { IfOk result (λ r. IsIn heap.new r × (object_at heap.new r ≡ equal_object (Pair (object_at heap.old name) (object_at heap.old formals)) (object_at heap.old body))) }
+{
+    let call = heap.cons(name, formals)?;
+    Ok(call_of_two(heap, b"PEQUAL*", call, body)?)
+}

@@ -1,0 +1,95 @@
+//! The calls of a block of functions in a term.
+ghost use Rattle.std.specs.Prelude.{◌≡◌, List, [], Some, IfOk, OnOk};
+ghost use Rattle.mw_model.specs.Term.{Term};
+ghost use Rattle.mw_model.specs.Reading.{term_of};
+ghost use Rattle.mw_model.specs.Definition.{Function};
+ghost use Rattle.mw_model.specs.Obligation.{collect};
+ghost use Rattle.mw_heap.specs.Objects.{object_at, IsIn, Grows};
+ghost use Rattle.mw_term.specs.Parts.{names_at, AreSymbols};
+ghost use Rattle.mw_define.specs.Collecting.{Advances, IsPartOf, AreFoundCalls, HasNames, found_calls, HasTests};
+
+use crate::item::{FoundCall, Item, Part};
+use crate::mention::mentions_some;
+use crate::opening::open;
+use crate::piece::Piece;
+use indexmap::IndexSet;
+use mw_heap::{Heap, Memory, Ref};
+
+// The most looks at a term that is walked as a tree: one that needs more is answered as out of memory.
+const MOST_LOOKS: u32 = 1 << 24;
+
+// Finds the call that an item is, or has its parts wait.
+fn advance(
+    heap: &mut Heap,
+    names: &IndexSet<Ref>,
+    item: &Item,
+    found: &mut Vec<FoundCall>,
+    waiting: &mut Vec<Item>,
+) -> Result<(), Memory>
+    requires part { IsPartOf heap.old (names_at heap.old names.now.keys) item.now.part }
+    requires tests_in { HasTests heap.old item.now.tests }
+    requires symbols { AreSymbols heap.old names.now.keys }
+    ensures grows { Grows heap.old heap.new }
+    ensures advances { OnOk result (Advances (names_at heap.old names.now.keys) heap.old heap.new item.now found.old.items found.new.items waiting.old.items waiting.new.items) }
+{
+    if let Part::Call(name, actuals) = item.part {
+        found.push(FoundCall {
+            name,
+            actuals,
+            tests: item.tests,
+        })?;
+        return Ok(());
+    }
+    Ok(open(heap, names, item, waiting)?)
+}
+
+// The calls of functions of these names in a term, with the tests that they stand under, in order. Of a lambda call they are those of
+// its actuals and those of its body with the actuals for the formals. Actuals of a call that was found are not looked at.
+fn collect_calls(
+    heap: &mut Heap,
+    names: &IndexSet<Ref>,
+    term: Ref,
+) -> Result<Vec<FoundCall>, Memory>
+    requires within { IsIn heap.old term }
+    requires symbols { AreSymbols heap.old names.now.keys }
+    requires read { (t : Term) × (term_of (object_at heap.old term) ≡ Some t) }
+    ensures grows { Grows heap.old heap.new }
+    ensures found { IfOk result (λ fs. AreFoundCalls heap.new (names_at heap.old names.now.keys) fs.items) }
+    ensures calls { IfOk result (λ fs. (B : List Function) (t : Term) → HasNames B (names_at heap.old names.now.keys) → term_of (object_at heap.old term) ≡ Some t → found_calls B heap.new fs.items ≡ collect B [] t) }
+{
+    let tests = heap.nil()?;
+    let mut found = Vec::new(heap.alloc());
+    let mut waiting = Vec::new(heap.alloc());
+    waiting.push(Item {
+        part: Part::Term(term),
+        tests,
+    })?;
+    let mut looks_left = MOST_LOOKS;
+    while let Some(item) = waiting.pop() {
+        if looks_left == 0 {
+            return Err(Memory);
+        }
+        looks_left -= 1;
+        advance(heap, names, &item, &mut found, &mut waiting)?;
+    }
+    Ok(found)
+}
+
+// The same, but a term that mentions none of these functions is looked at as it is shared, and not as a tree.
+pub(crate) fn find_calls(
+    heap: &mut Heap,
+    names: &IndexSet<Ref>,
+    term: Ref,
+) -> Result<Vec<FoundCall>, Memory>
+    requires within { IsIn heap.old term }
+    requires symbols { AreSymbols heap.old names.now.keys }
+    requires read { (t : Term) × (term_of (object_at heap.old term) ≡ Some t) }
+    ensures grows { Grows heap.old heap.new }
+    ensures found { IfOk result (λ fs. AreFoundCalls heap.new (names_at heap.old names.now.keys) fs.items) }
+    ensures calls { IfOk result (λ fs. (B : List Function) (t : Term) → HasNames B (names_at heap.old names.now.keys) → term_of (object_at heap.old term) ≡ Some t → found_calls B heap.new fs.items ≡ collect B [] t) }
+{
+    if mentions_some(heap, names, Piece::Term(term))? {
+        return Ok(collect_calls(heap, names, term)?);
+    }
+    Ok(Vec::new(heap.alloc()))
+}

@@ -1,0 +1,44 @@
+//! The formula that a measure falls at a call, and that one is an ordinal.
+ghost use Rattle.std.specs.Prelude.{◌≡◌, List, Some, IfOk};
+ghost use Rattle.mw_model.specs.Term.{Term, formula_object};
+ghost use Rattle.mw_model.specs.Reading.{term_of};
+ghost use Rattle.mw_model.specs.Obligation.{ordinal_formula};
+ghost use Rattle.mw_heap.specs.Objects.{object_at, IsIn, Grows};
+ghost use Rattle.mw_define.specs.Descent.{Falls};
+
+use mw_equal::reduced;
+use mw_heap::{Heap, Memory, Ref};
+use mw_translate::{call_of_one, call_of_two, quoted_symbol};
+
+// (ordp measure) = 't.
+pub(crate) fn is_ordinal(heap: &mut Heap, measure: Ref) -> Result<Ref, Memory>
+    requires { IsIn heap.old measure }
+    ensures grows { Grows heap.old heap.new }
+    ensures made { IfOk result (λ r. IsIn heap.new r × ((m : Term) → term_of (object_at heap.old measure) ≡ Some m → object_at heap.new r ≡ formula_object (ordinal_formula m))) }
+{
+    let call = call_of_one(heap, b"ORDP", measure)?;
+    let truth = quoted_symbol(heap, b"T")?;
+    Ok(call_of_two(heap, b"PEQUAL*", call, truth)?)
+}
+
+// (ord< lower measure) = 't, where lower is the measure of the called function with the actuals for its formals.
+pub(crate) fn falls(
+    heap: &mut Heap,
+    formals: Ref,
+    called_measure: Ref,
+    actuals: Ref,
+    measure: Ref,
+) -> Result<Ref, Memory>
+    requires formals_in { IsIn heap.old formals }
+    requires called_in { IsIn heap.old called_measure }
+    requires actuals_in { IsIn heap.old actuals }
+    requires measure_in { IsIn heap.old measure }
+    ensures grows { Grows heap.old heap.new }
+    ensures made { IfOk result (λ r. IsIn heap.new r × Falls heap.old formals called_measure actuals measure (object_at heap.new r)) }
+{
+    let function = call_of_two(heap, b"LAMBDA", formals, called_measure)?;
+    let lower = reduced(heap, function, actuals)?;
+    let call = call_of_two(heap, b"ORD<", lower, measure)?;
+    let truth = quoted_symbol(heap, b"T")?;
+    Ok(call_of_two(heap, b"PEQUAL*", call, truth)?)
+}

@@ -1,0 +1,28 @@
+//! Definitions: their tests, what they owe, and their axioms.
+#![tactic(auto)]
+
+mod admission;
+mod admitted;
+mod axioms;
+mod block;
+mod block_names;
+mod collect;
+mod descent;
+mod draft;
+mod drafts;
+mod item;
+mod listing;
+mod mention;
+mod names;
+mod nested;
+mod opening;
+mod owing;
+mod piece;
+mod recursion;
+mod testing;
+mod witness;
+
+pub use admission::{admit_block, admit_function};
+pub use admitted::{Admitted, Entry, Owed};
+pub use draft::Draft;
+pub use witness::admit_witness;

@@ -1,0 +1,162 @@
+//! Whether a term mentions a function of a block.
+ghost use Rattle.std.specs.Prelude.{◌≡◌, ◌<◌, List, true, false, Some, IfOk};
+ghost use Rattle.mw_model.specs.Object.{Pair, symbol};
+ghost use Rattle.mw_model.specs.Term.{Term, Terms, Call};
+ghost use Rattle.mw_model.specs.Reading.{term_of, terms_of};
+ghost use Rattle.mw_model.specs.Primitive.{is_symbol, name_of};
+ghost use Rattle.mw_model.specs.Definition.{Function};
+ghost use Rattle.mw_heap.specs.Objects.{object_at, IsIn};
+ghost use Rattle.mw_term.specs.Parts.{names_at, AreSymbols};
+ghost use Rattle.mw_define.specs.Collecting.{HasNames};
+ghost use Rattle.mw_define.specs.Mentioning.{IsLook, Splits, IsPiece, piece_mentions};
+ghost use Rattle.mw_define.specs.declared.piece.Piece.TheVariants as piece;
+
+use crate::block_names::is_among_names;
+use crate::piece::Piece;
+use indexmap::IndexSet;
+use mw_heap::{Heap, Memory, Ref, View};
+
+// The most looks at a term: one that needs more is answered as out of memory.
+const MOST_LOOKS: u32 = 1 << 28;
+
+fn split_lambda(
+    heap: &Heap,
+    names: &IndexSet<Ref>,
+    x: Ref,
+    function: Ref,
+    arguments: Ref,
+    waiting: &mut Vec<Piece>,
+) -> Result<(), Memory>
+    requires function_in { IsIn heap.now function }
+    requires within { IsIn heap.now arguments }
+    requires function_older { function < x }
+    requires arguments_older { arguments < x }
+    requires read { (t : Term) × (term_of (object_at heap.now x) ≡ Some t) }
+    requires whole { object_at heap.now x ≡ Pair (object_at heap.now function) (object_at heap.now arguments) }
+    requires pair { is_symbol (object_at heap.now function) ≡ false }
+    ensures { IfOk result (λ u. Splits (names_at heap.now names.now.keys) heap.now (piece.Term x) waiting.old.items waiting.new.items) }
+{
+    waiting.push(Piece::Terms(arguments))?;
+    let Some(body) = heap.third_of(function) else {
+        return Ok(());
+    };
+    waiting.push(Piece::Term(body))?;
+    Ok(())
+}
+
+// Whether a term that begins with a symbol is a call of the block, or else its actuals wait.
+fn look_at_named(
+    heap: &Heap,
+    names: &IndexSet<Ref>,
+    x: Ref,
+    name: Ref,
+    arguments: Ref,
+    waiting: &mut Vec<Piece>,
+) -> Result<bool, Memory>
+    requires name_in { IsIn heap.now name }
+    requires within { IsIn heap.now arguments }
+    requires arguments_older { arguments < x }
+    requires symbol { is_symbol (object_at heap.now name) ≡ true }
+    requires symbols { AreSymbols heap.now names.now.keys }
+    requires read { (t : Term) × (term_of (object_at heap.now x) ≡ Some t) }
+    requires whole { object_at heap.now x ≡ Pair (object_at heap.now name) (object_at heap.now arguments) }
+    ensures { IfOk result (IsLook (names_at heap.now names.now.keys) heap.now (piece.Term x) waiting.old.items waiting.new.items) }
+{
+    if heap.is_named(Some(name), b"QUOTE") {
+        return Ok(false);
+    }
+    if heap.is_named(Some(name), b"IF") {
+        waiting.push(Piece::Terms(arguments))?;
+        return Ok(false);
+    }
+    if is_among_names(heap, names, name) {
+        return Ok(true);
+    }
+    waiting.push(Piece::Terms(arguments))?;
+    Ok(false)
+}
+
+fn look_at_term(
+    heap: &Heap,
+    names: &IndexSet<Ref>,
+    x: Ref,
+    waiting: &mut Vec<Piece>,
+) -> Result<bool, Memory>
+    requires within { IsIn heap.now x }
+    requires symbols { AreSymbols heap.now names.now.keys }
+    requires read { (t : Term) × (term_of (object_at heap.now x) ≡ Some t) }
+    ensures { IfOk result (IsLook (names_at heap.now names.now.keys) heap.now (piece.Term x) waiting.old.items waiting.new.items) }
+{
+    let View::Pair(head, arguments) = heap.view(x) else {
+        return Ok(false);
+    };
+    if let View::Symbol = heap.view(head) {
+        return Ok(look_at_named(heap, names, x, head, arguments, waiting)?);
+    }
+    split_lambda(heap, names, x, head, arguments, waiting)?;
+    Ok(false)
+}
+
+fn split_terms(
+    heap: &Heap,
+    names: &IndexSet<Ref>,
+    x: Ref,
+    waiting: &mut Vec<Piece>,
+) -> Result<(), Memory>
+    requires within { IsIn heap.now x }
+    requires read { (ts : Terms) × (terms_of (object_at heap.now x) ≡ Some ts) }
+    ensures { IfOk result (λ u. Splits (names_at heap.now names.now.keys) heap.now (piece.Terms x) waiting.old.items waiting.new.items) }
+{
+    let View::Pair(first, rest) = heap.view(x) else {
+        return Ok(());
+    };
+    waiting.push(Piece::Terms(rest))?;
+    waiting.push(Piece::Term(first))?;
+    Ok(())
+}
+
+// Whether a piece is a call of the block, or else its pieces wait.
+fn look(
+    heap: &Heap,
+    names: &IndexSet<Ref>,
+    piece: Piece,
+    waiting: &mut Vec<Piece>,
+) -> Result<bool, Memory>
+    requires within { IsPiece heap.now piece }
+    requires symbols { AreSymbols heap.now names.now.keys }
+    ensures { IfOk result (IsLook (names_at heap.now names.now.keys) heap.now piece waiting.old.items waiting.new.items) }
+{
+    match piece {
+        Piece::Term(x) => Ok(look_at_term(heap, names, x, waiting)?),
+        Piece::Terms(x) => {
+            split_terms(heap, names, x, waiting)?;
+            Ok(false)
+        }
+    }
+}
+
+// Whether a function of these names is called in a term or a list of terms, bodies of lambda calls included. Each piece is looked at
+// once.
+pub(crate) fn mentions_some(heap: &Heap, names: &IndexSet<Ref>, root: Piece) -> Result<bool, Memory>
+    requires within { IsPiece heap.now root }
+    requires symbols { AreSymbols heap.now names.now.keys }
+    ensures { IfOk result (λ b. (B : List Function) → HasNames B (names_at heap.now names.now.keys) → b ≡ piece_mentions B heap.now root) }
+{
+    let mut looked = IndexSet::new(heap.alloc());
+    let mut waiting = Vec::new(heap.alloc());
+    waiting.push(root)?;
+    let mut looks_left = MOST_LOOKS;
+    while let Some(piece) = waiting.pop() {
+        if looks_left == 0 {
+            return Err(Memory);
+        }
+        looks_left -= 1;
+        if !looked.insert(piece)? {
+            continue;
+        }
+        if look(heap, names, piece, &mut waiting)? {
+            return Ok(true);
+        }
+    }
+    Ok(false)
+}

@@ -1,0 +1,9 @@
+//! Pieces of a term.
+use mw_heap::Ref;
+
+/// A term, or a list of terms.
+#[derive(Clone, Copy, Debug, PartialEq, Eq, Hash)]
+pub(crate) enum Piece {
+    Term(Ref),
+    Terms(Ref),
+}

@@ -1,0 +1,73 @@
+//! Formulas under tests.
+ghost use Rattle.std.specs.Prelude.{◌≡◌, List, IfOk};
+ghost use Rattle.mw_model.specs.Term.{Formula, formula_object};
+ghost use Rattle.mw_model.specs.Definition.{Function};
+ghost use Rattle.mw_model.specs.Obligation.{under_tests};
+ghost use Rattle.mw_heap.specs.Objects.{object_at, IsIn, Grows};
+ghost use Rattle.mw_term.specs.Parts.{names_at, AreSymbols};
+ghost use Rattle.mw_define.specs.Collecting.{HasNames, IsTest, AreTests, test_of, tests_of};
+ghost use Rattle.mw_define.specs.Testing.{IsUnderTest, IsUnderTests, test_object};
+
+use crate::axioms::equal_nil;
+use crate::mention::mentions_some;
+use crate::piece::Piece;
+use indexmap::IndexSet;
+use mw_heap::{Heap, Memory, Ref, View};
+use mw_translate::{call_of_one, call_of_two};
+
+// What is left to show where a test of this kind fails.
+fn failing(heap: &mut Heap, kind: Ref, term: Ref) -> Result<Ref, Memory>
+    requires kind_in { IsIn heap.old kind }
+    requires term_in { IsIn heap.old term }
+    ensures grows { Grows heap.old heap.new }
+    ensures made { IfOk result (λ r. IsIn heap.new r × (object_at heap.new r ≡ test_object (object_at heap.old kind) (object_at heap.old term))) }
+{
+    let is_nil = heap.is_nil(Some(kind));
+    let equation = equal_nil(heap, term)?;
+    if is_nil {
+        return Ok(call_of_one(heap, b"PNOT*", equation)?);
+    }
+    Ok(equation)
+}
+
+// The formula under a test, or as it is where the test mentions the block.
+fn under_one(heap: &mut Heap, names: &IndexSet<Ref>, test: Ref, formula: Ref) -> Result<Ref, Memory>
+    requires test_in { IsIn heap.old test }
+    requires read { IsTest (object_at heap.old test) }
+    requires formula_in { IsIn heap.old formula }
+    requires symbols { AreSymbols heap.old names.now.keys }
+    ensures grows { Grows heap.old heap.new }
+    ensures made { IfOk result (IsUnderTest (names_at heap.old names.now.keys) heap.old heap.new test formula) }
+{
+    let View::Pair(kind, term) = heap.view(test) else {
+        unreachable!()
+    };
+    if mentions_some(heap, names, Piece::Term(term))? {
+        return Ok(formula);
+    }
+    let fails = failing(heap, kind, term)?;
+    Ok(call_of_two(heap, b"POR*", fails, formula)?)
+}
+
+// The formula under those tests of a list, the innermost first, that mention no function of these names.
+pub(crate) fn under_each(
+    heap: &mut Heap,
+    names: &IndexSet<Ref>,
+    tests: Ref,
+    formula: Ref,
+) -> Result<Ref, Memory>
+    requires tests_in { IsIn heap.old tests }
+    requires read { AreTests (object_at heap.old tests) }
+    requires formula_in { IsIn heap.old formula }
+    requires symbols { AreSymbols heap.old names.now.keys }
+    ensures grows { Grows heap.old heap.new }
+    ensures made { IfOk result (IsUnderTests (names_at heap.old names.now.keys) heap.old heap.new tests formula) }
+{
+    let mut rest = tests;
+    let mut made = formula;
+    while let View::Pair(test, more) = heap.view(rest) {
+        made = under_one(heap, names, test, made)?;
+        rest = more;
+    }
+    Ok(made)
+}

@@ -1,0 +1,106 @@
+//! Witnesses.
+ghost use Rattle.std.specs.Prelude.{◌≡◌, true, Some, IfOk};
+ghost use Rattle.mw_model.specs.Object.{Pair};
+ghost use Rattle.mw_model.specs.Term.{Term, IsTerm, term_object};
+ghost use Rattle.mw_model.specs.Reading.{term_of};
+ghost use Rattle.mw_heap.specs.Objects.{object_at, IsIn, Grows};
+ghost use Rattle.mw_term.specs.Parts.{AreSymbols, names_at};
+ghost use Rattle.mw_define.specs.Tests.{IsWitness, IsClosedWitness};
+
+use crate::admitted::{Admitted, Entry, Owed};
+use crate::axioms::choice_axiom;
+use crate::names::is_new_name;
+use mw_heap::{Heap, Memory, Ref, Refusal};
+use mw_term::{Arity, Formals};
+use mw_translate::{Expanded, expand, list_of_one};
+
+// The witness whose tests but the last passed: the free variables of the term have to be formals.
+fn closed_witness(
+    heap: &mut Heap,
+    name: Ref,
+    list: Ref,
+    free: Ref,
+    formals: &Formals,
+    term: Ref,
+) -> Result<Admitted, Memory>
+    requires name_in { IsIn heap.old name }
+    requires list_in { IsIn heap.old list }
+    requires free_in { IsIn heap.old free }
+    requires term_in { IsIn heap.old term }
+    requires formals { AreSymbols heap.old formals.now }
+    ensures grows { Grows heap.old heap.new }
+    ensures admitted { (t : Term) → term_of (object_at heap.old term) ≡ Some t → IfOk result (IsClosedWitness heap.old heap.new name list free formals.now term t) }
+{
+    if !formals.closes(heap, term)? {
+        return Ok(Admitted::Refused(Refusal::Variables));
+    }
+    let axiom = choice_axiom(heap, name, list, free, term)?;
+    let axioms = list_of_one(heap, axiom)?;
+    let obligations = heap.nil()?;
+    let mut entries = Vec::new(heap.alloc());
+    entries.push(Entry {
+        name,
+        formals: list,
+        body: term,
+    })?;
+    Ok(Admitted::Obligations(Owed {
+        obligations,
+        axioms,
+        entries,
+    }))
+}
+
+// The tests of a witness, one after another.
+fn tested_witness(
+    heap: &mut Heap,
+    name: Ref,
+    bound: Ref,
+    free: Ref,
+    body: Ref,
+    arity: &Arity,
+) -> Result<Admitted, Memory>
+    requires name_in { IsIn heap.old name }
+    requires bound_in { IsIn heap.old bound }
+    requires free_in { IsIn heap.old free }
+    requires body_in { IsIn heap.old body }
+    ensures grows { Grows heap.old heap.new }
+    ensures admitted { IfOk result (IsWitness arity.now heap.old heap.new name bound free body) }
+{
+    if !is_new_name(heap, name, arity) {
+        return Ok(Admitted::Refused(Refusal::Name));
+    }
+    let list = heap.cons(bound, free)?;
+    let Some(formals) = Formals::of_list(heap, list)? else {
+        return Ok(Admitted::Refused(Refusal::Formals));
+    };
+    match expand(heap, body, arity, &[]) {
+        Expanded::Term(term) => Ok(closed_witness(heap, name, list, free, &formals, term)?),
+        Expanded::NotTerm => Ok(Admitted::Refused(Refusal::Term)),
+        Expanded::Memory => Err(Memory),
+    }
+}
+
+/// Tests the witness of this name, whose value is to be put for the bound variable in the body, which may have the free variables of
+/// the list besides. The first of the tests that fails is the reason of the refusal: that the name is new, that the variables are
+/// formals, that the raw body expands to a term, and that this has no other variables. Where all pass it answers no obligation, the
+/// axiom, and one entry, of whose formals the bound variable is the first.
+pub fn admit_witness(
+    heap: &mut Heap,
+    name: Ref,
+    bound: Ref,
+    free: Ref,
+    body: Ref,
+    arity: &Arity,
+) -> Admitted
+    requires name_in { IsIn heap.old name }
+    requires bound_in { IsIn heap.old bound }
+    requires free_in { IsIn heap.old free }
+    requires body_in { IsIn heap.old body }
+    ensures grows { Grows heap.old heap.new }
+    ensures admitted { IsWitness arity.now heap.old heap.new name bound free body result }
+{
+    match tested_witness(heap, name, bound, free, body, arity) {
+        Ok(admitted) => admitted,
+        Err(_) => Admitted::Memory,
+    }
+}

@@ -1,0 +1,207 @@
+-- Proofs that are judged one after another, by the objects of their formulas.
+use Rattle.std.proofs.Common.{◌≡◌, ℕ, ◌<◌, Bool, true, false, cond, Option, Some, None, List, [], ◌∷◌, ◌++◌, length, map, option_map, refl, sym, ap, ap₂, ◌∙◌, subst, arith, one-add, is_some, true≢false}
+use Rattle.std.specs.List.{All}
+use Rattle.mw_model.specs.Object.{Object, Natural, Symbol, Pair, NIL, same_object, car, cdr, has_members}
+use Rattle.mw_model.specs.Term.{ArityTable, Formula, formula_object}
+use Rattle.mw_model.specs.Primitive.{One, is_pair}
+use Rattle.mw_model.specs.Definition.{Definitions, arity_table, is_present}
+use Rattle.mw_model.specs.RulesInduction.{formulas_object, is_list_object, length_object}
+use Rattle.mw_model.specs.Theory.{Theory}
+use Rattle.mw_model.specs.Refusal.{Refusal, COUNT, CONCLUSION, PROOF}
+use Rattle.mw_model.specs.Checking.{no_unless, or_else, judged_each}
+use Rattle.mw_model.proofs.Names.{same_object-eq}
+use Rattle.mw_heap.specs.declared.refusal.Refusal.{Refusal as Reason}
+use Rattle.mw_heap.specs.Variants.{refusal_of}
+use Rattle.mw_heap.specs.Objects.{object_at, IsIn, Grows}
+use Rattle.mw_heap.proofs.Objects.{object_at-Grows, Grows-trans}
+use Rattle.mw_axioms.proofs.OnStack.{AreIn-push}
+use Rattle.mw_term.specs.declared.cell_mark.CellMark.{CellMark}
+use Rattle.mw_term.specs.Marking.{AreMarks}
+use Rattle.mw_proof.specs.Known.{known_object}
+use Rattle.mw_kernel.specs.Knowledge.{theory_with}
+use Rattle.mw_kernel.specs.Proofs.{judged_for, judged_all}
+use Rattle.mw_kernel.proofs.Keeping.{known_object-same}
+
+-- one proof, by whether its second member is the formula and by what the built-in checker finds
+pub judged_other : (concluded : Bool) (found : Option Formula) → concluded ≡ false → Some CONCLUSION ≡ cond concluded (no_unless PROOF found) (Some CONCLUSION)
+judged_other false found h = refl
+judged_other true found h = cc
+
+pub judged_good : (concluded : Bool) (found : Option Formula) → concluded ≡ true → is_present found ≡ true → None ≡ cond concluded (no_unless PROOF found) (Some CONCLUSION)
+judged_good true (Some F) h k = refl
+judged_good true None h k = cc
+judged_good false found h k = cc
+
+pub judged_bad : (concluded : Bool) (found : Option Formula) → concluded ≡ true → is_present found ≡ false → Some PROOF ≡ cond concluded (no_unless PROOF found) (Some CONCLUSION)
+judged_bad true None h k = refl
+judged_bad true (Some F) h k = cc
+judged_bad false found h k = cc
+
+-- proof by proof, for a list of objects of formulas
+abbrev pub judged_each_for : Theory → ℕ → Object → Object → Option Refusal
+judged_each_for t N (Pair f fs) ps = or_else (judged_for t N f (car ps)) (judged_each_for t N fs (cdr ps))
+judged_each_for t N (Natural n) ps = None
+judged_each_for t N (Symbol s) ps = None
+
+pub judged_each-for : (t : Theory) (N : ℕ) (Fs : List Formula) (ps : Object) → judged_each_for t N (formulas_object Fs) ps ≡ judged_each t N Fs ps
+judged_each-for t N [] ps = refl
+judged_each-for t N (F ∷ Fs) ps = ap (or_else (judged_for t N (formula_object F) (car ps))) (judged_each-for t N Fs (cdr ps))
+
+pub judged_none_for : (t : Theory) (N : ℕ) (fs ps : Object) → is_pair fs ≡ false → judged_each_for t N fs ps ≡ None
+judged_none_for t N (Natural n) ps h = refl
+judged_none_for t N (Symbol s) ps h = refl
+judged_none_for t N (Pair f fs) ps h = cc
+
+-- as many members as another list has pairs
+pub length_formulas : (Fs : List Formula) → length_object (formulas_object Fs) ≡ length Fs
+length_formulas [] = refl
+length_formulas (F ∷ Fs) = omega (arith, length_formulas Fs)
+
+pub as_many-next : (x y a b c d : Object) → x ≡ Pair a b → y ≡ Pair c d → has_members (length_object x) y ≡ has_members (length_object b) d
+as_many-next x y a b c d e f = ap₂ (λ u v. has_members (length_object u) v) e f ∙ ap (λ n. has_members n (Pair c d)) (one-add (length_object b))
+
+pub too_few : (x y a b : Object) → x ≡ Pair a b → is_pair y ≡ false → has_members (length_object x) y ≡ false
+too_few x (Natural n) a b e h = ap (λ u. has_members (length_object u) (Natural n)) e ∙ ap (λ k. has_members k (Natural n)) (one-add (length_object b))
+too_few x (Symbol s) a b e h = ap (λ u. has_members (length_object u) (Symbol s)) e ∙ ap (λ n. has_members n (Symbol s)) (one-add (length_object b))
+too_few x (Pair c d) a b e h = cc
+
+pub no_more : (x y : Object) → is_pair x ≡ false → has_members (length_object x) y ≡ same_object y NIL
+no_more (Natural n) y h = refl
+no_more (Symbol s) y h = refl
+no_more (Pair a b) y h = cc
+
+-- the first refusal, or the next ones
+pub refused_first : (r : Option Reason) (first others : Option Refusal) → is_some r ≡ true → option_map refusal_of r ≡ first → option_map refusal_of r ≡ or_else first others
+refused_first None first others h e = cc
+refused_first (Some q) first others h e = ap (λ o. or_else o others) e
+
+pub none_first : (r : Option Reason) (first others : Option Refusal) → is_some r ≡ false → option_map refusal_of r ≡ first → or_else first others ≡ others
+none_first None first others h e = ap (λ o. or_else o others) (sym e)
+none_first (Some q) first others h e = cc
+
+-- a pair that the grown heap shows
+pub pair_before : (os now : List Object) → Grows os now → (x a b : ℕ) → IsIn os x → a < x → b < x → object_at now x ≡ Pair (object_at now a) (object_at now b) → object_at os x ≡ Pair (object_at os a) (object_at os b)
+pair_before os now g x a b x_in a_older b_older is =
+    sym (object_at-Grows os now g x x_in) ∙ (is ∙ ap₂ Pair (object_at-Grows os now g a (omega (arith, a_older, x_in))) (object_at-Grows os now g b (omega (arith, b_older, x_in))))
+
+-- A walk over formulas and their proofs: those before the rest are not refused.
+module _ (os : List Object) (axioms theorems : List ℕ) (A : ArityTable) (obligations proofs : ℕ) where
+  abbrev theory : Definitions → Theory
+  theory D = theory_with (known_object os axioms) (known_object os theorems) D
+
+  pub record Walks (now : List Object) (marks : List CellMark) (formulas rest : ℕ) : Type 0 where
+    pub grows : Grows os now
+    pub marked : AreMarks A now marks
+    pub formulas_in : IsIn os formulas
+    pub rest_in : IsIn os rest
+    pub many : has_members (length_object (object_at os formulas)) (object_at os rest) ≡ true
+    pub judged : (D : Definitions) (N : ℕ) → A ≡ arity_table D → D.profile ≡ One → judged_each_for (theory D) N (object_at os obligations) (object_at os proofs) ≡ judged_each_for (theory D) N (object_at os formulas) (object_at os rest)
+
+  module _ (axioms_in : All (IsIn os) axioms) (theorems_in : All (IsIn os) theorems) (now : List Object) (marks : List CellMark) (formulas rest : ℕ) (w : Walks now marks formulas rest) (formula more proof others : ℕ) (formula_older : formula < formulas) (more_older : more < formulas) (proof_older : proof < rest) (others_older : others < rest) (shows : object_at now formulas ≡ Pair (object_at now formula) (object_at now more)) (shows_proof : object_at now rest ≡ Pair (object_at now proof) (object_at now others)) where
+    formulas_are : object_at os formulas ≡ Pair (object_at os formula) (object_at os more)
+    formulas_are = pair_before os now w.grows formulas formula more w.formulas_in formula_older more_older shows
+
+    rest_is : object_at os rest ≡ Pair (object_at os proof) (object_at os others)
+    rest_is = pair_before os now w.grows rest proof others w.rest_in proof_older others_older shows_proof
+
+    abbrev judged_now : Definitions → ℕ → Option Refusal
+    judged_now D N = judged_for (theory_with (known_object now axioms) (known_object now theorems) D) N (object_at now formula) (object_at now proof)
+
+    judged_before : (D : Definitions) (N : ℕ) → judged_now D N ≡ judged_for (theory D) N (object_at os formula) (object_at os proof)
+    judged_before D N =
+        ap₂ (λ x y. judged_for (theory_with x y D) N (object_at now formula) (object_at now proof)) (known_object-same (length os) os now axioms (object_at-Grows os now w.grows) axioms_in) (known_object-same (length os) os now theorems (object_at-Grows os now w.grows) theorems_in)
+        ∙ ap₂ (judged_for (theory D) N) (object_at-Grows os now w.grows formula (omega (arith, formula_older, w.formulas_in))) (object_at-Grows os now w.grows proof (omega (arith, proof_older, w.rest_in)))
+
+    judged_on : (D : Definitions) (N : ℕ) → A ≡ arity_table D → D.profile ≡ One → judged_each_for (theory D) N (object_at os obligations) (object_at os proofs) ≡ or_else (judged_now D N) (judged_each_for (theory D) N (object_at os more) (object_at os others))
+    judged_on D N arities profile =
+        w.judged D N arities profile
+        ∙ (ap₂ (judged_each_for (theory D) N) formulas_are rest_is
+        ∙ ap (λ o. or_else o (judged_each_for (theory D) N (object_at os more) (object_at os others))) (sym (judged_before D N)))
+
+    -- one more that is not refused
+    pub Walks-next : (r : Option Reason) → is_some r ≡ false → ((D : Definitions) (N : ℕ) → A ≡ arity_table D → D.profile ≡ One → option_map refusal_of r ≡ judged_now D N) → (new : List Object) (ms : List CellMark) → Grows now new → AreMarks A new ms → Walks new ms more others
+    Walks-next r none is new ms g m = record {
+      grows = Grows-trans os now new w.grows g;
+      marked = m;
+      formulas_in = omega (arith, more_older, w.formulas_in);
+      rest_in = omega (arith, others_older, w.rest_in);
+      many = sym (as_many-next _ _ _ _ _ _ formulas_are rest_is) ∙ w.many;
+      judged = λ D N arities profile. judged_on D N arities profile ∙ none_first r (judged_now D N) (judged_each_for (theory D) N (object_at os more) (object_at os others)) none (is D N arities profile);
+    }
+
+    -- one that is refused
+    pub refused_here : (r : Option Reason) → is_some r ≡ true → ((D : Definitions) (N : ℕ) → A ≡ arity_table D → D.profile ≡ One → option_map refusal_of r ≡ judged_now D N) → (D : Definitions) (N : ℕ) (Fs : List Formula) → A ≡ arity_table D → D.profile ≡ One → object_at os obligations ≡ formulas_object Fs → option_map refusal_of r ≡ judged_each (theory D) N Fs (object_at os proofs)
+    refused_here r some is D N Fs arities profile owed =
+        refused_first r (judged_now D N) (judged_each_for (theory D) N (object_at os more) (object_at os others)) some (is D N arities profile)
+        ∙ (sym (judged_on D N arities profile)
+        ∙ (ap (λ x. judged_each_for (theory D) N x (object_at os proofs)) owed ∙ judged_each-for (theory D) N Fs (object_at os proofs)))
+
+  -- none is refused
+  pub none_refused : (now : List Object) (marks : List CellMark) (formulas rest : ℕ) → Walks now marks formulas rest → is_pair (object_at now formulas) ≡ false → (D : Definitions) (N : ℕ) (Fs : List Formula) → A ≡ arity_table D → D.profile ≡ One → object_at os obligations ≡ formulas_object Fs → None ≡ judged_each (theory D) N Fs (object_at os proofs)
+  none_refused now marks formulas rest w end D N Fs arities profile owed =
+      sym (judged_none_for (theory D) N (object_at os formulas) (object_at os rest) (ap is_pair (sym (object_at-Grows os now w.grows formulas w.formulas_in)) ∙ end))
+      ∙ (sym (w.judged D N arities profile)
+      ∙ (ap (λ x. judged_each_for (theory D) N x (object_at os proofs)) owed ∙ judged_each-for (theory D) N Fs (object_at os proofs)))
+
+  -- a formula has a proof
+  pub never_too_few : (now : List Object) (marks : List CellMark) (formulas rest formula more : ℕ) → Walks now marks formulas rest → formula < formulas → more < formulas → object_at now formulas ≡ Pair (object_at now formula) (object_at now more) → is_pair (object_at now rest) ≡ false → ⊥
+  never_too_few now marks formulas rest formula more w formula_older more_older shows no_proof =
+      true≢false
+      (sym w.many
+      ∙ too_few (object_at os formulas) (object_at os rest) (object_at os formula) (object_at os more) (pair_before os now w.grows formulas formula more w.formulas_in formula_older more_older shows)
+      (ap is_pair (sym (object_at-Grows os now w.grows rest w.rest_in)) ∙ no_proof))
+
+-- A walk over a list: its members so far, and the rest of it.
+abbrev pub put_before : List Object → List ℕ → Object → Object
+put_before os [] rest = rest
+put_before os (x ∷ xs) rest = Pair (object_at os x) (put_before os xs rest)
+
+pub put_before-push : (os : List Object) (xs : List ℕ) (x : ℕ) (rest : Object) → put_before os (xs ++ x ∷ []) rest ≡ put_before os xs (Pair (object_at os x) rest)
+put_before-push os [] x rest = refl
+put_before-push os (y ∷ xs) x rest = ap (Pair (object_at os y)) (put_before-push os xs x rest)
+
+known_object-before : (os : List Object) (xs : List ℕ) → known_object os xs ≡ put_before os xs NIL
+known_object-before os [] = refl
+known_object-before os (x ∷ xs) = ap (Pair (object_at os x)) (known_object-before os xs)
+
+list_end : (x : Object) → is_pair x ≡ false → is_list_object x ≡ true → NIL ≡ x
+list_end (Natural n) h k = cc
+list_end (Symbol s) h k = sym (same_object-eq (Symbol s) NIL k)
+list_end (Pair a b) h k = cc
+
+pub record AreMembers (os : List Object) (list : ℕ) (members : List ℕ) (rest : ℕ) : Type 0 where
+  pub rest_in : IsIn os rest
+  pub within : All (IsIn os) members
+  pub proper : is_list_object (object_at os list) ≡ is_list_object (object_at os rest)
+  pub listed : put_before os members (object_at os rest) ≡ object_at os list
+
+pub AreMembers-next : (os : List Object) (list : ℕ) (members : List ℕ) (rest first more : ℕ) (new : List ℕ) → AreMembers os list members rest → IsIn os first → IsIn os more → object_at os rest ≡ Pair (object_at os first) (object_at os more) → new ≡ members ++ first ∷ [] → AreMembers os list new more
+AreMembers-next os list members rest first more new m first_in more_in is pushed =
+    subst (λ xs. AreMembers os list xs more) (sym pushed) (record {
+      rest_in = more_in;
+      within = AreIn-push os members first m.within first_in;
+      proper = m.proper ∙ ap is_list_object is;
+      listed = put_before-push os members first (object_at os more) ∙ (ap (put_before os members) (sym is) ∙ m.listed);
+    })
+
+pub all_members : (os : List Object) (list : ℕ) (members : List ℕ) (rest : ℕ) → AreMembers os list members rest → is_pair (object_at os rest) ≡ false → is_list_object (object_at os list) ≡ true → known_object os members ≡ object_at os list
+all_members os list members rest m end proper =
+    known_object-before os members ∙ (ap (put_before os members) (list_end (object_at os rest) end (sym m.proper ∙ proper)) ∙ m.listed)
+
+-- the members of a list of formulas
+pub formulas_listed : (Fs : List Formula) → is_list_object (formulas_object Fs) ≡ true
+formulas_listed [] = refl
+formulas_listed (F ∷ Fs) = formulas_listed Fs
+
+pub members_formulas : (os : List Object) (members : List ℕ) (Fs : List Formula) → known_object os members ≡ formulas_object Fs → map (object_at os) members ≡ map formula_object Fs
+members_formulas os [] [] h = refl
+members_formulas os [] (F ∷ Fs) h = cc
+members_formulas os (x ∷ xs) [] h = cc
+members_formulas os (x ∷ xs) (F ∷ Fs) h = ap₂ ◌∷◌ (ap car h) (members_formulas os xs Fs (ap cdr h))
+
+-- with as many proofs as formulas, or not
+pub not_as_many : (t : Theory) (N : ℕ) (Fs : List Formula) (owed ps : Object) → owed ≡ formulas_object Fs → has_members (length_object owed) ps ≡ false → Some COUNT ≡ judged_all t N Fs ps
+not_as_many t N Fs owed ps is few = sym (ap (λ b. cond b (judged_each t N Fs ps) (Some COUNT)) (ap (λ n. has_members n ps) (sym (ap length_object is ∙ length_formulas Fs)) ∙ few))
+
+pub as_many : (t : Theory) (N : ℕ) (Fs : List Formula) (owed ps : Object) → owed ≡ formulas_object Fs → has_members (length_object owed) ps ≡ true → judged_each t N Fs ps ≡ judged_all t N Fs ps
+as_many t N Fs owed ps is enough = sym (ap (λ b. cond b (judged_each t N Fs ps) (Some COUNT)) (ap (λ n. has_members n ps) (sym (ap length_object is ∙ length_formulas Fs)) ∙ enough))

@@ -1,0 +1,12 @@
+-- The pairs so far are listed.
+use Rattle.std.proofs.Common.{◌≡◌, take}
+use Rattle.mw_model.specs.Term.{ArityTable, table_object}
+use Rattle.mw_heap.specs.Objects.{object_at, IsIn, Grows}
+use Rattle.mw_translate.specs.Expands.{with_pairs}
+use Rattle.mw_kernel.proofs.pairs.list_pairs.Given as goal
+
+abbrev pub invariant-loop-pair : goal.invariant-loop-pair
+invariant-loop-pair l =
+    Grows l.initial.heap l.heap
+    × IsIn l.heap l.list
+    × ((A : ArityTable) → object_at l.initial.heap l.initial.list ≡ table_object A → object_at l.heap l.list ≡ table_object (with_pairs l.initial.heap (take l.pair-index l.pairs) A))

@@ -1,0 +1,17 @@
+-- What was made is a call of CAR.
+use Rattle.std.proofs.Common.{sym, ap₂, ◌∙◌}
+use Rattle.mw_model.specs.Object.{Pair}
+use Rattle.mw_heap.proofs.Objects.{Grows-trans, object_at-Grows}
+use Rattle.mw_code.proofs.PieceForms.{if_ok-along}
+use Rattle.mw_machine_tests.proofs.Forms.{term-grows, car-term}
+use Rattle.mw_machine_tests.proofs.terms.car_of.Goals as goal
+
+pub returns-clause-term : goal.returns-clause-term
+returns-clause-term c =
+    let first = c.nil.new.self in
+    let end = c.cons-2.new.self in
+    let grows = Grows-trans first c.cons.new.self end c.in_ok-actuals.ensures.grows (Grows-trans c.cons.new.self c.symbol.new.self end c.in_ok-car.ensures.grows c.cons-2.ensures.grows) in
+    let x = term-grows c.args.heap.now first c.in_ok-nil.ensures.grows c.args.x c.requires in
+    let part = sym (object_at-Grows first end grows c.args.x x.1.within) in
+    let actuals = object_at-Grows c.cons.new.self c.symbol.new.self c.in_ok-car.ensures.grows c.in_ok-actuals.actuals c.in_ok-actuals.ensures.made.0 ∙ (c.in_ok-actuals.ensures.made.1 ∙ ap₂ Pair part c.in_ok-nil.ensures.made.1) in
+    if_ok-along c.cons-2.result (λ r h. car-term end r c.args.x h.0 (term-grows first end grows c.args.x x) (h.1 ∙ ap₂ Pair c.in_ok-car.ensures.made.1 actuals)) c.cons-2.ensures.made

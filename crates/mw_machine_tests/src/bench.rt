@@ -1,0 +1,91 @@
+//! A run of a term from its compilation to its outcome.
+ghost use Rattle.mw_machine_tests.specs.Tested.{IsSomeTerm, IsPlain};
+
+use crate::terms::{doubled, nested};
+use mw_code::Table;
+use mw_heap::{Heap, Memory, Profile, Ref};
+use mw_machine::{Machine, Outcome};
+use std::alloc::Global;
+
+/// What a run comes to: a natural, with the units that are left and the frames that were there at once, or what ended it.
+#[derive(Clone, Copy, Debug, PartialEq, Eq)]
+pub enum Answer {
+    Number(u128, u64, u64),
+    Steps,
+    Overflow,
+    Witness,
+    Memory,
+}
+
+// What the term comes to.
+fn answer_of(
+    heap: &mut Heap,
+    table: &mut Table,
+    machine: &mut Machine,
+    term: Ref,
+    steps: u64,
+) -> Result<Answer, Memory>
+    requires table { IsPlain heap.old table.old }
+    requires term { IsSomeTerm heap.old term }
+{
+    let entry = table.compile_call(heap, term)?;
+    match machine.run(heap, table, &entry, &[], steps) {
+        Outcome::Value(value, left) => Ok(Answer::Number(
+            heap.number(Some(value)),
+            left,
+            machine.frames(),
+        )),
+        Outcome::Steps => Ok(Answer::Steps),
+        Outcome::Overflow => Ok(Answer::Overflow),
+        Outcome::Witness => Ok(Answer::Witness),
+        Outcome::Memory => Ok(Answer::Memory),
+    }
+}
+
+fn nested_in(
+    heap: &mut Heap,
+    table: &mut Table,
+    machine: &mut Machine,
+    depth: usize,
+    steps: u64,
+) -> Result<Answer, Memory>
+    requires { IsPlain heap.old table.old }
+{
+    let term = nested(heap, depth)?;
+    answer_of(heap, table, machine, term, steps)
+}
+
+fn doubled_in(
+    heap: &mut Heap,
+    table: &mut Table,
+    machine: &mut Machine,
+    n: u128,
+    times: usize,
+    steps: u64,
+) -> Result<Answer, Memory>
+    requires { IsPlain heap.old table.old }
+{
+    let term = doubled(heap, n, times)?;
+    answer_of(heap, table, machine, term, steps)
+}
+
+/// What (CAR (CAR .. '0)) comes to with so many calls. The error is memory that is refused.
+pub fn answer_of_nested(alloc: Global, depth: usize, steps: u64) -> Result<Answer, Memory> {
+    let mut heap = Box::new(alloc, Heap::new(alloc)?)?;
+    let mut table = Box::new(alloc, Table::new(alloc, Profile::Two))?;
+    let mut machine = Machine::new(alloc);
+    nested_in(&mut heap, &mut table, &mut machine, depth, steps)
+}
+
+/// What n comes to that is doubled so many times. The error is memory that is refused.
+pub fn answer_of_doubled(
+    alloc: Global,
+    n: u128,
+    times: usize,
+    steps: u64,
+) -> Result<Answer, Memory> {
+    let mut heap = Box::new(alloc, Heap::new(alloc)?)?;
+    let mut table = Box::new(alloc, Table::new(alloc, Profile::Two))?;
+    let mut machine = Machine::new(alloc);
+    doubled_in(&mut heap, &mut table, &mut machine, n, times, steps)
+}

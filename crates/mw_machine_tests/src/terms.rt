@@ -1,0 +1,68 @@
+//! Terms that are run.
+ghost use Rattle.std.specs.Prelude.{IfOk};
+ghost use Rattle.mw_heap.specs.Objects.{Grows};
+ghost use Rattle.mw_machine_tests.specs.Tested.{IsSomeTerm};
+
+use mw_heap::{Heap, Memory, Ref};
+
+/// The constant 'n. The error is memory that is refused.
+pub fn constant(heap: &mut Heap, n: u128) -> Result<Ref, Memory>
+    ensures grows { Grows heap.old heap.new }
+    ensures term { IfOk result (IsSomeTerm heap.new) }
+{
+    let nil = heap.nil()?;
+    let n = heap.nat(n)?;
+    let rest = heap.cons(n, nil)?;
+    let quote = heap.symbol(b"QUOTE")?;
+    heap.cons(quote, rest)
+}
+
+/// The term (CAR x). The error is memory that is refused.
+pub fn car_of(heap: &mut Heap, x: Ref) -> Result<Ref, Memory>
+    requires { IsSomeTerm heap.old x }
+    ensures grows { Grows heap.old heap.new }
+    ensures term { IfOk result (IsSomeTerm heap.new) }
+{
+    let nil = heap.nil()?;
+    let actuals = heap.cons(x, nil)?;
+    let car = heap.symbol(b"CAR")?;
+    heap.cons(car, actuals)
+}
+
+/// The term (+ x y). The error is memory that is refused.
+pub fn sum_of(heap: &mut Heap, x: Ref, y: Ref) -> Result<Ref, Memory>
+    requires first { IsSomeTerm heap.old x }
+    requires second { IsSomeTerm heap.old y }
+    ensures grows { Grows heap.old heap.new }
+    ensures term { IfOk result (IsSomeTerm heap.new) }
+{
+    let nil = heap.nil()?;
+    let last = heap.cons(y, nil)?;
+    let actuals = heap.cons(x, last)?;
+    let plus = heap.symbol(b"+")?;
+    heap.cons(plus, actuals)
+}
+
+/// The term (CAR (CAR .. '0)), with so many calls. The error is memory that is refused.
+pub fn nested(heap: &mut Heap, depth: usize) -> Result<Ref, Memory>
+    ensures grows { Grows heap.old heap.new }
+    ensures term { IfOk result (IsSomeTerm heap.new) }
+{
+    let mut term = constant(heap, 0)?;
+    for _ in 0..depth {
+        term = car_of(heap, term)?;
+    }
+    Ok(term)
+}
+
+/// The sum of n with itself, and so on, so many times: both sides of a sum are one term. The error is memory that is refused.
+pub fn doubled(heap: &mut Heap, n: u128, times: usize) -> Result<Ref, Memory>
+    ensures grows { Grows heap.old heap.new }
+    ensures term { IfOk result (IsSomeTerm heap.new) }
+{
+    let mut term = constant(heap, n)?;
+    for _ in 0..times {
+        term = sum_of(heap, term, term)?;
+    }
+    Ok(term)
+}
