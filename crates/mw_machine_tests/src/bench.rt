@@ -7,9 +7,9 @@ use mw_heap::{Heap, Memory, Profile, Ref};
 use mw_machine::{Machine, Outcome};
 use std::alloc::Global;
 
-/// What a run comes to: a natural, with the units that are left and the frames that were there at once, or what ended it.
+// What a run comes to: a natural, with the units that are left and the frames that were there at once, or what ended it.
 #[derive(Clone, Copy, Debug, PartialEq, Eq)]
-pub enum Answer {
+pub(crate) enum Answer {
     Number(u128, u64, u64),
     Steps,
     Overflow,
@@ -69,16 +69,16 @@ fn doubled_in(
     answer_of(heap, table, machine, term, steps)
 }
 
-/// What (CAR (CAR .. '0)) comes to with so many calls. The error is memory that is refused.
-pub fn answer_of_nested(alloc: Global, depth: usize, steps: u64) -> Result<Answer, Memory> {
+// What (CAR (CAR .. '0)) comes to with so many calls. The error is memory that is refused.
+pub(crate) fn answer_of_nested(alloc: Global, depth: usize, steps: u64) -> Result<Answer, Memory> {
     let mut heap = Box::new(alloc, Heap::new(alloc)?)?;
     let mut table = Box::new(alloc, Table::new(alloc, Profile::Two))?;
     let mut machine = Machine::new(alloc);
     nested_in(&mut heap, &mut table, &mut machine, depth, steps)
 }
 
-/// What n comes to that is doubled so many times. The error is memory that is refused.
-pub fn answer_of_doubled(
+// What n comes to that is doubled so many times. The error is memory that is refused.
+pub(crate) fn answer_of_doubled(
     alloc: Global,
     n: u128,
     times: usize,

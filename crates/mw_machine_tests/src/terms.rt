@@ -5,8 +5,8 @@ ghost use Rattle.mw_machine_tests.specs.Tested.{IsSomeTerm};
 
 use mw_heap::{Heap, Memory, Ref};
 
-/// The constant 'n. The error is memory that is refused.
-pub fn constant(heap: &mut Heap, n: u128) -> Result<Ref, Memory>
+// The constant 'n. The error is memory that is refused.
+pub(crate) fn constant(heap: &mut Heap, n: u128) -> Result<Ref, Memory>
     ensures grows { Grows heap.old heap.new }
     ensures term { IfOk result (IsSomeTerm heap.new) }
 {
@@ -17,8 +17,8 @@ pub fn constant(heap: &mut Heap, n: u128) -> Result<Ref, Memory>
     heap.cons(quote, rest)
 }
 
-/// The term (CAR x). The error is memory that is refused.
-pub fn car_of(heap: &mut Heap, x: Ref) -> Result<Ref, Memory>
+// The term (CAR x). The error is memory that is refused.
+pub(crate) fn car_of(heap: &mut Heap, x: Ref) -> Result<Ref, Memory>
     requires { IsSomeTerm heap.old x }
     ensures grows { Grows heap.old heap.new }
     ensures term { IfOk result (IsSomeTerm heap.new) }
@@ -29,8 +29,8 @@ pub fn car_of(heap: &mut Heap, x: Ref) -> Result<Ref, Memory>
     heap.cons(car, actuals)
 }
 
-/// The term (+ x y). The error is memory that is refused.
-pub fn sum_of(heap: &mut Heap, x: Ref, y: Ref) -> Result<Ref, Memory>
+// The term (+ x y). The error is memory that is refused.
+pub(crate) fn sum_of(heap: &mut Heap, x: Ref, y: Ref) -> Result<Ref, Memory>
     requires first { IsSomeTerm heap.old x }
     requires second { IsSomeTerm heap.old y }
     ensures grows { Grows heap.old heap.new }
@@ -43,8 +43,8 @@ pub fn sum_of(heap: &mut Heap, x: Ref, y: Ref) -> Result<Ref, Memory>
     heap.cons(plus, actuals)
 }
 
-/// The term (CAR (CAR .. '0)), with so many calls. The error is memory that is refused.
-pub fn nested(heap: &mut Heap, depth: usize) -> Result<Ref, Memory>
+// The term (CAR (CAR .. '0)), with so many calls. The error is memory that is refused.
+pub(crate) fn nested(heap: &mut Heap, depth: usize) -> Result<Ref, Memory>
     ensures grows { Grows heap.old heap.new }
     ensures term { IfOk result (IsSomeTerm heap.new) }
 {
@@ -55,8 +55,8 @@ pub fn nested(heap: &mut Heap, depth: usize) -> Result<Ref, Memory>
     Ok(term)
 }
 
-/// The sum of n with itself, and so on, so many times: both sides of a sum are one term. The error is memory that is refused.
-pub fn doubled(heap: &mut Heap, n: u128, times: usize) -> Result<Ref, Memory>
+// The sum of n with itself, and so on, so many times: both sides of a sum are one term. The error is memory that is refused.
+pub(crate) fn doubled(heap: &mut Heap, n: u128, times: usize) -> Result<Ref, Memory>
     ensures grows { Grows heap.old heap.new }
     ensures term { IfOk result (IsSomeTerm heap.new) }
 {

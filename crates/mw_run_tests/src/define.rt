@@ -1,6 +1,7 @@
 //! Blocks of functions and witnesses: what they owe and add, and why they are refused.
-use crate::shared::{arities, boxed, is_in, read};
+use crate::shared::{arities, read};
 use mw_define::{Admitted, Draft, admit_block, admit_function, admit_witness};
+use mw_forms::{boxed, is_in};
 use mw_heap::{Heap, Memory, Ref, Refusal};
 use mw_term::Arity;
 use std::alloc::{AllocError, Global};

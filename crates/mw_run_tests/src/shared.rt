@@ -1,18 +1,11 @@
 //! What the tests share: objects from text, and the arities of some functions.
-ghost use Rattle.std.specs.Prelude.{◌≡◌, ◌↔◌, true, IsTrue};
+ghost use Rattle.std.specs.Prelude.{◌≡◌, true};
 ghost use Rattle.mw_model.specs.Object.{is_name};
-ghost use Rattle.mw_heap.specs.Objects.{IsIn};
 
 use mw_heap::{Heap, Memory, Ref};
 use mw_read::{Reader, Step};
 use mw_term::Arity;
 use std::alloc::Global;
-
-pub(crate) fn is_in(heap: &Heap, x: Ref) -> bool
-    ensures { IsTrue result ↔ IsIn heap.now x }
-{
-    x.index() < heap.mark().cells()
-}
 
 // The first datum of a text.
 pub(crate) fn read(heap: &mut Heap, text: &[u8]) -> Result<Ref, Memory> {
@@ -22,11 +15,6 @@ pub(crate) fn read(heap: &mut Heap, text: &[u8]) -> Result<Ref, Memory> {
         Step::Datum(datum) => Ok(datum),
         _ => Err(Memory),
     }
-}
-
-pub(crate) fn boxed(alloc: Global) -> Result<Box<Heap>, Memory> {
-    let heap = Heap::new(alloc)?;
-    Ok(Box::new(alloc, heap)?)
 }
 
 pub(crate) fn add(arity: &mut Arity, name: &[u8], count: u64) -> Result<(), Memory>

@@ -1,5 +1,6 @@
 //! Raw terms, and the terms that they expand to.
-use crate::shared::{add, arities, boxed, is_in, read};
+use crate::shared::{add, arities, read};
+use mw_forms::{boxed, is_in};
 use mw_heap::{Heap, Memory, Ref};
 use mw_term::Arity;
 use mw_translate::{Expanded, expand, expand_under};
