@@ -3,14 +3,14 @@ use Rattle.std.proofs.Common.{◌≡◌, ℕ, zero, suc, ◌<◌, ◌≤◌, ◌
 use Rattle.std.proofs.lemmas.Bool.{both_ways}
 use Rattle.std.proofs.lemmas.List.{length-take}
 use Rattle.std.proofs.lemmas.Option.{slice_get_within, slice_get-get_or, get_or_from_slice_get}
-use Rattle.mw_model.specs.Object.{Object, Natural, Symbol, name_of_bytes, car, cdr, is_name, same_object}
+use Rattle.mw_model.specs.Object.{Object, Natural, Symbol, Pair, name_of_bytes, car, cdr, is_name, same_object}
 use Rattle.mw_model.specs.Primitive.{is_symbol, name_of, number}
 use Rattle.mw_model.specs.Evaluation.{range}
 use Rattle.mw_model.specs.Fate.{is_out_of_range}
 use Rattle.mw_model.proofs.Names.{bytes-name_of_bytes, same_object-from, same_object-eq}
 use Rattle.mw_heap.specs.declared.cell.Cell.{Cell}
 use Rattle.mw_heap.specs.declared.cell.Cell.TheVariants.{Small, Large, Symbol as Named, Pair as Parts}
-use Rattle.mw_heap.specs.Objects.{object_at, IsIn, AreDistinct}
+use Rattle.mw_heap.specs.Objects.{object_at, IsIn, AreDistinct, StandsBefore, ArePartsOlder}
 use Rattle.mw_heap.specs.Cells.{object, objects, MayFollow, is_large, is_named, IsSound}
 use Rattle.mw_heap.proofs.Lists.{slice_get-some}
 use Rattle.mw_heap.proofs.Counts.{count_of-take-lt}
@@ -38,6 +38,18 @@ module _ (ns : List ℕ) (ss : List (List ℕ)) (cs : List Cell) (sound : IsSoun
       let f = parts_older x a b at in
       let w = slice_get_within cs x (Parts a b) at in
       (omega (arith, f.0, w, length-cells), omega (arith, f.1, w, length-cells))
+
+  pair_parts : (x : ℕ) (c : Cell) → slice_get cs x ≡ Some c → (a b : Object) → object_at os x ≡ Pair a b → StandsBefore os x a × StandsBefore os x b
+  pair_parts x (Small n) at a b e = let z : Natural n ≡ Pair a b = sym (shown x (Small n) at) ∙ e in cc
+  pair_parts x (Large i) at a b e = let z : Natural (get_or ns i 0) ≡ Pair a b = sym (shown x (Large i) at) ∙ e in cc
+  pair_parts x (Named i) at a b e = let z : Symbol (name_of_bytes (get_or ss i [])) ≡ Pair a b = sym (shown x (Named i) at) ∙ e in cc
+  pair_parts x (Parts p q) at a b e =
+      let older = parts_older x p q at in
+      let same = sym (shown x (Parts p q) at) ∙ e in
+      ((p, older.0, ap car same), (q, older.1, ap cdr same))
+
+  pub parts_are_older : ArePartsOlder os
+  parts_are_older x a b within e = let c = slice_get-some cs x (omega (arith, within, length-cells)) in pair_parts x c.0 c.1 a b e
 
   -- the place of a large natural, and of a name
   pub large_within : (x i : ℕ) → slice_get cs x ≡ Some (Large i) → i < length ns

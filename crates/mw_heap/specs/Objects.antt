@@ -21,6 +21,14 @@ Grows old new = (more : List Object) × (new ≡ old ++ more)
 abbrev pub AreDistinct : List Object → Type 0
 AreDistinct os = (x y : ℕ) → IsIn os x → IsIn os y → object_at os x ≡ object_at os y → x ≡ y
 
+-- the object stands before r
+abbrev pub StandsBefore : List Object → ℕ → Object → Type 0
+StandsBefore os r x = (q : ℕ) × (q < r) × (object_at os q ≡ x)
+
+-- the parts of each pair stand before it
+abbrev pub ArePartsOlder : List Object → Type 0
+ArePartsOlder os = (r : ℕ) (a b : Object) → IsIn os r → object_at os r ≡ Pair a b → StandsBefore os r a × StandsBefore os r b
+
 -- the view is that of the object x
 abbrev pub Shows : List Object → View → Object → Type 0
 Shows os (Nat n) x = x ≡ Natural n

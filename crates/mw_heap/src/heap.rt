@@ -4,7 +4,7 @@ ghost use Rattle.mw_model.specs.Object.{Symbol, Natural, Pair, NIL, name_of_byte
 ghost use Rattle.mw_model.specs.Primitive.{is_symbol, name_of};
 ghost use Rattle.mw_model.specs.Fate.{is_out_of_range};
 ghost use Rattle.mw_heap.specs.Lengths.{text_length, tail_length};
-ghost use Rattle.mw_heap.specs.Objects.{object_at, IsIn, Grows, Shows, NamesOlder, AreDistinct};
+ghost use Rattle.mw_heap.specs.Objects.{object_at, IsIn, Grows, Shows, NamesOlder, AreDistinct, ArePartsOlder};
 
 use crate::cell::Cell;
 use crate::lengths::Lengths;
@@ -236,6 +236,14 @@ impl Heap {
     {
         let _ = &self.cells;
         x == y
+    }
+
+    /// How the objects stand: no two are equal, and the parts of each pair come before it.
+    pub fn order(&self)
+        ensures distinct { AreDistinct self.now }
+        ensures older { ArePartsOlder self.now }
+    {
+        let _ = &self.cells;
     }
 
     /// Whether the name of the symbol `x` is before that of the symbol `y`: byte by byte, a proper prefix first.

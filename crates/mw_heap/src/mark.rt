@@ -1,6 +1,7 @@
 //! A point in the growth of a heap.
 ghost use Rattle.std.specs.Prelude.{◌≡◌};
 
+use crate::Ref;
 use std::marker::Model;
 
 /// How many objects a heap has had at some time, to go back to by `Heap::cut_back`.
@@ -25,6 +26,13 @@ impl Mark {
         ensures { result ≡ cells }
     {
         Mark { cells }
+    }
+
+    /// The number of objects that stand before this one.
+    pub fn before(x: Ref) -> Mark
+        ensures { result ≡ x }
+    {
+        Mark::new(x.index())
     }
 
     /// The number of objects.

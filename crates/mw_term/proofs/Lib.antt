@@ -9,5 +9,6 @@ pub mod Heads
 pub mod Gathered
 mod Gathering
 pub mod TermOccurrences
+mod SameArities
 pub mod CallerLemmas
 pub mod SubstitutionLists

@@ -14,7 +14,7 @@ takes-none : (n : Option ℕ) → takes None n ≡ false
 takes-none None = refl
 takes-none (Some n) = refl
 
-is_present-when : {X : Type 0} (b : Bool) (x : X) → is_present (when b (Some x)) ≡ b
+pub is_present-when : {X : Type 0} (b : Bool) (x : X) → is_present (when b (Some x)) ≡ b
 is_present-when true x = refl
 is_present-when false x = refl
 

@@ -1,6 +1,6 @@
 //! Objects that are kept once, names in their order, and the words that the crates above share.
 use mw_forms::boxed;
-use mw_heap::{Heap, Memory, Refusal, View, is_bare_name};
+use mw_heap::{Heap, Mark, Memory, Refusal, View, is_bare_name};
 use std::test::Fail;
 
 // What a natural over 2^32 and a pair of it are seen as, whether the pair is kept once, and how many objects stay without it.
@@ -34,7 +34,7 @@ fn has_one_nil(heap: &mut Heap) -> Result<[bool; 4], Memory> {
 }
 
 // What is said of the symbols CAR and CDR, of which CAR came first.
-fn orders_names(heap: &mut Heap) -> Result<[bool; 6], Memory> {
+fn orders_names(heap: &mut Heap) -> Result<[bool; 7], Memory> {
     let car = heap.symbol(b"CAR")?;
     let cdr = heap.symbol(b"CDR")?;
     Ok([
@@ -44,6 +44,7 @@ fn orders_names(heap: &mut Heap) -> Result<[bool; 6], Memory> {
         heap.nth(0) == car,
         heap.lengths(car) == (3, 6),
         heap.mark_behind(cdr) == heap.mark(),
+        Mark::before(cdr) == heap.mark_behind(car),
     ])
 }
 
@@ -64,7 +65,7 @@ fn there_is_one_nil(rt: HostRuntime) -> Result<(), Fail> {
 #[test]
 fn names_are_ordered(rt: HostRuntime) -> Result<(), Fail> {
     let mut heap = boxed(rt.alloc())?;
-    assert_eq!(rt; orders_names(&mut heap)?, [true; 6]);
+    assert_eq!(rt; orders_names(&mut heap)?, [true; 7]);
     Ok(())
 }
 

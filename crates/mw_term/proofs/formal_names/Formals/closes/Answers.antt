@@ -1,5 +1,5 @@
 -- On the object of a term, closed is what it is on the term.
-use Rattle.std.proofs.Common.{ap, sym, ◌∙◌}
+use Rattle.std.proofs.Common.{ap, ◌∙◌}
 use Rattle.mw_model.specs.Term.{is_closed}
 use Rattle.mw_heap.specs.Objects.{object_at}
 use Rattle.mw_term.specs.Parts.{names_at}
