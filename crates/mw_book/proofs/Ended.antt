@@ -1,18 +1,16 @@
 -- The last line of a report, and its status.
 use Rattle.std.proofs.Common.{◌≡◌, ℕ, suc, ◌+◌, ◌-◌, Bool, true, false, cond, List, [], ◌∷◌, ◌++◌, length, Result, Ok, Err, OnOk, Option, codes, refl, sym, ap, ◌∙◌, arith, true≢false}
 use Rattle.std.specs.Result.{is_err}
-use Rattle.std.proofs.lemmas.List.{length-map}
 use Rattle.mw_model.specs.Object.{Object}
 use Rattle.mw_model.specs.Primitive.{One}
 use Rattle.mw_model.specs.Theory.{Theory, initial}
 use Rattle.mw_model.specs.Fate.{fate, next, after}
 use Rattle.mw_model.specs.Printing.{numeral}
 use Rattle.mw_model.specs.Report.{spaced, is_accepted, accepted_among, refused_among, summary, Status}
-use Rattle.mw_kernel.specs.Version.{as_taken}
 use Rattle.mw_kernel.specs.Knowledge.{theory_of}
 use Rattle.mw_book.specs.Books.{TakesSome}
 use Rattle.mw_book.specs.Checks.{Concludes, IsHalt}
-use Rattle.mw_book.specs.Knowing.{Judged, events_of}
+use Rattle.mw_book.specs.Knowing.{Judged}
 use Rattle.mw_book.specs.Lines.{summary_of}
 use Rattle.mw_book.specs.declared.judging.Judging.{Judging}
 use Rattle.mw_book.specs.declared.status.Status.{Status as Ending}
@@ -35,16 +33,14 @@ same_text : (e a r l e' a' r' l' : ℕ) → e ≡ e' → a ≡ a' → r ≡ r' �
 same_text e a r l e' a' r' l' p q s u =
     ap (λ x. text_with x a r l) p ∙ ap (λ x. text_with e' x r l) q ∙ ap (λ x. text_with e' a' x l) s ∙ ap (λ x. text_with e' a' r' x) u
 
-same_summary : (t : Theory) (given : List Object) (N events refused level : ℕ) → events ≡ length given → refused ≡ refused_among t (events_of given) N → level ≡ (after t (events_of given) N).level →
-    text_with events (events - refused) refused level ≡ text_with (length (events_of given)) (accepted_among t (events_of given) N) (refused_among t (events_of given) N) (after t (events_of given) N).level
+same_summary : (t : Theory) (given : List Object) (N events refused level : ℕ) → events ≡ length given → refused ≡ refused_among t given N → level ≡ (after t given N).level →
+    text_with events (events - refused) refused level ≡ text_with (length given) (accepted_among t given N) (refused_among t given N) (after t given N).level
 same_summary t given N events refused level e r l =
-    let es = events_of given in
-    let all : events ≡ length es = e ∙ sym (length-map given as_taken) in
-    same_text events (events - refused) refused level (length es) (accepted_among t es N) (refused_among t es N) (after t es N).level all
-    (let a : events - refused ≡ accepted_among t es N = omega (arith, counts t es N, all, r) in a)
+    same_text events (events - refused) refused level (length given) (accepted_among t given N) (refused_among t given N) (after t given N).level e
+    (let a : events - refused ≡ accepted_among t given N = omega (arith, counts t given N, e, r) in a)
     r l
 
-pub summary_is : (j : Judging) (N : ℕ) (given : List Object) (level : ℕ) → Judged j N given → level ≡ (theory_of j.kernel).level → summary_of j.events j.refused level ≡ summary (events_of given) N
+pub summary_is : (j : Judging) (N : ℕ) (given : List Object) (level : ℕ) → Judged j N given → level ≡ (theory_of j.kernel).level → summary_of j.events j.refused level ≡ summary given N
 summary_is j N given level h l = same_summary (initial One) given N j.events j.refused level h.counted h.refused_counted (l ∙ ap (λ t. t.level) h.theory)
 
 -- a clause on a success, where it was one

@@ -2,15 +2,12 @@
 use Rattle.std.proofs.Common.{◌≡◌, ℕ, List, [], ◌++◌, Option, Some, None, refl, sym, ap, ◌∙◌, subst, append_assoc}
 use Rattle.mw_model.specs.Command.{Check}
 use Rattle.mw_model.specs.Grammar.{Book, book, trees}
-use Rattle.mw_model.specs.Report.{Status, Done, SomeRefused, Syntax, report_of, last_line}
-use Rattle.mw_model.specs.Report as report
-use Rattle.mw_kernel.specs.Version.{taken_book, report_due}
+use Rattle.mw_model.specs.Report.{Status, Done, SomeRefused, Syntax, status_of, report_of, report, last_line}
 use Rattle.mw_port.specs.Ports.{Takes}
 use Rattle.mw_read.specs.Piles.{kind_of}
 use Rattle.mw_read.specs.declared.step.SyntaxKind.{SyntaxKind}
 use Rattle.mw_reflect.specs.Laws.{EventsKeep}
 use Rattle.mw_book.specs.Books.{TakesSome}
-use Rattle.mw_book.specs.Knowing.{events_of}
 use Rattle.mw_book.specs.Taking.{fault_of}
 use Rattle.mw_book.specs.Statuses.{IsPartOf}
 use Rattle.mw_book.specs.Checks.{Reported, CheckEnds, SourceCounts, ReadWhole, Concludes}
@@ -21,14 +18,14 @@ use Rattle.mw_book.proofs.Written.{nothing_taken, takes_both, takes_then, gives_
 
 -- nothing was written
 pub part_none : (N : ℕ) (input sink : Option (List ℕ)) → IsPartOf (Check N) input sink sink
-part_none N input sink = (left_of input, gives_has input input [] (gives_none input), nothing_taken (report_due (left_of input) N).text sink)
+part_none N input sink = (left_of input, gives_has input input [] (gives_none input), nothing_taken (report (left_of input) N).text sink)
 
 -- a report that is done is that of a book with no fault
-done_none : (f : Option (SyntaxKind × ℕ)) (n : ℕ) → Some Done ≡ Some (report.status_of (fault_of f) n) → f ≡ None
+done_none : (f : Option (SyntaxKind × ℕ)) (n : ℕ) → Some Done ≡ Some (status_of (fault_of f) n) → f ≡ None
 done_none None n e = refl
 done_none (Some f) n e = absurd (let h : Some Done ≡ Some (Syntax (kind_of f.0) f.1) = e in cc)
 
-some_refused_none : (f : Option (SyntaxKind × ℕ)) (n : ℕ) → Some SomeRefused ≡ Some (report.status_of (fault_of f) n) → f ≡ None
+some_refused_none : (f : Option (SyntaxKind × ℕ)) (n : ℕ) → Some SomeRefused ≡ Some (status_of (fault_of f) n) → f ≡ None
 some_refused_none None n e = refl
 some_refused_none (Some f) n e = absurd (let h : Some SomeRefused ≡ Some (Syntax (kind_of f.0) f.1) = e in cc)
 
@@ -47,21 +44,21 @@ concludes_reads ending.ReadFault s text a b old new c k = absurd (let h : None �
 
 module _ (N : ℕ) (input now first middle : Option (List ℕ)) (f : Option (SyntaxKind × ℕ)) (j : Judging) (w : ReadWhole N input now first middle f j) where
   abbrev pub read : Book
-  read = book (events_of w.given) (fault_of f)
+  read = book w.given (fault_of f)
 
-  pub same_book : read ≡ taken_book (trees w.bytes)
-  same_book = ap taken_book (sym w.read)
+  pub same_book : read ≡ trees w.bytes
+  same_book = sym w.read
 
   abbrev rest : List ℕ
   rest = j.lines.items ++ last_line read N
 
-  whole : w.written ++ rest ≡ (report_due w.bytes N).text
+  whole : w.written ++ rest ≡ (report w.bytes N).text
   whole =
       sym (append_assoc w.written j.lines.items (last_line read N))
       ∙ ap (λ u. u ++ last_line read N) w.lines
       ∙ ap (λ (b : Book). (report_of b N).text) same_book
 
-  same_status : (report_of read N).status ≡ (report_due w.bytes N).status
+  same_status : (report_of read N).status ≡ (report w.bytes N).status
   same_status = ap (λ (b : Book). (report_of b N).status) same_book
 
   reported : EventsKeep → (after : Option (List ℕ)) (s : Status) → s ≡ (report_of read N).status → Takes middle after rest → Reported N input first after s
@@ -70,7 +67,7 @@ module _ (N : ℕ) (input now first middle : Option (List ℕ)) (f : Option (Syn
     w.has,
     w.written ++ rest,
     takes_both first middle after w.written rest w.takes t,
-    record { exact = whole; ends = e ∙ same_status; events_keep = keeps (taken_book (trees w.bytes)).events N },
+    record { exact = whole; ends = e ∙ same_status; events_keep = keeps (trees w.bytes).events N },
   )
 
   part : (after : Option (List ℕ)) → TakesSome middle after rest → IsPartOf (Check N) input first after

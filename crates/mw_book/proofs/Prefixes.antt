@@ -6,14 +6,13 @@ use Rattle.mw_model.specs.Lexemes.{Fault, Ending, Ends, Goes}
 use Rattle.mw_model.specs.Grammar.{Book, book, reading, limit, cut_short, trees}
 use Rattle.mw_model.specs.Theory.{Theory, initial}
 use Rattle.mw_model.specs.Fate.{fate, next, after}
-use Rattle.mw_model.specs.Report.{line, lines, last_line}
-use Rattle.mw_kernel.specs.Version.{as_taken, report_due, taken_book}
+use Rattle.mw_model.specs.Report.{line, lines, report, last_line}
 use Rattle.mw_read.specs.Parsing.{Fits, meaning_of}
 use Rattle.mw_read.specs.Standing.{Stands, IsFree}
 use Rattle.mw_read.specs.declared.parser.Parser.{Parser}
 use Rattle.mw_read.proofs.Bytes.{onward_book}
 use Rattle.mw_read.proofs.Telling.{fits_any}
-use Rattle.mw_book.specs.Knowing.{events_of, lines_of}
+use Rattle.mw_book.specs.Knowing.{lines_of}
 
 take_none : (n : ℕ) → take {A = ℕ} n [] ≡ []
 take_none zero = refl
@@ -59,20 +58,16 @@ lines_both t k (x ∷ a) b N =
     ap (λ u. line k x (fate t x N) ++ u) (lines_both (next t x N) (suc k) a b N ∙ ap (λ n. lines (suc k) (next t x N) a N ++ lines n (after (next t x N) a N) b N) (let e : suc k + length a ≡ k + suc (length a) = omega arith in e))
     ∙ sym (append_assoc (line k x (fate t x N)) (lines (suc k) (next t x N) a N) (lines (k + suc (length a)) (after (next t x N) a N) b N))
 
-map_both : (a b : List Object) → events_of (a ++ b) ≡ events_of a ++ events_of b
-map_both [] b = refl
-map_both (x ∷ a) b = ap (λ u. as_taken x ∷ u) (map_both a b)
-
 -- from any theory, with any last line
-lines_first : (t : Theory) (given more all : List Object) (N : ℕ) (last : List ℕ) → all ≡ given ++ more → (rest : List ℕ) × (lines 1 t (events_of all) N ++ last ≡ lines 1 t (events_of given) N ++ rest)
+lines_first : (t : Theory) (given more all : List Object) (N : ℕ) (last : List ℕ) → all ≡ given ++ more → (rest : List ℕ) × (lines 1 t all N ++ last ≡ lines 1 t given N ++ rest)
 lines_first t given more all N last e = (
-  lines (1 + length (events_of given)) (after t (events_of given) N) (events_of more) N ++ last,
-  ap (λ u. u ++ last) (ap (λ u. lines 1 t u N) (ap events_of e ∙ map_both given more) ∙ lines_both t 1 (events_of given) (events_of more) N)
-      ∙ append_assoc (lines 1 t (events_of given) N) (lines (1 + length (events_of given)) (after t (events_of given) N) (events_of more) N) last,
+  lines (1 + length given) (after t given N) more N ++ last,
+  ap (λ u. u ++ last) (ap (λ u. lines 1 t u N) e ∙ lines_both t 1 given more N)
+      ∙ append_assoc (lines 1 t given N) (lines (1 + length given) (after t given N) more N) last,
 )
 
-pub report_begins : (os : List Object) (p : Parser) (g : List ℕ) (given : List Object) → Stands os p g given → IsFree p → (rest : List ℕ) (N : ℕ) → (tail : List ℕ) × ((report_due (g ++ rest) N).text ≡ lines_of given N ++ tail)
+pub report_begins : (os : List Object) (p : Parser) (g : List ℕ) (given : List Object) → Stands os p g given → IsFree p → (rest : List ℕ) (N : ℕ) → (tail : List ℕ) × ((report (g ++ rest) N).text ≡ lines_of given N ++ tail)
 report_begins os p g given s f rest N =
     let d = first_data os p g given s f rest in
     let b = trees (g ++ rest) in
-    lines_first (initial One) given d.0 b.events N (last_line (taken_book b) N) d.1
+    lines_first (initial One) given d.0 b.events N (last_line b N) d.1

@@ -3,7 +3,6 @@ use Rattle.std.proofs.Common.{◌≡◌, ◌∙◌, ℕ, List, [], ◌++◌, Opt
 use Rattle.mw_model.specs.Grammar.{Book, book, trees}
 use Rattle.mw_model.specs.Report.{Status, Done, SomeRefused, Syntax, report_of, last_line}
 use Rattle.mw_model.specs.Trial.{trial_book}
-use Rattle.mw_kernel.specs.Version.{taken_book, report_due, last_line_due}
 use Rattle.mw_port.specs.Memories.{no_faults}
 use Rattle.mw_port.specs.Ports.{Rises, Takes}
 use Rattle.mw_read.specs.Piles.{kind_of}
@@ -36,19 +35,19 @@ module _ (m N : ℕ) (input now first middle : Option (List ℕ)) (f : Option (S
   abbrev here : Book
   here = read N input now first middle f j w
 
-  trial_read : here ≡ taken_book (trees (trial_book m))
+  trial_read : here ≡ trees (trial_book m)
   trial_read =
       let bytes : trial_book m ≡ w.bytes = subst (λ i. Has i w.bytes) holds w.has in
-      same_book N input now first middle f j w ∙ ap (λ b. taken_book (trees b)) (sym bytes)
+      same_book N input now first middle f j w ∙ ap (λ b. trees b) (sym bytes)
 
-  last : last_line here N ≡ last_line_due (trial_book m) N
+  last : last_line here N ≡ last_line (trees (trial_book m)) N
   last = ap (λ (b : Book). last_line b N) trial_read
 
   reported : EventsKeep → (old new : Option (List ℕ)) (s : Status) → s ≡ (report_of here N).status → Takes old new (last_line here N) → LastReported m N old new s
   reported keeps old new s e t = (
     last_line here N,
     t,
-    record { exact = last; ends = e ∙ ap (λ (b : Book). (report_of b N).status) trial_read; events_keep = keeps (taken_book (trees (trial_book m))).events N },
+    record { exact = last; ends = e ∙ ap (λ (b : Book). (report_of b N).status) trial_read; events_keep = keeps (trees (trial_book m)).events N },
   )
 
   concluded : EventsKeep → (e : Ending) (old new : Option (List ℕ)) → Concludes e (report_of here N).status (last_line here N) old new → TrialEnds e m N old new

@@ -3,9 +3,8 @@ use Rattle.std.specs.Prelude.{◌≡◌, ℕ, List, ◌++◌, Option, Some, None
 use Rattle.mw_model.specs.Object.{Object}
 use Rattle.mw_model.specs.Command.{Check}
 use Rattle.mw_model.specs.Grammar.{book, trees}
-use Rattle.mw_model.specs.Report.{Status, Done, SomeRefused, Syntax}
+use Rattle.mw_model.specs.Report.{Status, Done, SomeRefused, Syntax, lines_so_far, last_line}
 use Rattle.mw_model.specs.Trial.{trial_book}
-use Rattle.mw_kernel.specs.Version.{lines_due, last_line_due}
 use Rattle.mw_book.specs.Headline.{Headline, TrialHeadline}
 use Rattle.mw_port.specs.Ports.{Rises, Gives, Takes, HasEnded}
 use Rattle.mw_read.specs.Piles.{kind_of}
@@ -29,7 +28,7 @@ CheckEnds ending.SomeRefused N old_book new_book old new = HasEnded new_book × 
 CheckEnds (ending.Syntax k o) N old_book new_book old new = Reported N old_book old new (Syntax (kind_of k) o)
 CheckEnds ending.Help N old_book new_book old new = ⊥
 CheckEnds ending.Usage N old_book new_book old new = ⊥
-CheckEnds ending.ReadFault N old_book new_book old new = (given : List ℕ) × Gives old_book new_book given × Takes old new (lines_due given N)
+CheckEnds ending.ReadFault N old_book new_book old new = (given : List ℕ) × Gives old_book new_book given × Takes old new (lines_so_far given N)
 CheckEnds ending.WriteFault N old_book new_book old new = IsPartOf (Check N) old_book old new
 CheckEnds ending.Memory N old_book new_book old new = IsPartOf (Check N) old_book old new
 
@@ -45,8 +44,8 @@ TrialEnds (ending.Syntax k o) m N old new = LastReported m N old new (Syntax (ki
 TrialEnds ending.Help m N old new = ⊥
 TrialEnds ending.Usage m N old new = ⊥
 TrialEnds ending.ReadFault m N old new = ⊥
-TrialEnds ending.WriteFault m N old new = TakesSome old new (last_line_due (trial_book m) N)
-TrialEnds ending.Memory m N old new = TakesSome old new (last_line_due (trial_book m) N)
+TrialEnds ending.WriteFault m N old new = TakesSome old new (last_line (trees (trial_book m)) N)
+TrialEnds ending.Memory m N old new = TakesSome old new (last_line (trees (trial_book m)) N)
 
 -- the source's count of faults before and afterwards
 abbrev pub SourceCounts : Ending → ℕ → ℕ → Type 0

@@ -4,18 +4,17 @@ use Rattle.mw_model.specs.Primitive.{One}
 use Rattle.mw_model.specs.Grammar.{trees}
 use Rattle.mw_model.specs.Theory.{initial}
 use Rattle.mw_model.specs.Keeping.{EachKeeps}
-use Rattle.mw_model.specs.Report.{Status}
+use Rattle.mw_model.specs.Report.{Status, report, last_line}
 use Rattle.mw_model.specs.Trial.{trial_book}
-use Rattle.mw_kernel.specs.Version.{taken_book, report_due, last_line_due}
 
 -- What was written on the book, with this status, is the report; and what the report calls accepted is true.
 pub record Headline (bytes : List ℕ) (N : ℕ) (written : List ℕ) (status : Status) : Type 0 where
-  pub exact : written ≡ (report_due bytes N).text
-  pub ends : status ≡ (report_due bytes N).status
-  pub events_keep : EachKeeps (initial One) N (taken_book (trees bytes)).events
+  pub exact : written ≡ (report bytes N).text
+  pub ends : status ≡ (report bytes N).status
+  pub events_keep : EachKeeps (initial One) N (trees bytes).events
 
 -- The same of the trial book of m events, of whose report only the last line is written.
 pub record TrialHeadline (m N : ℕ) (written : List ℕ) (status : Status) : Type 0 where
-  pub exact : written ≡ last_line_due (trial_book m) N
-  pub ends : status ≡ (report_due (trial_book m) N).status
-  pub events_keep : EachKeeps (initial One) N (taken_book (trees (trial_book m))).events
+  pub exact : written ≡ last_line (trees (trial_book m)) N
+  pub ends : status ≡ (report (trial_book m) N).status
+  pub events_keep : EachKeeps (initial One) N (trees (trial_book m)).events

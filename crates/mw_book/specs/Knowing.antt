@@ -1,27 +1,23 @@
 -- Where the judging of a book stands.
-use Rattle.std.specs.Prelude.{◌≡◌, ℕ, List, ◌++◌, length, map}
+use Rattle.std.specs.Prelude.{◌≡◌, ℕ, List, ◌++◌, length}
 use Rattle.mw_model.specs.Object.{Object}
 use Rattle.mw_model.specs.Primitive.{One}
 use Rattle.mw_model.specs.Theory.{initial}
 use Rattle.mw_model.specs.Fate.{after}
 use Rattle.mw_model.specs.Report.{lines, refused_among}
-use Rattle.mw_kernel.specs.Version.{as_taken}
 use Rattle.mw_kernel.specs.Knowledge.{theory_of}
 use Rattle.mw_book.specs.declared.judging.Judging.{Judging}
 
-abbrev pub events_of : List Object → List Object
-events_of given = map as_taken given
-
 -- the lines of the data that were given
 abbrev pub lines_of : List Object → ℕ → List ℕ
-lines_of given N = lines 1 (initial One) (events_of given) N
+lines_of given N = lines 1 (initial One) given N
 
 -- These data were judged: the kernel has the theory that they lead to, and the numbers count them.
 pub record Judged (j : Judging) (N : ℕ) (given : List Object) : Type 0 where
-  pub theory : theory_of j.kernel ≡ after (initial One) (events_of given) N
+  pub theory : theory_of j.kernel ≡ after (initial One) given N
   pub steps : j.kernel.steps ≡ N
   pub counted : j.events ≡ length given
-  pub refused_counted : j.refused ≡ refused_among (initial One) (events_of given) N
+  pub refused_counted : j.refused ≡ refused_among (initial One) given N
 
 -- From the data given to more: where those were judged, these are, and behind what was written the lines are due.
 pub record Judges (old : Judging) (given : List Object) (new : Judging) (more : List Object) : Type 0 where

@@ -1,9 +1,9 @@
 -- How the program ends, and what is then true.
 use Rattle.std.specs.Prelude.{◌≡◌, ℕ, Bool, true, false, List, Option, Some, None}
 use Rattle.mw_model.specs.Command.{Request, Check, Trial, Help, Usage, asked, help_text}
-use Rattle.mw_model.specs.Report.{Status, Done, SomeRefused, Syntax}
+use Rattle.mw_model.specs.Grammar.{trees}
+use Rattle.mw_model.specs.Report.{Status, Done, SomeRefused, Syntax, lines_so_far, report, last_line}
 use Rattle.mw_model.specs.Trial.{trial_book}
-use Rattle.mw_kernel.specs.Version.{report_due, lines_due, last_line_due}
 use Rattle.mw_book.specs.Headline.{Headline, TrialHeadline}
 use Rattle.mw_port.specs.Ports.{Gives, Takes}
 use Rattle.mw_read.specs.Piles.{kind_of}
@@ -44,8 +44,8 @@ Reports words book old new s = ReportsOn (asked words) book old new s
 
 -- The sink took leading bytes of what is due: the report on the book, the last line of that on the trial book, or the help text.
 abbrev pub IsPartOf : Request → Option (List ℕ) → Option (List ℕ) → Option (List ℕ) → Type 0
-IsPartOf (Check N) book old new = (bytes : List ℕ) × Has book bytes × TakesSome old new (report_due bytes N).text
-IsPartOf (Trial m N) book old new = TakesSome old new (last_line_due (trial_book m) N)
+IsPartOf (Check N) book old new = (bytes : List ℕ) × Has book bytes × TakesSome old new (report bytes N).text
+IsPartOf (Trial m N) book old new = TakesSome old new (last_line (trees (trial_book m)) N)
 IsPartOf Help book old new = TakesSome old new help_text
 IsPartOf Usage book old new = TakesSome old new help_text
 
@@ -54,4 +54,4 @@ IsCutShort words book old new = IsPartOf (asked words) book old new
 
 -- The lines were written of all data that are complete in the bytes that the source gave.
 abbrev pub ReportsSoFar : List (List ℕ) → Option (List ℕ) → Option (List ℕ) → Option (List ℕ) → Option (List ℕ) → Type 0
-ReportsSoFar words old_book new_book old new = (N : ℕ) × (asked words ≡ Check N) × (given : List ℕ) × Gives old_book new_book given × Takes old new (lines_due given N)
+ReportsSoFar words old_book new_book old new = (N : ℕ) × (asked words ≡ Check N) × (given : List ℕ) × Gives old_book new_book given × Takes old new (lines_so_far given N)

@@ -7,7 +7,7 @@ ghost use Rattle.mw_model.specs.Trial.{trial_book};
 ghost use Rattle.mw_port.specs.Memories.{no_faults};
 ghost use Rattle.mw_port.specs.Ports.{Takes};
 ghost use Rattle.mw_book.specs.Books.{TakesSome};
-ghost use Rattle.mw_book.specs.Knowing.{Judged, events_of};
+ghost use Rattle.mw_book.specs.Knowing.{Judged};
 ghost use Rattle.mw_book.specs.Taking.{fault_of};
 ghost use Rattle.mw_book.specs.Checks.{CheckEnds, TrialEnds, SourceCounts, SinkCounts, ReadWhole, Concludes, IsHalt, IsStop};
 
@@ -146,7 +146,7 @@ fn write_lines<K: Sink>(judging: &mut Judging, sink: &mut K) -> Result<(), Statu
 // Puts the last line behind those that were not written yet.
 fn write_last(judging: &mut Judging, fault: Option<(SyntaxKind, u64)>) -> Result<(), Memory>
     requires few { judging.old.refused ≤ judging.old.events }
-    ensures last { OnOk result ((N : ℕ) (given : List Object) → Judged judging.old N given → judging.new.lines.items ≡ judging.old.lines.items ++ last_line (book (events_of given) (fault_of fault)) N) }
+    ensures last { OnOk result ((N : ℕ) (given : List Object) → Judged judging.old N given → judging.new.lines.items ≡ judging.old.lines.items ++ last_line (book given (fault_of fault)) N) }
     ensures rest { judging.new ≡ record judging.old { lines = judging.new.lines } }
 {
     match fault {
@@ -161,7 +161,7 @@ fn write_last(judging: &mut Judging, fault: Option<(SyntaxKind, u64)>) -> Result
 // Writes the lines that were not written yet and the last line.
 fn end<K: Sink>(judging: &mut Judging, fault: Option<(SyntaxKind, u64)>, sink: &mut K) -> Status
     requires few { judging.old.refused ≤ judging.old.events }
-    ensures concludes { (N : ℕ) (given : List Object) → Judged judging.old N given → Concludes result (report_of (book (events_of given) (fault_of fault)) N).status (judging.old.lines.items ++ last_line (book (events_of given) (fault_of fault)) N) (K.taken sink.old) (K.taken sink.new) }
+    ensures concludes { (N : ℕ) (given : List Object) → Judged judging.old N given → Concludes result (report_of (book given (fault_of fault)) N).status (judging.old.lines.items ++ last_line (book given (fault_of fault)) N) (K.taken sink.old) (K.taken sink.new) }
     ensures sink_counts { SinkCounts result (K.faults sink.old) (K.faults sink.new) }
 {
     if write_last(judging, fault).is_err() {

@@ -1,20 +1,18 @@
 -- What an event that defines comes to, by the tests of its definitions and of its proofs.
-use Rattle.std.proofs.Common.{◌≡◌, ℕ, Bool, true, false, cond, List, [], ◌∷◌, length, map, Option, Some, None, refl, sym, ap, ap₂, ◌∙◌, subst}
+use Rattle.std.proofs.Common.{◌≡◌, ℕ, ◌≤◌, Bool, true, false, cond, List, [], ◌∷◌, length, take, map, option_map, Option, Some, None, refl, sym, ap, ap₂, ◌∙◌, subst, arith, true≢false}
 use Rattle.mw_model.specs.Object.{Object, has_members}
 use Rattle.mw_model.specs.Term.{ArityTable}
 use Rattle.mw_model.specs.Definition.{Function as Defined, Block, Functions, Choice, arity_table}
 use Rattle.mw_model.specs.Obligation.{obligations}
 use Rattle.mw_model.specs.Theory.{Theory, IsSound}
-use Rattle.mw_model.specs.Refusal.{Refusal, EVENT, COUNT, Fate, refuse, accept, need, must, unless}
+use Rattle.mw_model.specs.Refusal.{Refusal, EVENT, COUNT, Fate, Accepted, Refused, refuse, accept, need, must, unless}
 use Rattle.mw_model.specs.Checking.{judged_each}
-use Rattle.mw_model.specs.Admission.{Draft, define, functions, measures, add_to_theory, skolem}
+use Rattle.mw_model.specs.Admission.{Draft, define, functions, measures, add_to_theory, skolem, some_drafts}
 use Rattle.mw_heap.specs.declared.refusal.Refusal.{Refusal as Reason}
 use Rattle.mw_heap.specs.Variants.{refusal_of}
 use Rattle.mw_heap.specs.Objects.{object_at, IsIn, Grows}
-use Rattle.mw_heap.proofs.Objects.{object_at-Grows, IsIn-Grows, Grows-trans}
+use Rattle.mw_heap.proofs.Objects.{Grows-refl, Grows-take, IsIn-Grows, IsIn-take, object_at-Grows}
 use Rattle.mw_term.specs.declared.cell_mark.CellMark.{CellMark}
-use Rattle.mw_proof.specs.Known.{known_object}
-use Rattle.mw_code.specs.declared.table.Table.{Table}
 use Rattle.mw_define.specs.declared.admitted.Admitted.TheVariants as admitted
 use Rattle.mw_define.specs.declared.admitted.Owed.{Owed}
 use Rattle.mw_define.specs.declared.admitted.Entry.{Entry}
@@ -26,13 +24,17 @@ use Rattle.mw_define.proofs.EntryLemmas.{block-entries, witness-entry}
 use Rattle.mw_preamble.specs.declared.definition.Definition.{Definition}
 use Rattle.mw_preamble.specs.declared.definition.Definition.TheVariants.{Witness}
 use Rattle.mw_preamble.specs.Entries.{AreFunctions, IsBlock}
-use Rattle.mw_kernel.specs.Knowledge.{Knowledge, theory_with, definitions_of, theory_of, IsKernel}
+use Rattle.mw_kernel.specs.declared.theory.Theory.{Theory as Kept}
+use Rattle.mw_kernel.specs.Knowledge.{Knowledge, parts_of, meant, theory_of, IsKernel}
 use Rattle.mw_kernel.specs.Words.{skolem_event}
 use Rattle.mw_kernel.specs.Proofs.{judged_all}
-use Rattle.mw_kernel.specs.Admitting.{drafts_given, defined, skolem_at, function_of_entry}
+use Rattle.mw_kernel.specs.Fates.{verify_refusal}
+use Rattle.mw_kernel.specs.Switching.{switch_refusal}
+use Rattle.mw_kernel.specs.Admitting.{AreWithin, AreBefore, drafts_given, defined, IsDefined, IsAccepted, skolem_at, function_of_entry}
 use Rattle.mw_kernel.specs.Defining.{IsNewBlock}
 use Rattle.mw_kernel.specs.declared.admitting.Drafts.{Drafts}
-use Rattle.mw_kernel.proofs.Keeping.{with_objects, grown, grown_theory}
+use Rattle.mw_kernel.specs.declared.admitting.Drafts.TheVariants.{One, All}
+use Rattle.mw_kernel.proofs.Held.{held, held-by, grown_theory}
 
 -- what stands after the tests of the proofs
 abbrev pub after_proofs : Theory → Option Refusal → Block → Fate × Theory
@@ -60,12 +62,12 @@ given-passed A None os owed h = absurd h
 given-passed A (Some ds) os owed h = record { drafts = ds; given_is = refl; passes = h }
 
 module _ (t : Theory) (N : ℕ) (proofs : Object) (os : List Object) where
-  refused-given : (given : Option (List Draft)) (r : Reason) → IsBlockOf (arity_table t.definitions) given os (admitted.Refused r) → defined t N given proofs ≡ refuse t (refusal_of r)
+  pub refused-given : (given : Option (List Draft)) (r : Reason) → IsBlockOf (arity_table t.definitions) given os (admitted.Refused r) → defined t N given proofs ≡ refuse t (refusal_of r)
   unfolding need
   refused-given None r h = ap (refuse t) (sym h)
   refused-given (Some ds) r h = define-refused t N proofs ds (refusal_of r) h
 
-  judged-given : (given : Option (List Draft)) (owed : Owed) (h : IsPassed (arity_table t.definitions) given os owed) (r : Option Refusal) → judged_all t N (obligations (functions h.passes.names h.passes.formals h.passes.bodies) (measures h.passes.names h.passes.measures_of)) proofs ≡ r → defined t N given proofs ≡ after_proofs t r (Functions (functions h.passes.names h.passes.formals h.passes.bodies))
+  pub judged-given : (given : Option (List Draft)) (owed : Owed) (h : IsPassed (arity_table t.definitions) given os owed) (r : Option Refusal) → judged_all t N (obligations (functions h.passes.names h.passes.formals h.passes.bodies) (measures h.passes.names h.passes.measures_of)) proofs ≡ r → defined t N given proofs ≡ after_proofs t r (Functions (functions h.passes.names h.passes.formals h.passes.bodies))
   unfolding need
   judged-given given owed h r told =
       let Fs = obligations (functions h.passes.names h.passes.formals h.passes.bodies) (measures h.passes.names h.passes.measures_of) in
@@ -84,91 +86,166 @@ functions-mean os (f ∷ B) (e ∷ es) h =
 functions-mean os [] (e ∷ es) h = absurd h
 functions-mean os (f ∷ B) [] h = absurd h
 
--- The same of a kernel whose heap grew, told of what it held before.
-module _ (k : Knowledge) (axioms theorems : List ℕ) (A : ArityTable) (marks : List CellMark) (code : Table) (h : IsKernel k axioms theorems A marks code) (old : Knowledge) (is : k ≡ old) (new : List Object) (grows : Grows k.objects new) where
-  abbrev later : Theory
-  later = theory_of (with_objects k new)
+-- by the tests of the functions and of the proofs it is refused, or accepted with some block
+pub definitions-judged : (t : Theory) (N : ℕ) (proofs : Object) (os : List Object) (given : Option (List Draft)) (owed : Owed) (p : IsPassed (arity_table t.definitions) given os owed) (r : Option Refusal) → r ≡ judged_all t N (obligations (functions p.passes.names p.passes.formals p.passes.bodies) (measures p.passes.names p.passes.measures_of)) proofs → IsDefined t N given proofs r
+definitions-judged t N proofs os given owed p r told = go r (judged-given t N proofs os given owed p r (sym told))
+  where
+    B : Block
+    B = Functions (functions p.passes.names p.passes.formals p.passes.bodies)
 
-  arities : A ≡ arity_table later.definitions
-  arities = (grown k axioms theorems A marks code h new grows).arities
+    go : (q : Option Refusal) → defined t N given proofs ≡ after_proofs t q B → IsDefined t N given proofs q
+    go None e = (B, e)
+    go (Some reason) e = e
 
-  pub theory-same : theory_of (with_objects k new) ≡ theory_of old
-  theory-same = grown_theory k axioms theorems A marks code h new grows ∙ ap theory_of is
+-- Functions that were accepted and pass their tests are accepted as these.
+pub accepted-these : (t : Theory) (N : ℕ) (proofs : Object) (os : List Object) (given : Option (List Draft)) (owed : Owed) (p : IsPassed (arity_table t.definitions) given os owed) (B : Block) → defined t N given proofs ≡ accept (add_to_theory t B) → defined t N given proofs ≡ accept (add_to_theory t (Functions (functions p.passes.names p.passes.formals p.passes.bodies)))
+accepted-these t N proofs os given owed p B accepted = go r (judged-given t N proofs os given owed p r refl)
+  where
+    C : Block
+    C = Functions (functions p.passes.names p.passes.formals p.passes.bodies)
 
-  module _ (drafts : Drafts) (proofs : ℕ) (proofs_in : IsIn old.objects proofs) where
-    meant : defined later k.steps (drafts_given k.objects drafts) (object_at new proofs) ≡ defined (theory_of old) old.steps (drafts_given old.objects drafts) (object_at old.objects proofs)
-    meant =
-        ap₂ (λ t p. defined t k.steps (drafts_given k.objects drafts) p) (grown_theory k axioms theorems A marks code h new grows) (object_at-Grows k.objects new grows proofs (subst (λ v. IsIn v.objects proofs) (sym is) proofs_in))
-        ∙ ap (λ v. defined (theory_of v) v.steps (drafts_given v.objects drafts) (object_at v.objects proofs)) is
+    r : Option Refusal
+    r = judged_all t N (obligations (functions p.passes.names p.passes.formals p.passes.bodies) (measures p.passes.names p.passes.measures_of)) proofs
 
-    pub define-fails : (r : Reason) → IsBlockOf A (drafts_given k.objects drafts) new (admitted.Refused r) → defined (theory_of old) old.steps (drafts_given old.objects drafts) (object_at old.objects proofs) ≡ refuse (theory_of old) (refusal_of r)
-    define-fails r fails =
-        sym meant
-        ∙ (refused-given later k.steps (object_at new proofs) new (drafts_given k.objects drafts) r (subst (λ B. IsBlockOf B (drafts_given k.objects drafts) new (admitted.Refused r)) arities fails)
-        ∙ ap (λ t. refuse t (refusal_of r)) theory-same)
+    never : (q : Refusal) → accept (add_to_theory t B) ≡ refuse t q → ⊥
+    never q e = is_refused (ap (λ x. x.0) e)
+      where
+        shows : Fate → Bool
+        shows (Accepted text) = true
+        shows (Refused reason) = false
 
-    pub passed : (owed : Owed) → IsBlockOf A (drafts_given k.objects drafts) new (admitted.Obligations owed) → IsPassed (arity_table (definitions_of (with_objects k new))) (drafts_given k.objects drafts) new owed
-    passed owed p = given-passed (arity_table later.definitions) (drafts_given k.objects drafts) new owed (subst (λ B. IsBlockOf B (drafts_given k.objects drafts) new (admitted.Obligations owed)) arities p)
+        is_refused : Accepted [] ≡ Refused q → ⊥
+        is_refused e = true≢false (ap shows e)
 
-    -- the theory with the known objects is that of the kernel
-    known-later : theory_with (known_object new axioms) (known_object new theorems) (definitions_of (with_objects k new)) ≡ later
-    known-later = let g = grown k axioms theorems A marks code h new grows in ap₂ (λ x y. theory_with x y (definitions_of (with_objects k new))) g.axioms_known g.theorems_known
+    go : (q : Option Refusal) → defined t N given proofs ≡ after_proofs t q C → defined t N given proofs ≡ accept (add_to_theory t C)
+    go None e = e
+    go (Some q) e = absurd (never q (sym accepted ∙ e))
 
-    pub define-judged-by : (owed : Owed) (p : IsPassed (arity_table (definitions_of (with_objects k new))) (drafts_given k.objects drafts) new owed) (r : Option Refusal) → r ≡ judged_all (theory_with (known_object new axioms) (known_object new theorems) (definitions_of (with_objects k new))) k.steps (obligations (functions p.passes.names p.passes.formals p.passes.bodies) (measures p.passes.names p.passes.measures_of)) (object_at new proofs) → defined (theory_of old) old.steps (drafts_given old.objects drafts) (object_at old.objects proofs) ≡ after_proofs (theory_of old) r (Functions (functions p.passes.names p.passes.formals p.passes.bodies))
-    define-judged-by owed p r told =
-        let Fs = obligations (functions p.passes.names p.passes.formals p.passes.bodies) (measures p.passes.names p.passes.measures_of) in
-        sym meant
-        ∙ (judged-given later k.steps (object_at new proofs) new (drafts_given k.objects drafts) owed p r (ap (λ t. judged_all t k.steps Fs (object_at new proofs)) (sym known-later) ∙ sym told)
-        ∙ ap (λ t. after_proofs t r (Functions (functions p.passes.names p.passes.formals p.passes.bodies))) theory-same)
+-- what is accepted and leaves a sound theory
+pub accepted-sound : (t : Theory) (N : ℕ) (given : Option (List Draft)) (proofs : Object) → IsDefined t N given proofs None → IsSound (defined t N given proofs).1 → IsAccepted t N given proofs
+accepted-sound t N given proofs d sound = (d.0, d.1, subst (λ r. IsSound r.1) d.1 sound)
+
+-- definitions stand where they stood as the heap grows, and after a cut behind them
+pub within-grows : (old new : List Object) → Grows old new → (drafts : Drafts) → AreWithin old drafts → AreWithin new drafts
+within-grows old new g (One d) h = (IsIn-Grows old new g d.name h.0, IsIn-Grows old new g d.formals h.1, IsIn-Grows old new g d.body h.2, IsIn-Grows old new g d.measure h.3)
+within-grows old new g (All x) h = IsIn-Grows old new g x h
+
+pub given-grows : (old new : List Object) → Grows old new → (drafts : Drafts) → AreWithin old drafts → drafts_given new drafts ≡ drafts_given old drafts
+given-grows old new g (One d) h =
+    ap (λ x. Some (x ∷ []))
+    (ap₂ (λ a b. record { name = a; formals = b; body = object_at new d.body; measure = object_at new d.measure }) (object_at-Grows old new g d.name h.0) (object_at-Grows old new g d.formals h.1)
+    ∙ ap₂ (λ a b. record { name = object_at old d.name; formals = object_at old d.formals; body = a; measure = b }) (object_at-Grows old new g d.body h.2) (object_at-Grows old new g d.measure h.3))
+given-grows old new g (All x) h = ap some_drafts (object_at-Grows old new g x h)
+
+pub within-cut : (os : List Object) (n m : ℕ) → m ≤ n → n ≤ length os → (drafts : Drafts) → AreBefore m drafts → AreWithin (take n os) drafts
+within-cut os n m l w (One d) h = (IsIn-take n os d.name (omega (arith, h.0, l)) w, IsIn-take n os d.formals (omega (arith, h.1, l)) w, IsIn-take n os d.body (omega (arith, h.2, l)) w, IsIn-take n os d.measure (omega (arith, h.3, l)) w)
+within-cut os n m l w (All x) h = IsIn-take n os x (omega (arith, h, l)) w
+
+pub given-cut : (os : List Object) (n m : ℕ) → m ≤ n → n ≤ length os → (drafts : Drafts) → AreBefore m drafts → drafts_given (take n os) drafts ≡ drafts_given os drafts
+given-cut os n m l w drafts h = sym (given-grows (take n os) os (Grows-take n os) drafts (within-cut os n m l w drafts h))
+
+-- A kernel whose heap grew, told of what it held before.
+module _ (os : List Object) (n : ℕ) (t : Kept) (marks : List CellMark) (N : ℕ) (h : IsKernel os n t marks) (old : Knowledge) (is : held-by os n t N ≡ old) (new : List Object) (grows : Grows os new) where
+  pub theory-same : meant new (parts_of t) ≡ theory_of old
+  theory-same = grown_theory os n t marks h new grows ∙ ap theory_of is
+
+  pub object-told : (x : ℕ) → IsIn old.objects x → object_at new x ≡ object_at old.objects x
+  object-told x within = object_at-Grows os new grows x (subst (λ v. IsIn v.objects x) (sym is) within) ∙ ap (λ v. object_at v.objects x) is
+
+  pub verify-told : (name formula proof : ℕ) (r : Option Reason) (q : Option Refusal) → option_map refusal_of r ≡ q → option_map refusal_of r ≡ verify_refusal (meant os (parts_of t)) N (object_at os name) (object_at os formula) (object_at os proof) → verify_refusal (theory_of old) old.steps (object_at old.objects name) (object_at old.objects formula) (object_at old.objects proof) ≡ q
+  verify-told name formula proof r q r_is told = subst (λ v. verify_refusal (theory_of v) v.steps (object_at v.objects name) (object_at v.objects formula) (object_at v.objects proof) ≡ q) is (sym told ∙ r_is)
+
+  pub switch-told : (name : ℕ) (r : Option Reason) (q : Option Refusal) → option_map refusal_of r ≡ q → option_map refusal_of r ≡ switch_refusal (meant os (parts_of t)) (object_at os name) → switch_refusal (theory_of old) (object_at old.objects name) ≡ q
+  switch-told name r q r_is told = subst (λ v. switch_refusal (theory_of v) (object_at v.objects name) ≡ q) is (sym told ∙ r_is)
+
+  arities : t.arity ≡ arity_table (meant os (parts_of t)).definitions
+  arities = (held os n t marks h).arities
+
+  module _ (drafts : Drafts) where
+    pub definitions-told : (proofs : ℕ) (r : Option Reason) (q : Option Refusal) → option_map refusal_of r ≡ q → IsDefined (meant os (parts_of t)) N (drafts_given os drafts) (object_at os proofs) (option_map refusal_of r) → IsDefined (theory_of old) old.steps (drafts_given old.objects drafts) (object_at old.objects proofs) q
+    definitions-told proofs r q r_is told =
+        subst (λ v. IsDefined (theory_of v) v.steps (drafts_given v.objects drafts) (object_at v.objects proofs) q) is
+        (subst (IsDefined (meant os (parts_of t)) N (drafts_given os drafts) (object_at os proofs)) r_is told)
+
+    -- behind a cut that keeps the theory and the definitions, what was accepted is accepted
+    module _ (cut : Knowledge) (theory : theory_of cut ≡ meant new (parts_of t)) (given : drafts_given cut.objects drafts ≡ drafts_given new drafts) (within : AreWithin old.objects drafts) where
+      pub kept-theory : theory_of cut ≡ theory_of old
+      kept-theory = theory ∙ theory-same
+
+      kept-given : drafts_given cut.objects drafts ≡ drafts_given old.objects drafts
+      kept-given =
+          given
+          ∙ (given-grows os new grows drafts (subst (λ v. AreWithin v.objects drafts) (sym is) within)
+          ∙ ap (λ v. drafts_given v.objects drafts) is)
+
+      pub kept-defined : (proofs : Object) → defined (theory_of cut) old.steps (drafts_given cut.objects drafts) proofs ≡ defined (theory_of old) old.steps (drafts_given old.objects drafts) proofs
+      kept-defined proofs = ap₂ (λ v x. defined v old.steps x proofs) kept-theory kept-given
+
+      pub kept-accepted : (proofs : ℕ) (r : Option Reason) → option_map refusal_of r ≡ None → IsDefined (meant os (parts_of t)) N (drafts_given os drafts) (object_at os proofs) (option_map refusal_of r) → IsSound (defined (theory_of old) old.steps (drafts_given old.objects drafts) (object_at old.objects proofs)).1 → IsAccepted (theory_of cut) old.steps (drafts_given cut.objects drafts) (object_at old.objects proofs)
+      kept-accepted proofs r none told sound =
+          let P = object_at old.objects proofs in
+          subst (λ v. IsAccepted v old.steps (drafts_given cut.objects drafts) P) (sym kept-theory)
+          (subst (λ x. IsAccepted (theory_of old) old.steps x P) (sym kept-given)
+          (accepted-sound (theory_of old) old.steps (drafts_given old.objects drafts) P (definitions-told proofs r None none told) sound))
+
+    -- the functions are refused
+    pub functions-fail : (M : ℕ) (proofs : Object) (r : Reason) → IsBlockOf t.arity (drafts_given os drafts) new (admitted.Refused r) → defined (theory_of old) M (drafts_given old.objects drafts) proofs ≡ refuse (theory_of old) (refusal_of r)
+    functions-fail M proofs r fails =
+        subst (λ v. defined (theory_of v) M (drafts_given v.objects drafts) proofs ≡ refuse (theory_of v) (refusal_of r)) is
+        (refused-given (meant os (parts_of t)) M proofs new (drafts_given os drafts) r (subst (λ B. IsBlockOf B (drafts_given os drafts) new (admitted.Refused r)) arities fails))
+
+    pub passed : (owed : Owed) → IsBlockOf t.arity (drafts_given os drafts) new (admitted.Obligations owed) → IsPassed (arity_table (meant os (parts_of t)).definitions) (drafts_given os drafts) new owed
+    passed owed p = given-passed (arity_table (meant os (parts_of t)).definitions) (drafts_given os drafts) new owed (subst (λ B. IsBlockOf B (drafts_given os drafts) new (admitted.Obligations owed)) arities p)
+
+    module _ (owed : Owed) (p : IsPassed (arity_table (meant os (parts_of t)).definitions) (drafts_given os drafts) new owed) where
+      abbrev pub block_of : Block
+      block_of = Functions (functions p.passes.names p.passes.formals p.passes.bodies)
+
+      -- they are accepted as these
+      pub functions-pass : (M : ℕ) (proofs : Object) → IsAccepted (theory_of old) M (drafts_given old.objects drafts) proofs → defined (theory_of old) M (drafts_given old.objects drafts) proofs ≡ accept (add_to_theory (theory_of old) block_of)
+      functions-pass M proofs a =
+          subst (λ v. defined (theory_of v) M (drafts_given v.objects drafts) proofs ≡ accept (add_to_theory (theory_of v) block_of)) is
+          (accepted-these (meant os (parts_of t)) M proofs new (drafts_given os drafts) owed p a.0
+          (subst (λ v. defined (theory_of v) M (drafts_given v.objects drafts) proofs ≡ accept (add_to_theory (theory_of v) a.0)) (sym is) a.1))
+
+      -- they are a new block
+      pub functions-block : (M : ℕ) (proofs : Object) → IsAccepted (theory_of old) M (drafts_given old.objects drafts) proofs → (ds : List Definition) → ds ≡ map function_of_entry owed.entries.items → IsNewBlock new (parts_of t) ds owed.axioms block_of
+      functions-block M proofs a ds ds_are =
+          let q = p.passes in
+          let B = functions q.names q.formals q.bodies in
+          record {
+            means = subst (λ es. AreFunctions new es B) (sym ds_are) (functions-mean new B owed.entries.items (block-entries (arity_table (meant os (parts_of t)).definitions) p.drafts new new owed (Grows-refl new) q));
+            axioms_in = q.axioms_in;
+            axioms_are = q.axioms;
+            sound = subst (λ u. IsSound (add_to_theory u block_of)) (sym theory-same) (subst IsSound (ap (λ r. r.1) (sym a.1 ∙ functions-pass M proofs a)) a.2);
+          }
 
   -- of a witness
   module _ (name bound free body : ℕ) where
-    skolem-meant : skolem_at k.objects (theory_of (with_objects k new)) name bound free body ≡ skolem_at old.objects (theory_of old) name bound free body
-    skolem-meant = ap (λ t. skolem_at k.objects t name bound free body) (grown_theory k axioms theorems A marks code h new grows) ∙ ap (λ v. skolem_at v.objects (theory_of v) name bound free body) is
-
     abbrev event : Object
-    event = skolem_event (object_at k.objects name) (object_at k.objects bound) (object_at k.objects free) (object_at k.objects body)
+    event = skolem_event (object_at os name) (object_at os bound) (object_at os free) (object_at os body)
 
-    pub skolem-fails : (r : Reason) → FailsWitness A (object_at k.objects name) (object_at k.objects bound) (object_at k.objects free) (object_at k.objects body) (refusal_of r) → skolem_at old.objects (theory_of old) name bound free body ≡ refuse (theory_of old) (refusal_of r)
+    pub skolem-fails : (r : Reason) → FailsWitness t.arity (object_at os name) (object_at os bound) (object_at os free) (object_at os body) (refusal_of r) → skolem_at old.objects (theory_of old) name bound free body ≡ refuse (theory_of old) (refusal_of r)
     skolem-fails r fails =
-        sym skolem-meant
-        ∙ (skolem-refused later event (refusal_of r) (subst (λ B. FailsWitness B (object_at k.objects name) (object_at k.objects bound) (object_at k.objects free) (object_at k.objects body) (refusal_of r)) arities fails)
-        ∙ ap (λ t. refuse t (refusal_of r)) theory-same)
+        subst (λ v. skolem_at v.objects (theory_of v) name bound free body ≡ refuse (theory_of v) (refusal_of r)) is
+        (skolem-refused (meant os (parts_of t)) event (refusal_of r) (subst (λ B. FailsWitness B (object_at os name) (object_at os bound) (object_at os free) (object_at os body) (refusal_of r)) arities fails))
 
-    pub skolem-passes : (owed : Owed) (p : PassesWitness A (object_at k.objects name) (object_at k.objects bound) (object_at k.objects free) (object_at k.objects body) new name owed) → skolem_at old.objects (theory_of old) name bound free body ≡ accept (add_to_theory (theory_of old) (Choice p.symbol p.first p.rest p.term))
+    pub skolem-passes : (owed : Owed) (p : PassesWitness t.arity (object_at os name) (object_at os bound) (object_at os free) (object_at os body) new name owed) → skolem_at old.objects (theory_of old) name bound free body ≡ accept (add_to_theory (theory_of old) (Choice p.symbol p.first p.rest p.term))
     skolem-passes owed p =
-        sym skolem-meant
-        ∙ (accepted ∙ ap (λ t. accept (add_to_theory t (Choice p.symbol p.first p.rest p.term))) theory-same)
-      where
-        accepted : skolem later event ≡ accept (add_to_theory later (Choice p.symbol p.first p.rest p.term))
-        accepted =
-            subst (λ B. (q : PassesWitness B (object_at k.objects name) (object_at k.objects bound) (object_at k.objects free) (object_at k.objects body) new name owed) → skolem later event ≡ accept (add_to_theory later (Choice q.symbol q.first q.rest q.term))) (sym arities)
-            (skolem-accepted later event new name owed) p
+        subst (λ v. skolem_at v.objects (theory_of v) name bound free body ≡ accept (add_to_theory (theory_of v) (Choice p.symbol p.first p.rest p.term))) is
+        (subst (λ B. (q : PassesWitness B (object_at os name) (object_at os bound) (object_at os free) (object_at os body) new name owed) → skolem (meant os (parts_of t)) event ≡ accept (add_to_theory (meant os (parts_of t)) (Choice q.symbol q.first q.rest q.term))) (sym arities)
+        (skolem-accepted (meant os (parts_of t)) event new name owed) p)
 
     -- the witness is a new block
-    pub witness-block : IsIn old.objects name → IsIn old.objects bound → IsIn old.objects free → (owed : Owed) (p : PassesWitness A (object_at k.objects name) (object_at k.objects bound) (object_at k.objects free) (object_at k.objects body) new name owed) (w : Definition) → w ≡ Witness name bound free p.entry.body → IsSound (skolem_at old.objects (theory_of old) name bound free body).1 → IsNewBlock (with_objects k new) (w ∷ []) owed.axioms (Choice p.symbol p.first p.rest p.term)
+    pub witness-block : IsIn old.objects name → IsIn old.objects bound → IsIn old.objects free → (owed : Owed) (p : PassesWitness t.arity (object_at os name) (object_at os bound) (object_at os free) (object_at os body) new name owed) (w : Definition) → w ≡ Witness name bound free p.entry.body → IsSound (skolem_at old.objects (theory_of old) name bound free body).1 → IsNewBlock new (parts_of t) (w ∷ []) owed.axioms (Choice p.symbol p.first p.rest p.term)
     witness-block name_in bound_in free_in owed p w w_is sound =
         let B = Choice p.symbol p.first p.rest p.term in
-        let within : (x : ℕ) → IsIn old.objects x → IsIn k.objects x = λ x l. subst (λ v. IsIn v.objects x) (sym is) l in
-        let e = witness-entry A k.objects new grows name bound free (object_at k.objects body) owed (within name name_in) (within bound bound_in) (within free free_in) p in
+        let within : (x : ℕ) → IsIn old.objects x → IsIn os x = λ x l. subst (λ v. IsIn v.objects x) (sym is) l in
+        let e = witness-entry t.arity os new grows name bound free (object_at os body) owed (within name name_in) (within bound bound_in) (within free free_in) p in
         let means : IsBlock new (Witness name bound free p.entry.body ∷ []) B = record { name_in = e.name_in; bound_in = e.bound_in; free_in = e.free_in; body_in = e.body_in; name_is = e.name_is; bound_is = e.bound_is; free_are = e.free_are; body_is = e.body_is } in
         record {
           means = subst (λ d. IsBlock new (d ∷ []) B) (sym w_is) means;
           axioms_in = p.axioms_in;
           axioms_are = p.axioms;
-          sound = subst (λ t. IsSound (add_to_theory t B)) (sym theory-same) (subst IsSound (ap (λ r. r.1) (skolem-passes owed p)) sound);
+          sound = subst (λ u. IsSound (add_to_theory u B)) (sym theory-same) (subst IsSound (ap (λ r. r.1) (skolem-passes owed p)) sound);
         }
-
--- The functions of a block whose proofs were judged, in a heap that grew since their tests, are a new block.
-module _ (k : Knowledge) (axioms theorems : List ℕ) (A : ArityTable) (marks : List CellMark) (code : Table) (h : IsKernel k axioms theorems A marks code) (old : Knowledge) (is : k ≡ old) (mid new : List Object) (first : Grows k.objects mid) (second : Grows mid new) (drafts : Drafts) (proofs : ℕ) where
-  pub functions-block : (owed : Owed) (p : IsPassed (arity_table (definitions_of (with_objects k mid))) (drafts_given k.objects drafts) mid owed) (ds : List Definition) → ds ≡ map function_of_entry owed.entries.items → defined (theory_of old) old.steps (drafts_given old.objects drafts) (object_at old.objects proofs) ≡ accept (add_to_theory (theory_of old) (Functions (functions p.passes.names p.passes.formals p.passes.bodies))) → IsSound (defined (theory_of old) old.steps (drafts_given old.objects drafts) (object_at old.objects proofs)).1 → IsNewBlock (with_objects k new) ds owed.axioms (Functions (functions p.passes.names p.passes.formals p.passes.bodies))
-  functions-block owed p ds ds_are accepted sound =
-      let q = p.passes in
-      let B = functions q.names q.formals q.bodies in
-      let grows = Grows-trans k.objects mid new first second in
-      record {
-        means = subst (λ es. AreFunctions new es B) (sym ds_are) (functions-mean new B owed.entries.items (block-entries (arity_table (definitions_of (with_objects k mid))) p.drafts mid new owed second q));
-        axioms_in = IsIn-Grows mid new second owed.axioms q.axioms_in;
-        axioms_are = object_at-Grows mid new second owed.axioms q.axioms_in ∙ q.axioms;
-        sound = subst (λ t. IsSound (add_to_theory t (Functions B))) (sym (theory-same k axioms theorems A marks code h old is new grows)) (subst IsSound (ap (λ r. r.1) accepted) sound);
-      }

@@ -1,14 +1,12 @@
--- Which objects are events of which word, and what happens by an event whose word is taken, and by one whose word is not.
-use Rattle.std.proofs.Common.{◌≡◌, ℕ, ◌<◌, Bool, true, false, not, ◌||◌, cond, List, Option, Some, None, refl, sym, ap, ap₂, ◌∙◌, arith}
-use Rattle.mw_model.specs.Object.{Name, Object, Natural, Symbol, Pair, named, symbol, same_name, same_object, has_members}
+-- Which objects are events of which word, and what happens by an event.
+use Rattle.std.proofs.Common.{◌≡◌, ℕ, ◌<◌, Bool, false, not, cond, List, Option, Some, None, refl, sym, ap, ◌∙◌, arith}
+use Rattle.mw_model.specs.Object.{Object, Natural, Symbol, Pair, named, symbol, same_name, same_object, has_members}
 use Rattle.mw_model.specs.Reading.{when}
 use Rattle.mw_model.specs.Theory.{Theory}
 use Rattle.mw_model.specs.Refusal.{EVENT, RANGE, refuse, need}
-use Rattle.mw_model.specs.Fate.{EventWord, Verify, Define, Skolem, Switch, Eval, Print, DefineAll, SetProfile, event_words, event_word, event_word_among, member_count, with_members, is_out_of_range, happens, happens_by}
+use Rattle.mw_model.specs.Fate.{EventWord, Verify, Define, Skolem, Switch, Eval, Print, DefineAll, SetProfile, event_word, with_members, is_out_of_range, happens, happens_by}
 use Rattle.mw_model.proofs.SameObject.{same_object-swap}
-use Rattle.mw_model.proofs.ReadBack.{when_some}
 use Rattle.mw_heap.specs.Objects.{object_at}
-use Rattle.mw_kernel.specs.Version.{is_taken, as_taken, as_word_says, without_members}
 use Rattle.mw_kernel.specs.EventWords.{word_at, word_symbol, members_after}
 use Rattle.mw_kernel.specs.Words.{StandsBefore, IsEvent, IsEventOf}
 use Rattle.mw_kernel.specs.declared.word.Word.{Word}
@@ -88,84 +86,15 @@ before-later m x l (event.Profile a) h = omega (arith, l, h)
 pub is_event : (os : List Object) (w : Word) (x first members : ℕ) (e : Event) → object_at os x ≡ Pair (object_at os first) (object_at os members) → object_at os first ≡ word_symbol w → members < x → IsEventOf os w members e → IsEvent os x e
 is_event os w x first members e is word_is l h = (is ∙ (ap (λ y. Pair y (object_at os members)) word_is ∙ sym h.0), before-later members x l e h.1)
 
-or_left : (a b : Bool) → (a || b) ≡ false → a ≡ false
-or_left false b h = refl
-or_left true b z = cc
-
-or_right : (a b : Bool) → (a || b) ≡ false → b ≡ false
-or_right false b h = h
-or_right true b z = cc
-
--- what is left of an event that is not taken is none
-no_members : (s : Name) (w : EventWord) → with_members (Pair (Symbol s) (Natural 0)) (Some w) ≡ None
-no_members s Verify = refl
-no_members s Define = refl
-no_members s Skolem = refl
-no_members s Switch = refl
-no_members s Eval = refl
-no_members s Print = refl
-no_members s DefineAll = refl
-no_members s SetProfile = refl
-
-one_member : (s : Name) (a : Object) (w : EventWord) → with_members (Pair (Symbol s) (Pair a (Natural 0))) (Some w) ≡ None
-one_member s a Verify = refl
-one_member s a Define = refl
-one_member s a Skolem = refl
-one_member s a Switch = refl
-one_member s a Eval = refl
-one_member s a Print = refl
-one_member s a DefineAll = refl
-one_member s a SetProfile = refl
-
-not_taken : (s : Name) (r : Object) (w : EventWord) → event_word_among event_words s ≡ Some w → event_word (without_members (Pair (Symbol s) r)) ≡ None
-not_taken s (Natural m) w h = ap (with_members (Pair (Symbol s) (Natural 0))) h ∙ no_members s w
-not_taken s (Symbol t) w h = ap (with_members (Pair (Symbol s) (Natural 0))) h ∙ no_members s w
-not_taken s (Pair a r) w h = ap (with_members (Pair (Symbol s) (Pair a (Natural 0)))) h ∙ one_member s a w
-
-among-some : (e : Object) (o : Option EventWord) (w : EventWord) → with_members e o ≡ Some w → o ≡ Some w
-among-some e None w h = cc
-among-some e (Some v) w h = (when_some (has_members (member_count v) e) (Some v) w h).1
-
-without-none : (e : Object) (w : EventWord) → event_word e ≡ Some w → event_word (without_members e) ≡ None
-without-none (Natural n) w h = cc
-without-none (Symbol s) w h = cc
-without-none (Pair (Natural n) r) w h = cc
-without-none (Pair (Pair a b) r) w h = cc
-without-none (Pair (Symbol s) r) w h = not_taken s r w (among-some (Pair (Symbol s) r) (event_word_among event_words s) w h)
-
--- what is taken of an object in the range is in the range
-without_in_range : (e : Object) → is_out_of_range e ≡ false → is_out_of_range (without_members e) ≡ false
-without_in_range (Natural n) h = h
-without_in_range (Symbol s) h = refl
-without_in_range (Pair w (Natural n)) h = ap (λ b. b || false) (or_left (is_out_of_range w) (is_out_of_range (Natural n)) h)
-without_in_range (Pair w (Symbol s)) h = ap (λ b. b || false) (or_left (is_out_of_range w) false h)
-without_in_range (Pair w (Pair a r)) h =
-    ap₂ (λ b c. b || (c || false)) (or_left (is_out_of_range w) (is_out_of_range a || is_out_of_range r) h) (or_left (is_out_of_range a) (is_out_of_range r) (or_right (is_out_of_range w) (is_out_of_range a || is_out_of_range r) h))
-
 module _ (t : Theory) (N : ℕ) (e : Object) (in_range : is_out_of_range e ≡ false) where
-  -- an object in the range is taken as its word says
-  as_says : as_taken e ≡ as_word_says (event_word e) e
-  as_says = ap (λ b. cond b e (as_word_says (event_word e) e)) in_range
-
-  first : (x : Object) → is_out_of_range x ≡ false → (o : Option EventWord) → event_word x ≡ o → happens t N x ≡ need t EVENT o (λ w. happens_by w t N x)
+  by_word : (o : Option EventWord) → event_word e ≡ o → happens t N e ≡ need t EVENT o (λ w. happens_by w t N e)
   unfolding need
-  first x h o k = ap (λ b. need t RANGE (when (not b) (Some x)) (λ y. need t EVENT (event_word y) (λ w. happens_by w t N y))) h ∙ ap (λ p. need t EVENT p (λ w. happens_by w t N x)) k
+  by_word o k = ap (λ b. need t RANGE (when (not b) (Some e)) (λ y. need t EVENT (event_word y) (λ w. happens_by w t N y))) in_range ∙ ap (λ p. need t EVENT p (λ w. happens_by w t N e)) k
 
-  pub none_happens : event_word e ≡ None → refuse t EVENT ≡ happens t N (as_taken e)
+  pub none_happens : event_word e ≡ None → refuse t EVENT ≡ happens t N e
   unfolding need
-  none_happens none =
-      let same : as_taken e ≡ e = as_says ∙ ap (λ o. as_word_says o e) none in
-      sym (ap (happens t N) same ∙ first e in_range None none)
+  none_happens none = sym (by_word None none)
 
-  module _ (w : EventWord) (is : event_word e ≡ Some w) where
-    pub word_happens : is_taken w ≡ true → happens_by w t N e ≡ happens t N (as_taken e)
-    unfolding need
-    word_happens taken =
-        let same : as_taken e ≡ e = as_says ∙ (ap (λ o. as_word_says o e) is ∙ ap (λ b. cond b e (without_members e)) taken) in
-        sym (ap (happens t N) same ∙ first e in_range (Some w) is)
-
-    pub untaken_happens : is_taken w ≡ false → refuse t EVENT ≡ happens t N (as_taken e)
-    unfolding need
-    untaken_happens untaken =
-        let same : as_taken e ≡ without_members e = as_says ∙ (ap (λ o. as_word_says o e) is ∙ ap (λ b. cond b e (without_members e)) untaken) in
-        sym (ap (happens t N) same ∙ first (without_members e) (without_in_range e in_range) None (without-none e w is))
+  pub word_happens : (w : EventWord) → event_word e ≡ Some w → happens_by w t N e ≡ happens t N e
+  unfolding need
+  word_happens w is = sym (by_word (Some w) is)

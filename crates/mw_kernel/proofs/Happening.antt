@@ -1,6 +1,6 @@
 -- What happens by an event, whose object is told.
-use Rattle.std.proofs.Common.{◌≡◌, ℕ, Bool, true, false, cond, ltb, List, [], ◌∷◌, length, Option, Some, None, Result, Ok, Err, IfOk, OnOk, OnErr, refl, sym, ap, ◌∙◌, subst}
-use Rattle.mw_model.specs.Object.{Object, second_of}
+use Rattle.std.proofs.Common.{◌≡◌, ℕ, Bool, true, false, cond, ltb, List, [], length, Option, Some, None, Result, Ok, Err, IfOk, OnOk, OnErr, refl, sym, ap, ◌∙◌, subst}
+use Rattle.mw_model.specs.Object.{Object, symbol, second_of}
 use Rattle.mw_model.specs.Term.{Term, is_closed}
 use Rattle.mw_model.specs.Reading.{when}
 use Rattle.mw_model.specs.Definition.{arity_table}
@@ -8,16 +8,22 @@ use Rattle.mw_model.specs.Expansion.{expand}
 use Rattle.mw_model.specs.Evaluation.{Outcome, Value, Steps, Overflow, Witness, evaluate}
 use Rattle.mw_model.specs.Theory.{Theory, IsSound}
 use Rattle.mw_model.specs.Printing.{text_of}
-use Rattle.mw_model.specs.Refusal.{TERM, VARIABLES, LONG, Fate, Accepted, refuse, need}
-use Rattle.mw_model.specs.Admission.{some_drafts, define_one, define_all, skolem}
+use Rattle.mw_model.specs.Refusal.{TERM, VARIABLES, LONG, EVENT, Fate, Accepted, refuse, need}
 use Rattle.mw_model.specs.Keeping.{EventKeeps}
-use Rattle.mw_model.specs.Fate.{Define, Skolem, DefineAll, Print, Eval, is_out_of_range, event_word, longest, happens, show, show_outcome, eval}
-use Rattle.mw_kernel.specs.Version.{as_taken}
-use Rattle.mw_kernel.specs.Words.{verify_event, define_event, skolem_event, eval_event, print_event, define_all_event}
-use Rattle.mw_kernel.specs.Admitting.{defined}
+use Rattle.mw_model.specs.Fate.{EventWord, SetProfile, is_out_of_range, event_word, longest, happens, happens_by, show, show_outcome, eval, profile}
+use Rattle.mw_model.specs.Fate as word
+use Rattle.mw_heap.specs.Objects.{object_at}
+use Rattle.mw_kernel.specs.Knowledge.{Knowledge, theory_of}
+use Rattle.mw_kernel.specs.Words.{event_object, IsEvent, eval_event, profile_event}
+use Rattle.mw_kernel.specs.declared.admitting.Drafts.TheVariants.{One, All}
+use Rattle.mw_kernel.specs.Admitting.{drafts_given, defined, skolem_at}
+use Rattle.mw_kernel.specs.Switching.{switched}
 use Rattle.mw_kernel.specs.Fates.{verified}
-use Rattle.mw_kernel.proofs.EventWords.{word_happens}
-use Rattle.mw_kernel.proofs.Verified.{happens_verified}
+use Rattle.mw_kernel.specs.declared.event.Event.{Event}
+use Rattle.mw_kernel.specs.declared.event.Event.TheVariants.{Verify, Define, Skolem, Switch, Eval, Print, DefineAll, Profile}
+use Rattle.mw_kernel.proofs.EventWords.{none_happens, word_happens}
+use Rattle.mw_kernel.proofs.Refusing.{verify_is}
+use Rattle.mw_kernel.proofs.Switching.{switch-is}
 
 pub IfOk-map : {X : Type 0} {E : Type 0} (r : Result X E) (P Q : X → Type 0) → ((x : X) → P x → Q x) → IfOk r P → IfOk r Q
 IfOk-map (Ok x) P Q f h = f x h
@@ -34,6 +40,10 @@ OnOk-from (Err e) P p = tt
 pub OnErr-from : {X : Type 0} {E : Type 0} (r : Result X E) (P : Type 0) → P → OnErr r P
 OnErr-from (Ok x) P p = tt
 OnErr-from (Err e) P p = p
+
+pub OnErr-map : {X : Type 0} {E : Type 0} (r : Result X E) (P Q : Type 0) → (P → Q) → OnErr r P → OnErr r Q
+OnErr-map (Ok x) P Q f h = h
+OnErr-map (Err e) P Q f h = f h
 
 pub show_stays : (t : Theory) (text : List ℕ) → t ≡ (show t text).1
 show_stays t text = go (ltb longest (length text))
@@ -61,29 +71,60 @@ eval_stays t N e = go (expand (arity_table t.definitions) (second_of e))
     go None = refl
     go (Some a) = shown (when (is_closed [] a) (Some a))
 
-module _ (t : Theory) (N : ℕ) (x : Object) (in_range : is_out_of_range x ≡ false) where
-  pub shown_happens : (a : Object) → x ≡ print_event a → show t (text_of a) ≡ happens t N (as_taken x)
-  shown_happens a is = ap (λ e. show t (text_of (second_of e))) (sym is) ∙ word_happens t N x in_range Print (ap event_word is) refl
+abbrev word_of_event : Event → EventWord
+word_of_event (Verify name formula proof) = word.Verify
+word_of_event (Define name formals body measure proofs) = word.Define
+word_of_event (Skolem name bound free body) = word.Skolem
+word_of_event (Switch name) = word.Switch
+word_of_event (Eval term) = word.Eval
+word_of_event (Print x) = word.Print
+word_of_event (DefineAll definitions proofs) = word.DefineAll
+word_of_event (Profile n) = SetProfile
 
-  pub evaluated_happens : (a : Object) → x ≡ eval_event a → eval t N (eval_event a) ≡ happens t N (as_taken x)
-  evaluated_happens a is = ap (eval t N) (sym is) ∙ word_happens t N x in_range Eval (ap event_word is) refl
+word-is : (os : List Object) (e : Event) → event_word (event_object os e) ≡ Some (word_of_event e)
+word-is os (Verify name formula proof) = refl
+word-is os (Define name formals body measure proofs) = refl
+word-is os (Skolem name bound free body) = refl
+word-is os (Switch name) = refl
+word-is os (Eval term) = refl
+word-is os (Print x) = refl
+word-is os (DefineAll definitions proofs) = refl
+word-is os (Profile n) = refl
 
-  pub verify_in_range : (a b p : Object) → x ≡ verify_event a b p → is_out_of_range (verify_event a b p) ≡ false
-  verify_in_range a b p is = ap is_out_of_range (sym is) ∙ in_range
+-- the fate of an event by its members, and the theory after it
+abbrev pub comes_to : List Object → Theory → ℕ → Event → Fate × Theory
+comes_to os t N (Verify name formula proof) = verified t N (object_at os name) (object_at os formula) (object_at os proof)
+comes_to os t N (Define name formals body measure proofs) = defined t N (drafts_given os (One (record { name = name; formals = formals; body = body; measure = measure }))) (object_at os proofs)
+comes_to os t N (Skolem name bound free body) = skolem_at os t name bound free body
+comes_to os t N (Switch name) = switched t (object_at os name)
+comes_to os t N (Eval term) = eval t N (eval_event (object_at os term))
+comes_to os t N (Print x) = show t (text_of (object_at os x))
+comes_to os t N (DefineAll definitions proofs) = defined t N (drafts_given os (All definitions)) (object_at os proofs)
+comes_to os t N (Profile n) = profile t (profile_event (object_at os n))
 
-  pub verified_happens : t.checker ≡ None → (a b p : Object) → x ≡ verify_event a b p → verified t a b p ≡ happens t N (as_taken x)
-  verified_happens built_in a b p is = sym (ap (λ e. happens t N (as_taken e)) is ∙ happens_verified t built_in N a b p (verify_in_range a b p is))
+comes-by : (os : List Object) (t : Theory) (N : ℕ) (e : Event) → comes_to os t N e ≡ happens_by (word_of_event e) t N (event_object os e)
+unfolding need
+comes-by os t N (Verify name formula proof) = sym (verify_is t N (symbol "VERIFY") (object_at os name) (object_at os formula) (object_at os proof))
+comes-by os t N (Define name formals body measure proofs) = refl
+comes-by os t N (Skolem name bound free body) = refl
+comes-by os t N (Switch name) = sym (switch-is t (object_at os name))
+comes-by os t N (Eval term) = refl
+comes-by os t N (Print x) = refl
+comes-by os t N (DefineAll definitions proofs) = refl
+comes-by os t N (Profile n) = refl
 
-  pub defined_happens : (a b c d p : Object) → x ≡ define_event a b c d p → defined t N (Some (record { name = a; formals = b; body = c; measure = d } ∷ [])) p ≡ happens t N (as_taken x)
-  unfolding need
-  defined_happens a b c d p is = ap (define_one t N) (sym is) ∙ word_happens t N x in_range Define (ap event_word is) refl
+-- what a kernel holds, told of the heap before
+module _ (k old : Knowledge) (is : k ≡ old) (x : ℕ) (in_range : is_out_of_range (object_at k.objects x) ≡ false) where
+  pub no-event : event_word (object_at k.objects x) ≡ None → refuse (theory_of old) EVENT ≡ happens (theory_of old) old.steps (object_at old.objects x)
+  no-event none = subst (λ v. refuse (theory_of v) EVENT ≡ happens (theory_of v) v.steps (object_at v.objects x)) is (none_happens (theory_of k) k.steps (object_at k.objects x) in_range none)
 
-  pub all_defined_happens : (ds p : Object) → x ≡ define_all_event ds p → defined t N (some_drafts ds) p ≡ happens t N (as_taken x)
-  all_defined_happens ds p is = ap (define_all t N) (sym is) ∙ word_happens t N x in_range DefineAll (ap event_word is) refl
+  module _ (e : Event) (event : IsEvent k.objects x e) where
+    pub event-happens : comes_to old.objects (theory_of old) old.steps e ≡ happens (theory_of old) old.steps (object_at old.objects x)
+    event-happens =
+        subst (λ v. comes_to v.objects (theory_of v) v.steps e ≡ happens (theory_of v) v.steps (object_at v.objects x)) is
+        (comes-by k.objects (theory_of k) k.steps e
+        ∙ (ap (happens_by (word_of_event e) (theory_of k) k.steps) (sym event.0) ∙ word_happens (theory_of k) k.steps (object_at k.objects x) in_range (word_of_event e) (ap event_word event.0 ∙ word-is k.objects e)))
 
-  pub skolem_happens : (a b c d : Object) → x ≡ skolem_event a b c d → skolem t (skolem_event a b c d) ≡ happens t N (as_taken x)
-  skolem_happens a b c d is = ap (skolem t) (sym is) ∙ word_happens t N x in_range Skolem (ap event_word is) refl
-
-  -- what an event comes to is a sound theory
-  pub sound_after : (r : Fate × Theory) → r ≡ happens t N (as_taken x) → EventKeeps t N (as_taken x) → IsSound r.1
-  sound_after r is keeps = subst (λ q. IsSound q.1) (sym is) keeps.sound
+    -- the theory after it is sound
+    pub sound-after : EventKeeps (theory_of old) old.steps (object_at old.objects x) → IsSound (comes_to old.objects (theory_of old) old.steps e).1
+    sound-after keeps = subst (λ r. IsSound r.1) (sym event-happens) keeps.sound

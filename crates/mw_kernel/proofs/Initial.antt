@@ -1,26 +1,28 @@
--- What a kernel begins with: the initial theory.
-use Rattle.std.proofs.Common.{◌≡◌, ℕ, ◌<◌, List, [], ◌∷◌, ◌++◌, length, map, reverse, refl, sym, ap, ap₂, ◌∙◌, subst, arith, append_assoc}
+-- What a kernel begins with: the initial theory of a profile.
+use Rattle.std.proofs.Common.{◌≡◌, ℕ, None, IfSome, List, [], ◌∷◌, ◌++◌, map, reverse, refl, sym, ap, ap₂, ◌∙◌, subst, append_assoc}
 use Rattle.std.specs.List.{All}
 use Rattle.std.proofs.lemmas.List.{map-append, reverse-append}
 use Rattle.std.proofs.lemmas.List.Elements.{All-head, All-tail, All-cons, All-nil}
 use Rattle.mw_model.specs.Object.{Object, Pair, NIL}
-use Rattle.mw_model.specs.Term.{ArityTable, formula_object, table_object}
-use Rattle.mw_model.specs.Primitive.{One}
+use Rattle.mw_model.specs.Term.{formula_object, table_object}
+use Rattle.mw_model.specs.Primitive.{Profile}
 use Rattle.mw_model.specs.Definition.{Block, definitions, arity_table, block_axioms}
 use Rattle.mw_model.specs.Axioms.{primitive_axioms}
 use Rattle.mw_model.specs.Theory.{axioms_of, initial, IsSound}
+use Rattle.mw_model.specs.Fate.{is_one}
 use Rattle.mw_heap.specs.Objects.{object_at, IsIn, Grows}
-use Rattle.mw_heap.proofs.Objects.{Grows-refl, Grows-trans, IsIn-Grows, object_at-Grows, take-Grows}
-use Rattle.mw_term.proofs.CallerLemmas.{AreMarks-none}
+use Rattle.mw_heap.specs.Variants.{profile_of}
+use Rattle.mw_heap.proofs.Objects.{Grows-trans, IsIn-Grows, object_at-Grows}
 use Rattle.mw_proof.specs.Known.{known_object}
-use Rattle.mw_code.specs.declared.table.Table.{Table}
 use Rattle.mw_code.specs.Tables.{StandsFor}
-use Rattle.mw_preamble.specs.Admitted.{definitions_of, first_definitions, axioms_in_order}
-use Rattle.mw_preamble.specs.declared.definition.Definition.{Definition}
+use Rattle.mw_preamble.specs.Admitted.{axioms_in_order}
+use Rattle.mw_preamble.specs.Admitted as admitted
 use Rattle.mw_preamble.specs.Entries.{AreEntries}
-use Rattle.mw_kernel.specs.Entered.{blocks_read}
+use Rattle.mw_kernel.specs.declared.theory.Theory.{Theory as Kept}
+use Rattle.mw_kernel.specs.Knowledge.{theory_with, parts_of, definitions_of, name_read, meant, put_all, is_first, IsNameIn, IsHeld}
 use Rattle.mw_kernel.proofs.Entered.{blocks-read}
-use Rattle.mw_kernel.specs.Knowledge.{Knowledge, theory_with, theory_of, put_all, IsKernel}
+use Rattle.mw_kernel.proofs.Firsts.{initial-first}
+use Rattle.mw_kernel.proofs.Held.{all-grow}
 use Rattle.mw_kernel.proofs.Listing.{put_formulas}
 
 put_more : (xs ys : List Object) (list : Object) → put_all (xs ++ ys) list ≡ put_all ys (put_all xs list)
@@ -28,12 +30,12 @@ put_more [] ys list = refl
 put_more (x ∷ xs) ys list = put_more xs ys (Pair x list)
 
 -- the axioms of a theory, put one after another before those of the primitives
-axioms_put : (D : List Block) → put_all (map formula_object (axioms_in_order D)) (axioms_of One []) ≡ axioms_of One D
-axioms_put [] = refl
-axioms_put (B ∷ D) =
-    ap (λ xs. put_all xs (axioms_of One [])) (map-append formula_object (axioms_in_order D) (block_axioms B))
-    ∙ (put_more (map formula_object (axioms_in_order D)) (map formula_object (block_axioms B)) (axioms_of One [])
-    ∙ (ap (put_all (map formula_object (block_axioms B))) (axioms_put D) ∙ put_formulas (block_axioms B) (axioms_of One D)))
+axioms_put : (P : Profile) (D : List Block) → put_all (map formula_object (axioms_in_order D)) (axioms_of P []) ≡ axioms_of P D
+axioms_put P [] = refl
+axioms_put P (B ∷ D) =
+    ap (λ xs. put_all xs (axioms_of P [])) (map-append formula_object (axioms_in_order D) (block_axioms B))
+    ∙ (put_more (map formula_object (axioms_in_order D)) (map formula_object (block_axioms B)) (axioms_of P [])
+    ∙ (ap (put_all (map formula_object (block_axioms B))) (axioms_put P D) ∙ put_formulas (block_axioms B) (axioms_of P D)))
 
 pub known_put : (os : List Object) (xs k : List ℕ) → known_object os (reverse xs ++ k) ≡ put_all (map (object_at os) xs) (known_object os k)
 known_put os [] k = refl
@@ -51,26 +53,20 @@ pub map_grown : (old new : List Object) → Grows old new → (xs : List ℕ) �
 map_grown old new g [] h = refl
 map_grown old new g (x ∷ xs) h = ap₂ (λ y ys. y ∷ ys) (object_at-Grows old new g x (All-head (IsIn old) x xs h)) (map_grown old new g xs (All-tail (IsIn old) x xs h))
 
-pub all_grown : (old new : List Object) → Grows old new → (xs : List ℕ) → All (IsIn old) xs → All (IsIn new) xs
-all_grown old new g xs h = λ i d l. IsIn-Grows old new g _ (h i d l)
-
-first_theory : theory_with (axioms_of One first_definitions.blocks) NIL first_definitions ≡ initial One
-unfolding definitions_of
-first_theory = refl
-
-abbrev pub begun : List Object → (axioms theorems arity_list : ℕ) → List (List Definition) → ℕ → Knowledge
-begun q axioms theorems arity_list entries steps = record { objects = q; needed = length q; axioms = axioms; theorems = theorems; arity_list = arity_list; entries = entries; steps = steps }
+first_theory : (P : Profile) → theory_with (axioms_of P (admitted.definitions_of P).blocks) NIL (admitted.definitions_of P) None 1 ≡ initial P
+unfolding admitted.definitions_of
+first_theory P = refl
 
 -- The heaps after the axioms of the primitives, those of the definitions, NIL, and each of the two lists.
-pub record Begins (a b n p q : List Object) (primitives definitions : List ℕ) (nil first second : ℕ) (known : List ℕ) : Type 0 where
+pub record Begins (P : Profile) (a b n p q : List Object) (primitives definitions : List ℕ) (nil first second : ℕ) (known : List ℕ) : Type 0 where
   pub a_grows : Grows a b
   pub b_grows : Grows b n
   pub n_grows : Grows n p
   pub p_grows : Grows p q
   pub primitives_in : All (IsIn a) primitives
-  pub primitives_are : map (object_at a) primitives ≡ map formula_object (primitive_axioms One)
+  pub primitives_are : map (object_at a) primitives ≡ map formula_object (primitive_axioms P)
   pub definitions_in : All (IsIn b) definitions
-  pub definitions_are : map (object_at b) definitions ≡ map formula_object (axioms_in_order first_definitions.blocks)
+  pub definitions_are : map (object_at b) definitions ≡ map formula_object (axioms_in_order (admitted.definitions_of P).blocks)
   pub nil_in : IsIn n nil
   pub nil_is : object_at n nil ≡ NIL
   pub first_in : IsIn p first
@@ -79,18 +75,18 @@ pub record Begins (a b n p q : List Object) (primitives definitions : List ℕ) 
   pub second_is : object_at q second ≡ put_all (map (object_at p) definitions) (object_at p first)
   pub known_is : known ≡ reverse definitions ++ (reverse primitives ++ [])
 
-module _ (a b n p q : List Object) (primitives definitions : List ℕ) (nil first second : ℕ) (known : List ℕ) (h : Begins a b n p q primitives definitions nil first second known) where
-  first_axioms : object_at p first ≡ axioms_of One []
+module _ (P : Profile) (a b n p q : List Object) (primitives definitions : List ℕ) (nil first second : ℕ) (known : List ℕ) (h : Begins P a b n p q primitives definitions nil first second known) where
+  first_axioms : object_at p first ≡ axioms_of P []
   first_axioms =
       h.first_is
       ∙ (ap₂ put_all (map_grown a n (Grows-trans a b n h.a_grows h.b_grows) primitives h.primitives_in ∙ h.primitives_are) h.nil_is
-      ∙ put_formulas (primitive_axioms One) NIL)
+      ∙ put_formulas (primitive_axioms P) NIL)
 
-  second_axioms : object_at q second ≡ axioms_of One first_definitions.blocks
+  second_axioms : object_at q second ≡ axioms_of P (admitted.definitions_of P).blocks
   second_axioms =
       h.second_is
       ∙ (ap₂ put_all (map_grown b p (Grows-trans b n p h.b_grows h.n_grows) definitions h.definitions_in ∙ h.definitions_are) first_axioms
-      ∙ axioms_put first_definitions.blocks)
+      ∙ axioms_put P (admitted.definitions_of P).blocks)
 
   nil_last : object_at q nil ≡ NIL
   nil_last = object_at-Grows n q (Grows-trans n p q h.n_grows h.p_grows) nil h.nil_in ∙ h.nil_is
@@ -109,8 +105,8 @@ module _ (a b n p q : List Object) (primitives definitions : List ℕ) (nil firs
       (known_put q primitives [] ∙ (ap₂ put_all (map_grown a q a_last primitives h.primitives_in ∙ sym (map_grown a n (Grows-trans a b n h.a_grows h.b_grows) primitives h.primitives_in)) (sym h.nil_is) ∙ sym h.first_is))
       ∙ sym h.second_is))
 
-  pub begun_theory : theory_with (object_at q second) (object_at q nil) first_definitions ≡ initial One
-  begun_theory = ap₂ (λ x y. theory_with x y first_definitions) second_axioms nil_last ∙ first_theory
+  pub begun_theory : theory_with (object_at q second) (object_at q nil) (admitted.definitions_of P) None 1 ≡ initial P
+  begun_theory = ap₂ (λ x y. theory_with x y (admitted.definitions_of P) None 1) second_axioms nil_last ∙ first_theory P
 
   pub nil_kept : IsIn q nil
   nil_kept = IsIn-Grows n q (Grows-trans n p q h.n_grows h.p_grows) nil h.nil_in
@@ -118,33 +114,33 @@ module _ (a b n p q : List Object) (primitives definitions : List ℕ) (nil firs
   pub known_begun : All (IsIn q) known
   known_begun =
       subst (All (IsIn q)) (sym h.known_is)
-      (all_put (IsIn q) definitions (reverse primitives ++ []) (all_grown b q b_last definitions h.definitions_in) (all_put (IsIn q) primitives [] (all_grown a q a_last primitives h.primitives_in) (All-nil (IsIn q))))
+      (all_put (IsIn q) definitions (reverse primitives ++ []) (all-grow b q b_last definitions h.definitions_in) (all_put (IsIn q) primitives [] (all-grow a q a_last primitives h.primitives_in) (All-nil (IsIn q))))
 
--- What the kernel holds at the start.
-module _ (q : List Object) (axioms nil arity_list : ℕ) (entries : List (List Definition)) (known : List ℕ) (A : ArityTable) (code : Table) (steps : ℕ) (entered : AreEntries q entries first_definitions.blocks) (theory : theory_with (object_at q axioms) (object_at q nil) first_definitions ≡ initial One) (sound : IsSound (initial One)) where
-  definitions_are : definitions One (blocks_read q entries) ≡ first_definitions
-  unfolding definitions_of
-  definitions_are = ap (definitions One) (blocks-read q One entries first_definitions.blocks entered sound.made)
+-- What is kept of the theory at the start.
+module _ (q : List Object) (t : Kept) (P : Profile) (profile : profile_of t.profile ≡ P) (checker : t.checker ≡ None) (level : t.level ≡ 1) (entered : AreEntries q t.entries (admitted.definitions_of P).blocks) (theory : theory_with (object_at q t.axioms) (object_at q t.theorems) (admitted.definitions_of P) None 1 ≡ initial P) (sound : IsSound (initial P)) where
+  definitions_are : definitions_of q (parts_of t) ≡ admitted.definitions_of P
+  unfolding admitted.definitions_of
+  definitions_are = ap₂ definitions profile (blocks-read q P t.entries (admitted.definitions_of P).blocks entered sound.made)
 
-  pub begun_initial : theory_of (begun q axioms nil arity_list entries steps) ≡ initial One
-  begun_initial = ap (theory_with (object_at q axioms) (object_at q nil)) definitions_are ∙ theory
+  pub begun_initial : meant q (parts_of t) ≡ initial P
+  begun_initial =
+      ap₂ (λ c l. theory_with (object_at q t.axioms) (object_at q t.theorems) (definitions_of q (parts_of t)) (name_read q c) l) checker level
+      ∙ (ap (λ D. theory_with (object_at q t.axioms) (object_at q t.theorems) D None 1) definitions_are ∙ theory)
 
-  pub begins : IsIn q axioms → IsIn q nil → IsIn q arity_list → All (IsIn q) known → known_object q known ≡ object_at q axioms → object_at q arity_list ≡ table_object (arity_table first_definitions) → A ≡ arity_table first_definitions → StandsFor q code first_definitions → IsKernel (begun q axioms nil arity_list entries steps) known [] A [] code
-  begins axioms_in nil_in arity_list_in known_in known_is listed arities coded =
-      let whole = sym (take-Grows q q (Grows-refl q)) in
-      record {
-        kept = omega arith;
-        axioms_kept = axioms_in;
-        theorems_kept = nil_in;
-        arity_list_kept = arity_list_in;
-        each_axiom_kept = known_in;
-        each_theorem_kept = All-nil (λ x. x < length q);
-        axioms_known = known_is;
-        theorems_known = sym (ap (λ t. t.theorems) theory);
-        arities_listed = listed ∙ ap table_object (sym arities);
-        arities = arities ∙ ap arity_table (sym definitions_are);
-        marked = AreMarks-none A q;
-        entered = subst (λ os. AreEntries os entries (blocks_read q entries)) whole (subst (λ D. AreEntries q entries D.blocks) (sym definitions_are) entered);
-        coded = subst (λ os. StandsFor os code (definitions One (blocks_read q entries))) whole (subst (StandsFor q code) (sym definitions_are) coded);
-        sound = subst IsSound (sym begun_initial) sound;
-      }
+  pub begins : IsIn q t.axioms → IsIn q t.theorems → IsIn q t.arity_list → All (IsIn q) t.known_axioms → t.known_theorems ≡ [] → known_object q t.known_axioms ≡ object_at q t.axioms → object_at q t.arity_list ≡ table_object (arity_table (admitted.definitions_of P)) → t.arity ≡ arity_table (admitted.definitions_of P) → StandsFor q t.table.value (admitted.definitions_of P) → t.is_initial ≡ is_one P → IsHeld q t
+  begins axioms_in nil_in arity_list_in known_in none known_is listed arities coded first = record {
+    axioms_in = axioms_in;
+    theorems_in = nil_in;
+    arity_list_in = arity_list_in;
+    each_axiom_in = known_in;
+    each_theorem_in = subst (All (IsIn q)) (sym none) (All-nil (IsIn q));
+    axioms_known = known_is;
+    theorems_known = ap (known_object q) none ∙ sym (ap (λ t. t.theorems) theory);
+    arities_listed = listed ∙ ap table_object (sym arities);
+    arities = arities ∙ ap arity_table (sym definitions_are);
+    entered = subst (λ D. AreEntries q t.entries D.blocks) (sym definitions_are) entered;
+    coded = subst (StandsFor q t.table.value) (sym definitions_are) coded;
+    named = subst (λ c. IfSome c (IsNameIn q)) (sym checker) tt;
+    first = first ∙ (sym (initial-first P) ∙ ap is_first (sym begun_initial));
+    sound = subst IsSound (sym begun_initial) sound;
+  }

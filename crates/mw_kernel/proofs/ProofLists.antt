@@ -1,14 +1,13 @@
 -- Proofs that are judged one after another, by the objects of their formulas.
-use Rattle.std.proofs.Common.{◌≡◌, ℕ, ◌<◌, Bool, true, false, cond, Option, Some, None, List, [], ◌∷◌, ◌++◌, length, map, option_map, refl, sym, ap, ap₂, ◌∙◌, subst, arith, one-add, is_some, true≢false}
+use Rattle.std.proofs.Common.{◌≡◌, ℕ, ◌<◌, true, false, cond, Option, Some, None, List, [], ◌∷◌, ◌++◌, length, map, option_map, refl, sym, ap, ap₂, ◌∙◌, subst, arith, one-add, is_some, true≢false}
 use Rattle.std.specs.List.{All}
 use Rattle.mw_model.specs.Object.{Object, Natural, Symbol, Pair, NIL, same_object, car, cdr, has_members}
-use Rattle.mw_model.specs.Term.{ArityTable, Formula, formula_object}
-use Rattle.mw_model.specs.Primitive.{One, is_pair}
-use Rattle.mw_model.specs.Definition.{Definitions, arity_table, is_present}
+use Rattle.mw_model.specs.Term.{Formula, formula_object}
+use Rattle.mw_model.specs.Primitive.{is_pair}
 use Rattle.mw_model.specs.RulesInduction.{formulas_object, is_list_object, length_object}
 use Rattle.mw_model.specs.Theory.{Theory}
-use Rattle.mw_model.specs.Refusal.{Refusal, COUNT, CONCLUSION, PROOF}
-use Rattle.mw_model.specs.Checking.{no_unless, or_else, judged_each}
+use Rattle.mw_model.specs.Refusal.{Refusal, COUNT}
+use Rattle.mw_model.specs.Checking.{or_else, judged_each}
 use Rattle.mw_model.proofs.Names.{same_object-eq}
 use Rattle.mw_heap.specs.declared.refusal.Refusal.{Refusal as Reason}
 use Rattle.mw_heap.specs.Variants.{refusal_of}
@@ -18,24 +17,10 @@ use Rattle.mw_axioms.proofs.OnStack.{AreIn-push}
 use Rattle.mw_term.specs.declared.cell_mark.CellMark.{CellMark}
 use Rattle.mw_term.specs.Marking.{AreMarks}
 use Rattle.mw_proof.specs.Known.{known_object}
-use Rattle.mw_kernel.specs.Knowledge.{theory_with}
+use Rattle.mw_kernel.specs.declared.theory.Theory.{Theory as Kept}
+use Rattle.mw_kernel.specs.Knowledge.{parts_of, meant, IsHeld}
 use Rattle.mw_kernel.specs.Proofs.{judged_for, judged_all}
-use Rattle.mw_kernel.proofs.Keeping.{known_object-same}
-
--- one proof, by whether its second member is the formula and by what the built-in checker finds
-pub judged_other : (concluded : Bool) (found : Option Formula) → concluded ≡ false → Some CONCLUSION ≡ cond concluded (no_unless PROOF found) (Some CONCLUSION)
-judged_other false found h = refl
-judged_other true found h = cc
-
-pub judged_good : (concluded : Bool) (found : Option Formula) → concluded ≡ true → is_present found ≡ true → None ≡ cond concluded (no_unless PROOF found) (Some CONCLUSION)
-judged_good true (Some F) h k = refl
-judged_good true None h k = cc
-judged_good false found h k = cc
-
-pub judged_bad : (concluded : Bool) (found : Option Formula) → concluded ≡ true → is_present found ≡ false → Some PROOF ≡ cond concluded (no_unless PROOF found) (Some CONCLUSION)
-judged_bad true None h k = refl
-judged_bad true (Some F) h k = cc
-judged_bad false found h k = cc
+use Rattle.mw_kernel.proofs.Held.{meant-grows}
 
 -- proof by proof, for a list of objects of formulas
 abbrev pub judged_each_for : Theory → ℕ → Object → Object → Option Refusal
@@ -85,63 +70,63 @@ pair_before os now g x a b x_in a_older b_older is =
     sym (object_at-Grows os now g x x_in) ∙ (is ∙ ap₂ Pair (object_at-Grows os now g a (omega (arith, a_older, x_in))) (object_at-Grows os now g b (omega (arith, b_older, x_in))))
 
 -- A walk over formulas and their proofs: those before the rest are not refused.
-module _ (os : List Object) (axioms theorems : List ℕ) (A : ArityTable) (obligations proofs : ℕ) where
-  abbrev theory : Definitions → Theory
-  theory D = theory_with (known_object os axioms) (known_object os theorems) D
+module _ (os : List Object) (t : Kept) (N : ℕ) (obligations proofs : ℕ) where
+  abbrev theory : Theory
+  theory = meant os (parts_of t)
 
   pub record Walks (now : List Object) (marks : List CellMark) (formulas rest : ℕ) : Type 0 where
     pub grows : Grows os now
-    pub marked : AreMarks A now marks
+    pub marked : AreMarks t.arity now marks
     pub formulas_in : IsIn os formulas
     pub rest_in : IsIn os rest
     pub many : has_members (length_object (object_at os formulas)) (object_at os rest) ≡ true
-    pub judged : (D : Definitions) (N : ℕ) → A ≡ arity_table D → D.profile ≡ One → judged_each_for (theory D) N (object_at os obligations) (object_at os proofs) ≡ judged_each_for (theory D) N (object_at os formulas) (object_at os rest)
+    pub judged : judged_each_for theory N (object_at os obligations) (object_at os proofs) ≡ judged_each_for theory N (object_at os formulas) (object_at os rest)
 
-  module _ (axioms_in : All (IsIn os) axioms) (theorems_in : All (IsIn os) theorems) (now : List Object) (marks : List CellMark) (formulas rest : ℕ) (w : Walks now marks formulas rest) (formula more proof others : ℕ) (formula_older : formula < formulas) (more_older : more < formulas) (proof_older : proof < rest) (others_older : others < rest) (shows : object_at now formulas ≡ Pair (object_at now formula) (object_at now more)) (shows_proof : object_at now rest ≡ Pair (object_at now proof) (object_at now others)) where
+  module _ (h : IsHeld os t) (now : List Object) (marks : List CellMark) (formulas rest : ℕ) (w : Walks now marks formulas rest) (formula more proof others : ℕ) (formula_older : formula < formulas) (more_older : more < formulas) (proof_older : proof < rest) (others_older : others < rest) (shows : object_at now formulas ≡ Pair (object_at now formula) (object_at now more)) (shows_proof : object_at now rest ≡ Pair (object_at now proof) (object_at now others)) where
     formulas_are : object_at os formulas ≡ Pair (object_at os formula) (object_at os more)
     formulas_are = pair_before os now w.grows formulas formula more w.formulas_in formula_older more_older shows
 
     rest_is : object_at os rest ≡ Pair (object_at os proof) (object_at os others)
     rest_is = pair_before os now w.grows rest proof others w.rest_in proof_older others_older shows_proof
 
-    abbrev judged_now : Definitions → ℕ → Option Refusal
-    judged_now D N = judged_for (theory_with (known_object now axioms) (known_object now theorems) D) N (object_at now formula) (object_at now proof)
+    abbrev judged_now : Option Refusal
+    judged_now = judged_for (meant now (parts_of t)) N (object_at now formula) (object_at now proof)
 
-    judged_before : (D : Definitions) (N : ℕ) → judged_now D N ≡ judged_for (theory D) N (object_at os formula) (object_at os proof)
-    judged_before D N =
-        ap₂ (λ x y. judged_for (theory_with x y D) N (object_at now formula) (object_at now proof)) (known_object-same (length os) os now axioms (object_at-Grows os now w.grows) axioms_in) (known_object-same (length os) os now theorems (object_at-Grows os now w.grows) theorems_in)
-        ∙ ap₂ (judged_for (theory D) N) (object_at-Grows os now w.grows formula (omega (arith, formula_older, w.formulas_in))) (object_at-Grows os now w.grows proof (omega (arith, proof_older, w.rest_in)))
+    judged_before : judged_now ≡ judged_for theory N (object_at os formula) (object_at os proof)
+    judged_before =
+        ap (λ u. judged_for u N (object_at now formula) (object_at now proof)) (meant-grows os now w.grows t h)
+        ∙ ap₂ (judged_for theory N) (object_at-Grows os now w.grows formula (omega (arith, formula_older, w.formulas_in))) (object_at-Grows os now w.grows proof (omega (arith, proof_older, w.rest_in)))
 
-    judged_on : (D : Definitions) (N : ℕ) → A ≡ arity_table D → D.profile ≡ One → judged_each_for (theory D) N (object_at os obligations) (object_at os proofs) ≡ or_else (judged_now D N) (judged_each_for (theory D) N (object_at os more) (object_at os others))
-    judged_on D N arities profile =
-        w.judged D N arities profile
-        ∙ (ap₂ (judged_each_for (theory D) N) formulas_are rest_is
-        ∙ ap (λ o. or_else o (judged_each_for (theory D) N (object_at os more) (object_at os others))) (sym (judged_before D N)))
+    judged_on : judged_each_for theory N (object_at os obligations) (object_at os proofs) ≡ or_else judged_now (judged_each_for theory N (object_at os more) (object_at os others))
+    judged_on =
+        w.judged
+        ∙ (ap₂ (judged_each_for theory N) formulas_are rest_is
+        ∙ ap (λ o. or_else o (judged_each_for theory N (object_at os more) (object_at os others))) (sym judged_before))
 
     -- one more that is not refused
-    pub Walks-next : (r : Option Reason) → is_some r ≡ false → ((D : Definitions) (N : ℕ) → A ≡ arity_table D → D.profile ≡ One → option_map refusal_of r ≡ judged_now D N) → (new : List Object) (ms : List CellMark) → Grows now new → AreMarks A new ms → Walks new ms more others
+    pub Walks-next : (r : Option Reason) → is_some r ≡ false → option_map refusal_of r ≡ judged_now → (new : List Object) (ms : List CellMark) → Grows now new → AreMarks t.arity new ms → Walks new ms more others
     Walks-next r none is new ms g m = record {
       grows = Grows-trans os now new w.grows g;
       marked = m;
       formulas_in = omega (arith, more_older, w.formulas_in);
       rest_in = omega (arith, others_older, w.rest_in);
       many = sym (as_many-next _ _ _ _ _ _ formulas_are rest_is) ∙ w.many;
-      judged = λ D N arities profile. judged_on D N arities profile ∙ none_first r (judged_now D N) (judged_each_for (theory D) N (object_at os more) (object_at os others)) none (is D N arities profile);
+      judged = judged_on ∙ none_first r judged_now (judged_each_for theory N (object_at os more) (object_at os others)) none is;
     }
 
     -- one that is refused
-    pub refused_here : (r : Option Reason) → is_some r ≡ true → ((D : Definitions) (N : ℕ) → A ≡ arity_table D → D.profile ≡ One → option_map refusal_of r ≡ judged_now D N) → (D : Definitions) (N : ℕ) (Fs : List Formula) → A ≡ arity_table D → D.profile ≡ One → object_at os obligations ≡ formulas_object Fs → option_map refusal_of r ≡ judged_each (theory D) N Fs (object_at os proofs)
-    refused_here r some is D N Fs arities profile owed =
-        refused_first r (judged_now D N) (judged_each_for (theory D) N (object_at os more) (object_at os others)) some (is D N arities profile)
-        ∙ (sym (judged_on D N arities profile)
-        ∙ (ap (λ x. judged_each_for (theory D) N x (object_at os proofs)) owed ∙ judged_each-for (theory D) N Fs (object_at os proofs)))
+    pub refused_here : (r : Option Reason) → is_some r ≡ true → option_map refusal_of r ≡ judged_now → (Fs : List Formula) → object_at os obligations ≡ formulas_object Fs → option_map refusal_of r ≡ judged_each theory N Fs (object_at os proofs)
+    refused_here r some is Fs owed =
+        refused_first r judged_now (judged_each_for theory N (object_at os more) (object_at os others)) some is
+        ∙ (sym judged_on
+        ∙ (ap (λ x. judged_each_for theory N x (object_at os proofs)) owed ∙ judged_each-for theory N Fs (object_at os proofs)))
 
   -- none is refused
-  pub none_refused : (now : List Object) (marks : List CellMark) (formulas rest : ℕ) → Walks now marks formulas rest → is_pair (object_at now formulas) ≡ false → (D : Definitions) (N : ℕ) (Fs : List Formula) → A ≡ arity_table D → D.profile ≡ One → object_at os obligations ≡ formulas_object Fs → None ≡ judged_each (theory D) N Fs (object_at os proofs)
-  none_refused now marks formulas rest w end D N Fs arities profile owed =
-      sym (judged_none_for (theory D) N (object_at os formulas) (object_at os rest) (ap is_pair (sym (object_at-Grows os now w.grows formulas w.formulas_in)) ∙ end))
-      ∙ (sym (w.judged D N arities profile)
-      ∙ (ap (λ x. judged_each_for (theory D) N x (object_at os proofs)) owed ∙ judged_each-for (theory D) N Fs (object_at os proofs)))
+  pub none_refused : (now : List Object) (marks : List CellMark) (formulas rest : ℕ) → Walks now marks formulas rest → is_pair (object_at now formulas) ≡ false → (Fs : List Formula) → object_at os obligations ≡ formulas_object Fs → None ≡ judged_each theory N Fs (object_at os proofs)
+  none_refused now marks formulas rest w end Fs owed =
+      sym (judged_none_for theory N (object_at os formulas) (object_at os rest) (ap is_pair (sym (object_at-Grows os now w.grows formulas w.formulas_in)) ∙ end))
+      ∙ (sym w.judged
+      ∙ (ap (λ x. judged_each_for theory N x (object_at os proofs)) owed ∙ judged_each-for theory N Fs (object_at os proofs)))
 
   -- a formula has a proof
   pub never_too_few : (now : List Object) (marks : List CellMark) (formulas rest formula more : ℕ) → Walks now marks formulas rest → formula < formulas → more < formulas → object_at now formulas ≡ Pair (object_at now formula) (object_at now more) → is_pair (object_at now rest) ≡ false → ⊥

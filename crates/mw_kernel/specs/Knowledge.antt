@@ -1,41 +1,60 @@
 -- What a kernel holds, and its theory.
-use Rattle.std.specs.Prelude.{◌≡◌, ℕ, ◌<◌, ◌≤◌, List, [], ◌∷◌, length, take, None, All}
-use Rattle.mw_model.specs.Object.{Object, Pair}
-use Rattle.mw_model.specs.Term.{ArityTable, table_object}
-use Rattle.mw_model.specs.Primitive.{One}
+use Rattle.std.specs.Prelude.{◌≡◌, ℕ, ◌≤◌, true, Bool, List, [], ◌∷◌, length, take, Option, Some, None, All, IfSome}
+use Rattle.mw_model.specs.Object.{Name, Object, Pair}
+use Rattle.mw_model.specs.Term.{table_object}
+use Rattle.mw_model.specs.Primitive.{Profile, is_symbol, name_of}
 use Rattle.mw_model.specs.Definition.{Definitions, definitions, arity_table}
 use Rattle.mw_model.specs.Theory.{Theory, IsSound}
-use Rattle.mw_heap.specs.Objects.{object_at}
+use Rattle.mw_model.specs.Fate.{is_initial}
+use Rattle.mw_heap.specs.Objects.{object_at, IsIn}
+use Rattle.mw_heap.specs.Variants.{profile_of}
 use Rattle.mw_term.specs.declared.cell_mark.CellMark.{CellMark}
 use Rattle.mw_term.specs.Marking.{AreMarks}
 use Rattle.mw_proof.specs.Known.{known_object}
-use Rattle.mw_code.specs.declared.table.Table.{Table}
 use Rattle.mw_code.specs.Tables.{StandsFor}
 use Rattle.mw_preamble.specs.declared.definition.Definition.{Definition}
 use Rattle.mw_preamble.specs.Entries.{AreEntries}
 use Rattle.mw_kernel.specs.Entered.{blocks_read}
+use Rattle.mw_kernel.specs.declared.theory.Theory.{Theory as Kept}
 
--- The objects of the heap, of which the first ones are needed by the theory, the lists of its axioms, its theorems and its arities by
--- their references, the entries of its definitions, and the step limit.
-pub record Knowledge : Type 0 where
-  pub objects : List Object
-  pub needed : ℕ
+-- What a theory is read from: its profile, the lists of its axioms, its theorems and its arities by their references, the entries of its
+-- definitions, the name of its checker where that is not the built-in one, and its level.
+pub record Parts : Type 0 where
+  pub profile : Profile
   pub axioms : ℕ
   pub theorems : ℕ
   pub arity_list : ℕ
   pub entries : List (List Definition)
-  pub steps : ℕ
+  pub checker : Option ℕ
+  pub level : ℕ
 
--- This version takes no switches, and the first profile alone: a theory has the built-in checker.
-abbrev pub theory_with : Object → Object → Definitions → Theory
-theory_with axioms theorems D = record { axioms = axioms; theorems = theorems; definitions = D; checker = None; level = 1 }
+abbrev pub parts_of : Kept → Parts
+parts_of t = record { profile = profile_of t.profile; axioms = t.axioms; theorems = t.theorems; arity_list = t.arity_list; entries = t.entries; checker = t.checker; level = t.level }
 
 -- the definitions are read from the entries
-abbrev pub definitions_of : Knowledge → Definitions
-definitions_of k = definitions One (blocks_read k.objects k.entries)
+abbrev pub definitions_of : List Object → Parts → Definitions
+definitions_of os p = definitions p.profile (blocks_read os p.entries)
+
+abbrev pub name_read : List Object → Option ℕ → Option Name
+name_read os None = None
+name_read os (Some r) = Some (name_of (object_at os r))
+
+-- the theory that these objects make of the parts
+abbrev pub theory_with : Object → Object → Definitions → Option Name → ℕ → Theory
+theory_with axioms theorems D checker level = record { axioms = axioms; theorems = theorems; definitions = D; checker = checker; level = level }
+
+abbrev pub meant : List Object → Parts → Theory
+meant os p = theory_with (object_at os p.axioms) (object_at os p.theorems) (definitions_of os p) (name_read os p.checker) p.level
+
+-- The objects of the heap, of which the first ones are needed by the theory, what that is read from, and the step limit.
+pub record Knowledge : Type 0 where
+  pub objects : List Object
+  pub needed : ℕ
+  pub parts : Parts
+  pub steps : ℕ
 
 abbrev pub theory_of : Knowledge → Theory
-theory_of k = theory_with (object_at k.objects k.axioms) (object_at k.objects k.theorems) (definitions_of k)
+theory_of k = meant k.objects k.parts
 
 -- the theory with one theorem more
 abbrev pub with_theorem : Theory → Object → Theory
@@ -46,20 +65,33 @@ abbrev pub put_all : List Object → Object → Object
 put_all [] list = list
 put_all (x ∷ xs) list = put_all xs (Pair x list)
 
--- The lists and sets of known objects, the arity table, the marks, the entries and the code are those of the theory, which is sound. The
--- entries and the code need no more objects than the theory does.
-pub record IsKernel (k : Knowledge) (axioms theorems : List ℕ) (A : ArityTable) (marks : List CellMark) (code : Table) : Type 0 where
-  pub kept : k.needed ≤ length k.objects
-  pub axioms_kept : k.axioms < k.needed
-  pub theorems_kept : k.theorems < k.needed
-  pub arity_list_kept : k.arity_list < k.needed
-  pub each_axiom_kept : All (λ x. x < k.needed) axioms
-  pub each_theorem_kept : All (λ x. x < k.needed) theorems
-  pub axioms_known : known_object k.objects axioms ≡ object_at k.objects k.axioms
-  pub theorems_known : known_object k.objects theorems ≡ object_at k.objects k.theorems
-  pub arities_listed : object_at k.objects k.arity_list ≡ table_object A
-  pub arities : A ≡ arity_table (definitions_of k)
-  pub marked : AreMarks A k.objects marks
-  pub entered : AreEntries (take k.needed k.objects) k.entries (definitions_of k).blocks
-  pub coded : StandsFor (take k.needed k.objects) code (definitions_of k)
-  pub sound : IsSound (theory_of k)
+-- It is long: a proof opens it by name alone.
+unfoldable pub is_first : Theory → Bool
+is_first t = is_initial t
+
+abbrev pub IsNameIn : List Object → ℕ → Type 0
+IsNameIn os r = IsIn os r × (is_symbol (object_at os r) ≡ true)
+
+-- Over these objects all that is kept of a theory is right: the sets of known formulas, the arity table, the entries and the code are those
+-- of the theory, which is sound.
+pub record IsHeld (os : List Object) (t : Kept) : Type 0 where
+  pub axioms_in : IsIn os t.axioms
+  pub theorems_in : IsIn os t.theorems
+  pub arity_list_in : IsIn os t.arity_list
+  pub each_axiom_in : All (IsIn os) t.known_axioms
+  pub each_theorem_in : All (IsIn os) t.known_theorems
+  pub axioms_known : known_object os t.known_axioms ≡ object_at os t.axioms
+  pub theorems_known : known_object os t.known_theorems ≡ object_at os t.theorems
+  pub arities : t.arity ≡ arity_table (definitions_of os (parts_of t))
+  pub arities_listed : object_at os t.arity_list ≡ table_object t.arity
+  pub entered : AreEntries os t.entries (definitions_of os (parts_of t)).blocks
+  pub coded : StandsFor os t.table.value (definitions_of os (parts_of t))
+  pub named : IfSome t.checker (IsNameIn os)
+  pub first : t.is_initial ≡ is_first (meant os (parts_of t))
+  pub sound : IsSound (meant os (parts_of t))
+
+-- The objects that the theory needs come first, and all that is kept of it is right over them. The marks are under its arity table.
+pub record IsKernel (os : List Object) (needed : ℕ) (t : Kept) (marks : List CellMark) : Type 0 where
+  pub kept : needed ≤ length os
+  pub held : IsHeld (take needed os) t
+  pub marked : AreMarks t.arity os marks

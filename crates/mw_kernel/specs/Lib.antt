@@ -5,8 +5,9 @@ pub mod EventWords
 pub mod Words
 pub mod Fates
 pub mod Proofs
-pub mod Version
+pub mod Switching
 pub mod Evaluating
 pub mod Adding
 pub mod Admitting
 pub mod Defining
+pub mod FirstName

@@ -1,11 +1,12 @@
 //! Functions that an event defines.
-ghost use Rattle.std.specs.Prelude.{◌≡◌, length, slice_get, map, IfOk, IfSome};
+ghost use Rattle.std.specs.Prelude.{◌≡◌, ◌≤◌, length, slice_get, map, IfOk, IfSome};
 ghost use Rattle.mw_heap.specs.Objects.{object_at, Grows};
 ghost use Rattle.mw_define.specs.BlockTests.{IsBlockOf};
-ghost use Rattle.mw_kernel.specs.Admitting.{AreWithin, drafts_given, function_of_entry};
+ghost use Rattle.mw_kernel.specs.Admitting.{AreWithin, AreBefore, drafts_given, function_of_entry};
 
+use crate::mark::later;
 use mw_define::{Admitted, Draft, Entry, admit_block, admit_function};
-use mw_heap::{Heap, Memory, Ref};
+use mw_heap::{Heap, Mark, Memory, Ref};
 use mw_preamble::Definition;
 use mw_term::Arity;
 use std::alloc::Global;
@@ -26,6 +27,28 @@ pub(crate) fn admit(heap: &mut Heap, drafts: Drafts, arity: &Arity) -> Admitted
     match drafts {
         Drafts::One(draft) => admit_function(heap, draft, arity),
         Drafts::All(definitions) => admit_block(heap, definitions, arity),
+    }
+}
+
+/// The number of objects up to the last one of these definitions, to go back to: what stands behind it is none of theirs.
+pub(crate) fn mark_behind(heap: &Heap, drafts: &Drafts) -> Mark
+    requires { AreWithin heap.now drafts.now }
+    ensures before { AreBefore result drafts.now }
+    ensures within { result ≤ length heap.now }
+{
+    match *drafts {
+        Drafts::One(draft) => {
+            let names = later(
+                heap.mark_behind(draft.name),
+                heap.mark_behind(draft.formals),
+            );
+            let terms = later(
+                heap.mark_behind(draft.body),
+                heap.mark_behind(draft.measure),
+            );
+            later(names, terms)
+        }
+        Drafts::All(definitions) => heap.mark_behind(definitions),
     }
 }
 

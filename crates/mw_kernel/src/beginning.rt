@@ -1,66 +1,61 @@
 //! The initial theory.
-ghost use Rattle.std.specs.Prelude.{◌≡◌, ◌++◌, [], true, map, reverse, All, IfOk, OnOk};
+ghost use Rattle.std.specs.Prelude.{◌≡◌, ◌++◌, true, map, reverse, All, IfOk, OnOk};
 ghost use Rattle.mw_model.specs.Object.{Natural, Symbol, Pair, is_name, name_of_bytes};
 ghost use Rattle.mw_model.specs.Term.{table_object};
-ghost use Rattle.mw_model.specs.Primitive.{One};
-ghost use Rattle.mw_model.specs.Definition.{arity_table};
 ghost use Rattle.mw_model.specs.Theory.{initial};
+ghost use Rattle.mw_model.specs.Fate.{is_one};
 ghost use Rattle.mw_heap.specs.Objects.{object_at, IsIn, Grows};
-ghost use Rattle.mw_proof.specs.Known.{known_object};
-ghost use Rattle.mw_code.specs.Tables.{StandsFor};
-ghost use Rattle.mw_preamble.specs.Admitted.{first_definitions};
-ghost use Rattle.mw_preamble.specs.Entries.{AreEntries};
-ghost use Rattle.mw_kernel.specs.Knowledge.{theory_with, put_all};
+ghost use Rattle.mw_heap.specs.Variants.{profile_of};
+ghost use Rattle.mw_kernel.specs.Knowledge.{parts_of, meant, put_all, IsHeld};
 
 use crate::adding::add_known;
 use crate::front::{with_all, with_pair};
+use crate::theory::Theory;
 use mw_axioms::build;
-use mw_code::Table;
 use mw_heap::{Heap, Memory, Profile, Ref};
-use mw_preamble::{Entries, admit_all};
+use mw_preamble::admit_all;
 use mw_proof::Known;
 use mw_term::Arity;
+use mw_truth::soundness::initial_sound;
 
-/// The lists of a theory, and its arity table.
-#[derive(Drop)]
-pub(crate) struct Beginning {
-    pub axioms: Ref,
-    pub theorems: Ref,
-    pub arity: Arity,
-    // the same as a list in the heap
-    pub arity_list: Ref,
-    pub entries: Entries,
-    pub table: Box<Table>,
-}
-
-/// Makes the initial theory of the first profile, and adds its axioms to those that are known, of which there are none.
-pub(crate) fn begin(heap: &mut Heap, known: &mut Known) -> Result<Beginning, Memory>
-    requires none { known.old ≡ [] }
-    ensures theory { IfOk result (λ b. theory_with (object_at heap.new b.axioms) (object_at heap.new b.theorems) first_definitions ≡ initial One) }
-    ensures axioms_in { IfOk result (λ b. IsIn heap.new b.axioms) }
-    ensures theorems_in { IfOk result (λ b. IsIn heap.new b.theorems) }
-    ensures known_in { OnOk result (All (IsIn heap.new) known.new) }
-    ensures known { IfOk result (λ b. known_object heap.new known.new ≡ object_at heap.new b.axioms) }
-    ensures arities { IfOk result (λ b. b.arity ≡ arity_table first_definitions) }
-    ensures entries { IfOk result (λ b. AreEntries heap.new b.entries first_definitions.blocks) }
-    ensures table { IfOk result (λ b. StandsFor heap.new b.table.value first_definitions) }
-    ensures arity_list_in { IfOk result (λ b. IsIn heap.new b.arity_list) }
-    ensures arity_list { IfOk result (λ b. object_at heap.new b.arity_list ≡ table_object (arity_table first_definitions)) }
+/// The initial theory of a profile.
+pub(crate) fn begin(heap: &mut Heap, profile: Profile) -> Result<Theory, Memory>
+    ensures grows { Grows heap.old heap.new }
+    ensures held { IfOk result (IsHeld heap.new) }
+    ensures theory { IfOk result (λ t. meant heap.new (parts_of t) ≡ initial (profile_of profile)) }
 {
-    let primitives = build(heap, Profile::One)?;
-    let preamble = admit_all(heap, Profile::One)?;
+    initial_sound();
+    let primitives = build(heap, profile)?;
+    let preamble = admit_all(heap, profile)?;
     let arity_list = list_arities(heap, &preamble.arity)?;
     let nil = heap.symbol(b"NIL")?;
-    let axioms = add_axioms(heap, known, nil, primitives.as_slice())?;
-    let axioms = add_axioms(heap, known, axioms, preamble.axioms.as_slice())?;
-    Ok(Beginning {
+    let mut known = Known::new(heap.alloc());
+    let axioms = add_axioms(heap, &mut known, nil, primitives.as_slice())?;
+    let axioms = add_axioms(heap, &mut known, axioms, preamble.axioms.as_slice())?;
+    Ok(Theory {
+        profile,
+        known_axioms: known,
+        known_theorems: Known::new(heap.alloc()),
+        arity: preamble.arity,
         axioms,
         theorems: nil,
-        arity: preamble.arity,
         arity_list,
         entries: preamble.definitions,
         table: preamble.table,
+        checker: None,
+        level: 1,
+        is_initial: is_first(profile),
     })
+}
+
+// Whether it is the profile that a kernel begins with.
+fn is_first(profile: Profile) -> bool
+    ensures { result ≡ is_one (profile_of profile) }
+{
+    match profile {
+        Profile::One => true,
+        Profile::Two => false,
+    }
 }
 
 // Puts these axioms in front of those that are known, the last one foremost. The list of them is handed on.

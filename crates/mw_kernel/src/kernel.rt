@@ -1,43 +1,46 @@
 //! The kernel.
-ghost use Rattle.std.specs.Prelude.{◌≡◌, ℕ, ◌≤◌, ◌⊎◌, false, true, List, length, max, take, option_map, IfOk, IfSome, OnOk, OnErr};
-ghost use Rattle.mw_model.specs.Object.{Object, Symbol, NIL};
-ghost use Rattle.mw_model.specs.Primitive.{One, is_symbol, name_of};
+ghost use Rattle.std.specs.Prelude.{◌≡◌, ℕ, ◌+◌, ◌≤◌, ◌⊎◌, true, List, [], length, take, option_map, IfOk, IfSome, OnOk, OnErr};
+ghost use Rattle.mw_model.specs.Object.{Object, Symbol};
+ghost use Rattle.mw_model.specs.Term.{ArityTable, formula_object, table_object};
+ghost use Rattle.mw_model.specs.Primitive.{One, Two, is_symbol, name_of};
 ghost use Rattle.mw_model.specs.Definition.{Block, arity_table};
 ghost use Rattle.mw_model.specs.Theory.{initial, claim, IsSound};
+ghost use Rattle.mw_model.specs.Refusal.{Accepted};
 ghost use Rattle.mw_model.specs.Admission.{add_to_theory};
-ghost use Rattle.mw_model.specs.Fate.{fate, next, eval, is_out_of_range};
-ghost use Rattle.mw_kernel.specs.Version.{as_taken};
+ghost use Rattle.mw_model.specs.Fate.{fate, next, eval, profile};
 ghost use Rattle.mw_heap.specs.Objects.{object_at, IsIn, Grows};
-ghost use Rattle.mw_model.specs.Term.{ArityTable, formula_object, table_object};
 ghost use Rattle.mw_term.specs.Marking.{AreMarks};
 ghost use Rattle.mw_read.specs.Standing.{Stands, IsStanding, Follows, Says, IsLast, HasEndedWith, HasEnded};
 ghost use Rattle.mw_read.specs.Feeding.{IsAwaiting, IsReady, Continues};
 ghost use Rattle.mw_kernel.specs.Knowledge.{theory_of, with_theorem};
-ghost use Rattle.mw_kernel.specs.Words.{verify_event, eval_event};
-ghost use Rattle.mw_kernel.specs.Admitting.{AreWithin, drafts_given, defined, skolem_at};
-ghost use Rattle.mw_kernel.specs.Defining.{IsNewBlock};
+ghost use Rattle.mw_kernel.specs.Words.{eval_event, profile_event};
+ghost use Rattle.mw_kernel.specs.Admitting.{AreWithin, drafts_given, defined, IsAccepted, skolem_at};
+ghost use Rattle.mw_kernel.specs.Defining.{IsNewBlockOf};
+ghost use Rattle.mw_kernel.specs.Switching.{switched, with_checker};
 ghost use Rattle.mw_kernel.specs.Fates.{fate_of, verified, KeepsRoom};
 
 use crate::Fate;
-use crate::adding::{Lists, add_block};
-use crate::admitting::{Drafts, admit, functions_of, witness_of};
+use crate::admitting::{Drafts, admit, functions_of, mark_behind, witness_of};
 use crate::beginning::begin;
 use crate::claim::claim;
+use crate::define::refusal_of_definitions;
 use crate::eval::evaluated;
 use crate::event::{Event, event_of};
 use crate::fate::{accepted, shown};
-use crate::front::with_front;
-use crate::proofs::{list_members, refusal_of_proofs};
+use crate::first_name::first_name;
+use crate::mark::later;
+use crate::profile::profile_numbered;
+use crate::switch::refusal_of_switch;
+use crate::theory::Theory;
 use crate::verify::refusal;
-use mw_code::Table;
 use mw_define::{Admitted, Draft, admit_witness};
-use mw_heap::{Heap, Mark, Memory, Ref, Refusal};
+use mw_heap::{Heap, Mark, Memory, Profile, Ref, Refusal};
 use mw_machine::Machine;
-use mw_preamble::{Definition, Entries};
-use mw_proof::Known;
+use mw_preamble::Definition;
 use mw_read::{Reader, Step};
-use mw_term::{Arity, Marks};
-use mw_truth::soundness::{events_keep, initial_sound};
+use mw_reflect::reached_sound;
+use mw_term::Marks;
+use mw_truth::soundness::events_keep;
 use std::alloc::Global;
 use std::marker::Model;
 
@@ -49,57 +52,41 @@ pub struct Kernel {
     heap: Heap,
     // how much of the heap the theory needs
     needed: Mark,
-    arity: Arity,
+    theory: Theory,
     marks: Marks,
-    entries: Entries,
-    table: Box<Table>,
     machine: Machine,
-    known_axioms: Known,
-    known_theorems: Known,
-    // the same as lists in the heap
-    axioms: Ref,
-    theorems: Ref,
-    arity_list: Ref,
     steps: u64,
 }
 
 impl Model for Kernel {
-    ghost use Rattle.mw_kernel.specs.Knowledge.{Knowledge, IsKernel};
+    ghost use Rattle.mw_kernel.specs.Knowledge.{Knowledge, parts_of, IsKernel};
     ghost use Rattle.mw_kernel.specs.Code.{coded_knowledge};
 
     ghost Value = { Knowledge };
 
     ghost coded = { coded_knowledge };
 
-    ghost view = { λ k. record { objects = k.heap; needed = k.needed; axioms = k.axioms; theorems = k.theorems; arity_list = k.arity_list; entries = k.entries; steps = k.steps } };
+    ghost view = { λ k. record { objects = k.heap; needed = k.needed; parts = parts_of k.theory; steps = k.steps } };
 
-    ghost invariant = { λ k. IsKernel (record { objects = k.heap; needed = k.needed; axioms = k.axioms; theorems = k.theorems; arity_list = k.arity_list; entries = k.entries; steps = k.steps }) k.known_axioms k.known_theorems k.arity k.marks k.table.value };
+    ghost invariant = { λ k. IsKernel k.heap k.needed k.theory k.marks };
 }
 
 impl Kernel {
-    /// The initial theory of the first profile. `steps` limits each EVAL.
+    /// The initial theory of the first profile. `steps` limits each EVAL, and the run of a checker on each proof.
     pub fn new(alloc: Global, steps: u64) -> Result<Kernel, Memory>
         ensures theory { IfOk result (λ k. theory_of k ≡ initial One) }
+        ensures sound { IfOk result (λ k. IsSound (theory_of k)) }
         ensures steps { IfOk result (λ k. k.steps ≡ steps) }
         ensures room { IfOk result (λ k. length k.objects ≡ k.needed) }
     {
-        initial_sound();
         let mut heap = Heap::new(alloc)?;
-        let mut known_axioms = Known::new(alloc);
-        let beginning = begin(&mut heap, &mut known_axioms)?;
+        let theory = begin(&mut heap, Profile::One)?;
         Ok(Kernel {
             needed: heap.mark(),
             heap,
-            arity: beginning.arity,
+            theory,
             marks: Marks::new(alloc),
-            entries: beginning.entries,
-            table: beginning.table,
             machine: Machine::new(alloc),
-            known_axioms,
-            known_theorems: Known::new(alloc),
-            axioms: beginning.axioms,
-            theorems: beginning.theorems,
-            arity_list: beginning.arity_list,
             steps,
         })
     }
@@ -138,12 +125,14 @@ impl Kernel {
     }
 
     /// The fate of an event, with which the theory goes on: it changes once where the event is accepted, and else it stays. Where memory
-    /// is refused it stays too. All objects that the theory does not need are gone afterwards.
+    /// is refused it stays too. The theory is sound, whichever checker judges. After an event that is refused, and after one that shows
+    /// an object, the heap is as large as it was.
     pub fn event(&mut self, event: Ref) -> Result<Fate, Memory>
         requires { IsIn self.old.objects event }
-        ensures fate { IfOk result (λ f. fate_of f ≡ fate (theory_of self.old) (as_taken (object_at self.old.objects event)) self.old.steps) }
-        ensures theory { OnOk result (theory_of self.new ≡ next (theory_of self.old) (as_taken (object_at self.old.objects event)) self.old.steps) }
+        ensures fate { IfOk result (λ f. fate_of f ≡ fate (theory_of self.old) (object_at self.old.objects event) self.old.steps) }
+        ensures theory { OnOk result (theory_of self.new ≡ next (theory_of self.old) (object_at self.old.objects event) self.old.steps) }
         ensures err { OnErr result (theory_of self.new ≡ theory_of self.old) }
+        ensures sound { IsSound (theory_of self.new) }
         ensures steps { self.new.steps ≡ self.old.steps }
         ensures room { length self.new.objects ≡ self.new.needed }
         ensures kept { IfOk result (λ f. KeepsRoom f self.old.needed self.new.needed) }
@@ -164,15 +153,15 @@ impl Kernel {
     pub fn level(&self) -> u64
         ensures { result ≡ (theory_of self.now).level }
     {
-        1
+        self.theory.level
     }
 
-    /// The name of the theory's checker; nothing where the checker is the built-in one, which in this version it always is.
+    /// The name of the theory's checker; nothing where the checker is the built-in one.
     pub fn checker(&self) -> Option<Ref>
         ensures within { IfSome result (λ r. IsIn self.now.objects r) }
         ensures name { option_map (object_at self.now.objects) result ≡ option_map Symbol (theory_of self.now).checker }
     {
-        None
+        self.theory.checker
     }
 
     /// The list of the axioms, the newest first.
@@ -180,7 +169,7 @@ impl Kernel {
         ensures within { IsIn self.now.objects result }
         ensures list { object_at self.now.objects result ≡ (theory_of self.now).axioms }
     {
-        self.axioms
+        self.theory.axioms
     }
 
     /// The list of the theorems, the newest first.
@@ -188,7 +177,7 @@ impl Kernel {
         ensures within { IsIn self.now.objects result }
         ensures list { object_at self.now.objects result ≡ (theory_of self.now).theorems }
     {
-        self.theorems
+        self.theory.theorems
     }
 
     /// The arity table as a list of pairs (name . arity), the newest first.
@@ -196,7 +185,7 @@ impl Kernel {
         ensures within { IsIn self.now.objects result }
         ensures list { object_at self.now.objects result ≡ table_object (arity_table (theory_of self.now).definitions) }
     {
-        self.arity_list
+        self.theory.arity_list
     }
 
     /// The formula that a checker of this name claims: what it says yes to has a proof. The theory stays; the objects that are made for it
@@ -215,13 +204,14 @@ impl Kernel {
     // The fate of the event; what it leaves in the heap is still there.
     fn happens(&mut self, event: Ref) -> Result<Fate, Memory>
         requires { IsIn self.old.objects event }
-        ensures fate { IfOk result (λ f. fate_of f ≡ fate (theory_of self.old) (as_taken (object_at self.old.objects event)) self.old.steps) }
-        ensures theory { OnOk result (theory_of self.new ≡ next (theory_of self.old) (as_taken (object_at self.old.objects event)) self.old.steps) }
+        ensures fate { IfOk result (λ f. fate_of f ≡ fate (theory_of self.old) (object_at self.old.objects event) self.old.steps) }
+        ensures theory { OnOk result (theory_of self.new ≡ next (theory_of self.old) (object_at self.old.objects event) self.old.steps) }
         ensures err { OnErr result (theory_of self.new ≡ theory_of self.old) }
         ensures steps { self.new.steps ≡ self.old.steps }
         ensures kept { IfOk result (λ f. KeepsRoom f self.old.needed self.new.needed) }
     {
         events_keep();
+        reached_sound();
         let Some(members) = event_of(&self.heap, event) else {
             return Ok(Fate::Refused(Refusal::Event));
         };
@@ -254,12 +244,12 @@ impl Kernel {
                 free,
                 body,
             } => self.skolem(name, bound, free, body),
-            Event::Switch(_) => Ok(Fate::Refused(Refusal::Event)),
+            Event::Switch(name) => self.switch(name),
             Event::DefineAll {
                 definitions,
                 proofs,
             } => self.define(Drafts::All(definitions), proofs),
-            Event::Profile(_) => Ok(Fate::Refused(Refusal::Event)),
+            Event::Profile(number) => self.set_profile(number),
         }
     }
 
@@ -268,23 +258,22 @@ impl Kernel {
         requires name { IsIn self.old.objects name }
         requires formula { IsIn self.old.objects formula }
         requires proof { IsIn self.old.objects proof }
-        requires in_range { is_out_of_range (verify_event (object_at self.old.objects name) (object_at self.old.objects formula) (object_at self.old.objects proof)) ≡ false }
-        ensures fate { IfOk result (λ f. fate_of f ≡ (verified (theory_of self.old) (object_at self.old.objects name) (object_at self.old.objects formula) (object_at self.old.objects proof)).0) }
-        ensures theory { OnOk result (theory_of self.new ≡ (verified (theory_of self.old) (object_at self.old.objects name) (object_at self.old.objects formula) (object_at self.old.objects proof)).1) }
+        requires sound { IsSound (verified (theory_of self.old) self.old.steps (object_at self.old.objects name) (object_at self.old.objects formula) (object_at self.old.objects proof)).1 }
+        ensures fate { IfOk result (λ f. fate_of f ≡ (verified (theory_of self.old) self.old.steps (object_at self.old.objects name) (object_at self.old.objects formula) (object_at self.old.objects proof)).0) }
+        ensures theory { OnOk result (theory_of self.new ≡ (verified (theory_of self.old) self.old.steps (object_at self.old.objects name) (object_at self.old.objects formula) (object_at self.old.objects proof)).1) }
         ensures err { OnErr result (theory_of self.new ≡ theory_of self.old) }
         ensures steps { self.new.steps ≡ self.old.steps }
         ensures kept { IfOk result (λ f. KeepsRoom f self.old.needed self.new.needed) }
     {
-        events_keep();
         let reason = refusal(
             &mut self.heap,
             name,
             formula,
             proof,
-            &self.known_axioms,
-            &self.known_theorems,
-            &self.arity,
+            &self.theory,
             &mut self.marks,
+            &mut self.machine,
+            self.steps,
         )?;
         if let Some(reason) = reason {
             return Ok(Fate::Refused(reason));
@@ -303,8 +292,8 @@ impl Kernel {
         evaluated(
             &mut self.heap,
             term,
-            &self.arity,
-            &mut self.table,
+            &self.theory.arity,
+            &mut self.theory.table,
             &mut self.machine,
             self.steps,
         )
@@ -323,7 +312,14 @@ impl Kernel {
         ensures steps { self.new.steps ≡ self.old.steps }
         ensures kept { IfOk result (λ f. KeepsRoom f self.old.needed self.new.needed) }
     {
-        let owed = match admit_witness(&mut self.heap, name, bound, free, body, &self.arity) {
+        let owed = match admit_witness(
+            &mut self.heap,
+            name,
+            bound,
+            free,
+            body,
+            &self.theory.arity,
+        ) {
             Admitted::Obligations(owed) => owed,
             Admitted::Refused(reason) => return Ok(Fate::Refused(reason)),
             Admitted::Memory => return Err(Memory),
@@ -333,7 +329,8 @@ impl Kernel {
         Ok(accepted(&self.heap))
     }
 
-    // The fate of a DEFINE or a DEFINE-ALL that gives these functions, with these proofs.
+    // The fate of a DEFINE or a DEFINE-ALL that gives these functions, with these proofs. Where they are accepted the proofs are dropped
+    // before the functions are tested once more and added: the heap keeps nothing that was made for the proofs.
     fn define(&mut self, drafts: Drafts, proofs: Ref) -> Result<Fate, Memory>
         requires drafts { AreWithin self.old.objects drafts }
         requires proofs { IsIn self.old.objects proofs }
@@ -344,52 +341,65 @@ impl Kernel {
         ensures steps { self.new.steps ≡ self.old.steps }
         ensures kept { IfOk result (λ f. KeepsRoom f self.old.needed self.new.needed) }
     {
-        let owed = match admit(&mut self.heap, drafts, &self.arity) {
-            Admitted::Obligations(owed) => owed,
-            Admitted::Refused(reason) => return Ok(Fate::Refused(reason)),
-            Admitted::Memory => return Err(Memory),
-        };
-        let refused = refusal_of_proofs(
+        let refused = refusal_of_definitions(
             &mut self.heap,
-            owed.obligations,
+            &drafts,
             proofs,
-            &self.known_axioms,
-            &self.known_theorems,
-            &self.arity,
+            &self.theory,
             &mut self.marks,
+            &mut self.machine,
+            self.steps,
         )?;
         if let Some(reason) = refused {
             return Ok(Fate::Refused(reason));
         }
+        self.cut_behind(&drafts);
+        self.add_functions(drafts)
+    }
+
+    // Forgets what stands behind these definitions and all that the theory needs.
+    fn cut_behind(&mut self, drafts: &Drafts)
+        requires { AreWithin self.old.objects drafts.now }
+        ensures drafts { (AreWithin self.new.objects drafts.now) × (drafts_given self.new.objects drafts.now ≡ drafts_given self.old.objects drafts.now) }
+        ensures theory { theory_of self.new ≡ theory_of self.old }
+        ensures needed { self.new.needed ≡ self.old.needed }
+        ensures steps { self.new.steps ≡ self.old.steps }
+    {
+        let behind = mark_behind(&self.heap, drafts);
+        self.cut_to(later(behind, self.needed));
+    }
+
+    // The fate of functions whose proofs were accepted, which are tested and added.
+    fn add_functions(&mut self, drafts: Drafts) -> Result<Fate, Memory>
+        requires drafts { AreWithin self.old.objects drafts }
+        requires accepted { (N : ℕ) × (proofs : Object) × IsAccepted (theory_of self.old) N (drafts_given self.old.objects drafts) proofs }
+        ensures fate { (N : ℕ) (proofs : Object) → IsAccepted (theory_of self.old) N (drafts_given self.old.objects drafts) proofs → IfOk result (λ f. fate_of f ≡ (defined (theory_of self.old) N (drafts_given self.old.objects drafts) proofs).0) }
+        ensures theory { (N : ℕ) (proofs : Object) → IsAccepted (theory_of self.old) N (drafts_given self.old.objects drafts) proofs → OnOk result (theory_of self.new ≡ (defined (theory_of self.old) N (drafts_given self.old.objects drafts) proofs).1) }
+        ensures err { OnErr result (theory_of self.new ≡ theory_of self.old) }
+        ensures steps { self.new.steps ≡ self.old.steps }
+        ensures kept { IfOk result (λ f. KeepsRoom f self.old.needed self.new.needed) }
+    {
+        let owed = match admit(&mut self.heap, drafts, &self.theory.arity) {
+            Admitted::Obligations(owed) => owed,
+            Admitted::Refused(reason) => return Ok(Fate::Refused(reason)),
+            Admitted::Memory => return Err(Memory),
+        };
         let block = functions_of(self.heap.alloc(), owed.entries.as_slice())?;
         self.add_definitions(block.as_slice(), owed.axioms)?;
         Ok(accepted(&self.heap))
     }
 
-    // Adds a block of definitions with the list of its axioms.
+    // Adds a block of definitions with the list of its axioms. The marks of the objects before its names stay.
     fn add_definitions(&mut self, block: &[Definition], axioms: Ref) -> Result<(), Memory>
-        requires block { (B : Block) × IsNewBlock self.old block.now axioms B }
-        ensures theory { (B : Block) → IsNewBlock self.old block.now axioms B → OnOk result (theory_of self.new ≡ add_to_theory (theory_of self.old) B) }
+        requires block { (B : Block) × IsNewBlockOf self.old block.now axioms B }
+        ensures theory { (B : Block) → IsNewBlockOf self.old block.now axioms B → OnOk result (theory_of self.new ≡ add_to_theory (theory_of self.old) B) }
         ensures err { OnErr result (theory_of self.new ≡ theory_of self.old) }
+        ensures err_needed { OnErr result (self.new.needed ≡ self.old.needed) }
         ensures steps { self.new.steps ≡ self.old.steps }
     {
-        let members = list_members(&self.heap, axioms)?;
-        let lists = add_block(
-            &mut self.heap,
-            block,
-            members.as_slice(),
-            Lists {
-                axioms: self.axioms,
-                arity_list: self.arity_list,
-            },
-            &mut self.arity,
-            &mut self.entries,
-            &mut self.table,
-            &mut self.known_axioms,
-        )?;
-        self.axioms = lists.axioms;
-        self.arity_list = lists.arity_list;
-        self.marks = Marks::new(self.heap.alloc());
+        let first = first_name(&self.heap, block);
+        cut_marks(&mut self.marks, first);
+        self.theory.add_definitions(&mut self.heap, block, axioms)?;
         self.needed = self.heap.mark();
         Ok(())
     }
@@ -404,17 +414,88 @@ impl Kernel {
     {
         let behind = self.heap.mark_behind(formula);
         self.cut_to(later(behind, self.needed));
-        let theorems = with_front(&mut self.heap, formula, self.theorems)?;
-        self.known_theorems.add(formula)?;
-        self.theorems = theorems;
+        self.theory.add_theorem(&mut self.heap, formula)?;
         self.needed = self.heap.mark();
         Ok(())
+    }
+
+    // The fate of a SWITCH to the function of this name. Past the greatest level that a number of 64 bits holds memory is refused.
+    fn switch(&mut self, name: Ref) -> Result<Fate, Memory>
+        requires name { IsIn self.old.objects name }
+        requires sound { IsSound (switched (theory_of self.old) (object_at self.old.objects name)).1 }
+        ensures fate { IfOk result (λ f. fate_of f ≡ (switched (theory_of self.old) (object_at self.old.objects name)).0) }
+        ensures theory { OnOk result (theory_of self.new ≡ (switched (theory_of self.old) (object_at self.old.objects name)).1) }
+        ensures err { OnErr result (theory_of self.new ≡ theory_of self.old) }
+        ensures steps { self.new.steps ≡ self.old.steps }
+        ensures kept { IfOk result (λ f. KeepsRoom f self.old.needed self.new.needed) }
+    {
+        let refused = refusal_of_switch(&mut self.heap, name, &self.theory)?;
+        if let Some(reason) = refused {
+            return Ok(Fate::Refused(reason));
+        }
+        let Some(level) = self.theory.level.checked_add(1) else {
+            return Err(Memory);
+        };
+        self.switch_to(name, level);
+        Ok(accepted(&self.heap))
+    }
+
+    // Makes the function of this name the checker.
+    fn switch_to(&mut self, name: Ref, level: u64)
+        requires name { IsIn self.old.objects name }
+        requires symbol { is_symbol (object_at self.old.objects name) ≡ true }
+        requires level { level ≡ (theory_of self.old).level + 1 }
+        requires sound { IsSound (with_checker (theory_of self.old) (name_of (object_at self.old.objects name))) }
+        ensures theory { theory_of self.new ≡ with_checker (theory_of self.old) (name_of (object_at self.old.objects name)) }
+        ensures steps { self.new.steps ≡ self.old.steps }
+    {
+        let behind = self.heap.mark_behind(name);
+        self.cut_to(later(behind, self.needed));
+        self.theory.checker = Some(name);
+        self.theory.level = level;
+        self.theory.is_initial = false;
+        self.needed = self.heap.mark();
+    }
+
+    // The fate of a PROFILE of this number.
+    fn set_profile(&mut self, number: Ref) -> Result<Fate, Memory>
+        requires { IsIn self.old.objects number }
+        ensures fate { IfOk result (λ f. fate_of f ≡ (profile (theory_of self.old) (profile_event (object_at self.old.objects number))).0) }
+        ensures theory { OnOk result (theory_of self.new ≡ (profile (theory_of self.old) (profile_event (object_at self.old.objects number))).1) }
+        ensures err { OnErr result (theory_of self.new ≡ theory_of self.old) }
+        ensures steps { self.new.steps ≡ self.old.steps }
+        ensures kept { IfOk result (λ f. KeepsRoom f self.old.needed self.new.needed) }
+    {
+        if !self.theory.is_initial {
+            return Ok(Fate::Refused(Refusal::Profile));
+        }
+        match profile_numbered(&self.heap, number) {
+            None => Ok(Fate::Refused(Refusal::Profile)),
+            Some(Profile::One) => Ok(accepted(&self.heap)),
+            Some(Profile::Two) => self.begin_second(),
+        }
+    }
+
+    // Begins the initial theory of the second profile in place of the theory. The objects that were needed stay in the heap: the new theory
+    // has nearly all of them.
+    fn begin_second(&mut self) -> Result<Fate, Memory>
+        ensures fate { IfOk result (λ f. fate_of f ≡ Accepted []) }
+        ensures theory { OnOk result (theory_of self.new ≡ initial Two) }
+        ensures err { OnErr result (theory_of self.new ≡ theory_of self.old) }
+        ensures steps { self.new.steps ≡ self.old.steps }
+    {
+        let theory = begin(&mut self.heap, Profile::Two)?;
+        self.theory = theory;
+        self.marks = Marks::new(self.heap.alloc());
+        self.needed = self.heap.mark();
+        Ok(accepted(&self.heap))
     }
 
     // Forgets the objects that the theory does not need.
     fn cut(&mut self)
         ensures objects { self.new ≡ record self.old { objects = take self.old.needed self.old.objects } }
         ensures theory { theory_of self.new ≡ theory_of self.old }
+        ensures sound { IsSound (theory_of self.new) }
         ensures room { length self.new.objects ≡ self.new.needed }
     {
         self.cut_to(self.needed);
@@ -426,17 +507,11 @@ impl Kernel {
         requires within { to ≤ length self.old.objects }
         ensures objects { self.new ≡ record self.old { objects = take to self.old.objects } }
         ensures theory { theory_of self.new ≡ theory_of self.old }
+        ensures sound { IsSound (theory_of self.new) }
     {
         cut_marks(&mut self.marks, to);
         self.heap.cut_back(to);
     }
-}
-
-// The later of two marks.
-fn later(a: Mark, b: Mark) -> Mark
-    ensures { result ≡ max a b }
-{
-    if a.cells() < b.cells() { b } else { a }
 }
 
 // Forgets the marks of the objects from there on.

@@ -1,51 +1,21 @@
 //! The proofs that an event comes with, one for each formula that it owes.
-ghost use Rattle.std.specs.Prelude.{◌≡◌, ℕ, List, true, All, IfOk, option_map};
+ghost use Rattle.std.specs.Prelude.{◌≡◌, List, true, All, IfOk, option_map};
 ghost use Rattle.mw_model.specs.Object.{has_members};
 ghost use Rattle.mw_model.specs.Term.{Formula};
-ghost use Rattle.mw_model.specs.Primitive.{One};
-ghost use Rattle.mw_model.specs.Definition.{Definitions, arity_table};
 ghost use Rattle.mw_model.specs.RulesInduction.{formulas_object, is_list_object, length_object};
 ghost use Rattle.mw_model.specs.Checking.{judged_each};
 ghost use Rattle.mw_heap.specs.Objects.{object_at, IsIn, Grows};
 ghost use Rattle.mw_heap.specs.Variants.{refusal_of};
 ghost use Rattle.mw_term.specs.Marking.{AreMarks};
 ghost use Rattle.mw_proof.specs.Known.{known_object};
-ghost use Rattle.mw_kernel.specs.Knowledge.{theory_with};
-ghost use Rattle.mw_kernel.specs.Proofs.{judged_for, judged_all};
+ghost use Rattle.mw_kernel.specs.Knowledge.{parts_of, meant, IsHeld};
+ghost use Rattle.mw_kernel.specs.Proofs.{judged_all};
 
-use mw_heap::{Heap, Memory, Profile, Ref, Refusal, View};
-use mw_proof::{Judged, Known, judge};
-use mw_term::{Arity, Marks};
-
-/// Why this is refused as a proof of the formula, where it is: its second member must be the formula, and it must be a proof under the
-/// built-in checker. It extends the marks, which are under the arity table.
-pub(crate) fn refusal_of_proof(
-    heap: &mut Heap,
-    formula: Ref,
-    proof: Ref,
-    axioms: &Known,
-    theorems: &Known,
-    arity: &Arity,
-    marks: &mut Marks,
-) -> Result<Option<Refusal>, Memory>
-    requires formula { IsIn heap.old formula }
-    requires proof { IsIn heap.old proof }
-    requires axioms { All (IsIn heap.old) axioms.now }
-    requires theorems { All (IsIn heap.old) theorems.now }
-    requires marked { AreMarks arity.now heap.old marks.old }
-    ensures grows { Grows heap.old heap.new }
-    ensures marked { AreMarks arity.now heap.new marks.new }
-    ensures refusal { IfOk result (λ r. (D : Definitions) (N : ℕ) → arity.now ≡ arity_table D → D.profile ≡ One → option_map refusal_of r ≡ judged_for (theory_with (known_object heap.old axioms.now) (known_object heap.old theorems.now) D) N (object_at heap.old formula) (object_at heap.old proof)) }
-{
-    if !heap.is_same(heap.second_of(proof), Some(formula)) {
-        return Ok(Some(Refusal::Conclusion));
-    }
-    match judge(heap, proof, axioms, theorems, arity, Profile::One, marks) {
-        Judged::Good => Ok(None),
-        Judged::Bad => Ok(Some(Refusal::Proof)),
-        Judged::Memory => Err(Memory),
-    }
-}
+use crate::judging::refusal_of_proof;
+use crate::theory::Theory;
+use mw_heap::{Heap, Memory, Ref, Refusal, View};
+use mw_machine::Machine;
+use mw_term::Marks;
 
 /// Why this list of proofs is refused for the list of formulas, where it is: for its length, else for the first of its members that is
 /// no proof of the formula at its place. It extends the marks, which are under the arity table.
@@ -53,24 +23,23 @@ pub(crate) fn refusal_of_proofs(
     heap: &mut Heap,
     obligations: Ref,
     proofs: Ref,
-    axioms: &Known,
-    theorems: &Known,
-    arity: &Arity,
+    theory: &Theory,
     marks: &mut Marks,
+    machine: &mut Machine,
+    steps: u64,
 ) -> Result<Option<Refusal>, Memory>
     requires obligations { IsIn heap.old obligations }
     requires proofs { IsIn heap.old proofs }
-    requires axioms { All (IsIn heap.old) axioms.now }
-    requires theorems { All (IsIn heap.old) theorems.now }
-    requires marked { AreMarks arity.now heap.old marks.old }
+    requires held { IsHeld heap.old theory.now }
+    requires marked { AreMarks theory.now.arity heap.old marks.old }
     ensures grows { Grows heap.old heap.new }
-    ensures marked { AreMarks arity.now heap.new marks.new }
-    ensures refusal { IfOk result (λ r. (D : Definitions) (N : ℕ) (Fs : List Formula) → arity.now ≡ arity_table D → D.profile ≡ One → object_at heap.old obligations ≡ formulas_object Fs → option_map refusal_of r ≡ judged_all (theory_with (known_object heap.old axioms.now) (known_object heap.old theorems.now) D) N Fs (object_at heap.old proofs)) }
+    ensures marked { AreMarks theory.now.arity heap.new marks.new }
+    ensures refusal { IfOk result (λ r. (Fs : List Formula) → object_at heap.old obligations ≡ formulas_object Fs → option_map refusal_of r ≡ judged_all (meant heap.old (parts_of theory.now)) steps Fs (object_at heap.old proofs)) }
 {
     if !has_as_many(heap, proofs, obligations) {
         return Ok(Some(Refusal::Count));
     }
-    first_refusal(heap, obligations, proofs, axioms, theorems, arity, marks)
+    first_refusal(heap, obligations, proofs, theory, marks, machine, steps)
 }
 
 // Whether it is a proper list of as many members as the other list has.
@@ -96,20 +65,19 @@ fn first_refusal(
     heap: &mut Heap,
     obligations: Ref,
     proofs: Ref,
-    axioms: &Known,
-    theorems: &Known,
-    arity: &Arity,
+    theory: &Theory,
     marks: &mut Marks,
+    machine: &mut Machine,
+    steps: u64,
 ) -> Result<Option<Refusal>, Memory>
     requires obligations { IsIn heap.old obligations }
     requires proofs { IsIn heap.old proofs }
     requires many { has_members (length_object (object_at heap.old obligations)) (object_at heap.old proofs) ≡ true }
-    requires axioms { All (IsIn heap.old) axioms.now }
-    requires theorems { All (IsIn heap.old) theorems.now }
-    requires marked { AreMarks arity.now heap.old marks.old }
+    requires held { IsHeld heap.old theory.now }
+    requires marked { AreMarks theory.now.arity heap.old marks.old }
     ensures grows { Grows heap.old heap.new }
-    ensures marked { AreMarks arity.now heap.new marks.new }
-    ensures refusal { IfOk result (λ r. (D : Definitions) (N : ℕ) (Fs : List Formula) → arity.now ≡ arity_table D → D.profile ≡ One → object_at heap.old obligations ≡ formulas_object Fs → option_map refusal_of r ≡ judged_each (theory_with (known_object heap.old axioms.now) (known_object heap.old theorems.now) D) N Fs (object_at heap.old proofs)) }
+    ensures marked { AreMarks theory.now.arity heap.new marks.new }
+    ensures refusal { IfOk result (λ r. (Fs : List Formula) → object_at heap.old obligations ≡ formulas_object Fs → option_map refusal_of r ≡ judged_each (meant heap.old (parts_of theory.now)) steps Fs (object_at heap.old proofs)) }
 {
     let mut formulas = obligations;
     let mut rest = proofs;
@@ -117,7 +85,7 @@ fn first_refusal(
         let View::Pair(proof, others) = heap.view(rest) else {
             unreachable!()
         };
-        let refusal = refusal_of_proof(heap, formula, proof, axioms, theorems, arity, marks)?;
+        let refusal = refusal_of_proof(heap, formula, proof, theory, marks, machine, steps)?;
         if refusal.is_some() {
             return Ok(refusal);
         }

@@ -1,11 +1,14 @@
 //! The books of the guide to writing books, docs/BOOKS.md, with the reports that it states.
-use crate::ranks::other_report_after_ranks;
-use crate::row::{Row, wrong_answers};
+use crate::app::{APP, APPENDED};
+use crate::ranks::{other_report, other_report_after_ranks};
+use crate::row::{Row, lines_from, wrong_answers};
+use crate::wrap::{SHORTENED, SHORTHAND, WRAP, WRAPPED};
 use mw_book::Status;
 use mw_read::SyntaxKind;
+use std::alloc::{AllocError, Global};
 use std::test::Fail;
 
-const BOOKS: [Row; 11] = [
+const BOOKS: [Row; 14] = [
     Row {
         book: "; Equality of a thing with itself is an axiom of the logic.
 (verify refl (pequal* x x) (axiom (pequal* x x)))
@@ -177,6 +180,77 @@ events 4 accepted 3 refused 1 level 1
         status: Status::SomeRefused,
     },
     Row {
+        book: "(print (six times seven))
+(profile 2)
+(eval (* 6 7))
+(verify turned (pequal* (* (+ a b) c) (* c (+ a b)))
+ (instantiation (pequal* (* (+ a b) c) (* c (+ a b)))
+  ((axiom (pequal* (* a b) (* b a))))
+  ((a . (+ a b)) (b . c))))
+(eval (* 18446744073709551616 18446744073709551616))
+(define * (a b) (cons a b) nil ())
+(profile 2)
+",
+        report: "1 PRINT - accepted (SIX TIMES SEVEN)
+2 PROFILE - accepted
+3 EVAL - accepted 42
+4 VERIFY TURNED accepted
+5 EVAL - refused OVERFLOW
+6 DEFINE * refused NAME
+7 PROFILE - refused PROFILE
+events 7 accepted 4 refused 3 level 1
+",
+        status: Status::SomeRefused,
+    },
+    Row {
+        book: "(profile 3)
+(eval (* 6 7))
+(define * (a b) (cons a b) nil ())
+(eval (* 6 7))
+(profile 2)
+",
+        report: "1 PROFILE - refused PROFILE
+2 EVAL - refused TERM
+3 DEFINE * accepted
+4 EVAL - accepted (6 . 7)
+5 PROFILE - refused PROFILE
+events 5 accepted 2 refused 3 level 1
+",
+        status: Status::SomeRefused,
+    },
+    Row {
+        book: "(define never (x axioms thms atbl) nil nil ())
+(switch never)
+(verify claim
+ #1=(por* #2=(pequal* (never x axioms thms atbl) 'nil)
+          #3=(pnot* (pequal* (logic.provablep (logic.conclusion x) axioms thms atbl) 'nil)))
+ (cut #1# ((expansion (por* #3# #2#) ((axiom #2#)))
+           (propositional-schema (por* (pnot* #3#) #3#)))))
+(switch never)
+(verify refl (pequal* x x) (axiom (pequal* x x)))
+(verify refl (pequal* x y) (axiom (pequal* x x)))
+(define twice (x) (+ x x) nil ())
+(eval (twice 4))
+(switch logic.proofp)
+(switch twice)
+(switch never)
+",
+        report: "1 DEFINE NEVER accepted
+2 SWITCH NEVER refused CLAIM
+3 VERIFY CLAIM accepted
+4 SWITCH NEVER accepted
+5 VERIFY REFL refused NIL
+6 VERIFY REFL refused CONCLUSION
+7 DEFINE TWICE accepted
+8 EVAL - accepted 8
+9 SWITCH LOGIC.PROOFP refused CLAIM
+10 SWITCH TWICE refused CHECKER
+11 SWITCH NEVER accepted
+events 11 accepted 6 refused 5 level 3
+",
+        status: Status::SomeRefused,
+    },
+    Row {
         book: "(verify z (pequal* t nil) (axiom (pequal* t nil)))
 (verify z (pequal* 't 'nil) (axiom (pequal* 't 'nil)))
 (verify z (pequal* x y) (axiom (pequal* x x)))
@@ -218,6 +292,79 @@ const OF_AFTER_RANKS: &str = "14 DEFINE APP accepted
 events 17 accepted 17 refused 0 level 1
 ";
 
+// What the guide shows after books/app.book, and the lines that it shows for it.
+const AFTER_APP: &str = "(verify lists
+ (pequal* (app (app '(1 2) y) z) (app '(1 2) (app y z)))
+ (instantiation (pequal* (app (app '(1 2) y) z) (app '(1 2) (app y z)))
+  ((theorem (pequal* (app (app x y) z) (app x (app y z)))))
+  ((x . '(1 2)))))
+(eval (equal (app (app '(1 2) '(3)) '(4)) (app '(1 2) (app '(3) '(4)))))
+";
+
+const OF_AFTER_APP: &str = "25 VERIFY LISTS accepted
+26 EVAL - accepted T
+events 26 accepted 26 refused 0 level 1
+";
+
+// What the guide shows after books/wrap.book, and the lines that it shows for it.
+const AFTER_WRAP: &str = "(switch wrap)
+(verify refl (pequal* x x) (axiom (pequal* x x)))
+(verify wrong (pequal* x y) (axiom (pequal* x y)))
+(switch logic.proofp)
+";
+
+const OF_AFTER_WRAP: &str = "9 SWITCH WRAP accepted
+10 VERIFY REFL accepted
+11 VERIFY WRONG refused NIL
+12 SWITCH LOGIC.PROOFP accepted
+events 12 accepted 11 refused 1 level 3
+";
+
+// What the guide shows after books/shorthand.book, and the lines that it shows for it.
+const AFTER_SHORTHAND: &str = "(verify refl (pequal* x x) (axiom (pequal* x x)))
+(verify itself
+ #1=(pequal* (equal x x) 't)
+ (modus-ponens #1#
+  ((axiom #2=(pequal* x x))
+   (instantiation (por* (pnot* #2#) #1#)
+    ((axiom (por* (pnot* (pequal* x y)) (pequal* (equal x y) 't))))
+    ((y . x))))))
+(verify wrong
+ #1=(pequal* (equal x y) 't)
+ (modus-ponens #1#
+  ((axiom (pequal* x x))
+   (axiom (por* (pnot* (pequal* x y)) #1#)))))
+";
+
+const OF_AFTER_SHORTHAND: &str = "19 VERIFY REFL accepted
+20 VERIFY ITSELF accepted
+21 VERIFY WRONG refused NIL
+events 21 accepted 20 refused 1 level 3
+";
+
+// The reports on what the guide shows after these books, where they are not the ones stated.
+fn other_report_after_app(alloc: Global) -> Result<String, AllocError> {
+    let book = format!(in alloc; "{APP}{AFTER_APP}")?;
+    let lines = lines_from(alloc, 14, &APPENDED)?;
+    let due = format!(in alloc; "{lines}{OF_AFTER_APP}")?;
+    other_report_after_ranks(alloc, "10000000", book.as_str(), due.as_str())
+}
+
+fn other_report_after_wrap(alloc: Global) -> Result<String, AllocError> {
+    let book = format!(in alloc; "{WRAP}{AFTER_WRAP}")?;
+    let lines = lines_from(alloc, 1, &WRAPPED)?;
+    let due = format!(in alloc; "{lines}{OF_AFTER_WRAP}")?;
+    other_report(alloc, "10000000", book.as_str(), due.as_str())
+}
+
+fn other_report_after_shorthand(alloc: Global) -> Result<String, AllocError> {
+    let book = format!(in alloc; "{WRAP}{SHORTHAND}{AFTER_SHORTHAND}")?;
+    let wrapped = lines_from(alloc, 1, &WRAPPED)?;
+    let shortened = lines_from(alloc, 9, &SHORTENED)?;
+    let due = format!(in alloc; "{wrapped}{shortened}{OF_AFTER_SHORTHAND}")?;
+    other_report(alloc, "10000000", book.as_str(), due.as_str())
+}
+
 #[test]
 fn the_books_of_the_guide_have_its_reports(rt: HostRuntime) -> Result<(), Fail> {
     let wrong = wrong_answers(rt.alloc(), &BOOKS, 4096)?;
@@ -228,6 +375,27 @@ fn the_books_of_the_guide_have_its_reports(rt: HostRuntime) -> Result<(), Fail> 
 #[test]
 fn the_recursions_of_the_guide_are_defined(rt: HostRuntime) -> Result<(), Fail> {
     let wrong = other_report_after_ranks(rt.alloc(), "10000000", AFTER_RANKS, OF_AFTER_RANKS)?;
+    assert_eq!(rt; wrong.as_str(), "");
+    Ok(())
+}
+
+#[test]
+fn the_induction_of_the_guide_is_accepted(rt: HostRuntime) -> Result<(), Fail> {
+    let wrong = other_report_after_app(rt.alloc())?;
+    assert_eq!(rt; wrong.as_str(), "");
+    Ok(())
+}
+
+#[test]
+fn the_checker_of_the_guide_says_yes(rt: HostRuntime) -> Result<(), Fail> {
+    let wrong = other_report_after_wrap(rt.alloc())?;
+    assert_eq!(rt; wrong.as_str(), "");
+    Ok(())
+}
+
+#[test]
+fn the_shorthand_of_the_guide_is_taken(rt: HostRuntime) -> Result<(), Fail> {
+    let wrong = other_report_after_shorthand(rt.alloc())?;
     assert_eq!(rt; wrong.as_str(), "");
     Ok(())
 }

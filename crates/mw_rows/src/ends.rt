@@ -1,12 +1,53 @@
 //! The ends that are not the book's own, and the numbers of all.
-use crate::row::{text_of, texts};
-use mw_book::{Status, run};
+use crate::due::{Datum, is_due, lines_within};
+use crate::row::{Answer, answer_between};
+use crate::switches::{NEVER, OF_NEVER};
+use mw_book::Status;
 use mw_port::{MemSink, MemSource};
 use mw_read::SyntaxKind;
 use std::alloc::{AllocError, Global};
 use std::test::Fail;
 
 const BOOK: &str = "(verify refl (pequal* x x) (axiom (pequal* x x)))";
+
+const REPORT: &str = "1 VERIFY REFL accepted\nevents 1 accepted 1 refused 0 level 1\n";
+
+// The data of the book with a switch.
+const DATA: [Datum; 4] = [
+    Datum {
+        begins: 0,
+        ends: 46,
+        line: "1 DEFINE NEVER accepted\n",
+        accepted: true,
+        level: 1,
+    },
+    Datum {
+        begins: 47,
+        ends: 320,
+        line: "2 VERIFY CLAIM accepted\n",
+        accepted: true,
+        level: 1,
+    },
+    Datum {
+        begins: 321,
+        ends: 335,
+        line: "3 SWITCH NEVER accepted\n",
+        accepted: true,
+        level: 2,
+    },
+    Datum {
+        begins: 336,
+        ends: 385,
+        line: "4 VERIFY REFL refused NIL\n",
+        accepted: false,
+        level: 2,
+    },
+];
+
+// The bytes that one read gives, and that one write takes.
+const READ: usize = 10;
+
+const WRITTEN: usize = 3;
 
 const NUMBERS: [(Status, u8); 8] = [
     (Status::Done, 0),
@@ -19,47 +60,103 @@ const NUMBERS: [(Status, u8); 8] = [
     (Status::Memory, 6),
 ];
 
-// How the check of the book ends where the reads and the writes of these numbers fail and each write takes so many bytes, and what the
-// sink took.
+// What the program answers to a book where each read gives so many bytes at most, each write takes three at most, and the reads and the
+// writes of these numbers fail.
 fn checked(
     alloc: Global,
+    book: &str,
+    size: usize,
     reads: &[u64],
     writes: &[u64],
-    size: usize,
-) -> Result<(Status, String), AllocError> {
-    let words = texts(alloc, &["check"])?;
-    let bytes = Vec::from_slice(alloc, BOOK.as_bytes())?;
-    let mut source = MemSource::new(bytes, Vec::new(alloc), Vec::from_slice(alloc, reads)?);
-    let cuts = vec![in alloc; size; 100]?;
-    let mut sink = MemSink::with_cuts(alloc, cuts, Vec::from_slice(alloc, writes)?);
-    let status = run(alloc, &words, &mut source, &mut sink);
-    Ok((status, text_of(alloc, &sink)?))
+) -> Result<Answer, AllocError> {
+    let bytes = Vec::from_slice(alloc, book.as_bytes())?;
+    let pieces = vec![in alloc; size; book.len()]?;
+    let mut source = MemSource::new(bytes, pieces, Vec::from_slice(alloc, reads)?);
+    let taken = vec![in alloc; WRITTEN; 100]?;
+    let mut sink = MemSink::with_cuts(alloc, taken, Vec::from_slice(alloc, writes)?);
+    answer_between(alloc, &["check"], &mut source, &mut sink)
+}
+
+// How many reads may come before the one that fails, so that the run ends there with the lines of what was complete.
+fn failing_reads(alloc: Global) -> Result<usize, AllocError> {
+    for done in 0..100 {
+        let answer = checked(alloc, NEVER, READ, &[done as u64 + 1], &[])?;
+        let lines = lines_within(alloc, &DATA, READ * done)?;
+        if answer.status != Status::ReadFault || answer.report != lines {
+            return Ok(done);
+        }
+    }
+    Ok(100)
+}
+
+// How many writes may come before the one that fails, so that the run ends there with the beginning of the report which these took.
+fn failing_writes(alloc: Global) -> Result<usize, AllocError> {
+    for done in 0..100 {
+        let answer = checked(alloc, NEVER, READ, &[], &[done as u64 + 1])?;
+        let text = answer.report.as_str();
+        if answer.status != Status::WriteFault
+            || !OF_NEVER.starts_with(text)
+            || WRITTEN * done < text.len()
+        {
+            return Ok(done);
+        }
+    }
+    Ok(100)
 }
 
 #[test]
 fn a_failed_read_leaves_the_lines_before_it(rt: HostRuntime) -> Result<(), Fail> {
-    let (status, text) = checked(rt.alloc(), &[2], &[], 4096)?;
-    assert_eq!(rt; status, Status::ReadFault);
-    assert_eq!(rt; text.as_str(), "1 VERIFY REFL accepted\n");
+    let answer = checked(rt.alloc(), BOOK, 4096, &[2], &[])?;
+    assert_eq!(rt; answer.status, Status::ReadFault);
+    assert_eq!(rt; answer.report.as_str(), "1 VERIFY REFL accepted\n");
     Ok(())
 }
 
 #[test]
 fn a_failed_write_leaves_nothing(rt: HostRuntime) -> Result<(), Fail> {
-    let (status, text) = checked(rt.alloc(), &[], &[1], 4096)?;
-    assert_eq!(rt; status, Status::WriteFault);
-    assert_eq!(rt; text.as_str(), "");
+    let answer = checked(rt.alloc(), BOOK, 4096, &[], &[1])?;
+    assert_eq!(rt; answer.status, Status::WriteFault);
+    assert_eq!(rt; answer.report.as_str(), "");
     Ok(())
 }
 
 #[test]
 fn short_writes_take_the_whole_report(rt: HostRuntime) -> Result<(), Fail> {
-    let (status, text) = checked(rt.alloc(), &[], &[], 3)?;
-    assert_eq!(rt; status, Status::Done);
-    assert_eq!(rt;
-        text.as_str(),
-        "1 VERIFY REFL accepted\nevents 1 accepted 1 refused 0 level 1\n"
-    );
+    let answer = checked(rt.alloc(), BOOK, 4096, &[], &[])?;
+    assert_eq!(rt; answer.status, Status::Done);
+    assert_eq!(rt; answer.report.as_str(), REPORT);
+    Ok(())
+}
+
+// The book has 386 bytes, so there are 39 reads that give some, and one that tells the end.
+#[test]
+fn any_read_may_fail(rt: HostRuntime) -> Result<(), Fail> {
+    assert_eq!(rt; failing_reads(rt.alloc())?, 40);
+    let answer = checked(rt.alloc(), NEVER, READ, &[41], &[])?;
+    assert_eq!(rt; answer.status, Status::SomeRefused);
+    assert_eq!(rt; answer.report.as_str(), OF_NEVER);
+    Ok(())
+}
+
+#[test]
+fn any_write_may_fail(rt: HostRuntime) -> Result<(), Fail> {
+    let done = failing_writes(rt.alloc())?;
+    assert!(rt; OF_NEVER.len().div_ceil(WRITTEN) <= done, "write {done}");
+    let next = (done as u64).saturating_add(1);
+    let answer = checked(rt.alloc(), NEVER, READ, &[], &[next])?;
+    assert_eq!(rt; answer.status, Status::SomeRefused);
+    assert_eq!(rt; answer.report.as_str(), OF_NEVER);
+    Ok(())
+}
+
+#[test]
+fn a_book_with_a_switch_may_be_cut_anywhere(rt: HostRuntime) -> Result<(), Fail> {
+    for cut in 0..=NEVER.len() {
+        assert!(rt;
+            is_due(rt.alloc(), NEVER, &DATA, cut, 4096)?,
+            "cut at {cut}"
+        );
+    }
     Ok(())
 }
 

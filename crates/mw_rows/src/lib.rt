@@ -2,6 +2,10 @@
 #![tactic(auto)]
 
 #[cfg(test)]
+mod app;
+#[cfg(test)]
+mod axioms;
+#[cfg(test)]
 mod books;
 #[cfg(test)]
 mod calls;
@@ -11,6 +15,8 @@ mod commands;
 mod definitions;
 #[cfg(test)]
 mod depth;
+#[cfg(test)]
+mod due;
 #[cfg(test)]
 mod ends;
 #[cfg(test)]
@@ -26,10 +32,16 @@ mod induction;
 #[cfg(test)]
 mod pieces;
 #[cfg(test)]
+mod profiles;
+#[cfg(test)]
 mod ranks;
 #[cfg(test)]
 mod row;
 #[cfg(test)]
 mod shared;
 #[cfg(test)]
+mod switches;
+#[cfg(test)]
 mod trial;
+#[cfg(test)]
+mod wrap;

@@ -50,12 +50,33 @@ pub(crate) fn answer_within(
     book: &str,
     size: usize,
 ) -> Result<Answer, AllocError> {
-    let words = texts(alloc, words)?;
     let mut source = source_of(alloc, book, size)?;
     let mut sink = MemSink::new(alloc, Vec::new(alloc));
-    let status = run(alloc, &words, &mut source, &mut sink);
-    let report = text_of(alloc, &sink)?;
+    answer_between(alloc, words, &mut source, &mut sink)
+}
+
+/// What the program that is called with these words answers between this source and this sink.
+pub(crate) fn answer_between(
+    alloc: Global,
+    words: &[&str],
+    source: &mut MemSource,
+    sink: &mut MemSink,
+) -> Result<Answer, AllocError> {
+    let words = texts(alloc, words)?;
+    let status = run(alloc, &words, source, sink);
+    let report = text_of(alloc, sink)?;
     Ok(Answer { report, status })
+}
+
+/// The lines of events that are accepted, from this number on: of each its word and its label.
+pub(crate) fn lines_from(alloc: Global, first: u64, events: &[&str]) -> Result<String, AllocError> {
+    let mut lines = String::new(alloc);
+    let mut number = first;
+    for event in events {
+        writeln!(lines, "{number} {event} accepted")?;
+        number = number.saturating_add(1);
+    }
+    Ok(lines)
 }
 
 /// Puts the book and the answer to it behind the text, where the answer is not the one that is due.

@@ -1,4 +1,4 @@
-//! What a kernel shows: a new one, one after an event that is refused, and one after a theorem.
+//! What a kernel shows: a new one, one after an event that is refused, one after a theorem, and one after a switch.
 use mw_forms::is_in;
 use mw_heap::{Heap, Memory, Ref, Refusal, View};
 use mw_kernel::{Fate, Kernel};
@@ -158,5 +158,44 @@ fn a_theorem_is_added_to_what_is_shown(rt: HostRuntime) -> Result<(), Fail> {
         },
     );
     assert_eq!(rt; shown_around(&mut kernel, event)?, due);
+    Ok(())
+}
+
+// A function of four formals that always answers NIL, the proof that it may judge, and the switch to it.
+const NEVER: &[u8] = b"(define never (x axioms thms atbl) nil nil ())";
+
+const NEVER_CLAIMS: &[u8] = b"(verify claim \
+    #1=(por* #2=(pequal* (never x axioms thms atbl) 'nil) \
+    #3=(pnot* (pequal* (logic.provablep (logic.conclusion x) axioms thms atbl) 'nil))) \
+    (cut #1# ((expansion (por* #3# #2#) ((axiom #2#))) \
+    (propositional-schema (por* (pnot* #3#) #3#)))))";
+
+const SWITCH: &[u8] = b"(switch never)";
+
+// What happens by three events.
+fn refusals(kernel: &mut Kernel, events: [&[u8]; 3]) -> Result<[Option<Refusal>; 3], Memory> {
+    Ok([
+        refusal(kernel, events[0])?,
+        refusal(kernel, events[1])?,
+        refusal(kernel, events[2])?,
+    ])
+}
+
+// Whether the checker has the name NEVER.
+fn is_never(kernel: &Kernel) -> bool {
+    match kernel.checker() {
+        Some(checker) if is_in(kernel.heap(), checker) => {
+            kernel.heap().is_named(Some(checker), b"NEVER")
+        }
+        _ => false,
+    }
+}
+
+#[test]
+fn a_switch_shows_its_checker_and_its_level(rt: HostRuntime) -> Result<(), Fail> {
+    let mut kernel = boxed_kernel(rt.alloc())?;
+    let events: [&[u8]; 3] = [NEVER, NEVER_CLAIMS, SWITCH];
+    assert_eq!(rt; refusals(&mut kernel, events)?, [None, None, None]);
+    assert_eq!(rt; (kernel.level(), is_never(&kernel)), (2, true));
     Ok(())
 }

@@ -2,7 +2,6 @@
 use Rattle.std.proofs.Common.{◌++◌, ◌∙◌, ap, subst}
 use Rattle.mw_model.specs.Grammar.{book}
 use Rattle.mw_model.specs.Report.{report_of, last_line}
-use Rattle.mw_book.specs.Knowing.{events_of}
 use Rattle.mw_book.specs.Taking.{fault_of}
 use Rattle.mw_book.specs.Checks.{ReadWhole}
 use Rattle.mw_book.proofs.Headlines.{part_none, concludes_reads, ends_with}
@@ -29,6 +28,6 @@ returns-in-Ok-read_all-clause-source_counts g c =
     let w = c.in-Ok-read_all.ensures.whole in
     let f = c.in-Ok-read_all.fault in
     let j = c.read_all.new.judging in
-    let b = book (events_of w.given) (fault_of f) in
+    let b = book w.given (fault_of f) in
     concludes_reads c.end.result (report_of b N).status (c.read_all.new.judging.lines.items ++ last_line b N) (g.K.Sink.taken c.read_all.new.sink) (g.K.Sink.taken c.end.new.sink) (g.S.Source.faults c.args.source.now) (g.S.Source.faults c.read_all.new.source)
     (c.end.ensures.concludes N w.given w.judged) c.in-Ok-read_all.ensures.steady.0

@@ -1,7 +1,8 @@
 -- The book was judged and its lines were dropped, or memory was refused.
 use Rattle.std.proofs.Common.{None, ◌∙◌, ap, sym, subst}
 use Rattle.mw_model.specs.Trial.{trial_book}
-use Rattle.mw_kernel.specs.Version.{last_line_due}
+use Rattle.mw_model.specs.Grammar.{trees}
+use Rattle.mw_model.specs.Report.{last_line}
 use Rattle.mw_book.specs.Checks.{TrialEnds, ReadWhole}
 use Rattle.mw_book.proofs.Written.{nothing_taken}
 use Rattle.mw_book.proofs.TrialHeadlines.{memory_alone, trial_ends}
@@ -24,4 +25,4 @@ returns-clause-ends g c m holds =
     let e = c.in-Err.ensures in
     let sink = g.K.Sink.taken c.args.sink.now in
     let stop = memory_alone c.in-Err.status (g.S.Source.faults c.args.source.now) (g.S.Source.faults c.read_all.new.source) (c.requires.never_fails c.args.source.now) (c.requires.never_fails c.read_all.new.source) e.stops e.source_counts e.sink_counts in
-    subst (λ s. TrialEnds s m c.args.steps sink sink) (sym stop) (nothing_taken (last_line_due (trial_book m) c.args.steps) sink)
+    subst (λ s. TrialEnds s m c.args.steps sink sink) (sym stop) (nothing_taken (last_line (trees (trial_book m)) c.args.steps) sink)

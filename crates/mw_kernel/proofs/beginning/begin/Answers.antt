@@ -1,29 +1,33 @@
 -- The axioms are those of the initial theory.
-use Rattle.std.proofs.Common.{◌++◌, reverse, map, sym, ap, ap₂, ◌∙◌, subst}
+use Rattle.std.proofs.Common.{◌++◌, reverse, map, None, refl, sym, ap, ap₂, ◌∙◌, subst}
 use Rattle.std.specs.List.{All}
 use Rattle.mw_model.specs.Term.{table_object}
 use Rattle.mw_heap.specs.Objects.{object_at, IsIn, Grows}
+use Rattle.mw_heap.specs.Variants.{profile_of}
 use Rattle.mw_heap.proofs.Objects.{Grows-trans, IsIn-Grows, object_at-Grows}
 use Rattle.mw_code.proofs.CallerLemmas.{stands-grows}
-use Rattle.mw_preamble.specs.Admitted.{first_definitions}
+use Rattle.mw_preamble.specs.Admitted.{definitions_of}
+use Rattle.mw_preamble.specs.Entries.{AreEntries}
 use Rattle.mw_preamble.proofs.CallerLemmas.{AreEntries-grows}
+use Rattle.mw_kernel.specs.declared.theory.Theory.{Theory as Kept}
 use Rattle.mw_kernel.specs.Knowledge.{put_all}
-use Rattle.mw_kernel.proofs.Initial.{all_grown, Begins, begun_theory, known_begun, known_last, nil_kept}
+use Rattle.mw_kernel.proofs.Held.{all-grow}
+use Rattle.mw_kernel.proofs.Initial.{Begins, begun_theory, known_begun, known_last, nil_kept, begins, begun_initial}
 use Rattle.mw_kernel.proofs.beginning.begin.Goals as goal
 
 pub add_axioms-requires-clause-axioms : goal.add_axioms-requires-clause-axioms
 add_axioms-requires-clause-axioms c =
     let n = c.symbol.new.self in
     let grows = Grows-trans _ _ _ c.admit_all.ensures.grows (Grows-trans _ _ _ c.list_arities.ensures.grows c.symbol.ensures.grows) in
-    subst (All (IsIn n)) (sym c.as_slice.ensures) (all_grown c.build.new.heap n grows c.in_ok-primitives.primitives c.in_ok-primitives.ensures.within)
+    subst (All (IsIn n)) (sym c.as_slice.ensures) (all-grow c.build.new.heap n grows c.in_ok-primitives.primitives c.in_ok-primitives.ensures.within)
 
 pub add_axioms-requires-2-clause-axioms : goal.add_axioms-requires-2-clause-axioms
 add_axioms-requires-2-clause-axioms c =
     let p = c.add_axioms.new.heap in
     let grows = Grows-trans _ _ _ c.list_arities.ensures.grows (Grows-trans _ _ _ c.symbol.ensures.grows c.add_axioms.ensures.grows) in
-    subst (All (IsIn p)) (sym c.as_slice-2.ensures) (all_grown c.admit_all.new.heap p grows c.in_ok-preamble.preamble.axioms c.in_ok-preamble.ensures.within)
+    subst (All (IsIn p)) (sym c.as_slice-2.ensures) (all-grow c.admit_all.new.heap p grows c.in_ok-preamble.preamble.axioms c.in_ok-preamble.ensures.within)
 
-start : (c : goal.After-drop-primitives-inside-2) → Begins c.build.new.heap c.admit_all.new.heap c.symbol.new.self c.add_axioms.new.heap c.add_axioms-2.new.heap c.in_ok-primitives.primitives c.in_ok-preamble.preamble.axioms c.in_ok-nil.nil c.in_ok-axioms.axioms c.in_ok-axioms-2.axioms c.add_axioms-2.new.known
+start : (c : goal.After-drop-primitives-inside-2) → Begins (profile_of c.args.profile) c.build.new.heap c.admit_all.new.heap c.symbol.new.self c.add_axioms.new.heap c.add_axioms-2.new.heap c.in_ok-primitives.primitives c.in_ok-preamble.preamble.axioms c.in_ok-nil.nil c.in_ok-axioms.axioms c.in_ok-axioms-2.axioms c.add_axioms-2.new.known
 start c =
     let primitives = c.in_ok-primitives.primitives in
     let definitions = c.in_ok-preamble.preamble.axioms in
@@ -46,38 +50,68 @@ start c =
       first_is = first.list.1 ∙ ap (λ xs. put_all (map (object_at n) xs) (object_at n c.in_ok-nil.nil)) c.as_slice.ensures;
       second_in = second.list.0;
       second_is = second.list.1 ∙ ap (λ xs. put_all (map (object_at p) xs) (object_at p c.in_ok-axioms.axioms)) c.as_slice-2.ensures;
-      known_is = second.known ∙ ap₂ (λ xs k. reverse xs ++ k) c.as_slice-2.ensures (first.known ∙ ap₂ (λ xs k. reverse xs ++ k) c.as_slice.ensures c.requires.none);
+      known_is = second.known ∙ ap₂ (λ xs k. reverse xs ++ k) c.as_slice-2.ensures (first.known ∙ ap₂ (λ xs k. reverse xs ++ k) c.as_slice.ensures c.new-known.ensures);
     }
 
 listed_grows : (c : goal.After-drop-primitives-inside-2) → Grows c.list_arities.new.heap c.add_axioms-2.new.heap
 listed_grows c = Grows-trans _ _ _ c.symbol.ensures.grows (Grows-trans _ _ _ c.add_axioms.ensures.grows c.add_axioms-2.ensures.grows)
 
+admitted_grows : (c : goal.After-drop-primitives-inside-2) → Grows c.admit_all.new.heap c.add_axioms-2.new.heap
+admitted_grows c = Grows-trans _ _ _ c.list_arities.ensures.grows (listed_grows c)
+
+entered : (c : goal.After-drop-primitives-inside-2) → AreEntries c.add_axioms-2.new.heap c.in_ok-preamble.preamble.definitions (definitions_of (profile_of c.args.profile)).blocks
+entered c =
+    AreEntries-grows c.admit_all.new.heap c.add_axioms-2.new.heap (admitted_grows c) c.in_ok-preamble.preamble.definitions (definitions_of (profile_of c.args.profile)).blocks c.in_ok-preamble.ensures.definitions
+
+made : goal.After-drop-primitives-inside-2 → Kept
+made c = record {
+  profile = c.args.profile;
+  known_axioms = c.add_axioms-2.new.known;
+  known_theorems = c.new.result;
+  arity = c.in_ok-preamble.preamble.arity;
+  axioms = c.in_ok-axioms-2.axioms;
+  theorems = c.in_ok-nil.nil;
+  arity_list = c.in_ok-arity_list.arity_list;
+  entries = c.in_ok-preamble.preamble.definitions;
+  table = c.in_ok-preamble.preamble.table;
+  checker = None;
+  level = 1;
+  is_initial = c.is_first.result;
+}
+
+pub returns-in_err-axioms-clause-grows : goal.returns-in_err-axioms-clause-grows
+returns-in_err-axioms-clause-grows c = Grows-trans _ _ _ c.build.ensures.grows (Grows-trans _ _ _ c.admit_all.ensures.grows (Grows-trans _ _ _ c.list_arities.ensures.grows (Grows-trans _ _ _ c.symbol.ensures.grows c.add_axioms.ensures.grows)))
+
+pub returns-in_err-axioms-2-clause-grows : goal.returns-in_err-axioms-2-clause-grows
+returns-in_err-axioms-2-clause-grows c =
+    Grows-trans _ _ _ c.build.ensures.grows
+    (Grows-trans _ _ _ c.admit_all.ensures.grows (Grows-trans _ _ _ c.list_arities.ensures.grows (Grows-trans _ _ _ c.symbol.ensures.grows (Grows-trans _ _ _ c.add_axioms.ensures.grows c.add_axioms-2.ensures.grows))))
+
+pub returns-clause-grows : goal.returns-clause-grows
+returns-clause-grows c = Grows-trans _ _ _ c.build.ensures.grows (Grows-trans _ _ _ c.admit_all.ensures.grows (admitted_grows c))
+
 pub returns-clause-theory : goal.returns-clause-theory
-returns-clause-theory c = begun_theory _ _ _ _ _ _ _ _ _ _ _ (start c)
+unfolding made
+returns-clause-theory c =
+    let P = profile_of c.args.profile in
+    begun_initial c.add_axioms-2.new.heap (made c) P refl refl refl (entered c) (begun_theory _ _ _ _ _ _ _ _ _ _ _ _ (start c)) (c.initial_sound.ensures P)
 
-pub returns-clause-theorems_in : goal.returns-clause-theorems_in
-returns-clause-theorems_in c = nil_kept _ _ _ _ _ _ _ _ _ _ _ (start c)
-
-pub returns-clause-known_in : goal.returns-clause-known_in
-returns-clause-known_in c = known_begun _ _ _ _ _ _ _ _ _ _ _ (start c)
-
-pub returns-clause-known : goal.returns-clause-known
-returns-clause-known c = known_last _ _ _ _ _ _ _ _ _ _ _ (start c)
-
-pub returns-clause-arity_list_in : goal.returns-clause-arity_list_in
-returns-clause-arity_list_in c = IsIn-Grows _ _ (listed_grows c) c.in_ok-arity_list.arity_list c.in_ok-arity_list.ensures.list.0
-
-pub returns-clause-arity_list : goal.returns-clause-arity_list
-returns-clause-arity_list c =
-    let made = c.in_ok-arity_list.ensures.list in
-    object_at-Grows _ _ (listed_grows c) c.in_ok-arity_list.arity_list made.0
-    ∙ (made.1 ∙ ap table_object c.in_ok-preamble.ensures.arity)
-
-pub returns-clause-table : goal.returns-clause-table
-returns-clause-table c =
+pub returns-clause-held : goal.returns-clause-held
+unfolding made
+returns-clause-held c =
+    let P = profile_of c.args.profile in
+    let q = c.add_axioms-2.new.heap in
+    let listed = c.in_ok-arity_list.ensures.list in
     let code = c.in_ok-preamble.preamble.table.value in
-    stands-grows c.admit_all.new.heap c.add_axioms-2.new.heap (Grows-trans _ _ _ c.list_arities.ensures.grows (listed_grows c)) code.signature code.profile code.functions.items code.code.items code.kept first_definitions c.in_ok-preamble.ensures.table
-
-pub returns-clause-entries : goal.returns-clause-entries
-returns-clause-entries c =
-    AreEntries-grows c.admit_all.new.heap c.add_axioms-2.new.heap (Grows-trans _ _ _ c.list_arities.ensures.grows (listed_grows c)) c.in_ok-preamble.preamble.definitions first_definitions.blocks c.in_ok-preamble.ensures.definitions
+    let D = definitions_of P in
+    begins q (made c) P refl refl refl (entered c) (begun_theory _ _ _ _ _ _ _ _ _ _ _ _ (start c)) (c.initial_sound.ensures P)
+    c.in_ok-axioms-2.ensures.list.0
+    (nil_kept _ _ _ _ _ _ _ _ _ _ _ _ (start c))
+    (IsIn-Grows _ _ (listed_grows c) c.in_ok-arity_list.arity_list listed.0)
+    (known_begun _ _ _ _ _ _ _ _ _ _ _ _ (start c))
+    c.new.ensures
+    (known_last _ _ _ _ _ _ _ _ _ _ _ _ (start c))
+    (object_at-Grows _ _ (listed_grows c) c.in_ok-arity_list.arity_list listed.0 ∙ (listed.1 ∙ ap table_object c.in_ok-preamble.ensures.arity))
+    c.in_ok-preamble.ensures.arity
+    (stands-grows c.admit_all.new.heap q (admitted_grows c) code.signature code.profile code.functions.items code.code.items code.kept D c.in_ok-preamble.ensures.table)
+    c.is_first.ensures

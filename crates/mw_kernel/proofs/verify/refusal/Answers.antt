@@ -7,18 +7,17 @@ use Rattle.mw_kernel.proofs.Refusing.{refused_formula, proof_refused}
 use Rattle.mw_kernel.proofs.verify.refusal.Goals as goal
 
 pub returns-then-not-is_formula-clause-refusal : goal.returns-then-not-is_formula-clause-refusal
-returns-then-not-is_formula-clause-refusal c = λ D arities profile.
+returns-then-not-is_formula-clause-refusal c =
     let os = c.args.heap.now in
-    let A = c.args.arity.now in
-    refused_formula _ _ _ _ (sym c.is_symbol.ensures ∙ c.if-not-is_symbol.false)
-    (ap (λ B. is_formula_object B (object_at os c.args.formula)) (sym arities) ∙ (sym (c.is_formula.ensures A os c.in_ok-extend.ensures.marked) ∙ c.if-not-is_formula.true))
+    let A = c.args.theory.now.arity in
+    refused_formula _ _ _ (sym c.is_symbol.ensures ∙ c.if-not-is_symbol.false)
+    (ap (λ B. is_formula_object B (object_at os c.args.formula)) (sym c.requires.held.arities) ∙ (sym (c.is_formula.ensures A os c.in_ok-extend.ensures.marked) ∙ c.if-not-is_formula.true))
 
 pub returns-clause-refusal : goal.returns-clause-refusal
 returns-clause-refusal c =
     let os = c.args.heap.now in
-    let A = c.args.arity.now in
-    IfOk-weaker c.refusal_of_proof.result _ _ (λ r is. λ D arities profile.
-    is D 0 arities profile
-    ∙ proof_refused _ _ _ _ (sym c.is_symbol.ensures ∙ c.if-not-is_symbol.false)
-    (ap (λ B. is_formula_object B (object_at os c.args.formula)) (sym arities) ∙ (sym (c.is_formula.ensures A os c.in_ok-extend.ensures.marked) ∙ c.if-not-is_formula.false)))
+    let A = c.args.theory.now.arity in
+    IfOk-weaker c.refusal_of_proof.result _ _ (λ r is. is
+    ∙ proof_refused _ _ _ (sym c.is_symbol.ensures ∙ c.if-not-is_symbol.false)
+    (ap (λ B. is_formula_object B (object_at os c.args.formula)) (sym c.requires.held.arities) ∙ (sym (c.is_formula.ensures A os c.in_ok-extend.ensures.marked) ∙ c.if-not-is_formula.false)))
     c.refusal_of_proof.ensures.refusal

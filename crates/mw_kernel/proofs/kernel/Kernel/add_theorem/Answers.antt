@@ -1,56 +1,49 @@
 -- One theorem more, in front.
-use Rattle.std.proofs.Common.{◌≡◌, ◌<◌, ◌≤◌, ◌∷◌, length, take, sym, ap, ap₂, ◌∙◌, subst, arith}
-use Rattle.mw_model.specs.Primitive.{One}
-use Rattle.mw_model.specs.Definition.{definitions}
+use Rattle.std.proofs.Common.{sym, ap, ap₂, ◌∙◌, subst, arith}
 use Rattle.mw_model.specs.Theory.{IsSound}
-use Rattle.mw_heap.specs.Objects.{object_at, IsIn}
-use Rattle.mw_heap.proofs.Objects.{object_at-take, IsIn-take}
-use Rattle.mw_kernel.specs.Entered.{blocks_read}
-use Rattle.mw_kernel.specs.Knowledge.{IsKernel, theory_of, theory_with, with_theorem}
-use Rattle.mw_kernel.proofs.Keeping.{grown, grown_theory, added, added_theory}
+use Rattle.mw_term.specs.Marking.{AreMarks}
+use Rattle.mw_term.proofs.CallerLemmas.{AreMarks-grows}
+use Rattle.mw_kernel.specs.Knowledge.{parts_of, meant, theory_of, with_theorem, IsKernel}
+use Rattle.mw_kernel.proofs.Held.{held, grown, grown_theory, needs-all, in-cut, same-cut, mark-within}
 use Rattle.mw_kernel.proofs.Happening.{OnErr-from}
 use Rattle.mw_kernel.proofs.kernel.Kernel.add_theorem.Goals as goal
 
-pub invariant_of-self-in_err-add : goal.invariant_of-self-in_err-add
-invariant_of-self-in_err-add c =
+pub add_theorem-requires-clause-held : goal.add_theorem-requires-clause-held
+add_theorem-requires-clause-held c = held _ _ _ _ c.self-2.invariant
+
+pub add_theorem-requires-clause-within : goal.add_theorem-requires-clause-within
+add_theorem-requires-clause-within c =
+    let whole = mark-within _ _ _ _ _ c.cut_to.invariant c.args.self.now c.cut_to.view_is c.mark_behind-behind.result c.later.result c.later.ensures (omega (arith, c.mark_behind-behind.ensures, c.requires.within)) in
+    in-cut _ _ c.self-2.inside.theory _ _ c.args.self.now c.self-2.view_is c.later.result c.cut_to-2.ensures.objects whole c.args.formula (omega (arith, c.later.ensures, c.mark_behind-behind.ensures))
+
+pub add_theorem-requires-clause-sound : goal.add_theorem-requires-clause-sound
+add_theorem-requires-clause-sound c =
+    let whole = mark-within _ _ _ _ _ c.cut_to.invariant c.args.self.now c.cut_to.view_is c.mark_behind-behind.result c.later.result c.later.ensures (omega (arith, c.mark_behind-behind.ensures, c.requires.within)) in
+    let formula = same-cut _ _ c.self-2.inside.theory _ _ c.args.self.now c.self-2.view_is c.later.result c.cut_to-2.ensures.objects whole c.args.formula (omega (arith, c.later.ensures, c.mark_behind-behind.ensures)) in
+    subst IsSound (sym (ap₂ with_theorem (ap theory_of c.self-2.view_is ∙ c.cut_to-2.ensures.theory) formula)) c.requires.sound
+
+pub invariant_of-self : goal.invariant_of-self
+invariant_of-self c =
     let inside = c.self-2.inside in
-    subst (λ theorems. IsKernel (record { objects = c.with_front.new.heap; needed = inside.needed; axioms = inside.axioms; theorems = inside.theorems; arity_list = inside.arity_list; entries = inside.entries; steps = inside.steps }) inside.known_axioms theorems inside.arity inside.marks inside.table.value) (sym c.in_err-add.ensures.err)
-    (grown _ _ _ _ _ _ c.self-2.invariant c.with_front.new.heap c.with_front.ensures.grows)
+    subst (λ t. IsKernel c.add_theorem.new.heap inside.needed t inside.marks) (sym c.in_err-add_theorem.ensures.err) (grown _ _ _ _ c.self-2.invariant c.add_theorem.new.heap c.add_theorem.ensures.grows)
 
-heap_is : (c : goal.After-self-1) → c.self-2.inside.heap ≡ take c.later.result c.args.self.now.objects
-heap_is c = ap (λ v. v.objects) (c.self-2.view_is ∙ c.cut_to-2.ensures.objects)
-
-formula_before : (c : goal.After-self-1) → c.args.formula < c.later.result
-formula_before c = omega (arith, c.later.ensures, c.mark_behind-behind.ensures)
-
-within : (c : goal.After-self-1) → c.later.result ≤ length c.args.self.now.objects
-within c =
-    let kept = subst (λ v. v.needed ≤ length v.objects) c.cut_to.view_is c.cut_to.invariant.kept in
-    let needed = ap (λ v. v.needed) c.cut_to.view_is in
-    omega (arith, c.later.ensures, c.mark_behind-behind.ensures, kept, needed, c.requires.within)
-
-formula_in : (c : goal.After-self-1) → IsIn c.self-2.inside.heap c.args.formula
-formula_in c = subst (λ os. IsIn os c.args.formula) (sym (heap_is c)) (IsIn-take c.later.result c.args.self.now.objects c.args.formula (formula_before c) (within c))
-
-formula_same : (c : goal.After-self-1) → object_at c.self-2.inside.heap c.args.formula ≡ object_at c.args.self.now.objects c.args.formula
-formula_same c = ap (λ os. object_at os c.args.formula) (heap_is c) ∙ object_at-take c.later.result c.args.self.now.objects c.args.formula (formula_before c)
-
-theory_same : (c : goal.After-self-1) → theory_with (object_at c.self-2.inside.heap c.self-2.inside.axioms) (object_at c.self-2.inside.heap c.self-2.inside.theorems) (definitions One (blocks_read c.self-2.inside.heap c.self-2.inside.entries)) ≡ theory_of c.args.self.now
-theory_same c = ap theory_of c.self-2.view_is ∙ c.cut_to-2.ensures.theory
+pub returns-in_err-add_theorem-clause-err : goal.returns-in_err-add_theorem-clause-err
+returns-in_err-add_theorem-clause-err c =
+    OnErr-from _ _
+    (ap (λ t. meant c.add_theorem.new.heap (parts_of t)) c.in_err-add_theorem.ensures.err
+    ∙ (grown_theory _ _ _ _ c.self-2.invariant c.add_theorem.new.heap c.add_theorem.ensures.grows ∙ (ap theory_of c.self-2.view_is ∙ c.cut_to-2.ensures.theory)))
 
 pub invariant_of-self-2 : goal.invariant_of-self-2
 invariant_of-self-2 c =
     let inside = c.self-2.inside in
-    let made = c.in_ok-theorems.ensures.made in
-    subst (λ theorems. IsKernel (record { objects = c.with_front.new.heap; needed = c.mark-self-inside.result; axioms = inside.axioms; theorems = c.in_ok-theorems.theorems; arity_list = inside.arity_list; entries = inside.entries; steps = inside.steps }) inside.known_axioms theorems inside.arity inside.marks inside.table.value) (sym c.in_ok-add.ensures.added)
-    (subst (λ n. IsKernel (record { objects = c.with_front.new.heap; needed = n; axioms = inside.axioms; theorems = c.in_ok-theorems.theorems; arity_list = inside.arity_list; entries = inside.entries; steps = inside.steps }) inside.known_axioms (c.args.formula ∷ inside.known_theorems) inside.arity inside.marks inside.table.value) (sym c.mark-self-inside.ensures)
-    (added _ _ _ _ _ _ c.self-2.invariant c.args.formula c.in_ok-theorems.theorems c.with_front.new.heap (formula_in c) c.with_front.ensures.grows made.0 made.1 (subst IsSound (sym (ap₂ with_theorem (theory_same c) (formula_same c))) c.requires.sound)))
+    let new = c.add_theorem.new.heap in
+    let t = c.add_theorem.new.self in
+    let marked = AreMarks-grows inside.theory.arity inside.heap new inside.marks c.add_theorem.ensures.grows c.self-2.invariant.marked in
+    subst (λ n. IsKernel new n t inside.marks) (sym c.mark-self-inside.ensures)
+    (needs-all new t inside.marks c.in_ok-add_theorem.ensures.held (subst (λ A. AreMarks A new inside.marks) (sym c.in_ok-add_theorem.ensures.arity) marked))
 
 pub returns-clause-theory : goal.returns-clause-theory
 returns-clause-theory c =
-    let made = c.in_ok-theorems.ensures.made in
-    added_theory _ _ _ _ _ _ c.self-2.invariant c.args.formula c.in_ok-theorems.theorems c.with_front.new.heap (formula_in c) c.with_front.ensures.grows made.0 made.1 ∙ ap₂ with_theorem (theory_same c) (formula_same c)
-
-pub returns-in_err-add-clause-err : goal.returns-in_err-add-clause-err
-returns-in_err-add-clause-err c =
-    OnErr-from _ _ (grown_theory _ _ _ _ _ _ c.self-2.invariant c.with_front.new.heap c.with_front.ensures.grows ∙ (ap theory_of c.self-2.view_is ∙ c.cut_to-2.ensures.theory))
+    let whole = mark-within _ _ _ _ _ c.cut_to.invariant c.args.self.now c.cut_to.view_is c.mark_behind-behind.result c.later.result c.later.ensures (omega (arith, c.mark_behind-behind.ensures, c.requires.within)) in
+    let formula = same-cut _ _ c.self-2.inside.theory _ _ c.args.self.now c.self-2.view_is c.later.result c.cut_to-2.ensures.objects whole c.args.formula (omega (arith, c.later.ensures, c.mark_behind-behind.ensures)) in
+    c.in_ok-add_theorem.ensures.theory ∙ ap₂ with_theorem (ap theory_of c.self-2.view_is ∙ c.cut_to-2.ensures.theory) formula

@@ -1,0 +1,27 @@
+-- Why a SWITCH is refused, where it is, and what it comes to.
+use Rattle.std.specs.Prelude.{suc, cond, Option, Some, None}
+use Rattle.mw_model.specs.Object.{Name, Object, is_member}
+use Rattle.mw_model.specs.Term.{formula_object}
+use Rattle.mw_model.specs.Primitive.{name_of}
+use Rattle.mw_model.specs.Theory.{Theory, claim}
+use Rattle.mw_model.specs.Refusal.{Refusal, CHECKER, CLAIM, Fate, refuse, accept}
+use Rattle.mw_model.specs.Fate.{checker_named}
+
+abbrev pub claim_refusal : Theory → Option Name → Option Refusal
+claim_refusal t None = Some CHECKER
+claim_refusal t (Some f) = cond (is_member (formula_object (claim f)) t.theorems) None (Some CLAIM)
+
+abbrev pub switch_refusal : Theory → Object → Option Refusal
+switch_refusal t x = claim_refusal t (checker_named t x)
+
+-- the theory with that checker
+abbrev pub with_checker : Theory → Name → Theory
+with_checker t f = record t { checker = Some f; level = suc t.level }
+
+-- the fate of a SWITCH to this, and the theory after it
+abbrev pub switched_by : Theory → Object → Option Refusal → Fate × Theory
+switched_by t x (Some r) = refuse t r
+switched_by t x None = accept (with_checker t (name_of x))
+
+abbrev pub switched : Theory → Object → Fate × Theory
+switched t x = switched_by t x (switch_refusal t x)

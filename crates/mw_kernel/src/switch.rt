@@ -1,0 +1,68 @@
+//! The tests of a SWITCH.
+ghost use Rattle.std.specs.Prelude.{◌≡◌, All, IfOk, option_map};
+ghost use Rattle.mw_model.specs.Object.{is_member};
+ghost use Rattle.mw_model.specs.Definition.{Definitions, is_present};
+ghost use Rattle.mw_model.specs.Theory.{Theory as Meant};
+ghost use Rattle.mw_model.specs.Fate.{checker_named};
+ghost use Rattle.mw_heap.specs.Objects.{object_at, IsIn, Grows};
+ghost use Rattle.mw_heap.specs.Variants.{refusal_of};
+ghost use Rattle.mw_proof.specs.Known.{known_object};
+ghost use Rattle.mw_code.specs.Tables.{StandsFor};
+ghost use Rattle.mw_kernel.specs.Knowledge.{parts_of, meant, IsHeld};
+ghost use Rattle.mw_kernel.specs.Switching.{switch_refusal};
+
+use crate::claim::claim;
+use crate::theory::Theory;
+use crate::verify::is_symbol;
+use mw_code::Table;
+use mw_heap::{Heap, Memory, Ref, Refusal};
+use mw_proof::Known;
+
+/// Why a switch to the checker of this name is refused, where it is: Checker where no function with code and four formals has the name,
+/// and then Claim where the claim of the name is none of the theorems.
+pub(crate) fn refusal_of_switch(
+    heap: &mut Heap,
+    name: Ref,
+    theory: &Theory,
+) -> Result<Option<Refusal>, Memory>
+    requires within { IsIn heap.old name }
+    requires held { IsHeld heap.old theory.now }
+    ensures grows { Grows heap.old heap.new }
+    ensures refusal { IfOk result (λ r. option_map refusal_of r ≡ switch_refusal (meant heap.old (parts_of theory.now)) (object_at heap.old name)) }
+{
+    if !may_check(heap, name, &theory.table) {
+        return Ok(Some(Refusal::Checker));
+    }
+    let claim = claim(heap, name)?;
+    if is_known(heap, claim, &theory.known_theorems) {
+        Ok(None)
+    } else {
+        Ok(Some(Refusal::Claim))
+    }
+}
+
+// Whether a function with code and four formals has the name.
+fn may_check(heap: &Heap, name: Ref, table: &Table) -> bool
+    requires within { IsIn heap.now name }
+    requires table { (D : Definitions) × StandsFor heap.now table.now D }
+    ensures { (t : Meant) → StandsFor heap.now table.now t.definitions → result ≡ is_present (checker_named t (object_at heap.now name)) }
+{
+    if !is_symbol(heap, name) {
+        return false;
+    }
+    match table.find(heap.name_of(name)) {
+        Some(entry) => entry.arity == 4,
+        None => false,
+    }
+}
+
+// Whether a formula is one of those that are known.
+fn is_known(heap: &Heap, formula: Ref, known: &Known) -> bool
+    requires within { IsIn heap.now formula }
+    requires known_in { All (IsIn heap.now) known.now }
+    ensures { result ≡ is_member (object_at heap.now formula) (known_object heap.now known.now) }
+{
+    // that equal objects have equal references
+    let _ = heap.same(formula, formula);
+    known.holds(formula)
+}

@@ -1,0 +1,326 @@
+//! Switches to a checker of the book: what is refused, and how proofs are judged after one.
+use crate::ranks::{other_report, other_report_after_ranks};
+use crate::row::{Row, lines_from, wrong_answers};
+use crate::wrap::{WRAP, WRAPPED};
+use mw_book::Status;
+use std::alloc::{AllocError, Global};
+use std::test::Fail;
+
+/// A checker that accepts nothing, its claim, the switch to it, and a theorem that it does not take.
+pub(crate) const NEVER: &str = "(define never (x axioms thms atbl) nil nil ())
+(verify claim
+ #1=(por* #2=(pequal* (never x axioms thms atbl) 'nil)
+          #3=(pnot* (pequal* (logic.provablep (logic.conclusion x) axioms thms atbl) 'nil)))
+ (cut #1# ((expansion (por* #3# #2#) ((axiom #2#)))
+           (propositional-schema (por* (pnot* #3#) #3#)))))
+(switch never)
+(verify refl (pequal* x x) (axiom (pequal* x x)))
+";
+
+/// The report that is due for it.
+pub(crate) const OF_NEVER: &str = "1 DEFINE NEVER accepted
+2 VERIFY CLAIM accepted
+3 SWITCH NEVER accepted
+4 VERIFY REFL refused NIL
+events 4 accepted 3 refused 1 level 2
+";
+
+const SWITCHES: [Row; 4] = [
+    Row {
+        book: NEVER,
+        report: OF_NEVER,
+        status: Status::SomeRefused,
+    },
+    Row {
+        book: "(switch logic.proofp)
+            (switch logic.termp)
+            (switch 7)",
+        report: "1 SWITCH LOGIC.PROOFP refused CLAIM
+2 SWITCH LOGIC.TERMP refused CHECKER
+3 SWITCH - refused CHECKER
+events 3 accepted 0 refused 3 level 1
+",
+        status: Status::SomeRefused,
+    },
+    Row {
+        book: "(switch)
+            (switch a b)
+            (switch . never)
+            (switch 340282366920938463463374607431768211456)
+            (switch never)
+            (switch car)
+            (switch nil)
+            (switch (never))
+            (switch logic.provablep)
+            (switch logic.provable-witness)
+            (skolem four y (a b c d) y)
+            (switch four)
+            (define three (a b c) nil nil ())
+            (switch three)
+            (define five (a b c d e) nil nil ())
+            (switch five)",
+        report: "1 SWITCH - refused EVENT
+2 SWITCH A refused EVENT
+3 SWITCH - refused EVENT
+4 SWITCH - refused RANGE
+5 SWITCH NEVER refused CHECKER
+6 SWITCH CAR refused CHECKER
+7 SWITCH NIL refused CHECKER
+8 SWITCH - refused CHECKER
+9 SWITCH LOGIC.PROVABLEP refused CLAIM
+10 SWITCH LOGIC.PROVABLE-WITNESS refused CHECKER
+11 SKOLEM FOUR accepted
+12 SWITCH FOUR refused CHECKER
+13 DEFINE THREE accepted
+14 SWITCH THREE refused CHECKER
+15 DEFINE FIVE accepted
+16 SWITCH FIVE refused CHECKER
+events 16 accepted 3 refused 13 level 1
+",
+        status: Status::SomeRefused,
+    },
+    // The claim has variables of its own, whatever the formals are called, and its parts in this order.
+    Row {
+        book: "(define never (a b c d) nil nil ())
+            (switch never)
+            (verify renamed
+             #1=(por* #2=(pequal* (never a b c d) 'nil)
+                      #3=(pnot* (pequal* (logic.provablep (logic.conclusion a) b c d) 'nil)))
+             (cut #1# ((expansion (por* #3# #2#) ((axiom #2#)))
+                       (propositional-schema (por* (pnot* #3#) #3#)))))
+            (switch never)
+            (verify turned
+             #1=(por* #3=(pnot* (pequal* (logic.provablep (logic.conclusion x) axioms thms atbl) 'nil))
+                      #2=(pequal* (never x axioms thms atbl) 'nil))
+             (expansion #1# ((instantiation #2# ((axiom (pequal* (never a b c d) 'nil)))
+                                  ((a . x) (b . axioms) (c . thms) (d . atbl))))))
+            (switch never)
+            (verify claim
+             #1=(por* #2=(pequal* (never x axioms thms atbl) 'nil)
+                      #3=(pnot* (pequal* (logic.provablep (logic.conclusion x) axioms thms atbl) 'nil)))
+             (cut #1# ((theorem (por* #3# #2#))
+                       (propositional-schema (por* (pnot* #3#) #3#)))))
+            (switch never)",
+        report: "1 DEFINE NEVER accepted
+2 SWITCH NEVER refused CLAIM
+3 VERIFY RENAMED accepted
+4 SWITCH NEVER refused CLAIM
+5 VERIFY TURNED accepted
+6 SWITCH NEVER refused CLAIM
+7 VERIFY CLAIM accepted
+8 SWITCH NEVER accepted
+events 8 accepted 5 refused 3 level 2
+",
+        status: Status::SomeRefused,
+    },
+];
+
+// Events after the switch to the checker that accepts nothing, and their lines.
+const AFTER_NEVER: &str = "(verify c (pequal* x y) (axiom (pequal* x x)))
+(verify z (pequal* t nil) (axiom (pequal* t nil)))
+(verify 7 (pequal* x x) (axiom (pequal* x x)))
+(verify q (pequal* x x) (any (pequal* x x) . thing))
+(define twice (x) (+ x x) nil ())
+(eval (twice 4))
+(define f (x) (f x) '0 (a))
+(define f (x) (f x) '0 (a b))
+(define f (x) (f x) '0 ((a (pequal* (ordp '0) 't)) b))
+(skolem pick y (x) (equal x y))
+(switch logic.proofp)
+(verify refl (pequal* x x) (axiom (pequal* x x)))
+(switch never)
+(switch never)
+(profile 1)
+";
+
+const OF_AFTER_NEVER: &str = "1 DEFINE NEVER accepted
+2 VERIFY CLAIM accepted
+3 SWITCH NEVER accepted
+4 VERIFY REFL refused NIL
+5 VERIFY C refused CONCLUSION
+6 VERIFY Z refused FORMULA
+7 VERIFY - refused NAME
+8 VERIFY Q refused NIL
+9 DEFINE TWICE accepted
+10 EVAL - accepted 8
+11 DEFINE F refused COUNT
+12 DEFINE F refused CONCLUSION
+13 DEFINE F refused NIL
+14 SKOLEM PICK accepted
+15 SWITCH LOGIC.PROOFP refused CLAIM
+16 VERIFY REFL refused NIL
+17 SWITCH NEVER accepted
+18 SWITCH NEVER accepted
+19 PROFILE - refused PROFILE
+events 19 accepted 8 refused 11 level 4
+";
+
+// A number of units, the test of a useless checker, and how it refuses within them. A run takes one unit for the checker's own call and one
+// for its comparison.
+const OUTCOMES: [(&str, &str, &str); 8] = [
+    ("4", "(+ '1 '1)", "NIL"),
+    ("3", "(+ '1 '1)", "STEPS"),
+    (
+        "2",
+        "(+ '340282366920938463463374607431768211455 '1)",
+        "OVERFLOW",
+    ),
+    (
+        "1",
+        "(+ '340282366920938463463374607431768211455 '1)",
+        "STEPS",
+    ),
+    (
+        "1",
+        "(logic.provable-witness x axioms thms atbl)",
+        "WITNESS",
+    ),
+    ("2", "(logic.provablep x axioms thms atbl)", "WITNESS"),
+    ("1", "(logic.provablep x axioms thms atbl)", "STEPS"),
+    ("10000000", "(logic.len thms)", "NIL"),
+];
+
+// A number of units, and what is due for a theorem by the checker that runs LOGIC.PROOFP within them.
+const JUDGED: [(&str, &str); 2] = [
+    (
+        "10000000",
+        "accepted\nevents 10 accepted 10 refused 0 level 2\n",
+    ),
+    (
+        "10",
+        "refused STEPS\nevents 10 accepted 9 refused 1 level 2\n",
+    ),
+];
+
+// A recursion after the theorems on ranks and the switch, with a proof for each of its two obligations.
+const DEFINED: &str = "(switch wrap)
+(define app (x y)
+ (if (consp x) (cons (car x) (app (cdr x) y)) y)
+ (rank x)
+ ((theorem (pequal* (ordp (rank x)) 't))
+  (theorem (por* (pequal* (consp x) 'nil) (pequal* (ord< (rank (cdr x)) (rank x)) 't)))))
+";
+
+// A number of units, and whether both proofs are taken within it: the first needs 1,534 units and the second 3,948.
+const DEFINED_WITHIN: [(&str, &str); 3] = [
+    ("3948", "accepted"),
+    ("3947", "refused STEPS"),
+    ("10000000", "accepted"),
+];
+
+/// A book that defines a checker whose two runs of this test are compared, so that it accepts nothing, proves its claim and switches
+/// to it. The test is a term over the variables of the claim.
+pub(crate) fn book_of_test(alloc: Global, test: &str) -> Result<String, AllocError> {
+    format!(in alloc;
+        "(define useless (x axioms thms atbl) (< {test} {test}) nil ())
+(verify claim
+ #1=(por* #2=(pequal* #3=(useless x axioms thms atbl) 'nil) #4=(pnot* (pequal* (logic.provablep (logic.conclusion x) axioms thms atbl) 'nil)))
+ (cut #1#
+  ((expansion (por* #4# #2#)
+    ((contraction #2#
+      ((cut (por* #2# #2#)
+        ((cut (por* #5=(pequal* #3# (< {test} {test})) #2#)
+          ((expansion (por* #2# #5#) ((axiom #5#)))
+           (propositional-schema (por* (pnot* #2#) #2#))))
+         (contraction #6=(por* (pnot* #5#) #2#)
+          ((cut (por* #6# #6#)
+            ((cut (por* #7=(pequal* (< {test} {test}) 'nil) #6#)
+              ((expansion (por* #6# #7#) ((instantiation #7# ((axiom (pequal* (< a a) 'nil))) ((a . {test})))))
+               (propositional-schema (por* (pnot* #6#) #6#))))
+             (contraction #8=(por* (pnot* #7#) #6#)
+              ((cut (por* #8# #8#)
+                ((cut (por* #9=(pequal* #3# #3#) #8#)
+                  ((expansion (por* #8# #9#) ((instantiation #9# ((axiom (pequal* x x))) ((x . #3#)))))
+                   (propositional-schema (por* (pnot* #8#) #8#))))
+                 (instantiation (por* (pnot* #9#) #8#)
+                  ((axiom (por* (pnot* (pequal* x1 y1)) (por* (pnot* (pequal* x2 y2)) (por* (pnot* (pequal* x1 x2)) (pequal* y1 y2))))))
+                  ((x1 . #3#) (y1 . #3#) (x2 . (< {test} {test})) (y2 . 'nil)))))))))))))))))
+   (propositional-schema (por* (pnot* #4#) #4#)))))
+(switch useless)
+"
+    )
+}
+
+// The answers of useless checkers that are not those expected.
+fn wrong_outcomes(alloc: Global) -> Result<String, AllocError> {
+    let mut wrong = String::new(alloc);
+    for (steps, test, reason) in OUTCOMES {
+        let book = book_of_test(alloc, test)?;
+        let book = format!(in alloc; "{book}(verify refl (pequal* x x) (axiom (pequal* x x)))\n")?;
+        let due = format!(in alloc;
+            "1 DEFINE USELESS accepted\n2 VERIFY CLAIM accepted\n3 SWITCH USELESS accepted\n4 VERIFY REFL refused {reason}\n"
+        )?;
+        let other = other_report(alloc, steps, book.as_str(), due.as_str())?;
+        wrong.push_str(other.as_str())?;
+    }
+    Ok(wrong)
+}
+
+// The reports on the checker that runs LOGIC.PROOFP that are not those expected.
+fn wrong_wraps(alloc: Global) -> Result<String, AllocError> {
+    let mut wrong = String::new(alloc);
+    let lines = lines_from(alloc, 1, &WRAPPED)?;
+    let book = format!(in alloc;
+        "{WRAP}(switch wrap)\n(verify refl (pequal* x x) (axiom (pequal* x x)))\n"
+    )?;
+    for (steps, end) in JUDGED {
+        let due = format!(in alloc; "{lines}9 SWITCH WRAP accepted\n10 VERIFY REFL {end}")?;
+        let other = other_report(alloc, steps, book.as_str(), due.as_str())?;
+        wrong.push_str(other.as_str())?;
+    }
+    Ok(wrong)
+}
+
+// The reports on a recursion under the checker that runs LOGIC.PROOFP that are not those expected.
+fn wrong_definitions(alloc: Global) -> Result<String, AllocError> {
+    let mut wrong = String::new(alloc);
+    let lines = lines_from(alloc, 14, &WRAPPED)?;
+    let book = format!(in alloc; "{WRAP}{DEFINED}")?;
+    for (steps, end) in DEFINED_WITHIN {
+        let due = format!(in alloc; "{lines}22 SWITCH WRAP accepted\n23 DEFINE APP {end}\n")?;
+        let other = other_report_after_ranks(alloc, steps, book.as_str(), due.as_str())?;
+        wrong.push_str(other.as_str())?;
+    }
+    Ok(wrong)
+}
+
+// The report on events after the switch to the checker that accepts nothing, where it is not the one expected.
+fn other_report_after_never(alloc: Global) -> Result<String, AllocError> {
+    let book = format!(in alloc; "{NEVER}{AFTER_NEVER}")?;
+    other_report(alloc, "10000000", book.as_str(), OF_AFTER_NEVER)
+}
+
+#[test]
+fn checkers_are_switched_to(rt: HostRuntime) -> Result<(), Fail> {
+    let wrong = wrong_answers(rt.alloc(), &SWITCHES, 4096)?;
+    assert_eq!(rt; wrong.as_str(), "");
+    Ok(())
+}
+
+#[test]
+fn a_checker_that_says_no_refuses_proofs_alone(rt: HostRuntime) -> Result<(), Fail> {
+    let wrong = other_report_after_never(rt.alloc())?;
+    assert_eq!(rt; wrong.as_str(), "");
+    Ok(())
+}
+
+#[test]
+fn outcomes_of_checkers_are_told(rt: HostRuntime) -> Result<(), Fail> {
+    let wrong = wrong_outcomes(rt.alloc())?;
+    assert_eq!(rt; wrong.as_str(), "");
+    Ok(())
+}
+
+#[test]
+fn a_checker_may_run_the_reference_checker(rt: HostRuntime) -> Result<(), Fail> {
+    let wrong = wrong_wraps(rt.alloc())?;
+    assert_eq!(rt; wrong.as_str(), "");
+    Ok(())
+}
+
+#[test]
+fn each_proof_of_a_definition_has_all_units(rt: HostRuntime) -> Result<(), Fail> {
+    let wrong = wrong_definitions(rt.alloc())?;
+    assert_eq!(rt; wrong.as_str(), "");
+    Ok(())
+}
