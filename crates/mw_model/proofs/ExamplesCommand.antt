@@ -1,7 +1,6 @@
 -- What the words of a command line ask for.
-use Rattle.std.proofs.Common.{◌≡◌, List, [], ◌∷◌, refl, codes}
+use Rattle.std.proofs.Common.{◌≡◌, [], ◌∷◌, refl, codes}
 use Rattle.clap.proofs.OnLiterals.{clap_on_literals}
-use Rattle.clap.specs.Walk.{Text}
 use Rattle.mw_model.specs.Command.{Check, Trial, Help, Usage, asked}
 
 no_words : asked [] ≡ Usage

@@ -56,3 +56,28 @@ pub mod Finite
 pub mod CallDepth
 pub mod NewNames
 pub mod CodeStays
+mod ExamplesLogs
+mod ExamplesCommands
+mod ExamplesTautologies
+pub mod Demands
+pub mod Deriving
+pub mod SlicePlaces
+pub mod WrittenData
+mod ExamplesSlices
+pub mod TurnsTest
+mod ExamplesDerivations
+pub mod FlatData
+mod ExamplesFlattening
+pub mod Tautologies
+mod ExamplesWritten
+pub mod Logs
+mod ExamplesHeadlines
+pub mod LogAccepted
+pub mod Lowered
+pub mod FlatLogged
+pub mod Locality
+pub mod LexingLines
+pub mod WrittenRead
+pub mod LexemesGrow
+pub mod ReadingGrows
+pub mod LinesGrow

@@ -1,5 +1,5 @@
 -- Equality of objects does not look which one comes first.
-use Rattle.std.proofs.Common.{◌≡◌, Bool, true, false, refl, sym, ◌∙◌, ◌⊎◌, inl, inr, ◌≢◌}
+use Rattle.std.proofs.Common.{◌≡◌, true, false, sym, ◌∙◌, ◌⊎◌, inl, inr, ◌≢◌}
 use Rattle.mw_model.specs.Object.{Object, same_object}
 use Rattle.mw_model.proofs.Names.{object_cases, same_object-from}
 

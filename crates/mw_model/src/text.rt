@@ -9,9 +9,10 @@ ghost use Rattle.mw_model.specs.AxiomsText.{axioms_text};
 ghost use Rattle.mw_model.specs.BuiltIn.{built_in};
 ghost use Rattle.mw_model.specs.BuiltInReading.{blocks_of};
 ghost use Rattle.mw_model.specs.BuiltInText.{built_in_text};
-ghost use Rattle.mw_model.specs.Lexemes.{Ends, decimal_value};
+ghost use Rattle.mw_model.specs.Lexemes.{Ending, Ends, Goes, Fault, decimal_value};
 ghost use Rattle.mw_model.specs.Grammar.{book, limit, reading, trees};
 ghost use Rattle.mw_model.specs.Printing.{numeral, text_lines, text_of};
+ghost use Rattle.mw_model.specs.Report.{lines_so_far, report};
 
 /// What is printed is read back: an object alone, an object on a line, and any objects, each on a line.
 pub fn text_read_back()
@@ -31,4 +32,16 @@ pub fn numerals()
 pub fn built_in_text_read()
     ensures definitions { (P : Profile) → blocks_of (reading Ends (built_in_text P)).events ≡ Some (reverse (built_in P)) }
     ensures axioms { (P : Profile) → map formula_object (primitive_axioms P) ≡ (reading Ends (axioms_text P)).events }
+{}
+
+/// What is read of bytes stands whatever bytes follow, and whether these end the book or not: the events are the first of all,
+/// and a fault is the fault of all, with no event behind it. So the lines due are a prefix of the lines due for more bytes, and
+/// of the report on the book; of that only where the bytes so far are not too many for a book, since no event past the limit has
+/// a line in the report.
+pub fn read_so_far()
+    ensures events { (e : Ending) (g h : List ℕ) → (more : List Object) × ((reading e (g ++ h)).events ≡ (reading Goes g).events ++ more) }
+    ensures fault { (e : Ending) (g h : List ℕ) (f : Fault) → (reading Goes g).fault ≡ Some f → reading e (g ++ h) ≡ reading Goes g }
+    ensures whole { (g h : List ℕ) (f : Fault) → length g ≤ limit → (reading Goes g).fault ≡ Some f → trees (g ++ h) ≡ reading Goes g }
+    ensures lines { (g h : List ℕ) (N : ℕ) → (more : List ℕ) × (lines_so_far (g ++ h) N ≡ lines_so_far g N ++ more) }
+    ensures prefix { (g h : List ℕ) (N : ℕ) → length g ≤ limit → (more : List ℕ) × ((report (g ++ h) N).text ≡ lines_so_far g N ++ more) }
 {}
