@@ -1,5 +1,5 @@
 -- The parts that wait for one another on the path of a substitution, and what was made so far.
-use Rattle.std.proofs.Common.{◌≡◌, ℕ, zero, suc, ◌+◌, ◌*◌, ◌-◌, ◌<◌, ◌≤◌, Bool, true, false, cond, nat_eq, List, [], ◌∷◌, ◌++◌, length, slice_get, Some, None, ◌||◌, ◌⊎◌, inl, inr, refl, sym, ap, ap₂, ◌∙◌, subst, eqb-true, eq-eqb, length-append, suc-mul, arith}
+use Rattle.std.proofs.Common.{◌≡◌, ℕ, zero, suc, ◌+◌, ◌*◌, ◌-◌, ◌<◌, ◌≤◌, Bool, true, false, cond, nat_eq, List, [], ◌∷◌, ◌++◌, length, slice_get, Some, None, ◌||◌, ◌⊎◌, inl, inr, refl, sym, ap, ap₂, ◌∙◌, subst, eqb-true, length-append, suc-mul, arith}
 use Rattle.std.specs.Map.{lookup, keys_of}
 use Rattle.std.specs.List.{IsDistinct, list_any}
 use Rattle.std.proofs.lemmas.Option.{slice_get_within}
@@ -14,8 +14,9 @@ use Rattle.mw_heap.proofs.Objects.{object_at-Grows, IsIn-Grows, Grows-trans}
 use Rattle.mw_subst.specs.declared.part.Part.{Part}
 use Rattle.mw_subst.specs.declared.part.Part.TheVariants.{Term, Terms}
 use Rattle.mw_subst.specs.Sigma.{sigma_object, AreIn, term_or}
-use Rattle.mw_subst.specs.Memo.{cell_of, IsPartIn, substituted, found, AreResults, AreMade, AreUnique, Adds}
+use Rattle.mw_subst.specs.Memo.{cell_of, IsPartIn, substituted, found, IsFound, AreResults, AreMade, AreUnique, Adds}
 use Rattle.mw_subst.proofs.SigmaObject.{sigma_object-Grows, lookup-push}
+use Rattle.mw_subst.proofs.Found.{found-added}
 use Rattle.mw_subst.proofs.Made.{results-push, results-Grows}
 
 -- each entry is of an object below n
@@ -45,7 +46,7 @@ pub record IsPath (first now : List Object) (pairs : List (ℕ × ℕ)) (x : ℕ
   pub small : AreSmall (x + 1) terms × AreSmall (x + 1) lists
   pub falls : (i j : ℕ) (p q : Part) → i < j → slice_get path i ≡ Some p → slice_get path j ≡ Some q → cell_of q < cell_of p
   pub wanted : (i : ℕ) (p : Part) → slice_get path i ≡ Some p → found terms lists p ≡ None
-  pub root : ((path ≡ []) × (r : ℕ) × (found terms lists (Term x) ≡ Some r)) ⊎ (slice_get path 0 ≡ Some (Term x))
+  pub root : ((path ≡ []) × IsFound terms lists (Term x)) ⊎ (slice_get path 0 ≡ Some (Term x))
 
 -- the cell of the last part, and one
 abbrev pub height : List Part → ℕ
@@ -81,10 +82,6 @@ found-others terms lists mt ml (Term k) (Term q) r a e n = ap (lookup (nat_eq q)
 found-others terms lists mt ml (Term k) (Terms q) r a e n = ap (lookup (nat_eq q)) a.1 ∙ n
 found-others terms lists mt ml (Terms k) (Term q) r a e n = ap (lookup (nat_eq q)) a.0 ∙ n
 found-others terms lists mt ml (Terms k) (Terms q) r a e n = ap (lookup (nat_eq q)) a.1 ∙ (lookup-push lists k r q ∙ ap₂ (λ o b. term_or o (cond b (Some r) None)) n e)
-
--- what was added is found
-found-added : (terms lists more_terms more_lists : List (ℕ × ℕ)) (x r : ℕ) → Adds terms lists more_terms more_lists (Term x) r → found terms lists (Term x) ≡ None → found more_terms more_lists (Term x) ≡ Some r
-found-added terms lists mt ml x r a n = ap (lookup (nat_eq x)) a.0 ∙ (lookup-push terms x r x ∙ ap₂ (λ o b. term_or o (cond b (Some r) None)) n (eq-eqb x x refl))
 
 apart : (a b : ℕ) → b < a → nat_eq a b ≡ false
 apart a b h = go (nat_eq a b) refl
@@ -154,10 +151,10 @@ module _ (first now new : List Object) (pairs : List (ℕ × ℕ)) (x : ℕ) (te
 
   -- the part was made
   module _ (more_terms more_lists : List (ℕ × ℕ)) (r : ℕ) (adds : Adds terms lists more_terms more_lists part r) where
-    root_after : (ps : List Part) → rest ≡ ps → ((ps ≡ []) × (r : ℕ) × (found more_terms more_lists (Term x) ≡ Some r)) ⊎ (slice_get ps 0 ≡ Some (Term x))
+    root_after : (ps : List Part) → rest ≡ ps → ((ps ≡ []) × IsFound more_terms more_lists (Term x)) ⊎ (slice_get ps 0 ≡ Some (Term x))
     root_after [] e =
         let is : part ≡ Term x = some_one (sym (ap (λ l. slice_get (l ++ part ∷ []) 0) e) ∙ root_at) in
-        inl (refl, r, found-added terms lists more_terms more_lists x r (subst (λ p. Adds terms lists more_terms more_lists p r) is adds) (subst (λ p. found terms lists p ≡ None) is last_wanted))
+        inl (refl, found-added terms lists more_terms more_lists r (Term x) (subst (λ p. Adds terms lists more_terms more_lists p r) is adds))
     root_after (p ∷ ps) e = inr (sym (ap (λ l. slice_get (l ++ part ∷ []) 0) e) ∙ root_at)
 
     pub path-made : Grows now new → IsIn now (cell_of part) → IsIn new r → object_at new r ≡ substituted (sigma_object now pairs) part (object_at now (cell_of part)) → AreUnique more_terms more_lists → IsPath first new pairs x more_terms more_lists rest

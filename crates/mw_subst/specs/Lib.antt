@@ -2,4 +2,4 @@ pub mod Sigma
 pub mod Memo
 pub mod Steps
 pub mod Pairs
-pub mod Parts
+pub mod Reached

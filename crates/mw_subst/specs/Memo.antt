@@ -1,5 +1,5 @@
 -- What was made of the parts of a term.
-use Rattle.std.specs.Prelude.{◌≡◌, ℕ, nat_eq, List, [], ◌∷◌, ◌++◌, Option}
+use Rattle.std.specs.Prelude.{◌≡◌, ℕ, nat_eq, List, [], ◌∷◌, ◌++◌, Option, Some}
 use Rattle.std.specs.List.{IsDistinct}
 use Rattle.std.specs.Map.{lookup, keys_of}
 use Rattle.mw_model.specs.Object.{Object}
@@ -29,6 +29,10 @@ substituted s (Terms x) y = substitute_each_object s y
 abbrev pub found : List (ℕ × ℕ) → List (ℕ × ℕ) → Part → Option ℕ
 found terms lists (Term x) = lookup (nat_eq x) terms
 found terms lists (Terms x) = lookup (nat_eq x) lists
+
+-- something was made of the part
+abbrev pub IsFound : List (ℕ × ℕ) → List (ℕ × ℕ) → Part → Type 0
+IsFound terms lists p = (r : ℕ) × (found terms lists p ≡ Some r)
 
 -- each entry's second object is what f gives of the first
 abbrev pub AreResults : List Object → (Object → Object) → List (ℕ × ℕ) → Type 0

@@ -6,7 +6,7 @@ ghost use Rattle.mw_heap.specs.Objects.{object_at, IsIn, Grows};
 ghost use Rattle.mw_subst.specs.Sigma.{sigma_object, AreIn};
 ghost use Rattle.mw_subst.specs.Memo.{AreMade, AreUnique, IsPartIn, found};
 ghost use Rattle.mw_subst.specs.Steps.{IsStep, Advances};
-ghost use Rattle.mw_subst.specs.Parts.{AreParts};
+ghost use Rattle.mw_subst.specs.Reached.{AreReached, HasAllReached};
 ghost use Rattle.mw_subst.specs.declared.part.Part.TheVariants.{Term, Terms};
 
 use crate::memo::Memo;
@@ -67,6 +67,7 @@ fn step_term(heap: &mut Heap, sigma: &Sigma, memo: &Memo, x: Ref) -> Result<Prog
     if is_quote(heap, head) {
         return Ok(Progress::Made(x));
     }
+    heap.order();
     match memo.find(Part::Terms(actuals)) {
         Some(rest) => Ok(Progress::Made(heap.cons(head, rest)?)),
         None => Ok(Progress::Wants(Part::Terms(actuals))),
@@ -88,6 +89,7 @@ fn step_terms(heap: &mut Heap, sigma: &Sigma, memo: &Memo, x: Ref) -> Result<Pro
     let Some(d) = memo.find(Part::Terms(rest)) else {
         return Ok(Progress::Wants(Part::Terms(rest)));
     };
+    heap.order();
     Ok(Progress::Made(heap.cons(a, d)?))
 }
 
@@ -139,8 +141,10 @@ fn advance<L: Ledger>(
     Ok(())
 }
 
-/// The term x with the terms of a substitution for its variables. It takes one step for each distinct cell of the term that it looks
-/// at, and looks at none more than five times. Where memory is refused, the steps so far are counted.
+/// The term x with the terms of a substitution for its variables. It takes one step for each cell that it reaches, however often that
+/// stands in x, and no other step. It reaches the term x; with a term (h . r) the list r, unless h is QUOTE; and with a list (a . r) the
+/// term a and the list r. It looks at no cell more than five times. Where memory is refused, each step was for another cell that it
+/// reaches.
 pub fn substitute_counted<L: Ledger>(
     heap: &mut Heap,
     x: Ref,
@@ -152,7 +156,8 @@ pub fn substitute_counted<L: Ledger>(
     ensures grows { Grows heap.old heap.new }
     ensures within { IfOk result (λ r. IsIn heap.new r) }
     ensures made { IfOk result (λ r. object_at heap.new r ≡ substitute_object (sigma_object heap.old sigma.now) (object_at heap.old x)) }
-    ensures each { (parts : List ℕ) × AreParts heap.old x parts × (steps.new ≡ steps.old + length parts) }
+    ensures all { OnOk result ((cells : List ℕ) × AreReached heap.old x cells × HasAllReached heap.old x cells × (steps.new ≡ steps.old + length cells)) }
+    ensures each { (cells : List ℕ) × AreReached heap.old x cells × (steps.new ≡ steps.old + length cells) }
     ensures most { steps.new ≤ steps.old + (x + 1) }
 {
     let mut memo = Memo::new(sigma.alloc());

@@ -5,7 +5,7 @@ use Rattle.mw_model.specs.Rules.{substitute_object, substitute_each_object}
 use Rattle.mw_heap.specs.Objects.{object_at}
 use Rattle.mw_subst.specs.Sigma.{sigma_object}
 use Rattle.mw_subst.proofs.Made.{result_found, substitute-list}
-use Rattle.mw_subst.proofs.Seen.{has_second}
+use Rattle.mw_subst.proofs.Needed.{call-needs}
 use Rattle.mw_subst.proofs.walk.step_term.Goals as goal
 
 pub cons-requires-clause-second_in : goal.cons-requires-clause-second_in
@@ -24,9 +24,10 @@ returns-in_ok-cons-in-Some-clause-step c =
       c.in_ok-cons-in-Some.ensures.made.1
           ∙ (ap (Pair h) rest.1
           ∙ (sym (substitute-list s h (object_at os c.in-Pair.actuals) (sym c.is_quote.ensures ∙ c.if-is_quote.false)) ∙ ap (substitute_object s) (sym c.in-Pair.ensures.shows.2))),
+      call-needs os c.order.ensures.distinct c.args.memo.now.terms.entries c.args.memo.now.lists.entries c.args.x c.in-Pair.head c.in-Pair.actuals c.in-Pair.ensures.shows.0 c.in-Pair.ensures.shows.1 c.in-Pair.ensures.shows.2 c.in-Some.rest (sym c.find.ensures ∙ c.in-Some.is),
     )
 
 pub returns-in-None-clause-step : goal.returns-in-None-clause-step
 returns-in-None-clause-step c =
     let os = c.args.heap.now in
-    (c.in-Pair.ensures.below.1, sym c.find.ensures ∙ c.in-None.is, has_second (object_at os c.args.x) (object_at os c.in-Pair.head) (object_at os c.in-Pair.actuals) c.in-Pair.ensures.shows.2)
+    (c.in-Pair.ensures.below.1, sym c.find.ensures ∙ c.in-None.is, (c.in-Pair.ensures.shows.1, object_at os c.in-Pair.head, c.in-Pair.ensures.shows.2, sym c.is_quote.ensures ∙ c.if-is_quote.false))

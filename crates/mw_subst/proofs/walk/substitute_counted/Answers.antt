@@ -9,7 +9,9 @@ use Rattle.mw_subst.specs.Memo.{cell_of}
 use Rattle.mw_subst.proofs.SigmaObject.{AreIn-Grows, sigma_object-Grows}
 use Rattle.mw_subst.proofs.Made.{result_found}
 use Rattle.mw_subst.proofs.Path.{IsPath, left, last_wanted, last_below, path-wants, path-made, left-made, left-wants, small-added, above}
-use Rattle.mw_subst.proofs.Seen.{IsCounted, HasPart-older, counted-starts, counted-made, counted-wants, counted-most, last_part}
+use Rattle.mw_subst.proofs.Needed.{Needs-Grows, Needs-older}
+use Rattle.mw_subst.proofs.Closed.{IsClosed, closed-starts, closed-added}
+use Rattle.mw_subst.proofs.Seen.{IsCounted, counted-starts, counted-made, counted-wants, counted-most, counted-all, last_part}
 use Rattle.mw_subst.proofs.walk.substitute_counted.Goals as goal
 
 pub loop-part-init : goal.loop-part-init
@@ -17,6 +19,7 @@ loop-part-init g c = (
   search rules,
   counted-starts c.args.heap.now c.args.x c.args.steps.now c.tick.new.self c.new-memo.result.terms.entries c.new-memo.result.lists.entries c.push.new.self.items c.new-memo.ensures.terms c.new-memo.ensures.lists
       (c.in_ok-push.ensures.items ∙ ap (λ ps. ps ++ Term c.args.x ∷ []) c.new-path.ensures.items) c.tick.ensures,
+  closed-starts c.args.heap.now c.new-memo.result.terms.entries c.new-memo.result.lists.entries c.new-memo.ensures.terms c.new-memo.ensures.lists,
 )
 
 pub advance-requires-clause-within : goal.advance-requires-clause-within
@@ -98,6 +101,7 @@ loop-part-preserved g c =
     let g = c.in_ok-advance.ensures.grows in
     let sigma = AreIn-Grows h0 h pairs c.loop-part.invariant.0.grows c.requires.sigma in
     let small = last_below h0 h h pairs x terms lists rest part path sigma in
+    let part_in : IsIn h0 (cell_of part) = omega (arith, small, c.requires.within) in
     elim c.in_ok-advance.ensures.advanced [
       | inl m ↦
           let more_terms = c.advance.new.memo.terms.entries in
@@ -107,20 +111,26 @@ loop-part-preserved g c =
                 (path-made h0 h new pairs x terms lists rest part path sigma more_terms more_lists m.0 m.3 g within m.1 m.2 c.in_ok-advance.ensures.unique),
             subst (λ s. IsCounted h0 x more_terms more_lists c.advance.new.path.items before s) (sym m.5)
                 (subst (λ p. IsCounted h0 x more_terms more_lists p before steps) (sym m.4) (counted-made h0 x terms lists rest part before steps counted more_terms more_lists m.0 m.3)),
+            closed-added h0 terms lists more_terms more_lists part m.0 m.3 c.loop-part.invariant.2 (λ q n. m.6 q (Needs-Grows h0 h c.loop-part.invariant.0.grows part q part_in n)),
           )
       | inr w ↦
           let inner = w.0 in
-          let part_in : IsIn h0 (cell_of part) = omega (arith, small, c.requires.within) in
           let inner_in : IsIn h0 (cell_of inner) = omega (arith, part_in, w.1) in
-          let held = HasPart-older h0 h c.loop-part.invariant.0.grows (cell_of part) (cell_of inner) part_in inner_in w.5 in
+          let needs = Needs-older h0 h c.loop-part.invariant.0.grows part inner part_in inner_in w.5 in
           let longer = append_assoc rest (part ∷ []) (inner ∷ []) ∙ sym w.3 in (
             subst (λ m. IsPath h0 new pairs x m.terms.entries m.lists.entries c.advance.new.path.items) (sym w.4)
                 (subst (IsPath h0 new pairs x terms lists) longer (path-wants h0 h new pairs x terms lists rest part path sigma inner g w.1 w.2)),
             subst (λ m. IsCounted h0 x m.terms.entries m.lists.entries c.advance.new.path.items before after) (sym w.4)
                 (subst (λ p. IsCounted h0 x terms lists p before after) longer
-                (counted-wants h0 x terms lists rest part before steps counted inner w.1 held (above h0 h h pairs x terms lists rest part path sigma) w.2 after w.6)),
+                (counted-wants h0 x terms lists rest part before steps counted inner w.1 needs (above h0 h h pairs x terms lists rest part path sigma) w.2 after w.6)),
+            subst (λ m. IsClosed h0 m.terms.entries m.lists.entries) (sym w.4) c.loop-part.invariant.2,
           )
     ]
+
+pub returns-clause-all : goal.returns-clause-all
+returns-clause-all g c =
+    counted-all c.args.heap.now c.args.x c.loop-part.memo.terms.entries c.loop-part.memo.lists.entries c.loop-part.path.items c.args.steps.now c.loop-part.steps c.loop-part.invariant.1 c.loop-part.invariant.2
+    (c.in-Some-find.made, sym c.find.ensures ∙ c.in-Some-find.is)
 
 pub returns-clause-within : goal.returns-clause-within
 returns-clause-within g c =
