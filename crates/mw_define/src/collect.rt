@@ -13,6 +13,7 @@ use crate::mention::mentions_some;
 use crate::opening::open;
 use crate::piece::Piece;
 use indexmap::IndexSet;
+use mw_code::check_size;
 use mw_heap::{Heap, Memory, Ref};
 
 // The most looks at a term that is walked as a tree: one that needs more is answered as out of memory.
@@ -75,7 +76,8 @@ fn collect_calls(
     Ok(found)
 }
 
-// The same, but a term that mentions none of these functions is looked at as it is shared, and not as a tree.
+// The same, but a term that mentions none of these functions is looked at as it is shared, and not as a tree; and one whose code is too
+// large to be laid out is not looked at as a tree at all.
 pub(crate) fn find_calls(
     heap: &mut Heap,
     names: &IndexSet<Ref>,
@@ -89,6 +91,7 @@ pub(crate) fn find_calls(
     ensures calls { IfOk result (λ fs. (B : List Function) (t : Term) → HasNames B (names_at heap.old names.now.keys) → term_of (object_at heap.old term) ≡ Some t → found_calls B heap.new fs.items ≡ collect B [] t) }
 {
     if mentions_some(heap, names, Piece::Term(term))? {
+        check_size(heap, term)?;
         return Ok(collect_calls(heap, names, term)?);
     }
     Ok(Vec::new(heap.alloc()))
