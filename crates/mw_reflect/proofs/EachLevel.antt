@@ -1,18 +1,19 @@
 -- At every level a sound theory's checker says yes to what is true alone: the built-in one by the table of methods,
 -- another one by its claim, which is a theorem and so true.
-use Rattle.std.proofs.Common.{◌≡◌, ◌≢◌, ℕ, true, false, not, cond, List, [], ◌∷◌, length, Option, Some, None, refl, ap, ◌∙◌, subst, ◌⊎◌, inl, inr}
+use Rattle.std.proofs.Common.{◌≡◌, ◌≢◌, ℕ, true, false, not, cond, List, [], ◌∷◌, length, Option, Some, None, refl, sym, ap, ◌∙◌, subst, ◌⊎◌, inl, inr}
 use Rattle.std.proofs.lemmas.Bool.{and_from}
-use Rattle.mw_model.specs.Object.{Name, Object, named, same_name, same_object, NIL, T, Member}
-use Rattle.mw_model.specs.Term.{Constant, Equal, formula_object, arity_of, is_function_name, is_call_name}
+use Rattle.mw_model.specs.Object.{Name, Object, named, same_name, same_object, second_of, NIL, T, Member}
+use Rattle.mw_model.specs.Term.{Constant, Equal, Formula, IsFormula, formula_object, arity_of, is_function_name, is_call_name}
 use Rattle.mw_model.specs.Primitive.{One}
 use Rattle.mw_model.specs.Definition.{Function, arity_table}
+use Rattle.mw_model.specs.Value.{Environment}
 use Rattle.mw_model.specs.Truth.{IsTrueIn}
 use Rattle.mw_model.specs.Evaluation.{Outcome, Value, Steps, Overflow, Witness, evaluate, code_of}
 use Rattle.mw_model.specs.Theory.{Theory, initial, IsSound, IsClaimed, claim}
 use Rattle.mw_model.specs.Refusal.{NILVALUE}
 use Rattle.mw_model.specs.Checking.{verdict, judged_by}
 use Rattle.mw_model.specs.Fate.{next, after}
-use Rattle.mw_model.specs.Keeping.{EachKeeps}
+use Rattle.mw_model.specs.Keeping.{EventKeeps, EachKeeps}
 use Rattle.mw_model.proofs.Names.{name_cases, object_cases}
 use Rattle.mw_model.proofs.Readable.{ReadableFormula, formula_readable, formula_object-one}
 use Rattle.mw_model.proofs.FunctionNames.{table_names}
@@ -22,7 +23,9 @@ use Rattle.mw_model.proofs.Evaluates.{evaluate_value}
 use Rattle.mw_truth.specs.Reached.{JudgesTruly}
 use Rattle.mw_truth.proofs.ProofsTrue.{proved_true}
 use Rattle.mw_truth.proofs.Reached.{initial_sound, built_in_judges, event_keeps-truly, after_sound, sound_consistent}
-use Rattle.mw_reflect.specs.Laws.{checker_call}
+use Rattle.mw_reflect.specs.Laws.{checker_call, SaysYes}
+use Rattle.mw_reflect.proofs.ProofAnswers.{conclusion_of-proof}
+use Rattle.mw_reflect.proofs.Provable.{provable_to}
 use Rattle.mw_reflect.proofs.ClaimsTrue.{claim_true}
 
 -- a checker's name may be called: it has four formals, and IF three
@@ -64,6 +67,24 @@ says_yes Steps h = cc
 says_yes Overflow h = cc
 says_yes Witness h = cc
 
+-- what the run of a claimed function says yes to
+pub run_true : (t : Theory) → IsSound t → (f : Name) → IsClaimed t (Some f) → (p : Object) (N : ℕ) (v : Object) (left : ℕ) → v ≢ NIL → evaluate t.definitions N [] (checker_call f t.definitions p t.axioms t.theorems) ≡ Value v left → (F : Formula) → IsFormula (arity_table t.definitions) F → second_of p ≡ formula_object F → IsTrueIn t.definitions F
+run_true t s f claimed p N v left answered ran F i q =
+    claim_true t.definitions (s.made, s.begun) t.axioms t.theorems
+    (λ r G g. (proved_true t.definitions s.made s.total s.begun t.axioms t.theorems s.axioms_true s.theorems_true r G g).1)
+    f [] p (claim_is_true t s f claimed)
+    (v, answered, evaluate_value t.definitions s.made N [] (checker_call f t.definitions p t.axioms t.theorems) v left ran) F i q
+
+-- what LOGIC.PROVABLEP says yes to
+pub provable_true : (t : Theory) → IsSound t → (e : Environment) (F : Formula) → IsFormula (arity_table t.definitions) F → SaysYes (named "LOGIC.PROVABLEP") t.definitions e (formula_object F) t.axioms t.theorems → IsTrueIn t.definitions F
+provable_true t s e F i said =
+    let D = t.definitions in
+    let q = provable_to D (s.made, s.begun) t.axioms t.theorems e (formula_object F) said in
+    let g = proved_true D s.made s.total s.begun t.axioms t.theorems s.axioms_true s.theorems_true q.0 q.1.0 q.1.1 in
+    let concluded = conclusion_of-proof t.axioms t.theorems (arity_table D) D.profile q.0 q.1.0 q.1.1 in
+    let same : q.1.0 ≡ F = formula_object-one q.1.0 F (formula_readable (arity_table D) q.1.0 g.0) (formula_readable (arity_table D) F i) (sym concluded ∙ q.2) in
+    subst (IsTrueIn D) same g.1
+
 pub judges_truly : (t : Theory) → IsSound t → (N : ℕ) → JudgesTruly t N
 judges_truly t s N p F i h q = go t.checker refl s.claimed h
   where
@@ -71,15 +92,15 @@ judges_truly t s N p F i h q = go t.checker refl s.claimed h
     go None c k j = built_in_judges t s c N p F i h q
     go (Some f) c k j =
         let y = says_yes (evaluate t.definitions N [] (checker_call f t.definitions p t.axioms t.theorems)) j in
-        claim_true t.definitions (s.made, s.begun) t.axioms t.theorems
-        (λ r G g. (proved_true t.definitions s.made s.total s.begun t.axioms t.theorems s.axioms_true s.theorems_true r G g).1)
-        f [] p (claim_is_true t s f k)
-        (y.0, y.2, evaluate_value t.definitions s.made N [] (checker_call f t.definitions p t.axioms t.theorems) y.0 y.1 y.3) F i q
+        run_true t s f k p N y.0 y.1 y.2 y.3 F i q
 
 -- so each event keeps, whichever checkers were switched to
+pub any_event : (t : Theory) (N : ℕ) (e : Object) → IsSound t → EventKeeps t N e
+any_event t N e s = event_keeps-truly t N e s (judges_truly t s N)
+
 each_event : (t : Theory) (es : List Object) (N : ℕ) → IsSound t → EachKeeps t N es
 each_event t [] N s = tt
-each_event t (e ∷ es) N s = let k = event_keeps-truly t N e s (judges_truly t s N) in (k, each_event (next t e N) es N k.sound)
+each_event t (e ∷ es) N s = let k = any_event t N e s in (k, each_event (next t e N) es N k.sound)
 
 pub every_event : (es : List Object) (N : ℕ) → EachKeeps (initial One) N es
 every_event es N = each_event (initial One) es N (initial_sound One)

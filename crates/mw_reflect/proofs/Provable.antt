@@ -152,7 +152,7 @@ module _ (D : Definitions) (begun : BeginsBuiltIn D) (axioms theorems : Object) 
   proved_from c q =
       and_from (is_present (judge axioms theorems (arity_table D) P q.0)) (same_object (second_of q.0) c) (ap is_present (good_judge axioms theorems (arity_table D) P q.0 q.1.0 q.1.1).1) (same_object-from (second_of q.0) c q.2)
 
-  provable_to : (e : Environment) (c : Object) → SaysYes (named "LOGIC.PROVABLEP") D e c axioms theorems → IsProved D axioms theorems c
+  pub provable_to : (e : Environment) (c : Object) → SaysYes (named "LOGIC.PROVABLEP") D e c axioms theorems → IsProved D axioms theorems c
   provable_to e c h =
       let vs_are = constants_are P (block_calls P D.blocks) e (args c) h.2.0 h.2.1 in
       let b = provable_back c h.0 (subst (λ vs. block_calls P D.blocks (named "LOGIC.PROVABLEP") vs h.0) vs_are h.2.2) in

@@ -1,5 +1,5 @@
 -- What the reference checker, provability and a claim say, and which theories events reach.
-use Rattle.std.specs.Prelude.{◌≡◌, ◌≢◌, ◌↔◌, ℕ, List, [], ◌∷◌}
+use Rattle.std.specs.Prelude.{◌≡◌, ◌≢◌, ◌↔◌, ℕ, List, [], ◌∷◌, Some}
 use Rattle.mw_model.specs.Object.{Name, Object, named, NIL, T, second_of, truth_of, Member}
 use Rattle.mw_model.specs.Term.{Term, Constant, Call, Formula, Equal, formula_object, table_object, IsFormula}
 use Rattle.mw_model.specs.Primitive.{One}
@@ -9,9 +9,10 @@ use Rattle.mw_model.specs.Truth.{IsTrueIn}
 use Rattle.mw_model.specs.Proof.{constants, Proves}
 use Rattle.mw_model.specs.Judgment.{judge}
 use Rattle.mw_model.specs.BuiltIn.{built_in}
-use Rattle.mw_model.specs.Theory.{Theory, BeginsWith, initial, IsSound, claim}
+use Rattle.mw_model.specs.Evaluation.{Value, evaluate}
+use Rattle.mw_model.specs.Theory.{Theory, BeginsWith, initial, IsSound, IsClaimed, claim}
 use Rattle.mw_model.specs.Fate.{after}
-use Rattle.mw_model.specs.Keeping.{EachKeeps}
+use Rattle.mw_model.specs.Keeping.{EventKeeps, EachKeeps}
 use Rattle.mw_truth.specs.Reached.{JudgesTruly}
 
 -- (f 'p 'axioms 'theorems 'table), where the table is that of the definitions
@@ -48,11 +49,29 @@ abbrev pub Provability : Type 0
 Provability =
     (D : Definitions) → BeginsBuiltIn D → (e : Environment) (axioms theorems c : Object) → ((SaysYes (named "LOGIC.PROVABLEP") D e c axioms theorems → ⊥) → ⊥) ↔ ((IsProved D axioms theorems c → ⊥) → ⊥)
 
+-- LOGIC.PROVABLEP says yes only to what has a proof
+abbrev pub ProvableIsProved : Type 0
+ProvableIsProved = (D : Definitions) → BeginsBuiltIn D → (e : Environment) (axioms theorems c : Object) → SaysYes (named "LOGIC.PROVABLEP") D e c axioms theorems → IsProved D axioms theorems c
+
+-- and in a sound theory what it says yes to is true
+abbrev pub ProvableIsTrue : Type 0
+ProvableIsTrue =
+    (t : Theory) → IsSound t → (e : Environment) (F : Formula) → IsFormula (arity_table t.definitions) F → SaysYes (named "LOGIC.PROVABLEP") t.definitions e (formula_object F) t.axioms t.theorems → IsTrueIn t.definitions F
+
 -- Where the claim of f and the conclusions of proofs are true, and f says yes to p, the formula that the second member
 -- of p stands for is true.
 abbrev pub Claims : Type 0
 Claims =
     (D : Definitions) → BeginsBuiltIn D → (axioms theorems : Object) → ((q : Object) (G : Formula) → Proves axioms theorems (arity_table D) D.profile q G → IsTrueIn D G) → (f : Name) (e : Environment) (p : Object) → IsTrueIn D (claim f) → SaysYes f D e p axioms theorems → (F : Formula) → IsFormula (arity_table D) F → second_of p ≡ formula_object F → IsTrueIn D F
+
+-- In a sound theory, what the run of any function with a claim among the theorems says yes to has a true conclusion.
+abbrev pub RunsSayTruly : Type 0
+RunsSayTruly =
+    (t : Theory) → IsSound t → (f : Name) → IsClaimed t (Some f) → (p : Object) (N : ℕ) (v : Object) (left : ℕ) → v ≢ NIL → evaluate t.definitions N [] (checker_call f t.definitions p t.axioms t.theorems) ≡ Value v left → (F : Formula) → IsFormula (arity_table t.definitions) F → second_of p ≡ formula_object F → IsTrueIn t.definitions F
+
+-- Each event keeps any sound theory sound, and accepts only what is true, whichever checker the theory has.
+abbrev pub EventsKeepAny : Type 0
+EventsKeepAny = (t : Theory) (N : ℕ) (e : Object) → IsSound t → EventKeeps t N e
 
 -- A sound theory's checker, also one that was switched to, says yes only where the conclusion is true.
 abbrev pub CheckersJudgeTruly : Type 0

@@ -10,7 +10,7 @@ ghost use Rattle.mw_model.specs.Value.{block_calls};
 ghost use Rattle.mw_model.specs.BuiltIn.{built_in};
 ghost use Rattle.mw_model.specs.Rules.{is_term_object, is_formula_object, is_substitution_object};
 ghost use Rattle.mw_model.specs.Theory.{BeginsWith};
-ghost use Rattle.mw_reflect.specs.Laws.{ReferenceChecker, ReferenceValue, Provability, Claims, CheckersJudgeTruly, EventsKeep, ReachedIsSound, ReachedIsConsistent};
+ghost use Rattle.mw_reflect.specs.Laws.{ReferenceChecker, ReferenceValue, Provability, ProvableIsProved, ProvableIsTrue, Claims, RunsSayTruly, EventsKeepAny, CheckersJudgeTruly, EventsKeep, ReachedIsSound, ReachedIsConsistent};
 
 /// In all definitions that begin with the built-in ones, LOGIC.TERMP, LOGIC.FORMULAP and LOGIC.SIGMAP say yes exactly on
 /// the objects of terms, formulas and substitutions under an arity table in which IF has its three arguments.
@@ -32,10 +32,23 @@ pub fn provability()
     ensures { Provability }
 {}
 
+/// LOGIC.PROVABLEP says yes only where some object is a proof with that second member; in a sound theory the formula is then true.
+pub fn provable_true()
+    ensures proved { ProvableIsProved }
+    ensures truly { ProvableIsTrue }
+{}
+
 /// Where the claim of a checker is true and the proofs of the table of methods have true conclusions, what the checker
 /// says yes to has a true conclusion.
 pub fn claims()
     ensures { Claims }
+{}
+
+/// In a sound theory, what the run of any function with a claim among the theorems says yes to has a true conclusion. And each event keeps
+/// the theory sound and accepts only what is true, whichever checker the theory has.
+pub fn claimed_runs()
+    ensures runs { RunsSayTruly }
+    ensures events { EventsKeepAny }
 {}
 
 /// Whatever events happen from the initial theory on, with any switches of the checker, each of them keeps truth, the
