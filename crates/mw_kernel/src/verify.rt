@@ -11,7 +11,7 @@ use crate::judging::refusal_of_proof;
 use crate::theory::Theory;
 use mw_heap::{Heap, Memory, Ref, Refusal, View};
 use mw_machine::Machine;
-use mw_term::Marks;
+use mw_term::{Marks, is_formula};
 
 /// Why a VERIFY of these members is refused, where it is: Name where its name is no symbol, Formula where its formula is none, and then
 /// what `refusal_of_proof` says.
@@ -39,7 +39,7 @@ pub(crate) fn refusal(
     }
     let below = heap.mark();
     marks.extend(heap, &theory.arity, below)?;
-    if !marks.is_formula(formula) {
+    if !is_formula(marks, formula) {
         return Ok(Some(Refusal::Formula));
     }
     refusal_of_proof(heap, formula, proof, theory, marks, machine, steps)

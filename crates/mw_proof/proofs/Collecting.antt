@@ -1,20 +1,23 @@
--- Collecting the conclusions of a list of proofs.
-use Rattle.std.proofs.Common.{◌≡◌, ℕ, ◌+◌, ◌==◌, ◌<◌, ◌≤◌, true, false, ◌&&◌, eqb, eqb-true, Option, Some, None, List, [], ◌∷◌, ◌++◌, length, refl, sym, ap, ◌∙◌, subst, arith}
-use Rattle.std.specs.List.{list_any, All}
+-- Collecting the conclusions of a list.
+use Rattle.std.proofs.Common.{◌≡◌, ℕ, ◌+◌, ◌<◌, ◌≤◌, true, false, ◌&&◌, eqb, eqb-true, Option, Some, None, List, [], ◌∷◌, ◌++◌, length, refl, sym, ap, ◌∙◌, subst, arith}
+use Rattle.std.specs.List.{All}
 use Rattle.std.proofs.lemmas.Bool.{and_left, eqb-false}
 use Rattle.std.proofs.lemmas.List.{length_push}
 use Rattle.std.specs.Option.{option_eq}
 use Rattle.std.proofs.lemmas.List.Elements.{All-push}
 use Rattle.mw_model.specs.Object.{Object, Natural, Symbol, Pair, same_object, NIL, second_of}
+use Rattle.mw_model.specs.Term.{ArityTable}
+use Rattle.mw_model.specs.Rules.{is_formula_object}
 use Rattle.mw_model.specs.RulesInduction.{length_object}
 use Rattle.mw_model.proofs.Names.{same_object-eq}
 use Rattle.mw_heap.specs.Objects.{object_at, IsIn, Shows}
 use Rattle.mw_heap.specs.declared.view.View.{View}
+use Rattle.mw_term.specs.Marking.{AreMarks}
+use Rattle.mw_term.specs.declared.cell_mark.CellMark.{CellMark}
 use Rattle.mw_heap.specs.declared.view.View.TheVariants.{Nat, Symbol as Word, Pair as Parts}
-use Rattle.mw_proof.specs.Step.{has_proof_shape, conclusions_object}
+use Rattle.mw_proof.specs.Step.{conclusions_object}
 use Rattle.mw_proof.specs.Known.{known_object}
-use Rattle.mw_proof.specs.Judging.{Basis, is_proof_on, are_proofs_on, IsKnown, AreConclusions, IsWithin, IsOver}
-use Rattle.mw_proof.proofs.StepExact.{is_proof-step}
+use Rattle.mw_proof.specs.Judging.{have_conclusions, AreConclusions, IsWithin, IsOver}
 
 -- the objects of references, before a list
 abbrev known_before : List Object → List ℕ → Object → Object
@@ -29,10 +32,9 @@ known_before-nil : (os : List Object) (rs : List ℕ) → known_before os rs NIL
 known_before-nil os [] = refl
 known_before-nil os (q ∷ rs) = ap (Pair (object_at os q)) (known_before-nil os rs)
 
--- what is known of the rest
-pub record IsRest (b : Basis) (os : List Object) (good : List ℕ) (list rest : Object) (rs : List ℕ) : Type 0 where
-  pub known : IsKnown b os good rest
-  pub proofs : are_proofs_on b list ≡ are_proofs_on b rest
+-- what the rest has still to show
+pub record IsRest (A : ArityTable) (os : List Object) (list rest : Object) (rs : List ℕ) : Type 0 where
+  pub formulas : have_conclusions A list ≡ have_conclusions A rest
   pub conclusions : known_before os rs (conclusions_object rest) ≡ conclusions_object list
 
 -- the count of the conclusions so far
@@ -48,73 +50,63 @@ pub over_from : (most : Option ℕ) (n k : ℕ) → option_eq eqb most (Some n) 
 over_from None n k h l = cc
 over_from (Some m) n k h l = let same = eqb-true m n h in omega (arith, same, l)
 
-pub record Collects (os : List Object) (good : List ℕ) (most : Option ℕ) (list rest : ℕ) (rs : List ℕ) : Type 0 where
+pub record Collects (os : List Object) (marks : List CellMark) (most : Option ℕ) (list rest : ℕ) (rs : List ℕ) : Type 0 where
   pub within : IsIn os rest
   pub rest_before : rest ≤ list
   pub before : All (λ r. r < list) rs
   pub few : IsWithin most (length rs)
   pub counted : length rs + length_object (object_at os rest) ≡ length_object (object_at os list)
-  pub holds : (b : Basis) → IsKnown b os good (object_at os list) → IsRest b os good (object_at os list) (object_at os rest) rs
+  pub holds : (A : ArityTable) → AreMarks A os marks → IsRest A os (object_at os list) (object_at os rest) rs
 
-module _ (os : List Object) (good : List ℕ) (most : Option ℕ) (list : ℕ) where
-  pub collect_starts : IsIn os list → Collects os good most list list []
-  collect_starts i = record { within = i; rest_before = omega arith; before = λ k d l. absurd (omega arith); few = within_none most; counted = omega arith; holds = λ b k. record { known = k; proofs = refl; conclusions = refl } }
+module _ (os : List Object) (marks : List CellMark) (most : Option ℕ) (list : ℕ) where
+  pub collect_starts : IsIn os list → Collects os marks most list list []
+  collect_starts i = record { within = i; rest_before = omega arith; before = λ k d l. absurd (omega arith); few = within_none most; counted = omega arith; holds = λ A k. record { formulas = refl; conclusions = refl } }
 
-  module _ (rest : ℕ) (rs : List ℕ) (w : Collects os good most list rest rs) where
+  module _ (rest : ℕ) (rs : List ℕ) (w : Collects os marks most list rest rs) where
     module _ (p more : ℕ) (shows : IsIn os p × IsIn os more × (object_at os rest ≡ Pair (object_at os p) (object_at os more))) where
-      answer : (b : Basis) (k : IsKnown b os good (object_at os list)) → list_any (λ y. p == y) good ≡ is_proof_on b (object_at os p)
-      answer b k = (subst (IsKnown b os good) shows.2 (w.holds b k).known).0 p shows.0 refl
+      parts : (A : ArityTable) → have_conclusions A (object_at os rest) ≡ (is_formula_object A (second_of (object_at os p)) && have_conclusions A (object_at os more))
+      parts A = ap (have_conclusions A) shows.2
 
-      parts : (b : Basis) → are_proofs_on b (object_at os rest) ≡ (is_proof_on b (object_at os p) && are_proofs_on b (object_at os more))
-      parts b = ap (are_proofs_on b) shows.2
-
-      pub collects_more : (c : ℕ) → (p < rest) × (more < rest) → list_any (λ y. p == y) good ≡ true → (c < p) × (object_at os c ≡ second_of (object_at os p)) → option_eq eqb most (Some (length rs)) ≡ false → Collects os good most list more (rs ++ c ∷ [])
-      collects_more c older good_p is some_left = record {
+      pub collects_more : (c : ℕ) → (p < rest) × (more < rest) → c < p → object_at os c ≡ second_of (object_at os p) → ((A : ArityTable) → AreMarks A os marks → is_formula_object A (object_at os c) ≡ true) → option_eq eqb most (Some (length rs)) ≡ false → Collects os marks most list more (rs ++ c ∷ [])
+      collects_more c older before is formula some_left = record {
         within = shows.1;
         rest_before = omega (arith, older, w.rest_before);
-        before = All-push (λ r. r < list) rs c w.before (omega (arith, older, w.rest_before, is.0));
+        before = All-push (λ r. r < list) rs c w.before (omega (arith, older, w.rest_before, before));
         few = subst (IsWithin most) (sym (length_push rs c)) (within_more most (length rs) some_left w.few);
         counted = omega (arith, w.counted, length_push rs c, ap length_object shows.2);
-        holds = λ b k.
-            let r = w.holds b k in
+        holds = λ A k.
+            let r = w.holds A k in
+            let good : is_formula_object A (second_of (object_at os p)) ≡ true = ap (is_formula_object A) (sym is) ∙ formula A k in
             record {
-              known = (subst (IsKnown b os good) shows.2 r.known).1;
-              proofs = r.proofs ∙ (parts b ∙ ap (λ t. t && are_proofs_on b (object_at os more)) (sym (answer b k) ∙ good_p));
-              conclusions = known_before-push os rs c (conclusions_object (object_at os more)) ∙ (ap (λ z. known_before os rs (Pair z (conclusions_object (object_at os more)))) is.1 ∙ (ap (λ z. known_before os rs (conclusions_object z)) (sym shows.2) ∙ r.conclusions));
+              formulas = r.formulas ∙ (parts A ∙ ap (λ t. t && have_conclusions A (object_at os more)) good);
+              conclusions = known_before-push os rs c (conclusions_object (object_at os more)) ∙ (ap (λ z. known_before os rs (Pair z (conclusions_object (object_at os more)))) is ∙ (ap (λ z. known_before os rs (conclusions_object z)) (sym shows.2) ∙ r.conclusions));
             };
       }
 
       pub stops_at_most : option_eq eqb most (Some (length rs)) ≡ true → IsOver most (length_object (object_at os list))
       stops_at_most h = over_from most (length rs) (length_object (object_at os list)) h (omega (arith, w.counted, ap length_object shows.2))
 
-      pub stops_at_bad : list_any (λ y. p == y) good ≡ false → (b : Basis) → IsKnown b os good (object_at os list) → are_proofs_on b (object_at os list) ≡ false
-      stops_at_bad bad b k = (w.holds b k).proofs ∙ (parts b ∙ and_left (is_proof_on b (object_at os p)) (are_proofs_on b (object_at os more)) (sym (answer b k) ∙ bad))
+      pub stops_at_no_formula : (A : ArityTable) → AreMarks A os marks → is_formula_object A (second_of (object_at os p)) ≡ false → have_conclusions A (object_at os list) ≡ false
+      stops_at_no_formula A k bad = (w.holds A k).formulas ∙ (parts A ∙ and_left (is_formula_object A (second_of (object_at os p))) (have_conclusions A (object_at os more)) bad)
 
-      pub stops_at_shapeless : has_proof_shape (object_at os p) ≡ false → (b : Basis) → IsKnown b os good (object_at os list) → are_proofs_on b (object_at os list) ≡ false
-      stops_at_shapeless shapeless b k =
-          (w.holds b k).proofs
-          ∙ (parts b
-          ∙ and_left (is_proof_on b (object_at os p)) (are_proofs_on b (object_at os more))
-          (is_proof-step b.axioms b.theorems b.table b.profile (object_at os p) ∙ and_left (has_proof_shape (object_at os p)) _ shapeless))
-
-    pub collects_all : same_object (object_at os rest) NIL ≡ true → (b : Basis) → IsKnown b os good (object_at os list) → AreConclusions b os list rs × IsWithin most (length rs)
-    collects_all nil b k =
-        let r = w.holds b k in
+    pub collects_all : same_object (object_at os rest) NIL ≡ true → (A : ArityTable) → AreMarks A os marks → AreConclusions A os list rs × IsWithin most (length rs)
+    collects_all nil A k =
+        let r = w.holds A k in
         let e = same_object-eq (object_at os rest) NIL nil in (
           record {
-            proofs = r.proofs ∙ ap (are_proofs_on b) e;
+            formulas = r.formulas ∙ ap (have_conclusions A) e;
             list_is = sym (known_before-nil os rs) ∙ (ap (λ t. known_before os rs (conclusions_object t)) (sym e) ∙ r.conclusions);
             before = w.before;
           },
           w.few,
         )
 
-    not_list : (b : Basis) (x : Object) (v : View) → Shows os v x → ((q s : ℕ) → v ≡ Parts q s → ⊥) → same_object x NIL ≡ false → are_proofs_on b x ≡ false
-    not_list b x (Nat n) h bad nil = ap (are_proofs_on b) h
-    not_list b (Natural n) Word h bad nil = refl
-    not_list b (Symbol s) Word h bad nil = nil
-    not_list b (Pair y z) Word h bad nil = cc
-    not_list b x (Parts q s) h bad nil = absurd (bad q s refl)
+    not_list : (A : ArityTable) (x : Object) (v : View) → Shows os v x → ((q s : ℕ) → v ≡ Parts q s → ⊥) → same_object x NIL ≡ false → have_conclusions A x ≡ false
+    not_list A x (Nat n) h bad nil = ap (have_conclusions A) h
+    not_list A (Natural n) Word h bad nil = refl
+    not_list A (Symbol s) Word h bad nil = nil
+    not_list A (Pair y z) Word h bad nil = cc
+    not_list A x (Parts q s) h bad nil = absurd (bad q s refl)
 
-    pub stops_at_end : (v : View) → Shows os v (object_at os rest) → ((q s : ℕ) → v ≡ Parts q s → ⊥) → same_object (object_at os rest) NIL ≡ false → (b : Basis) → IsKnown b os good (object_at os list) → are_proofs_on b (object_at os list) ≡ false
-    stops_at_end v shows bad nil b k = (w.holds b k).proofs ∙ not_list b (object_at os rest) v shows bad nil
+    pub stops_at_end : (v : View) → Shows os v (object_at os rest) → ((q s : ℕ) → v ≡ Parts q s → ⊥) → same_object (object_at os rest) NIL ≡ false → (A : ArityTable) → AreMarks A os marks → have_conclusions A (object_at os list) ≡ false
+    stops_at_end v shows bad nil A k = (w.holds A k).formulas ∙ not_list A (object_at os rest) v shows bad nil

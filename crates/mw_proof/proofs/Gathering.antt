@@ -1,5 +1,5 @@
 -- Gathering the proofs below a proof.
-use Rattle.std.proofs.Common.{◌≡◌, ℕ, suc, ◌+◌, ◌==◌, ◌<◌, ◌≤◌, Bool, true, false, not, List, [], ◌∷◌, ◌++◌, length, length-append, get_or, cond, eqb, if◌then◌else◌, append_assoc, append-nil, refl, sym, ap, ◌∙◌, subst, arith, ◌⊎◌, inl, inr}
+use Rattle.std.proofs.Common.{◌≡◌, ℕ, suc, ◌+◌, ◌==◌, ◌<◌, ◌≤◌, Bool, true, false, List, [], ◌∷◌, ◌++◌, length, length-append, get_or, cond, eqb, if◌then◌else◌, append_assoc, append-nil, refl, sym, ap, ◌∙◌, subst, arith, ◌⊎◌, inl, inr}
 use Rattle.std.specs.List.{list_any, IsDistinct}
 use Rattle.std.proofs.lemmas.Bool.{cases_lt, or_left, or_right, or_cases, eqb-true, eq-eqb}
 use Rattle.std.proofs.lemmas.List.Folds.{list_any-append, list_any_at}
@@ -7,16 +7,14 @@ use Rattle.std.proofs.lemmas.Map.Keys.{IsDistinct-from_apart}
 use Rattle.std.proofs.lemmas.Map.Steps.{length-le_from_distinct_below}
 use Rattle.std.proofs.Math.ListN.{get_or-append}
 use Rattle.std.proofs.lemmas.List.{get_or_read_under}
-use Rattle.mw_model.specs.Object.{Object, Natural, Symbol, Pair, same_object, is_member}
-use Rattle.mw_model.proofs.Names.{same_object-refl}
-use Rattle.mw_model.specs.Primitive.{is_symbol}
-use Rattle.mw_heap.specs.Objects.{object_at, IsIn, Shows}
-use Rattle.mw_heap.specs.declared.view.View.{View}
-use Rattle.mw_heap.specs.declared.view.View.TheVariants.{Nat, Symbol as Word, Pair as Parts}
+use Rattle.mw_model.specs.Object.{Object, Natural, Symbol, Pair, same_object, NIL, is_member}
+use Rattle.mw_model.proofs.Names.{same_object-eq, same_object-refl}
+use Rattle.mw_heap.specs.Objects.{object_at, IsIn, Grows}
+use Rattle.mw_heap.proofs.Objects.{object_at-Grows}
 use Rattle.mw_proof.specs.Step.{has_proof_shape, subproofs_of}
 use Rattle.mw_proof.specs.Judgments.{HasStepForSome}
 use Rattle.mw_proof.proofs.Counted.{keys_more}
-use Rattle.mw_proof.specs.Gathered.{IsAmong, AreIn, HasMembers, HasSubproofs, AreWalked, AddsSubproofs, AreGathered, IsMadeOf, itself, subproof}
+use Rattle.mw_proof.specs.Gathered.{IsAmong, AreIn, HasMembers, HasSubproofs, AddsMembers, AddsSubproofs, AreGathered, IsSubproof, IsMadeOf, itself, subproof}
 
 pub IsAmong-append : (keys more : List ℕ) (x : ℕ) → IsAmong keys x → IsAmong (keys ++ more) x
 IsAmong-append keys more x h = list_any-append (λ y. x == y) keys more ∙ or_left (list_any (λ y. x == y) keys) (list_any (λ y. x == y) more) h
@@ -31,50 +29,39 @@ HasMembers-below os keys m n l (Pair a r) h = ((h.0.0, h.0.1, h.0.2, omega (arit
 HasMembers-below os keys m n l (Natural k) h = tt
 HasMembers-below os keys m n l (Symbol s) h = tt
 
--- the members from the cell c on are held once those of the rest are, which is behind it in the list
-pub record Awaits (os : List Object) (keys : List ℕ) (rest c : ℕ) : Type 0 where
-  pub rest_before : rest < c
-  pub held : (later : List ℕ) → HasMembers os (keys ++ later) rest (object_at os rest) → HasMembers os (keys ++ later) c (object_at os c)
-
 -- the walk along a list: what is yet to be held
-pub record Walks (os : List Object) (old keys walked : List ℕ) (n list rest : ℕ) : Type 0 where
+pub record Walks (os : List Object) (old keys : List ℕ) (list rest : ℕ) : Type 0 where
   pub more : List ℕ
   pub longer : keys ≡ old ++ more
   pub within : AreIn os keys
-  pub rest_within : IsIn os rest
-  pub rest_before : rest < n
-  pub held : (later : List ℕ) → HasMembers os (keys ++ later) rest (object_at os rest) → HasMembers os (keys ++ later) n (object_at os list)
-  pub cells : (c : ℕ) → IsAmong walked c → HasMembers os keys c (object_at os c) ⊎ Awaits os keys rest c
-  pub added : (q : ℕ) → IsAmong keys q → IsAmong old q ⊎ (is_member (object_at os q) (object_at os list) ≡ true)
+  pub rest_before : rest ≤ list
+  pub held : (later : List ℕ) → HasMembers os (keys ++ later) rest (object_at os rest) → HasMembers os (keys ++ later) list (object_at os list)
+  pub added : (q : ℕ) → IsAmong keys q → IsAmong old q ⊎ ((q < list) × (is_member (object_at os q) (object_at os list) ≡ true))
   pub ahead : (o : Object) → is_member o (object_at os rest) ≡ true → is_member o (object_at os list) ≡ true
 
-module _ (os : List Object) (old : List ℕ) (n list : ℕ) where
-  pub walk_starts : (walked : List ℕ) → AreIn os old → AreWalked os old walked → IsIn os list → list < n → Walks os old old walked n list list
-  walk_starts walked within all here before = record {
+module _ (os : List Object) (old : List ℕ) (list : ℕ) where
+  pub walk_starts : AreIn os old → Walks os old old list list
+  walk_starts within = record {
     more = [];
     longer = sym (append-nil old);
     within = within;
-    rest_within = here;
-    rest_before = before;
-    held = λ later h. HasMembers-below os (old ++ later) list n (omega (arith, before)) (object_at os list) h;
-    cells = λ c h. inl (all c h);
+    rest_before = omega arith;
+    held = λ later h. h;
     added = λ q h. inl h;
     ahead = λ o h. h;
   }
 
-  module _ (keys walked : List ℕ) (rest : ℕ) (w : Walks os old keys walked n list rest) where
-    pub walk_goes_on : (q r : ℕ) (new seen : List ℕ) (b : Bool) → IsIn os q × IsIn os r × (object_at os rest ≡ Pair (object_at os q) (object_at os r)) → (q < rest) × (r < rest) → new ≡ (if b then keys else keys ++ q ∷ []) → list_any (λ y. q == y) new ≡ true → ((x : ℕ) → list_any (λ y. x == y) new ≡ cond (q == x) true (list_any (λ y. x == y) keys)) → ((x : ℕ) → list_any (λ y. x == y) seen ≡ cond (rest == x) true (list_any (λ y. x == y) walked)) → Walks os old new seen n list r
-    walk_goes_on q r new seen b shows older inserted here says sees =
+  module _ (keys : List ℕ) (rest : ℕ) (w : Walks os old keys list rest) where
+    pub walk_goes_on : (q r : ℕ) (new : List ℕ) (b : Bool) → IsIn os q × IsIn os r × (object_at os rest ≡ Pair (object_at os q) (object_at os r)) → (q < rest) × (r < rest) → new ≡ (if b then keys else keys ++ q ∷ []) → list_any (λ y. q == y) new ≡ true → ((x : ℕ) → list_any (λ y. x == y) new ≡ cond (q == x) true (list_any (λ y. x == y) keys)) → Walks os old new list r
+    walk_goes_on q r new b shows older inserted here says =
         let m = keys_more b keys q in
         let longer : new ≡ keys ++ m.0 = inserted ∙ m.1 in
         record {
           more = w.more ++ m.0;
           longer = longer ∙ (ap (λ k. k ++ m.0) w.longer ∙ append_assoc old w.more m.0);
           within = λ x h. inside x (q == x) refl (sym (says x) ∙ h);
-          rest_within = shows.1;
           rest_before = omega (arith, older, w.rest_before);
-          held = λ later h. subst (λ k. HasMembers os k n (object_at os list)) (sym (whole m.0 longer later)) (w.held (m.0 ++ later) (onward m.0 longer later h));
-          cells = λ c h. cell m.0 longer c (rest == c) refl (sym (sees c) ∙ h);
+          held = λ later h. subst (λ k. HasMembers os k list (object_at os list)) (sym (whole m.0 longer later)) (w.held (m.0 ++ later) (subst (λ k. HasMembers os k rest (object_at os rest)) (whole m.0 longer later) (here_on later h)));
           added = λ x h. came x (q == x) refl (sym (says x) ∙ h);
           ahead = λ o h. w.ahead o (ap (is_member o) shows.2 ∙ or_right (same_object o (object_at os q)) (is_member o (object_at os r)) h);
         }
@@ -87,65 +74,57 @@ module _ (os : List Object) (old : List ℕ) (n list : ℕ) where
             let l : r ≤ rest = omega (arith, older) in
             subst (HasMembers os (new ++ later) rest) (sym shows.2) ((q, refl, IsAmong-append new later q here, older.0), HasMembers-below os (new ++ later) r rest l (object_at os r) h)
 
-        onward : (more : List ℕ) → new ≡ keys ++ more → (later : List ℕ) → HasMembers os (new ++ later) r (object_at os r) → HasMembers os (keys ++ (more ++ later)) rest (object_at os rest)
-        onward more e later h = subst (λ k. HasMembers os k rest (object_at os rest)) (whole more e later) (here_on later h)
-
-        cell : (more : List ℕ) → new ≡ keys ++ more → (c : ℕ) (t : Bool) → (rest == c) ≡ t → cond (rest == c) true (list_any (λ y. c == y) walked) ≡ true → HasMembers os new c (object_at os c) ⊎ Awaits os new r c
-        cell more e c true is h = inr (subst (Awaits os new r) (eqb-true rest c is) (record { rest_before = older.1; held = here_on }))
-        cell more e c false is h = elim (w.cells c (sym (ap (λ s. cond s true (list_any (λ y. c == y) walked)) is) ∙ h)) [
-          | inl k ↦ inl (subst (λ ks. HasMembers os ks c (object_at os c)) (sym e) (HasMembers-append os keys more c (object_at os c) k))
-          | inr a ↦ inr (record { rest_before = omega (arith, a.rest_before, older); held = λ later k. subst (λ ks. HasMembers os ks c (object_at os c)) (sym (whole more e later)) (a.held (more ++ later) (onward more e later k)) })
-        ]
-
         first_member : is_member (object_at os q) (object_at os rest) ≡ true
         first_member = ap (is_member (object_at os q)) shows.2 ∙ or_left (same_object (object_at os q) (object_at os q)) (is_member (object_at os q) (object_at os r)) (same_object-refl (object_at os q))
 
-        came : (x : ℕ) (t : Bool) → (q == x) ≡ t → cond (q == x) true (list_any (λ y. x == y) keys) ≡ true → IsAmong old x ⊎ (is_member (object_at os x) (object_at os list) ≡ true)
-        came x true e h = inr (subst (λ y. is_member (object_at os y) (object_at os list) ≡ true) (eqb-true q x e) (w.ahead (object_at os q) first_member))
+        came : (x : ℕ) (t : Bool) → (q == x) ≡ t → cond (q == x) true (list_any (λ y. x == y) keys) ≡ true → IsAmong old x ⊎ ((x < list) × (is_member (object_at os x) (object_at os list) ≡ true))
+        came x true e h = inr (subst (λ y. (y < list) × (is_member (object_at os y) (object_at os list) ≡ true)) (eqb-true q x e) (omega (arith, older, w.rest_before), w.ahead (object_at os q) first_member))
         came x false e h = w.added x (sym (ap (λ s. cond s true (list_any (λ y. x == y) keys)) e) ∙ h)
 
         inside : (x : ℕ) (t : Bool) → (q == x) ≡ t → cond (q == x) true (list_any (λ y. x == y) keys) ≡ true → IsIn os x
         inside x true e h = subst (IsIn os) (eqb-true q x e) shows.0
         inside x false e h = w.within x (sym (ap (λ s. cond s true (list_any (λ y. x == y) keys)) e) ∙ h)
 
-    -- a cell that was walked before is not of this walk, whose cells stand behind the rest
-    pub walked_before : IsAmong walked rest → HasMembers os keys rest (object_at os rest)
-    walked_before h = elim (w.cells rest h) [ inl k ↦ k | inr a ↦ absurd (omega (arith, a.rest_before)) ]
+    -- at the end of the list
+    pub walk_ends : HasMembers os keys rest (object_at os rest) → AddsMembers os list old keys
+    walk_ends h = record {
+      more = w.more;
+      longer = w.longer;
+      within = w.within;
+      held = subst (λ k. HasMembers os k list (object_at os list)) (append-nil keys) (w.held [] (subst (λ k. HasMembers os k rest (object_at os rest)) (sym (append-nil keys)) h));
+      added = w.added;
+    }
 
-    module _ (h : HasMembers os keys rest (object_at os rest)) where
-      all_held : HasMembers os (keys ++ []) rest (object_at os rest)
-      all_held = subst (λ k. HasMembers os k rest (object_at os rest)) (sym (append-nil keys)) h
-
-      walk_ends : HasMembers os keys n (object_at os list)
-      walk_ends = subst (λ k. HasMembers os k n (object_at os list)) (append-nil keys) (w.held [] all_held)
-
-      pub are_walked : AreWalked os keys walked
-      are_walked c k = elim (w.cells c k) [ inl m ↦ m | inr a ↦ subst (λ ks. HasMembers os ks c (object_at os c)) (append-nil keys) (a.held [] all_held) ]
-
-      pub adds : object_at os list ≡ subproofs_of (object_at os n) → has_proof_shape (object_at os n) ≡ true → AddsSubproofs os n old keys
-      adds is shape = record {
-        more = w.more;
-        longer = w.longer;
-        within = w.within;
-        held = λ shape. subst (HasMembers os keys n) is walk_ends;
-        added = λ q k. elim (w.added q k) [ inl m ↦ inl m | inr m ↦ inr (shape, ap (is_member (object_at os q)) (sym is) ∙ m) ];
-      }
-
--- what was no new member was one already
-pub was_among : (t b : Bool) → b ≡ not t → b ≡ false → t ≡ true
-was_among true b e h = refl
-was_among false b e h = cc
+-- the members of the list of subproofs are those of a proof
+pub adds : (os : List Object) (p list : ℕ) (old new : List ℕ) → AddsMembers os list old new → list ≤ p → object_at os list ≡ subproofs_of (object_at os p) → has_proof_shape (object_at os p) ≡ true → AddsSubproofs os p old new
+adds os p list old new a before is shape = record {
+  more = a.more;
+  longer = a.longer;
+  within = a.within;
+  held = λ s. subst (HasMembers os new p) is (HasMembers-below os new list p before (object_at os list) a.held);
+  added = λ q k. elim (a.added q k) [ inl m ↦ inl m | inr m ↦ inr (omega (arith, m.0, before), (shape, ap (is_member (object_at os q)) (sym is) ∙ m.1)) ];
+}
 
 -- what is no pair has no members
-pub HasMembers-symbol : (os : List Object) (keys : List ℕ) (n : ℕ) (x : Object) → is_symbol x ≡ true → HasMembers os keys n x
-HasMembers-symbol os keys n (Natural m) h = cc
-HasMembers-symbol os keys n (Symbol s) h = tt
-HasMembers-symbol os keys n (Pair a b) h = cc
+pub HasMembers-nil : (os : List Object) (keys : List ℕ) (n : ℕ) (x : Object) → same_object x NIL ≡ true → HasMembers os keys n x
+HasMembers-nil os keys n x h = subst (HasMembers os keys n) (sym (same_object-eq x NIL h)) tt
 
-pub HasMembers-shown : (os : List Object) (keys : List ℕ) (n : ℕ) (x : Object) (v : View) → Shows os v x → ((a b : ℕ) → v ≡ Parts a b → ⊥) → HasMembers os keys n x
-HasMembers-shown os keys n x (Nat m) h bad = subst (HasMembers os keys n) (sym h) tt
-HasMembers-shown os keys n x Word h bad = HasMembers-symbol os keys n x h
-HasMembers-shown os keys n x (Parts a b) h bad = absurd (bad a b refl)
+-- what was found in a heap that grew was found in the older one
+HasMembers-older : (os new : List Object) (keys : List ℕ) (n : ℕ) (x : Object) → Grows os new → n ≤ length os → HasMembers new keys n x → HasMembers os keys n x
+HasMembers-older os new keys n (Pair a r) g l h = ((h.0.0, sym (object_at-Grows os new g h.0.0 (omega (arith, l, h.0.3))) ∙ h.0.1, h.0.2, h.0.3), HasMembers-older os new keys n r g l h.1)
+HasMembers-older os new keys n (Natural m) g l h = tt
+HasMembers-older os new keys n (Symbol s) g l h = tt
+
+pub adds-older : (os new : List Object) (p : ℕ) (old more : List ℕ) → Grows os new → IsIn os p → AreIn os old → AddsSubproofs new p old more → AddsSubproofs os p old more
+adds-older os new p old more g p_in all_in a =
+    let same = object_at-Grows os new g in
+    record {
+      more = a.more;
+      longer = a.longer;
+      within = λ q h. elim (a.added q h) [ inl m ↦ all_in q m | inr m ↦ omega (arith, m.0, p_in) ];
+      held = λ shape. subst (λ o. HasMembers os more p (subproofs_of o)) (same p p_in) (HasMembers-older os new more p (subproofs_of (object_at new p)) g (omega (arith, p_in)) (a.held (ap has_proof_shape (same p p_in) ∙ shape)));
+      added = λ q h. elim (a.added q h) [ inl m ↦ inl m | inr m ↦ inr (m.0, subst (λ o. IsSubproof o (object_at os q)) (same p p_in) (subst (IsSubproof (object_at new p)) (same q (omega (arith, m.0, p_in))) m.1)) ];
+    }
 
 -- places in a list
 pub read_at : (x : ℕ) (xs keys : List ℕ) (i n : ℕ) → x ≡ get_or xs i x → xs ≡ keys → i < n → n ≡ length keys → x ≡ get_or keys i 0
@@ -200,7 +179,7 @@ module _ (os : List Object) (keys : List ℕ) (proof next : ℕ) (g : Gathers os
     within = a.within;
     next_within = omega (arith, l, ap length a.longer, length-append keys a.more);
     held = λ i h. go i (cases_lt i next) h;
-    made_of = λ q h. elim (a.added q h) [ inl k ↦ g.made_of q k | inr k ↦ subproof (object_at os (get_or keys next 0)) (object_at os q) (g.made_of (get_or keys next 0) (IsAmong-at keys next l)) k ];
+    made_of = λ q h. elim (a.added q h) [ inl k ↦ g.made_of q k | inr k ↦ subproof (object_at os (get_or keys next 0)) (object_at os q) (g.made_of (get_or keys next 0) (IsAmong-at keys next l)) k.1 ];
   }
     where
       same : (i : ℕ) → i < length keys → get_or keys i 0 ≡ get_or new i 0
@@ -227,3 +206,18 @@ module _ (os : List Object) (keys : List ℕ) (proof next : ℕ) (g : Gathers os
 -- memory was refused before the first
 pub none_decided : (os : List Object) (proof steps : ℕ) → HasStepForSome os proof steps steps
 none_decided os proof steps = ([], record { distinct = IsDistinct-from_apart eqb [] (λ i j d k l. absurd (omega arith)); each = λ q h. cc }, omega arith)
+
+-- those before the next one were decided, or it too
+pub some_decided : (os : List Object) (keys : List ℕ) (proof next before after : ℕ) → Gathers os keys proof next → IsDistinct eqb keys → after ≤ before + length keys → HasStepForSome os proof before after
+some_decided os keys proof next before after g distinct l = (keys, record { distinct = distinct; each = g.made_of }, l)
+
+-- what holds of those before the next one and of it holds of one more
+pub holds_more : (P : ℕ → Type 0) (keys new more : List ℕ) (next : ℕ) → next < length keys → new ≡ keys ++ more → ((i : ℕ) → i < next → P (get_or keys i 0)) → P (get_or keys next 0) → (i : ℕ) → i < next + 1 → P (get_or new i 0)
+holds_more P keys new more next l longer h p i k = go (cases_lt i next)
+  where
+    same : (j : ℕ) → j < length keys → get_or keys j 0 ≡ get_or new j 0
+    same j m = sym (ap (λ ks. get_or ks j 0) longer ∙ get_or-append keys more 0 j m)
+
+    go : (i < next) ⊎ (next ≤ i) → P (get_or new i 0)
+    go (inl m) = subst P (same i (omega (arith, m, l))) (h i m)
+    go (inr m) = let e : next ≡ i = omega (arith, k, m) in subst (λ j. P (get_or new j 0)) e (subst P (same next l) p)

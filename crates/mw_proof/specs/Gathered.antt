@@ -18,10 +18,6 @@ HasMembers os keys n (Pair a r) = ((q : ℕ) × (object_at os q ≡ a) × IsAmon
 HasMembers os keys n (Natural m) = Unit {0}
 HasMembers os keys n (Symbol s) = Unit {0}
 
--- from each of these cells of lists on, the members are among the references, each below the cell
-abbrev pub AreWalked : List Object → List ℕ → List ℕ → Type 0
-AreWalked os keys cells = (c : ℕ) → IsAmong cells c → HasMembers os keys c (object_at os c)
-
 -- the subproofs of p, if it has the shape of a proof, are among the references, before it
 abbrev pub HasSubproofs : List Object → List ℕ → ℕ → Type 0
 HasSubproofs os keys p = has_proof_shape (object_at os p) ≡ true → HasMembers os keys p (subproofs_of (object_at os p))
@@ -40,12 +36,21 @@ pub record AreProofsOf (os : List Object) (proof : ℕ) (keys : List ℕ) : Type
   pub distinct : IsDistinct nat_eq keys
   pub each : (q : ℕ) → IsAmong keys q → IsMadeOf (object_at os proof) (object_at os q)
 
+-- the members of a list came to the references
+pub record AddsMembers (os : List Object) (list : ℕ) (old new : List ℕ) : Type 0 where
+  pub more : List ℕ
+  pub longer : new ≡ old ++ more
+  pub within : AreIn os new
+  pub held : HasMembers os new list (object_at os list)
+  pub added : (q : ℕ) → IsAmong new q → IsAmong old q ⊎ ((q < list) × (is_member (object_at os q) (object_at os list) ≡ true))
+
+-- and those of a proof
 pub record AddsSubproofs (os : List Object) (p : ℕ) (old new : List ℕ) : Type 0 where
   pub more : List ℕ
   pub longer : new ≡ old ++ more
   pub within : AreIn os new
   pub held : HasSubproofs os new p
-  pub added : (q : ℕ) → IsAmong new q → IsAmong old q ⊎ IsSubproof (object_at os p) (object_at os q)
+  pub added : (q : ℕ) → IsAmong new q → IsAmong old q ⊎ ((q < p) × IsSubproof (object_at os p) (object_at os q))
 
 pub record AreGathered (os : List Object) (keys : List ℕ) (proof : ℕ) : Type 0 where
   pub here : IsAmong keys proof

@@ -1,14 +1,13 @@
--- Judging in a heap: what a proof may rest on, and which answers are known.
-use Rattle.std.specs.Prelude.{◌≡◌, ℕ, ◌<◌, ◌≤◌, ◌==◌, Bool, true, false, ◌&&◌, List, length, get_or, All, Option, Some, None, Vec, ◌⊎◌}
-use Rattle.std.specs.List.{list_any}
-use Rattle.mw_model.specs.Object.{Object, Natural, Symbol, Pair}
+-- Judging in a heap: what a proof may rest on, and what must hold of each.
+use Rattle.std.specs.Prelude.{◌≡◌, ℕ, ◌<◌, ◌≤◌, Bool, true, false, ◌&&◌, List, length, All, Option, Some, None, Vec, ◌⊎◌}
+use Rattle.mw_model.specs.Object.{Object, Natural, Symbol, Pair, same_name, nil_name, second_of}
 use Rattle.mw_model.specs.Term.{ArityTable}
 use Rattle.mw_model.specs.Primitive.{Profile}
+use Rattle.mw_model.specs.Rules.{is_formula_object}
 use Rattle.mw_model.specs.RulesInduction.{length_object}
-use Rattle.mw_heap.specs.Objects.{object_at, IsIn}
-use Rattle.mw_proof.specs.Step.{has_proof_shape, subproofs_of, conclusions_object, is_proof, are_proofs}
+use Rattle.mw_heap.specs.Objects.{object_at}
+use Rattle.mw_proof.specs.Step.{subproofs_of, conclusions_object, is_proof, are_proofs, is_step}
 use Rattle.mw_proof.specs.Known.{known_object}
-use Rattle.mw_proof.specs.Gathered.{IsAmong, AreIn, HasSubproofs}
 
 -- what a proof may rest on
 pub record Basis : Type 0 where
@@ -27,19 +26,19 @@ is_proof_on b p = is_proof b.axioms b.theorems b.table b.profile p
 abbrev pub are_proofs_on : Basis → Object → Bool
 are_proofs_on b ps = are_proofs b.axioms b.theorems b.table b.profile ps
 
--- which members of a list are proofs is known: those that are among the good references
-abbrev pub IsKnown : Basis → List Object → List ℕ → Object → Type 0
-IsKnown b os good (Pair a r) = ((q : ℕ) → IsIn os q → object_at os q ≡ a → list_any (λ y. q == y) good ≡ is_proof_on b a) × IsKnown b os good r
-IsKnown b os good (Natural n) = Unit {0}
-IsKnown b os good (Symbol s) = Unit {0}
+-- a proper list of objects, each with a formula for its conclusion
+abbrev pub have_conclusions : ArityTable → Object → Bool
+have_conclusions A (Pair p ps) = is_formula_object A (second_of p) && have_conclusions A ps
+have_conclusions A (Symbol s) = same_name s nil_name
+have_conclusions A (Natural n) = false
 
--- of a proof it is known which subproofs are proofs
-abbrev pub AreSubproofsKnown : Basis → List Object → List ℕ → Object → Type 0
-AreSubproofsKnown b os good p = has_proof_shape p ≡ true → IsKnown b os good (subproofs_of p)
+-- what must hold of a proof, but that its subproofs are proofs
+abbrev pub is_step_on : Basis → Object → Bool
+is_step_on b p = is_step b.axioms b.theorems b.table b.profile p (have_conclusions b.table (subproofs_of p))
 
--- the conclusions of a list of proofs
-pub record AreConclusions (b : Basis) (os : List Object) (list : ℕ) (rs : List ℕ) : Type 0 where
-  pub proofs : are_proofs_on b (object_at os list) ≡ true
+-- the conclusions of a list
+pub record AreConclusions (A : ArityTable) (os : List Object) (list : ℕ) (rs : List ℕ) : Type 0 where
+  pub formulas : have_conclusions A (object_at os list) ≡ true
   pub list_is : known_object os rs ≡ conclusions_object (object_at os list)
   pub before : All (λ r. r < list) rs
 
@@ -52,17 +51,7 @@ abbrev pub IsOver : Option ℕ → ℕ → Type 0
 IsOver None n = ⊥
 IsOver (Some most) n = most < n
 
--- the conclusions of a list of at most so many proofs
-abbrev pub IsAnswer : {A : Type 0} → Basis → List Object → ℕ → Option ℕ → Option (Vec ℕ A) → Type 0
-IsAnswer b os list most None = (are_proofs_on b (object_at os list) ≡ false) ⊎ IsOver most (length_object (object_at os list))
-IsAnswer b os list most (Some rs) = AreConclusions b os list rs.items × IsWithin most (length rs.items)
-
--- the good references are those proofs among the references
-abbrev pub AreDecided : Basis → List Object → List ℕ → List ℕ → Type 0
-AreDecided b os proofs good = (q : ℕ) → list_any (λ y. q == y) good ≡ (list_any (λ y. q == y) proofs && is_proof_on b (object_at os q))
-
--- the proofs below a proof, in order
-pub record AreSortedProofs (os : List Object) (proofs : List ℕ) : Type 0 where
-  pub within : AreIn os proofs
-  pub held : (p : ℕ) → IsAmong proofs p → HasSubproofs os proofs p
-  pub sorted : (i j : ℕ) → i ≤ j → j < length proofs → get_or proofs i 0 ≤ get_or proofs j 0
+-- the conclusions of a list of at most so many
+abbrev pub IsAnswer : {X : Type 0} → ArityTable → List Object → ℕ → Option ℕ → Option (Vec ℕ X) → Type 0
+IsAnswer A os list most None = (have_conclusions A (object_at os list) ≡ false) ⊎ IsOver most (length_object (object_at os list))
+IsAnswer A os list most (Some rs) = AreConclusions A os list rs.items × IsWithin most (length rs.items)

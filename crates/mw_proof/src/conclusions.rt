@@ -1,23 +1,27 @@
 //! The conclusions of subproofs.
-ghost use Rattle.std.specs.Prelude.{◌≡◌, ◌<◌, false, IfOk, MatchOption};
-ghost use Rattle.mw_model.specs.Object.{second_of};
-ghost use Rattle.mw_heap.specs.Objects.{object_at, IsIn};
-ghost use Rattle.mw_proof.specs.Step.{has_proof_shape};
-ghost use Rattle.mw_proof.specs.Judging.{Basis, IsKnown, IsAnswer};
+ghost use Rattle.std.specs.Prelude.{◌<◌, length, IfOk, IfSome};
+ghost use Rattle.mw_model.specs.Term.{ArityTable};
+ghost use Rattle.mw_term.specs.Marking.{AreMarks};
+ghost use Rattle.mw_proof.specs.Gathered.{AreIn, AddsMembers};
+ghost use Rattle.mw_proof.specs.Judging.{IsAnswer};
 
 use indexmap::IndexSet;
 use mw_heap::{Heap, Memory, Ref, View};
+use mw_term::{Marks, is_formula};
 
-/// The conclusions of a proper list of proofs, where there are at most `most` and each is known to be good. It looks at
-/// one more cell of the list at most.
+/// The conclusions of a proper list of objects, where there are at most `most` and each is a formula. Then the objects are found. It looks at one more cell of the list at most.
 pub(crate) fn conclusions_of(
     heap: &Heap,
     subproofs: Ref,
-    good: &IndexSet<Ref>,
+    found: &mut IndexSet<Ref>,
+    marks: &Marks,
     most: Option<usize>,
 ) -> Result<Option<Vec<Ref>>, Memory>
-    requires { IsIn heap.now subproofs }
-    ensures { (b : Basis) → IsKnown b heap.now good.now.keys (object_at heap.now subproofs) → IfOk result (λ o. IsAnswer b heap.now subproofs most o) }
+    requires marks { (A : ArityTable) × AreMarks A heap.now marks.now }
+    requires within { subproofs < length marks.now }
+    requires all_within { AreIn heap.now found.old.keys }
+    ensures answer { (A : ArityTable) → AreMarks A heap.now marks.now → IfOk result (IsAnswer A heap.now subproofs most) }
+    ensures found { IfOk result (λ o. IfSome o (λ cs. AddsMembers heap.now subproofs found.old.keys found.new.keys)) }
 {
     let mut conclusions = Vec::new(heap.alloc());
     let mut rest = subproofs;
@@ -25,32 +29,19 @@ pub(crate) fn conclusions_of(
         if most == Some(conclusions.len()) {
             return Ok(None);
         }
-        if !good.contains(&p) {
-            return Ok(None);
-        }
-        let Some(conclusion) = conclusion_of(heap, p) else {
+        let Some(conclusion) = heap.second_of(p) else {
             return Ok(None);
         };
+        if !is_formula(marks, conclusion) {
+            return Ok(None);
+        }
         conclusions.push(conclusion)?;
+        found.insert(p)?;
         rest = more;
     }
     if heap.is_nil(Some(rest)) {
         Ok(Some(conclusions))
     } else {
         Ok(None)
-    }
-}
-
-// The second member, which each proof has.
-fn conclusion_of(heap: &Heap, p: Ref) -> Option<Ref>
-    requires { IsIn heap.now p }
-    ensures { MatchOption result (has_proof_shape (object_at heap.now p) ≡ false) (λ c. (c < p) × (object_at heap.now c ≡ second_of (object_at heap.now p))) }
-{
-    let View::Pair(_, rest) = heap.view(p) else {
-        return None;
-    };
-    match heap.view(rest) {
-        View::Pair(conclusion, _) => Some(conclusion),
-        _ => None,
     }
 }

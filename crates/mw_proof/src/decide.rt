@@ -1,10 +1,11 @@
-//! One proof, and many.
-ghost use Rattle.std.specs.Prelude.{◌≡◌, ◌<◌, All, length, IfOk};
+//! What must hold of one proof.
+ghost use Rattle.std.specs.Prelude.{◌≡◌, ◌<◌, true, All, length, IfOk};
 ghost use Rattle.mw_heap.specs.Objects.{object_at, IsIn, Grows};
 ghost use Rattle.mw_heap.specs.Variants.{profile_of};
 ghost use Rattle.mw_term.specs.Marking.{AreMarks};
 ghost use Rattle.mw_model.specs.Term.{ArityTable};
-ghost use Rattle.mw_proof.specs.Judging.{basis, is_proof_on, AreSubproofsKnown};
+ghost use Rattle.mw_proof.specs.Judging.{basis, is_step_on};
+ghost use Rattle.mw_proof.specs.Gathered.{AreIn, AddsSubproofs};
 
 use crate::Known;
 use crate::conclusions::conclusions_of;
@@ -13,13 +14,13 @@ use crate::method::Method;
 use crate::rules::follows;
 use indexmap::IndexSet;
 use mw_heap::{Heap, Memory, Profile, Ref};
-use mw_term::Marks;
+use mw_term::{Marks, is_formula};
 
-/// Whether the object is a proof, where it is known which of its subproofs are.
+/// Whether all holds of an object that must hold of a proof, but that its subproofs are proofs. Where it does they are found.
 pub(crate) fn decide(
     heap: &mut Heap,
     p: Ref,
-    good: &IndexSet<Ref>,
+    found: &mut IndexSet<Ref>,
     axioms: &Known,
     theorems: &Known,
     profile: Profile,
@@ -29,9 +30,10 @@ pub(crate) fn decide(
     requires within { p < length marks.now }
     requires axioms { All (IsIn heap.old) axioms.now }
     requires theorems { All (IsIn heap.old) theorems.now }
-    requires known { (A : ArityTable) → AreMarks A heap.old marks.now → AreSubproofsKnown (basis heap.old A axioms.now theorems.now (profile_of profile)) heap.old good.now.keys (object_at heap.old p) }
+    requires all_within { AreIn heap.old found.old.keys }
     ensures grows { Grows heap.old heap.new }
-    ensures answer { IfOk result (λ b. (A : ArityTable) → AreMarks A heap.old marks.now → b ≡ is_proof_on (basis heap.old A axioms.now theorems.now (profile_of profile)) (object_at heap.old p)) }
+    ensures answer { IfOk result (λ b. (A : ArityTable) → AreMarks A heap.old marks.now → b ≡ is_step_on (basis heap.old A axioms.now theorems.now (profile_of profile)) (object_at heap.old p)) }
+    ensures found { IfOk result (λ b. b ≡ true → AddsSubproofs heap.old p found.old.keys found.new.keys) }
 {
     let Some(members) = members_of(heap, p) else {
         return Ok(false);
@@ -39,11 +41,11 @@ pub(crate) fn decide(
     let Some(method) = Method::of(heap, members.method) else {
         return Ok(false);
     };
-    if !marks.is_formula(members.conclusion) {
+    if !is_formula(marks, members.conclusion) {
         return Ok(false);
     }
     let most = method.most_subproofs();
-    let Some(conclusions) = conclusions_of(heap, members.subproofs, good, most)? else {
+    let Some(conclusions) = conclusions_of(heap, members.subproofs, found, marks, most)? else {
         return Ok(false);
     };
     follows(

@@ -1,17 +1,16 @@
-//! Judging proofs, each distinct one once.
-ghost use Rattle.std.specs.Prelude.{◌≡◌, ◌+◌, ◌<◌, ◌≤◌, true, false, All, length, IfOk, OnOk, OnErr};
+//! Judging proofs, each distinct one at most once.
+ghost use Rattle.std.specs.Prelude.{◌≡◌, ◌<◌, ◌≤◌, true, All, length, IfOk, OnOk};
 ghost use Rattle.mw_heap.specs.Objects.{object_at, IsIn, Grows};
 ghost use Rattle.mw_heap.specs.Variants.{profile_of};
 ghost use Rattle.mw_term.specs.Marking.{AreMarks};
 ghost use Rattle.mw_model.specs.Term.{ArityTable};
 ghost use Rattle.mw_proof.specs.Step.{is_proof};
 ghost use Rattle.mw_proof.specs.Known.{known_object};
-ghost use Rattle.mw_proof.specs.Judging.{basis, is_proof_on, AreDecided, AreSortedProofs};
-ghost use Rattle.mw_proof.specs.Judgments.{IsJudgment, DecidesEach, HasStepForEach, HasStepForSome};
+ghost use Rattle.mw_proof.specs.Judging.{basis, is_proof_on};
+ghost use Rattle.mw_proof.specs.Judgments.{IsJudgment, Reaches, DecidesEach, HasStepForEach, HasStepForSome};
 
 use crate::Known;
 use crate::decide::decide;
-use crate::proofs::proofs_of;
 use indexmap::IndexSet;
 use mw_heap::{Heap, Memory, Profile, Ref};
 use mw_subst::Steps;
@@ -28,8 +27,9 @@ pub enum Judged {
 }
 
 /// Whether `proof` is a proof from these axioms and theorems, under the arity table and in the profile. It extends the marks, which
-/// are under that table, to all objects that the heap has at entry. It takes one step for each distinct proof that it
-/// decides: the proof, its subproofs, theirs and so on. Where memory is refused it decided no more than these.
+/// are under that table, to all objects that the heap has at entry, and no further. It looks at each distinct
+/// proof once, and takes a step for it: the proof, its subproofs, theirs and so on, up to the first of which something does not hold, or
+/// at which memory is refused.
 pub fn judge_counted<L: Ledger>(
     heap: &mut Heap,
     proof: Ref,
@@ -47,6 +47,7 @@ pub fn judge_counted<L: Ledger>(
     ensures grows { Grows heap.old heap.new }
     ensures marked { AreMarks arity.now heap.new marks.new }
     ensures judged { IsJudgment result (is_proof (known_object heap.old axioms.now) (known_object heap.old theorems.now) arity.now (profile_of profile) (object_at heap.old proof)) }
+    ensures reaches { Reaches result (length marks.old) (length heap.old) (length marks.new) }
     ensures decided { DecidesEach result heap.old proof steps.old steps.new }
 {
     match is_good(heap, proof, axioms, theorems, arity, profile, marks, steps) {
@@ -77,6 +78,7 @@ fn judge_uncounted<L: Ledger>(
     ensures grows { Grows heap.old heap.new }
     ensures marked { AreMarks arity.now heap.new marks.new }
     ensures judged { IsJudgment result (is_proof (known_object heap.old axioms.now) (known_object heap.old theorems.now) arity.now (profile_of profile) (object_at heap.old proof)) }
+    ensures reaches { Reaches result (length marks.old) (length heap.old) (length marks.new) }
 {
     let mut steps = Steps::<L>::new(blank);
     judge_counted(
@@ -85,7 +87,7 @@ fn judge_uncounted<L: Ledger>(
 }
 
 /// Whether `proof` is a proof from these axioms and theorems, under the arity table and in the profile. It extends the marks, which
-/// are under that table, to all objects that the heap has at entry.
+/// are under that table, to all objects that the heap has at entry, and no further.
 pub fn judge(
     heap: &mut Heap,
     proof: Ref,
@@ -102,6 +104,7 @@ pub fn judge(
     ensures grows { Grows heap.old heap.new }
     ensures marked { AreMarks arity.now heap.new marks.new }
     ensures judged { IsJudgment result (is_proof (known_object heap.old axioms.now) (known_object heap.old theorems.now) arity.now (profile_of profile) (object_at heap.old proof)) }
+    ensures reaches { Reaches result (length marks.old) (length heap.old) (length marks.new) }
 {
     judge_uncounted::<Brand>(
         heap,
@@ -133,52 +136,47 @@ fn is_good<L: Ledger>(
     ensures grows { Grows heap.old heap.new }
     ensures marked { AreMarks arity.now heap.new marks.new }
     ensures judged { IfOk result (λ b. b ≡ is_proof (known_object heap.old axioms.now) (known_object heap.old theorems.now) arity.now (profile_of profile) (object_at heap.old proof)) }
-    ensures each { OnOk result (HasStepForEach heap.old proof steps.old steps.new) }
+    ensures reaches { OnOk result (length marks.new ≡ length heap.old) }
+    ensures kept { length marks.old ≤ length marks.new }
+    ensures each { IfOk result (λ b. b ≡ true → HasStepForEach heap.old proof steps.old steps.new) }
     ensures most { HasStepForSome heap.old proof steps.old steps.new }
 {
     let below = heap.mark();
     marks.extend(heap, arity, below)?;
-    let mut proofs = proofs_of(heap, proof)?;
-    proofs.sort_unstable()?;
-    let good = good_among(
-        heap,
-        proofs.as_slice(),
-        axioms,
-        theorems,
-        profile,
-        marks,
-        steps,
-    )?;
-    Ok(good.contains(&proof))
+    all_hold(heap, proof, axioms, theorems, profile, marks, steps)
 }
 
-// The proofs among these, of which each stands behind its subproofs.
-fn good_among<L: Ledger>(
+// Whether all holds of a proof, its subproofs, theirs and so on that must hold of each, one after another: then each is a proof. It ends
+// at the first of which it does not hold.
+fn all_hold<L: Ledger>(
     heap: &mut Heap,
-    proofs: &[Ref],
+    proof: Ref,
     axioms: &Known,
     theorems: &Known,
     profile: Profile,
     marks: &Marks,
     steps: &mut Steps<L>,
-) -> Result<IndexSet<Ref>, Memory>
+) -> Result<bool, Memory>
     requires marks { (A : ArityTable) × AreMarks A heap.old marks.now }
     requires all { length marks.now ≡ length heap.old }
-    requires sorted { AreSortedProofs heap.old proofs.now }
+    requires within { IsIn heap.old proof }
     requires axioms { All (IsIn heap.old) axioms.now }
     requires theorems { All (IsIn heap.old) theorems.now }
     ensures grows { Grows heap.old heap.new }
-    ensures decided { IfOk result (λ good. (A : ArityTable) → AreMarks A heap.old marks.now → AreDecided (basis heap.old A axioms.now theorems.now (profile_of profile)) heap.old proofs.now good.keys) }
-    ensures each { OnOk result (steps.new ≡ steps.old + length proofs.now) }
-    ensures most { steps.new ≤ steps.old + length proofs.now }
+    ensures judged { IfOk result (λ b. (A : ArityTable) → AreMarks A heap.old marks.now → b ≡ is_proof_on (basis heap.old A axioms.now theorems.now (profile_of profile)) (object_at heap.old proof)) }
+    ensures each { IfOk result (λ b. b ≡ true → HasStepForEach heap.old proof steps.old steps.new) }
+    ensures most { HasStepForSome heap.old proof steps.old steps.new }
 {
-    let mut good = IndexSet::new(heap.alloc());
-    for p in proofs {
-        let _ = heap.same(*p, *p);
+    let mut found = IndexSet::new(heap.alloc());
+    found.insert(proof)?;
+    let mut next = 0;
+    while next < found.len() {
+        let p = found.as_slice()[next];
         steps.tick();
-        if decide(heap, *p, &good, axioms, theorems, profile, marks)? {
-            good.insert(*p)?;
+        if !decide(heap, p, &mut found, axioms, theorems, profile, marks)? {
+            return Ok(false);
         }
+        next += 1;
     }
-    Ok(good)
+    Ok(true)
 }

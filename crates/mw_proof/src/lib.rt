@@ -7,7 +7,6 @@ mod judging;
 mod known;
 mod members;
 mod method;
-mod proofs;
 mod rules;
 
 ghost use Rattle.std.specs.Prelude.{◌≡◌, Some};

@@ -2,7 +2,7 @@
 use mw_equal::{beta, functional_equality, instantiation, reduced};
 use mw_forms::{boxed, equation, form, is_in, list, not, or, pair};
 use mw_heap::{Heap, Memory, Ref};
-use mw_term::{Arity, mark_terms};
+use mw_term::{Arity, is_formula, mark_terms};
 use std::test::Fail;
 
 // The formula (F a) = (F b).
@@ -74,7 +74,7 @@ fn is_instance(heap: &mut Heap, c: Ref, a: Ref, s: Ref) -> Result<bool, Memory> 
     let arity = Arity::new(heap.alloc());
     let marks = mark_terms(heap.alloc(), heap, &arity, heap.mark())?;
     let within = is_in(heap, c) && is_in(heap, a) && is_in(heap, s);
-    if !within || !marks.is_formula(a) {
+    if !within || !is_formula(&marks, a) {
         return Err(Memory);
     }
     instantiation(heap, c, a, s, &marks)

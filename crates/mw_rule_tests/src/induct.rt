@@ -2,7 +2,7 @@
 use mw_forms::{boxed, equation, form, is_in, list, quoted};
 use mw_heap::{Heap, Memory, Ref};
 use mw_induct::premises_hold;
-use mw_term::{Arity, mark_terms};
+use mw_term::{Arity, is_formula, mark_terms};
 use std::test::Fail;
 
 // Whether these two are the premises of an induction that concludes the first.
@@ -10,7 +10,7 @@ fn hold(heap: &mut Heap, extras: Ref, f: Ref, second: Ref) -> Result<bool, Memor
     let arity = Arity::new(heap.alloc());
     let marks = mark_terms(heap.alloc(), heap, &arity, heap.mark())?;
     let within = is_in(heap, f) && is_in(heap, second) && is_in(heap, extras);
-    if !within || !marks.is_formula(f) {
+    if !within || !is_formula(&marks, f) {
         return Err(Memory);
     }
     premises_hold(heap, f, extras, &[f, second], &marks)

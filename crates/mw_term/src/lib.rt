@@ -18,6 +18,6 @@ mod variables;
 pub use arity::Arity;
 pub use formal_names::Formals;
 pub use gather::vars;
-pub use marks::{Marks, mark_terms};
+pub use marks::{Marks, is_formula, is_term, mark_terms};
 pub use substitutions::is_substitution;
 pub use variables::Vars;

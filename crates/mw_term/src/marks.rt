@@ -188,20 +188,20 @@ impl Marks {
     {
         self.cells.truncate(to.cells());
     }
+}
 
-    /// Whether an object is a term.
-    pub fn is_term(&self, x: Ref) -> bool
-        requires { x < length self.now }
-        ensures { (A : ArityTable) (os : List Object) → AreMarks A os self.now → result ≡ is_term_object A (object_at os x) }
-    {
-        self.cells.as_slice()[x.index()].is_term
-    }
+/// Whether an object is a term.
+pub fn is_term(marks: &Marks, x: Ref) -> bool
+    requires { x < length marks.now }
+    ensures { (A : ArityTable) (os : List Object) → AreMarks A os marks.now → result ≡ is_term_object A (object_at os x) }
+{
+    marks.cells.as_slice()[x.index()].is_term
+}
 
-    /// Whether an object is a formula.
-    pub fn is_formula(&self, x: Ref) -> bool
-        requires { x < length self.now }
-        ensures { (A : ArityTable) (os : List Object) → AreMarks A os self.now → result ≡ is_formula_object A (object_at os x) }
-    {
-        self.cells.as_slice()[x.index()].is_formula
-    }
+/// Whether an object is a formula.
+pub fn is_formula(marks: &Marks, x: Ref) -> bool
+    requires { x < length marks.now }
+    ensures { (A : ArityTable) (os : List Object) → AreMarks A os marks.now → result ≡ is_formula_object A (object_at os x) }
+{
+    marks.cells.as_slice()[x.index()].is_formula
 }

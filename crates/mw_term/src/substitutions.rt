@@ -7,8 +7,8 @@ ghost use Rattle.mw_model.specs.Rules.{is_variable_object, is_term_object, is_su
 ghost use Rattle.mw_heap.specs.Objects.{object_at, IsIn};
 ghost use Rattle.mw_term.specs.Marking.{AreMarks};
 
-use crate::Marks;
 use crate::names::is_variable_name;
+use crate::{Marks, is_term};
 use mw_heap::{Heap, Ref, View};
 
 /// Whether an object is a substitution: a proper list of pairs (variable . term).
@@ -34,7 +34,7 @@ fn is_pair_of_substitution(heap: &Heap, marks: &Marks, pair: Ref) -> bool
     ensures { (A : ArityTable) → AreMarks A heap.now marks.now → result ≡ (is_pair (object_at heap.now pair) && (is_variable_object (car (object_at heap.now pair)) && is_term_object A (cdr (object_at heap.now pair)))) }
 {
     match heap.view(pair) {
-        View::Pair(variable, term) => is_variable(heap, variable) && marks.is_term(term),
+        View::Pair(variable, term) => is_variable(heap, variable) && is_term(marks, term),
         _ => false,
     }
 }

@@ -4,7 +4,7 @@ ghost use Rattle.mw_model.specs.Object.{is_name};
 
 use mw_forms::{boxed, equation, form, is_in, list, pair, quoted};
 use mw_heap::{Heap, Mark, Memory, Ref, View};
-use mw_term::{Arity, Formals, Marks, is_substitution, mark_terms, vars};
+use mw_term::{Arity, Formals, Marks, is_formula, is_substitution, is_term, mark_terms, vars};
 use std::alloc::Global;
 use std::test::Fail;
 
@@ -86,7 +86,7 @@ fn marked(heap: &Heap, arity: &Arity, x: Ref) -> Result<(bool, bool), Memory> {
         return Err(Memory);
     }
     let marks = mark_terms(heap.alloc(), heap, arity, heap.mark())?;
-    Ok((marks.is_term(x), marks.is_formula(x)))
+    Ok((is_term(&marks, x), is_formula(&marks, x)))
 }
 
 // The marks of (CAR X), and of (CAR X) = (CAR X).

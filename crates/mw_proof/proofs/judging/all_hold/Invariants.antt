@@ -1,0 +1,20 @@
+-- Of those before the next one all holds, and their subproofs are found.
+use Rattle.std.proofs.Common.{◌≡◌, ℕ, ◌+◌, ◌-◌, ◌<◌, true, length, get_or}
+use Rattle.mw_model.specs.Term.{ArityTable}
+use Rattle.mw_heap.specs.Objects.{object_at, Grows}
+use Rattle.mw_heap.specs.Variants.{profile_of}
+use Rattle.mw_term.specs.Marking.{AreMarks}
+use Rattle.mw_proof.specs.Judging.{basis, is_step_on}
+use Rattle.mw_proof.proofs.Gathering.{Gathers}
+use Rattle.mw_proof.proofs.judging.all_hold.Given as goal
+
+abbrev pub invariant-loop-next : goal.invariant-loop-next
+invariant-loop-next g l = record {
+  grows : Grows l.fn.heap l.heap;
+  gathers : Gathers l.fn.heap l.found.keys l.fn.proof l.next;
+  holds : (A : ArityTable) → AreMarks A l.fn.heap l.marks → (i : ℕ) → i < l.next → is_step_on (basis l.fn.heap A l.axioms l.theorems (profile_of l.profile)) (object_at l.fn.heap (get_or l.found.keys i 0)) ≡ true;
+  steps : l.steps ≡ l.fn.steps + l.next;
+}
+
+abbrev pub decreases-loop-next : goal.decreases-loop-next
+decreases-loop-next g l = length l.fn.heap - l.next
