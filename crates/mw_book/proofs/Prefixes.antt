@@ -1,12 +1,12 @@
--- The lines of the data that are read first are leading bytes of the report on the book, whatever follows.
+-- The lines of the data that are read first are a prefix of the report on the book, whatever follows.
 use Rattle.std.proofs.Common.{◌≡◌, ℕ, zero, suc, ◌+◌, ◌-◌, ◌≤◌, Bool, true, false, leb, List, [], ◌∷◌, ◌++◌, length, take, Option, Some, None, refl, sym, ap, ◌∙◌, subst, arith, append_assoc, if◌then◌else◌}
 use Rattle.mw_model.specs.Object.{Object}
 use Rattle.mw_model.specs.Primitive.{One}
 use Rattle.mw_model.specs.Lexemes.{Fault, Ending, Ends, Goes}
 use Rattle.mw_model.specs.Grammar.{Book, book, reading, limit, cut_short, trees}
-use Rattle.mw_model.specs.Theory.{Theory, initial}
-use Rattle.mw_model.specs.Fate.{fate, next, after}
-use Rattle.mw_model.specs.Report.{line, lines, report, last_line}
+use Rattle.mw_model.specs.Theory.{initial}
+use Rattle.mw_model.specs.Report.{report, last_line}
+use Rattle.mw_model.proofs.LinesGrow.{lines_first}
 use Rattle.mw_read.specs.Parsing.{Fits, meaning_of}
 use Rattle.mw_read.specs.Standing.{Stands, IsFree}
 use Rattle.mw_read.specs.declared.parser.Parser.{Parser}
@@ -51,20 +51,6 @@ first_data os p g given s f rest = go (leb (length (g ++ rest)) limit)
           (meaning_of Goes s.state p x).events,
           ap (λ y. (cut_short (reading Goes y)).events) (take_past g rest limit s.short) ∙ cut_events (reading Goes (g ++ x)) ∙ read Goes x,
         )
-
-lines_both : (t : Theory) (k : ℕ) (a b : List Object) (N : ℕ) → lines k t (a ++ b) N ≡ lines k t a N ++ lines (k + length a) (after t a N) b N
-lines_both t k [] b N = ap (λ n. lines n t b N) (let e : k ≡ k + 0 = omega arith in e)
-lines_both t k (x ∷ a) b N =
-    ap (λ u. line k x (fate t x N) ++ u) (lines_both (next t x N) (suc k) a b N ∙ ap (λ n. lines (suc k) (next t x N) a N ++ lines n (after (next t x N) a N) b N) (let e : suc k + length a ≡ k + suc (length a) = omega arith in e))
-    ∙ sym (append_assoc (line k x (fate t x N)) (lines (suc k) (next t x N) a N) (lines (k + suc (length a)) (after (next t x N) a N) b N))
-
--- from any theory, with any last line
-lines_first : (t : Theory) (given more all : List Object) (N : ℕ) (last : List ℕ) → all ≡ given ++ more → (rest : List ℕ) × (lines 1 t all N ++ last ≡ lines 1 t given N ++ rest)
-lines_first t given more all N last e = (
-  lines (1 + length given) (after t given N) more N ++ last,
-  ap (λ u. u ++ last) (ap (λ u. lines 1 t u N) e ∙ lines_both t 1 given more N)
-      ∙ append_assoc (lines 1 t given N) (lines (1 + length given) (after t given N) more N) last,
-)
 
 pub report_begins : (os : List Object) (p : Parser) (g : List ℕ) (given : List Object) → Stands os p g given → IsFree p → (rest : List ℕ) (N : ℕ) → (tail : List ℕ) × ((report (g ++ rest) N).text ≡ lines_of given N ++ tail)
 report_begins os p g given s f rest N =

@@ -1,12 +1,12 @@
 //! Printing, up to a bound.
-ghost use Rattle.std.specs.Prelude.{◌≡◌, ◌+◌, length, min};
+ghost use Rattle.std.specs.Prelude.{◌≡◌, ◌+◌, ◌≤◌, length, min, IfSome};
 ghost use Rattle.mw_model.specs.Fate.{longest};
 ghost use Rattle.mw_model.specs.Printing.{text_of};
 ghost use Rattle.mw_heap.specs.Objects.{IsIn, object_at};
 ghost use Rattle.mw_print.specs.Printing.{Prints};
 
 use crate::text::text;
-use mw_heap::{Heap, Ref};
+use mw_heap::{Heap, Ref, View, is_bare_name};
 
 // The longest text that is shown, in bytes.
 const LONGEST: u64 = 65536;
@@ -31,7 +31,30 @@ pub fn text_len(heap: &Heap, x: Ref) -> u64
     heap.lengths(x).0
 }
 
-/// Writes the text of an object behind what `out` has, if it has at most 65,536 bytes. Else, and where memory is refused, `out` keeps
+// The name of a symbol whose text it is.
+fn bare_name(heap: &Heap, x: Ref) -> Option<&[u8]>
+    requires { IsIn heap.now x }
+    ensures { IfSome result (λ name. name.now ≡ text_of (object_at heap.now x)) }
+{
+    let View::Symbol = heap.view(x) else {
+        return None;
+    };
+    let name = heap.name_of(x);
+    if is_bare_name(name) { Some(name) } else { None }
+}
+
+// Puts a text after what `out` has.
+fn put(out: &mut Vec<u8>, text: &[u8]) -> Printed
+    requires { length text.now ≤ longest }
+    ensures { Prints text.now result out.old.items out.new.items }
+{
+    match out.extend_from_slice(text) {
+        Ok(()) => Printed::Ok,
+        Err(_) => Printed::Memory,
+    }
+}
+
+/// Writes the text of an object after what `out` has, if it has at most 65,536 bytes. Else, and where memory is refused, `out` keeps
 /// its bytes.
 pub fn print(heap: &Heap, x: Ref, out: &mut Vec<u8>) -> Printed
     requires { IsIn heap.now x }
@@ -40,11 +63,11 @@ pub fn print(heap: &Heap, x: Ref, out: &mut Vec<u8>) -> Printed
     if text_len(heap, x) > LONGEST {
         return Printed::Long;
     }
-    let Ok(text) = text(heap, *out.allocator(), x) else {
-        return Printed::Memory;
-    };
-    match out.extend_from_slice(text.as_slice()) {
-        Ok(()) => Printed::Ok,
+    if let Some(name) = bare_name(heap, x) {
+        return put(out, name);
+    }
+    match text(heap, *out.allocator(), x) {
+        Ok(text) => put(out, text.as_slice()),
         Err(_) => Printed::Memory,
     }
 }

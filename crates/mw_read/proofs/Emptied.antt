@@ -1,7 +1,6 @@
 -- A stack on which nothing is open stands for nothing in any heap.
-use Rattle.std.proofs.Common.{◌≡◌, ℕ, Bool, true, false, ◌||◌, not, List, [], ◌∷◌, length, Option, Some, None, IfSome, refl, sym, ap, ap₂, ◌∙◌, subst, true≢false, cond, if◌then◌else◌, ltb, ◌<◌}
-use Rattle.std.specs.BTreeMap.{BTreeMap, get}
-use Rattle.std.specs.Ordering.{nat_cmp}
+use Rattle.std.proofs.Common.{◌≡◌, ℕ, Bool, true, false, ◌||◌, not, List, [], ◌∷◌, length, Option, Some, None, IfSome, refl, sym, ap, ap₂, ◌∙◌, subst, true≢false, cond, if◌then◌else◌, ltb, ◌<◌, nat_eq}
+use Rattle.std.specs.Map.{lookup}
 use Rattle.mw_model.specs.Object.{Object, Natural, Symbol, Pair}
 use Rattle.mw_model.specs.Lexemes.{fault, END}
 use Rattle.mw_model.specs.Term.{is_among}
@@ -47,15 +46,15 @@ pile_none os (l ∷ ls) h e = absurd (subst (λ p. IsOpen p) e (pile_open os ls 
 pub empty_pile : (os : List Object) (ls : List Layer) → ls ≡ [] → IsPile os ls
 empty_pile os ls e = record { lie = subst (λ u. LieOn os (Frames []) u) (sym e) tt; under = subst (λ u. AreUnder (length os) u) (sym e) tt }
 
-none_listed : (k : ℕ) (os : List Object) (m : BTreeMap ℕ (Option ℕ)) → Agree os m Unused → IsListed k m
-none_listed k os m h n = go (get nat_cmp m n) (h n)
+none_listed : (k : ℕ) (os : List Object) (m : List (ℕ × Option ℕ)) → Agree os m Unused → IsListed k m
+none_listed k os m h n = go (lookup (nat_eq n) m) (h n)
   where
     go : (o : Option (Option ℕ)) → seen os o ≡ None → IfSome o (λ o. IfSome o (λ r. r < k))
     go None e = tt
     go (Some o) e = absurd cc
 
-none_agree : (os any : List Object) (m : BTreeMap ℕ (Option ℕ)) → Agree os m Unused → Agree any m Unused
-none_agree os any m h n = go (get nat_cmp m n) (h n)
+none_agree : (os any : List Object) (m : List (ℕ × Option ℕ)) → Agree os m Unused → Agree any m Unused
+none_agree os any m h n = go (lookup (nat_eq n) m) (h n)
   where
     go : (o : Option (Option ℕ)) → seen os o ≡ None → seen any o ≡ None
     go None e = refl
@@ -68,8 +67,8 @@ pub emptied : (os any : List Object) (s : Stack) (r : ℕ) (x : Object) → Comp
 emptied os any s r x q =
     let e = no_layers os s r x q in
     record {
-      stack = record { pile = empty_pile any s.layers.items e; listed = none_listed (length any) os s.labels q.means.1 };
-      means = (ap (pile_of any) e, none_agree os any s.labels q.means.1);
+      stack = record { pile = empty_pile any s.layers.items e; listed = none_listed (length any) os s.labels.entries q.means.1 };
+      means = (ap (pile_of any) e, none_agree os any s.labels.entries q.means.1);
       big = refl;
       covered = λ h. absurd (true≢false (sym h));
     }

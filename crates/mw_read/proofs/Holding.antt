@@ -48,7 +48,7 @@ turn_is : (w : Turn) (xs : List Object) (t : State) → w.events ≡ xs → w.st
 turn_is w xs t a b = ap₂ (λ (u : List Object) (v : State). let r : Turn = record { events = u; state = v } in r) a b
 
 -- of the turn as the stack sees it to the turn
-took_turn : (os : List Object) (s : Stack) (r : Outcome) (w : Turn) (b : Bool) → IsStack os s → HoldsDatum os r → Does os s.layers.items s.labels r (clamp_turn w) → s.big ≡ b → Flags b w → Took os s r w
+took_turn : (os : List Object) (s : Stack) (r : Outcome) (w : Turn) (b : Bool) → IsStack os s → HoldsDatum os r → Does os s.layers.items s.labels.entries r (clamp_turn w) → s.big ≡ b → Flags b w → Took os s r w
 took_turn os s outcomes.Pending w b k h d g f =
     let e = none_clamp w.events d.0 in
     let v = f (sound_clamp os s w.state d.1) in (
@@ -83,20 +83,20 @@ took_turn os s (outcomes.Fault g) w b k h d e f =
 
 -- a lexeme is taken
 pub took : (os : List Object) (old s : Stack) (r : Outcome) (t : State) (l : Lexeme) (os0 : List Object) → Holds os0 old t → IsWhole l → IsStack os s → HoldsDatum os r →
-    Does os s.layers.items s.labels r (on (clamp_state t) (clamp_lexeme l)) → s.big ≡ (old.big || lexeme_big l) → Took os s r (on t l)
+    Does os s.layers.items s.labels.entries r (on (clamp_state t) (clamp_lexeme l)) → s.big ≡ (old.big || lexeme_big l) → Took os s r (on t l)
 took os old s r t l os0 h w k d f e =
-    took_turn os s r (on t l) (state_big t || lexeme_big l) k d (subst (λ (u : Turn). Does os s.layers.items s.labels r u) (on_clamp t l) f) (e ∙ ap (λ u. u || lexeme_big l) h.big)
+    took_turn os s r (on t l) (state_big t || lexeme_big l) k d (subst (λ (u : Turn). Does os s.layers.items s.labels.entries r u) (on_clamp t l) f) (e ∙ ap (λ u. u || lexeme_big l) h.big)
     (on_flags t l (λ c. sym h.big ∙ h.covered c) w)
 
 -- the heap grows
 pub stack_grows : (os os2 : List Object) (s : Stack) → Grows os os2 → IsStack os s → IsStack os2 s
-stack_grows os os2 s g k = record { pile = is_pile_grows os os2 s.layers.items g k.pile; listed = listed_grows (length os) (length os2) s.labels (length_grows os os2 g) k.listed }
+stack_grows os os2 s g k = record { pile = is_pile_grows os os2 s.layers.items g k.pile; listed = listed_grows (length os) (length os2) s.labels.entries (length_grows os os2 g) k.listed }
 
 pub holds_grows : (os os2 : List Object) (s : Stack) (t : State) → Grows os os2 → Holds os s t → Holds os2 s t
 holds_grows os os2 s t g h = record {
   stack = record {
     pile = is_pile_grows os os2 s.layers.items g h.stack.pile;
-    listed = listed_grows (length os) (length os2) s.labels (length_grows os os2 g) h.stack.listed;
+    listed = listed_grows (length os) (length os2) s.labels.entries (length_grows os os2 g) h.stack.listed;
   };
   means = means_grows (clamp_state t) h.means;
   big = h.big;
@@ -107,17 +107,17 @@ holds_grows os os2 s t g h = record {
     p = pile_grows os os2 s.layers.items g h.stack.pile
 
     means_grows : (t : State) → Means os s t → Means os2 s t
-    means_grows Idle m = (p ∙ m.0, agree_grows os os2 s.labels (labels_of Idle) g h.stack.listed m.1)
-    means_grows (Within f r ls) m = (p ∙ m.0, agree_grows os os2 s.labels ls g h.stack.listed m.1)
-    means_grows (Full xs x r ls) m = (p ∙ m.0, agree_grows os os2 s.labels ls g h.stack.listed m.1)
+    means_grows Idle m = (p ∙ m.0, agree_grows os os2 s.labels.entries (labels_of Idle) g h.stack.listed m.1)
+    means_grows (Within f r ls) m = (p ∙ m.0, agree_grows os os2 s.labels.entries ls g h.stack.listed m.1)
+    means_grows (Full xs x r ls) m = (p ∙ m.0, agree_grows os os2 s.labels.entries ls g h.stack.listed m.1)
     means_grows (Broken f) m = absurd m
 
 -- an atom is taken, where the heap grew for it
 pub atom_took : (os0 os1 os2 : List Object) (old s : Stack) (r : Outcome) (t : State) (y : Object) (x o : ℕ) → Holds os0 old t → Grows os0 os1 → object_at os1 x ≡ clamp y → IsStack os2 s → HoldsDatum os2 r →
-    ((u : State) → Means os1 old u → Does os2 s.layers.items s.labels r (on u (Atom o (object_at os1 x)))) → s.big ≡ (old.big || is_out_of_range y) → Took os2 s r (on t (Atom o y))
+    ((u : State) → Means os1 old u → Does os2 s.layers.items s.labels.entries r (on u (Atom o (object_at os1 x)))) → s.big ≡ (old.big || is_out_of_range y) → Took os2 s r (on t (Atom o y))
 atom_took os0 os1 os2 old s r t y x o h g e k d f b =
     took os2 old s r t (Atom o y) os0 h tt k d
-    (subst (λ z. Does os2 s.layers.items s.labels r (on (clamp_state t) (Atom o z))) e (f (clamp_state t) (holds_grows os0 os1 old t g h).means)) b
+    (subst (λ z. Does os2 s.layers.items s.labels.entries r (on (clamp_state t) (Atom o z))) e (f (clamp_state t) (holds_grows os0 os1 old t g h).means)) b
 
 pub or_small : (a b c : Bool) → c ≡ false → a ≡ b → a ≡ (b || c)
 or_small a true c e h = h
@@ -128,7 +128,7 @@ if_ok_all P Q R S (Ok x) f p q s v = f x p q s v
 if_ok_all P Q R S (Err e) f p q s v = p
 
 pub holds_full : (os : List Object) (s : Stack) (t : State) → Holds os s t → is_ready (pile_of os s.layers.items) ≡ is_full t
-holds_full os s t h = full_is os (pile_of os s.layers.items) s.labels (clamp_state t) h.means ∙ full_clamp t
+holds_full os s t h = full_is os (pile_of os s.layers.items) s.labels.entries (clamp_state t) h.means ∙ full_clamp t
   where
     full_clamp : (t : State) → is_full (clamp_state t) ≡ is_full t
     full_clamp Idle = refl

@@ -1,9 +1,8 @@
 -- Labels and what the map says of them.
-use Rattle.std.proofs.Common.{◌≡◌, ℕ, Bool, true, false, cond, List, Option, Some, None, is_some, refl, sym, ap, true≢false, eqb-true, ◌∙◌, if◌then◌else◌, eqb}
+use Rattle.std.proofs.Common.{◌≡◌, ℕ, Bool, true, false, cond, List, Option, Some, None, is_some, refl, sym, ap, true≢false, eqb-true, ◌∙◌, if◌then◌else◌, eqb, nat_eq}
 use Rattle.std.proofs.Common.{arith}
 use Rattle.std.proofs.lemmas.Grind.{common_steps}
-use Rattle.std.specs.BTreeMap.{BTreeMap, get, is_at}
-use Rattle.std.specs.Ordering.{nat_cmp}
+use Rattle.std.specs.Map.{lookup}
 use Rattle.mw_model.specs.Object.{Object}
 use Rattle.mw_model.specs.Grammar.{Labels, Unused, Label, is_begun, labelled, complete}
 use Rattle.mw_read.specs.Named.{status, seen, seen_at, Agree}
@@ -29,26 +28,26 @@ named_is n (Label m x ls) = go (named_is n ls) (eqb n m)
     go h false = h
 
 -- the map's test of keys is that of the labels
-is_at_eqb : (n q : ℕ) → is_at (nat_cmp n) q ≡ eqb q n
-is_at_eqb n q = grind (arith, common_steps)
+key_eqb : (n q : ℕ) → nat_eq n q ≡ eqb q n
+key_eqb n q = grind (arith, common_steps)
 
 seen_cond : (os : List Object) (b : Bool) (o : Option ℕ) (g : Option (Option ℕ)) → seen os (cond b (Some o) g) ≡ (if b then Some (seen_at os o) else seen os g)
 seen_cond os true o g = refl
 seen_cond os false o g = refl
 
-pub insert_is : (os : List Object) (old new : BTreeMap ℕ (Option ℕ)) (n q : ℕ) (o : Option ℕ) → get nat_cmp new q ≡ cond (is_at (nat_cmp n) q) (Some o) (get nat_cmp old q) →
-    seen os (get nat_cmp new q) ≡ (if eqb q n then Some (seen_at os o) else seen os (get nat_cmp old q))
+pub insert_is : (os : List Object) (old new : List (ℕ × Option ℕ)) (n q : ℕ) (o : Option ℕ) → lookup (nat_eq q) new ≡ cond (nat_eq n q) (Some o) (lookup (nat_eq q) old) →
+    seen os (lookup (nat_eq q) new) ≡ (if eqb q n then Some (seen_at os o) else seen os (lookup (nat_eq q) old))
 insert_is os old new n q o h =
-    ap (seen os) h ∙ seen_cond os (is_at (nat_cmp n) q) o (get nat_cmp old q) ∙ ap (λ b. if b then Some (seen_at os o) else seen os (get nat_cmp old q)) (is_at_eqb n q)
+    ap (seen os) h ∙ seen_cond os (nat_eq n q) o (lookup (nat_eq q) old) ∙ ap (λ b. if b then Some (seen_at os o) else seen os (lookup (nat_eq q) old)) (key_eqb n q)
 
 seen_some : (os : List Object) (g : Option (Option ℕ)) → is_some (seen os g) ≡ is_some g
 seen_some os None = refl
 seen_some os (Some o) = refl
 
-pub known : (os : List Object) (m : BTreeMap ℕ (Option ℕ)) (ls : Labels) (n : ℕ) → Agree os m ls → is_begun n ls ≡ is_some (get nat_cmp m n)
-known os m ls n h = begun_is n ls ∙ ap is_some (sym (h n)) ∙ seen_some os (get nat_cmp m n)
+pub known : (os : List Object) (m : List (ℕ × Option ℕ)) (ls : Labels) (n : ℕ) → Agree os m ls → is_begun n ls ≡ is_some (lookup (nat_eq n) m)
+known os m ls n h = begun_is n ls ∙ ap is_some (sym (h n)) ∙ seen_some os (lookup (nat_eq n) m)
 
-pub names : (os : List Object) (m : BTreeMap ℕ (Option ℕ)) (ls : Labels) (n : ℕ) → Agree os m ls → join (seen os (get nat_cmp m n)) ≡ labelled n ls
+pub names : (os : List Object) (m : List (ℕ × Option ℕ)) (ls : Labels) (n : ℕ) → Agree os m ls → join (seen os (lookup (nat_eq n) m)) ≡ labelled n ls
 names os m ls n h = ap join (h n) ∙ sym (named_is n ls)
 
 -- a label that is begun becomes complete, and all others stay

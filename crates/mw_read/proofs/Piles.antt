@@ -1,5 +1,5 @@
 -- Layers that come and go.
-use Rattle.std.proofs.Common.{◌≡◌, ℕ, ◌<◌, ◌≤◌, List, [], ◌∷◌, ◌++◌, length, refl, sym, ap, ap₂, ◌∙◌, subst, arith, Option, Some, None, IfSome, length-append, append_assoc, append-nil}
+use Rattle.std.proofs.Common.{◌≡◌, ℕ, ◌<◌, ◌≤◌, List, [], ◌∷◌, ◌++◌, length, refl, sym, ap, ap₂, ◌∙◌, subst, arith, Option, Some, None, IfSome, length-append, append_assoc, append-nil, nat_eq}
 use Rattle.mw_model.specs.Object.{Object}
 use Rattle.mw_model.specs.Grammar.{Labels, quoted, complete}
 use Rattle.mw_read.specs.Machine.{Members, Tailed, Quoting, Marking, Turn}
@@ -7,9 +7,7 @@ use Rattle.mw_heap.specs.Objects.{object_at, Grows}
 use Rattle.mw_read.specs.Piles.{Pile, Frames, Ready, piled, MayLie, pile_on, LieOn, IsUnder, AreUnder, pile_of, IsPile, give_to, Shows, Does, IsFrames, Gives}
 use Rattle.mw_read.specs.Named.{Agree, seen, IsListed}
 use Rattle.mw_read.specs.declared.step.Outcome.TheVariants as outcomes
-use Rattle.std.specs.BTreeMap.{BTreeMap, get, is_at}
 use Rattle.std.specs.Map.{lookup}
-use Rattle.std.specs.Ordering.{nat_cmp}
 use Rattle.mw_read.specs.declared.stack.Layer.{Layer}
 use Rattle.mw_read.specs.declared.stack.Layer.TheVariants as layers
 use Rattle.mw_read.proofs.Growth.{object_at-append}
@@ -88,19 +86,19 @@ seen_grows os more None h = refl
 seen_grows os more (Some None) h = refl
 seen_grows os more (Some (Some r)) h = ap (λ x. Some (Some x)) (object_at-append os more r h)
 
-pub agree_grows : (os os2 : List Object) (m : BTreeMap ℕ (Option ℕ)) (ls : Labels) → Grows os os2 → IsListed (length os) m → Agree os m ls → Agree os2 m ls
-agree_grows os os2 m ls g l h n = ap (λ u. seen u (get nat_cmp m n)) g.1 ∙ seen_grows os g.0 (get nat_cmp m n) (l n) ∙ h n
+pub agree_grows : (os os2 : List Object) (m : List (ℕ × Option ℕ)) (ls : Labels) → Grows os os2 → IsListed (length os) m → Agree os m ls → Agree os2 m ls
+agree_grows os os2 m ls g l h n = ap (λ u. seen u (lookup (nat_eq n) m)) g.1 ∙ seen_grows os g.0 (lookup (nat_eq n) m) (l n) ∙ h n
 
 some_grows : (j k : ℕ) (g : Option (Option ℕ)) → j ≤ k → IfSome g (λ o. IfSome o (λ r. r < j)) → IfSome g (λ o. IfSome o (λ r. r < k))
 some_grows j k None l h = tt
 some_grows j k (Some None) l h = tt
 some_grows j k (Some (Some r)) l h = omega (arith, h)
 
-pub listed_grows : (j k : ℕ) (m : BTreeMap ℕ (Option ℕ)) → j ≤ k → IsListed j m → IsListed k m
-listed_grows j k m l h n = some_grows j k (get nat_cmp m n) l (h n)
+pub listed_grows : (j k : ℕ) (m : List (ℕ × Option ℕ)) → j ≤ k → IsListed j m → IsListed k m
+listed_grows j k m l h n = some_grows j k (lookup (nat_eq n) m) l (h n)
 
 -- giving begins
-pub give_start : (os : List Object) (ls : List Layer) (m : BTreeMap ℕ (Option ℕ)) (x : ℕ) → x < length os → IsPile os ls → IsFrames (pile_of os ls) → IsListed (length os) m → Gives os ls m x os ls m x
+pub give_start : (os : List Object) (ls : List Layer) (m : List (ℕ × Option ℕ)) (x : ℕ) → x < length os → IsPile os ls → IsFrames (pile_of os ls) → IsListed (length os) m → Gives os ls m x os ls m x
 give_start os ls m x h p w l = record { pile = p; waits = w; listed = h; kept = ([], sym (append-nil os)); tags = l; turns = λ ks a. (ks, a, refl) }
 
 quote_gives : (os : List Object) (t : Pile) (y : Object) (ks : Labels) → MayLie t layers.Quote → give_to (piled os t layers.Quote) y ks ≡ give_to t (quoted y) ks
@@ -119,9 +117,9 @@ under_mark : (t : Pile) (n : ℕ) → MayLie t (layers.Mark n) → IsFrames t
 under_mark (Frames s) n h = tt
 under_mark (Ready xs x s) n h = absurd h
 
-module _ (old : List Object) (before : List Layer) (labels : BTreeMap ℕ (Option ℕ)) (first : ℕ) where
+module _ (old : List Object) (before : List Layer) (labels : List (ℕ × Option ℕ)) (first : ℕ) where
   -- a quote goes round the datum
-  pub give_quote : (os new : List Object) (ls rest : List Layer) (m : BTreeMap ℕ (Option ℕ)) (x made : ℕ) → Gives old before labels first os ls m x → ls ≡ rest ++ layers.Quote ∷ [] →
+  pub give_quote : (os new : List Object) (ls rest : List Layer) (m : List (ℕ × Option ℕ)) (x made : ℕ) → Gives old before labels first os ls m x → ls ≡ rest ++ layers.Quote ∷ [] →
       Grows os new → made < length new → object_at new made ≡ quoted (object_at os x) → Gives old before labels first new rest m made
   give_quote os new ls rest m x made g e w b q =
       let P : List Layer → Type 0 = λ u. IsPile os u in
@@ -144,7 +142,7 @@ module _ (old : List Object) (before : List Layer) (labels : BTreeMap ℕ (Optio
       }
 
   -- a labelled datum
-  pub give_mark : (os : List Object) (ls rest : List Layer) (m m2 : BTreeMap ℕ (Option ℕ)) (x n : ℕ) → Gives old before labels first os ls m x → ls ≡ rest ++ layers.Mark n ∷ [] →
+  pub give_mark : (os : List Object) (ls rest : List Layer) (m m2 : List (ℕ × Option ℕ)) (x n : ℕ) → Gives old before labels first os ls m x → ls ≡ rest ++ layers.Mark n ∷ [] →
       ((ks : Labels) → Agree os m ks → Agree os m2 (complete n (object_at os x) ks)) → IsListed (length os) m2 → Gives old before labels first os rest m2 x
   give_mark os ls rest m m2 x n g e f l =
       let P : List Layer → Type 0 = λ u. IsPile os u in
@@ -165,7 +163,7 @@ module _ (old : List Object) (before : List Layer) (labels : BTreeMap ℕ (Optio
       }
 
   -- a layer more on the pile
-  give_layer : (os : List Object) (ls new : List Layer) (m : BTreeMap ℕ (Option ℕ)) (x : ℕ) (l : Layer) → Gives old before labels first os ls m x → new ≡ ls ++ l ∷ [] → IsUnder (length os) l → MayLie (pile_of os ls) l →
+  give_layer : (os : List Object) (ls new : List Layer) (m : List (ℕ × Option ℕ)) (x : ℕ) (l : Layer) → Gives old before labels first os ls m x → new ≡ ls ++ l ∷ [] → IsUnder (length os) l → MayLie (pile_of os ls) l →
       ((js : Labels) → Agree os m js → ([] ≡ (give_to (pile_of os ls) (object_at os x) js).events) × Shows os (piled os (pile_of os ls) l) m (give_to (pile_of os ls) (object_at os x) js).state) →
       IsPile os new × ((ks : Labels) → Agree old labels ks → Does os new m outcomes.Pending (give_to (pile_of old before) (object_at old first) ks))
   give_layer os ls new m x l g e u y q =
@@ -177,7 +175,7 @@ module _ (old : List Object) (before : List Layer) (labels : BTreeMap ℕ (Optio
             (sym (pile_top os (Frames []) ls l) ∙ ap (pile_of os) (sym e)) (q t.0 t.1)),
       )
 
-  dot_gives : (os : List Object) (t : Pile) (m : BTreeMap ℕ (Option ℕ)) (x : ℕ) → MayLie t layers.Dot →
+  dot_gives : (os : List Object) (t : Pile) (m : List (ℕ × Option ℕ)) (x : ℕ) → MayLie t layers.Dot →
       MayLie t (layers.Last x)
       × ((js : Labels) → Agree os m js → ([] ≡ (give_to (piled os t layers.Dot) (object_at os x) js).events)
       × Shows os (piled os t (layers.Last x)) m (give_to (piled os t layers.Dot) (object_at os x) js).state)
@@ -189,7 +187,7 @@ module _ (old : List Object) (before : List Layer) (labels : BTreeMap ℕ (Optio
   dot_gives os (Frames []) m x h = absurd h
   dot_gives os (Ready xs y s) m x h = absurd h
 
-  pub give_last : (os : List Object) (ls rest new : List Layer) (m : BTreeMap ℕ (Option ℕ)) (x : ℕ) → Gives old before labels first os ls m x → ls ≡ rest ++ layers.Dot ∷ [] →
+  pub give_last : (os : List Object) (ls rest new : List Layer) (m : List (ℕ × Option ℕ)) (x : ℕ) → Gives old before labels first os ls m x → ls ≡ rest ++ layers.Dot ∷ [] →
       new ≡ rest ++ layers.Last x ∷ [] → IsPile os new × ((ks : Labels) → Agree old labels ks → Does os new m outcomes.Pending (give_to (pile_of old before) (object_at old first) ks))
   give_last os ls rest new m x g e n =
       let p = subst (λ u. IsPile os u) e g.pile in
@@ -202,7 +200,7 @@ module _ (old : List Object) (before : List Layer) (labels : BTreeMap ℕ (Optio
             (sym (pile_top os (Frames []) rest (layers.Last x)) ∙ ap (pile_of os) (sym n)) (k.1 t.0 t.1)),
       )
 
-  item_gives : (os : List Object) (t : Pile) (l : Layer) (m : BTreeMap ℕ (Option ℕ)) (x : ℕ) → MayLie t l → IsFrames (piled os t l) →
+  item_gives : (os : List Object) (t : Pile) (l : Layer) (m : List (ℕ × Option ℕ)) (x : ℕ) → MayLie t l → IsFrames (piled os t l) →
       (l ≡ layers.Quote → ⊥) → (l ≡ layers.Dot → ⊥) → ((n : ℕ) → l ≡ layers.Mark n → ⊥) →
       MayLie (piled os t l) (layers.Item x)
       × ((js : Labels) → Agree os m js → ([] ≡ (give_to (piled os t l) (object_at os x) js).events)
@@ -215,7 +213,7 @@ module _ (old : List Object) (before : List Layer) (labels : BTreeMap ℕ (Optio
   item_gives os t layers.Dot m x y f q d k = absurd (d refl)
   item_gives os t l m x y f q d k = absurd y
 
-  pub give_item : (os : List Object) (ls rest new : List Layer) (m : BTreeMap ℕ (Option ℕ)) (x : ℕ) (l : Layer) → Gives old before labels first os ls m x → ls ≡ rest ++ l ∷ [] →
+  pub give_item : (os : List Object) (ls rest new : List Layer) (m : List (ℕ × Option ℕ)) (x : ℕ) (l : Layer) → Gives old before labels first os ls m x → ls ≡ rest ++ l ∷ [] →
       (l ≡ layers.Quote → ⊥) → (l ≡ layers.Dot → ⊥) → ((n : ℕ) → l ≡ layers.Mark n → ⊥) →
       new ≡ (rest ++ l ∷ []) ++ layers.Item x ∷ [] → IsPile os new × ((ks : Labels) → Agree old labels ks → Does os new m outcomes.Pending (give_to (pile_of old before) (object_at old first) ks))
   give_item os ls rest new m x l g e q d i n =
@@ -227,12 +225,12 @@ module _ (old : List Object) (before : List Layer) (labels : BTreeMap ℕ (Optio
       (subst (λ (u : Pile). (js : Labels) → Agree os m js → ([] ≡ (give_to u (object_at os x) js).events) × Shows os (piled os u (layers.Item x)) m (give_to u (object_at os x) js).state) v k.1)
 
   -- nothing is open: an event
-  pub give_event : (os : List Object) (ls new : List Layer) (m m2 : BTreeMap ℕ (Option ℕ)) (x : ℕ) → Gives old before labels first os ls m x → length ls ≡ 0 → new ≡ ls → m2.entries ≡ [] →
+  pub give_event : (os : List Object) (ls new : List Layer) (m m2 : List (ℕ × Option ℕ)) (x : ℕ) → Gives old before labels first os ls m x → length ls ≡ 0 → new ≡ ls → m2 ≡ [] →
       IsPile os new × (IsListed (length os) m2 × ((ks : Labels) → Agree old labels ks → Does os new m2 (outcomes.Datum x) (give_to (pile_of old before) (object_at old first) ks)))
   give_event os (k ∷ ls) new m m2 x g l e z = absurd (omega arith)
   give_event os [] new m m2 x g l e z =
       let P : List Layer → Type 0 = λ u. IsPile os u in
-      let none : (n : ℕ) → get nat_cmp m2 n ≡ None = λ n. ap (λ u. lookup (is_at (nat_cmp n)) u) z in (
+      let none : (n : ℕ) → lookup (nat_eq n) m2 ≡ None = λ n. ap (λ u. lookup (nat_eq n) u) z in (
         subst P (sym e) g.pile,
         (
           λ n. subst (λ u. IfSome u (λ o. IfSome o (λ r. r < length os))) (sym (none n)) tt,

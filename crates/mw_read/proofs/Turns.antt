@@ -1,6 +1,5 @@
 -- What a layer more or less makes of the state that a stack stands for.
 use Rattle.std.proofs.Common.{◌≡◌, ℕ, zero, suc, ◌-◌, Bool, true, false, List, [], ◌∷◌, ◌++◌, length, Option, Some, None, Result, Ok, Err, IfOk, refl, sym, ap, ◌∙◌, subst, arith, true≢false, MatchBool, if◌then◌else◌, ◌⊎◌, inl, inr, take, length-append}
-use Rattle.std.specs.BTreeMap.{BTreeMap}
 use Rattle.mw_model.specs.Object.{Object, NIL}
 use Rattle.mw_model.specs.Lexemes.{Lexeme, Atom, Open, Close, Dot, Quote, Mark, Ref, DOT, CLOSE, LABEL}
 use Rattle.mw_model.specs.Grammar.{Labels, Unused, Label, is_begun, labelled}
@@ -21,26 +20,26 @@ frames_of (Within f s ls) = f ∷ s
 frames_of (Full xs x s ls) = s
 frames_of (Broken f) = []
 
-pub shows_agree : (os : List Object) (p : Pile) (m : BTreeMap ℕ (Option ℕ)) (t : State) → Shows os p m t → Agree os m (labels_of t)
+pub shows_agree : (os : List Object) (p : Pile) (m : List (ℕ × Option ℕ)) (t : State) → Shows os p m t → Agree os m (labels_of t)
 shows_agree os p m Idle h = h.1
 shows_agree os p m (Within f s ls) h = h.1
 shows_agree os p m (Full xs x s ls) h = h.1
 shows_agree os p m (Broken f) h = absurd h
 
-pub shows_frames : (os : List Object) (p : Pile) (m : BTreeMap ℕ (Option ℕ)) (t : State) → Shows os p m t → is_full t ≡ false → p ≡ Frames (frames_of t)
+pub shows_frames : (os : List Object) (p : Pile) (m : List (ℕ × Option ℕ)) (t : State) → Shows os p m t → is_full t ≡ false → p ≡ Frames (frames_of t)
 shows_frames os p m Idle h n = h.0
 shows_frames os p m (Within f s ls) h n = h.0
 shows_frames os p m (Full xs x s ls) h n = absurd (true≢false n)
 shows_frames os p m (Broken f) h n = absurd h
 
 -- what the top says
-pub full_is : (os : List Object) (p : Pile) (m : BTreeMap ℕ (Option ℕ)) (t : State) → Shows os p m t → is_ready p ≡ is_full t
+pub full_is : (os : List Object) (p : Pile) (m : List (ℕ × Option ℕ)) (t : State) → Shows os p m t → is_ready p ≡ is_full t
 full_is os p m Idle h = ap is_ready h.0
 full_is os p m (Within f s ls) h = ap is_ready h.0
 full_is os p m (Full xs x s ls) h = ap is_ready h.0
 full_is os p m (Broken f) h = absurd h
 
-pub member_is : (os : List Object) (p : Pile) (m : BTreeMap ℕ (Option ℕ)) (t : State) → Shows os p m t → has_member p ≡ is_behind_member t
+pub member_is : (os : List Object) (p : Pile) (m : List (ℕ × Option ℕ)) (t : State) → Shows os p m t → has_member p ≡ is_behind_member t
 member_is os p m Idle h = ap has_member h.0
 member_is os p m (Within (Members []) s ls) h = ap has_member h.0
 member_is os p m (Within (Members (x ∷ xs)) s ls) h = ap has_member h.0
@@ -105,7 +104,7 @@ full_fault (Full xs y s ls) (Mark p n) o h b = ap (broken DOT) b
 full_fault (Full xs y s ls) (Ref p n) o h b = ap (broken DOT) b
 full_fault (Full xs y s ls) l o h b = absurd b
 
-pub shows_sound : (os : List Object) (p : Pile) (m : BTreeMap ℕ (Option ℕ)) (t : State) → Shows os p m t → IsSound t
+pub shows_sound : (os : List Object) (p : Pile) (m : List (ℕ × Option ℕ)) (t : State) → Shows os p m t → IsSound t
 shows_sound os p m Idle h = tt
 shows_sound os p m (Within f s ls) h = tt
 shows_sound os p m (Full xs x s ls) h = tt
@@ -158,12 +157,12 @@ on_take (Within (Marking j) s ls) (Ref p n) o h k b = refl
 on_take (Within (Marking j) s ls) l o h k b = absurd b
 
 -- a layer more
-pub push_frame : (os : List Object) (ls new : List Layer) (m m2 : BTreeMap ℕ (Option ℕ)) (t : State) (l : Layer) (f : Frame) (js : Labels) → new ≡ ls ++ l ∷ [] → Shows os (pile_of os ls) m t → is_full t ≡ false →
+pub push_frame : (os : List Object) (ls new : List Layer) (m m2 : List (ℕ × Option ℕ)) (t : State) (l : Layer) (f : Frame) (js : Labels) → new ≡ ls ++ l ∷ [] → Shows os (pile_of os ls) m t → is_full t ≡ false →
     ((s : List Frame) → piled os (Frames s) l ≡ Frames (f ∷ s)) → Agree os m2 js → Shows os (pile_of os new) m2 (Within f (frames_of t) js)
 push_frame os ls new m m2 t l f js e h n g a =
     (ap (pile_of os) e ∙ pile_top os (Frames []) ls l ∙ ap (λ p. piled os p l) (shows_frames os (pile_of os ls) m t h n) ∙ g (frames_of t), a)
 
-pub push_dot : (os : List Object) (ls new : List Layer) (m : BTreeMap ℕ (Option ℕ)) (t : State) (o : ℕ) → new ≡ ls ++ layers.Dot ∷ [] → Shows os (pile_of os ls) m t → is_behind_member t ≡ true →
+pub push_dot : (os : List Object) (ls new : List Layer) (m : List (ℕ × Option ℕ)) (t : State) (o : ℕ) → new ≡ ls ++ layers.Dot ∷ [] → Shows os (pile_of os ls) m t → is_behind_member t ≡ true →
     MayLie (pile_of os ls) layers.Dot × (([] ≡ (on t (Dot o)).events) × Shows os (pile_of os new) m (on t (Dot o)).state)
 push_dot os ls new m (Within (Members (x ∷ xs)) s ls') o e h b =
     (subst (λ p. MayLie p layers.Dot) (sym h.0) tt, (refl, (ap (pile_of os) e ∙ pile_top os (Frames []) ls layers.Dot ∙ ap (λ p. piled os p layers.Dot) h.0, h.1)))
@@ -176,7 +175,7 @@ push_dot os ls new m (Full xs x s ls') o e h b = absurd (true≢false (sym b))
 push_dot os ls new m (Broken f) o e h b = absurd (true≢false (sym b))
 
 -- a datum is given
-pub give_atom : (os : List Object) (p : Pile) (m : BTreeMap ℕ (Option ℕ)) (t : State) (y : Object) (o : ℕ) → Shows os p m t → is_full t ≡ false → give_to p y (labels_of t) ≡ on t (Atom o y)
+pub give_atom : (os : List Object) (p : Pile) (m : List (ℕ × Option ℕ)) (t : State) (y : Object) (o : ℕ) → Shows os p m t → is_full t ≡ false → give_to p y (labels_of t) ≡ on t (Atom o y)
 give_atom os p m t y o h n = ap (λ q. give_to q y (labels_of t)) (shows_frames os p m t h n) ∙ sym (on_take t (Atom o y) o n (shows_sound os p m t h) refl)
 
 pub stack_more : (os : List Object) (ls new : List Layer) (l : Layer) → new ≡ ls ++ l ∷ [] → IsPile os ls → MayLie (pile_of os ls) l → IsUnder (length os) l → IsPile os new
@@ -204,7 +203,7 @@ close_pile o (Frames (Quoting ∷ s)) ls = broken CLOSE o
 close_pile o (Frames (Marking n ∷ s)) ls = broken CLOSE o
 close_pile o (Ready xs x s) ls = given (fill xs x) s ls
 
-pub on_close : (os : List Object) (p : Pile) (m : BTreeMap ℕ (Option ℕ)) (t : State) (o : ℕ) → Shows os p m t → on t (Close o) ≡ close_pile o p (labels_of t)
+pub on_close : (os : List Object) (p : Pile) (m : List (ℕ × Option ℕ)) (t : State) (o : ℕ) → Shows os p m t → on t (Close o) ≡ close_pile o p (labels_of t)
 on_close os p m Idle o h = sym (ap (λ q. close_pile o q Unused) h.0)
 on_close os p m (Within (Members []) s ls) o h = sym (ap (λ q. close_pile o q ls) h.0)
 on_close os p m (Within (Members (x ∷ xs)) s ls) o h = sym (ap (λ q. close_pile o q ls) h.0)
@@ -273,7 +272,7 @@ match_false P true e h = absurd (true≢false e)
 match_false P false e h = h
 
 -- a label
-pub mark_new : (os : List Object) (ls new : List Layer) (m m2 : BTreeMap ℕ (Option ℕ)) (t : State) (n o : ℕ) → new ≡ ls ++ layers.Mark n ∷ [] → Shows os (pile_of os ls) m t → is_full t ≡ false →
+pub mark_new : (os : List Object) (ls new : List Layer) (m m2 : List (ℕ × Option ℕ)) (t : State) (n o : ℕ) → new ≡ ls ++ layers.Mark n ∷ [] → Shows os (pile_of os ls) m t → is_full t ≡ false →
     is_begun n (labels_of t) ≡ false → Agree os m2 (Label n None (labels_of t)) → ([] ≡ (on t (Mark o n)).events) × Shows os (pile_of os new) m2 (on t (Mark o n)).state
 mark_new os ls new m m2 t n o e h f b a =
     let js = Label n None (labels_of t) in
@@ -281,17 +280,17 @@ mark_new os ls new m m2 t n o e h f b a =
     on_take t (Mark o n) o f (shows_sound os (pile_of os ls) m t h) refl ∙ ap (λ v. if v then broken LABEL o else quiet (Within (Marking n) (frames_of t) js)) b in
     subst (λ (w : Turn). ([] ≡ w.events) × Shows os (pile_of os new) m2 w.state) (sym q) (refl, push_frame os ls new m m2 t (layers.Mark n) (Marking n) js e h f (λ s. refl) a)
 
-pub mark_old : (os : List Object) (p : Pile) (m : BTreeMap ℕ (Option ℕ)) (t : State) (n o : ℕ) → Shows os p m t → is_full t ≡ false → is_begun n (labels_of t) ≡ true → on t (Mark o n) ≡ broken LABEL o
+pub mark_old : (os : List Object) (p : Pile) (m : List (ℕ × Option ℕ)) (t : State) (n o : ℕ) → Shows os p m t → is_full t ≡ false → is_begun n (labels_of t) ≡ true → on t (Mark o n) ≡ broken LABEL o
 mark_old os p m t n o h f b =
     on_take t (Mark o n) o f (shows_sound os p m t h) refl ∙ ap (λ v. if v then broken LABEL o else quiet (Within (Marking n) (frames_of t) (Label n None (labels_of t)))) b
 
 -- a reference
-pub refer_some : (os : List Object) (p : Pile) (m : BTreeMap ℕ (Option ℕ)) (t : State) (n o x : ℕ) → Shows os p m t → is_full t ≡ false → seen_at os (Some x) ≡ labelled n (labels_of t) → on t (Atom o (object_at os x)) ≡ on t (Ref o n)
+pub refer_some : (os : List Object) (p : Pile) (m : List (ℕ × Option ℕ)) (t : State) (n o x : ℕ) → Shows os p m t → is_full t ≡ false → seen_at os (Some x) ≡ labelled n (labels_of t) → on t (Atom o (object_at os x)) ≡ on t (Ref o n)
 refer_some os p m t n o x h f e =
     let k = shows_sound os p m t h in
     on_take t (Atom o (object_at os x)) o f k refl ∙ ap (λ y. refer o y (frames_of t) (labels_of t)) e ∙ sym (on_take t (Ref o n) o f k refl)
 
-pub refer_none : (os : List Object) (p : Pile) (m : BTreeMap ℕ (Option ℕ)) (t : State) (n o : ℕ) → Shows os p m t → is_full t ≡ false → None ≡ labelled n (labels_of t) → on t (Ref o n) ≡ broken LABEL o
+pub refer_none : (os : List Object) (p : Pile) (m : List (ℕ × Option ℕ)) (t : State) (n o : ℕ) → Shows os p m t → is_full t ≡ false → None ≡ labelled n (labels_of t) → on t (Ref o n) ≡ broken LABEL o
 refer_none os p m t n o h f e = on_take t (Ref o n) o f (shows_sound os p m t h) refl ∙ ap (λ y. refer o y (frames_of t) (labels_of t)) (sym e)
 
 -- what ends with this layer, without it
@@ -310,15 +309,15 @@ opens_list os ls l e p (inl q) =
 opens_list os ls l e p (inr q) =
     let k = split_lies os ls e.0 (layers.Item q.0) (e.1 ∙ ap (λ u. e.0 ++ u ∷ []) q.1) p in subst (λ u. IsInList u) (sym k.1) (item_list os (pile_of os e.0) q.0 k.0)
 
-pub ends_none : (os : List Object) (ls : List Layer) (m : BTreeMap ℕ (Option ℕ)) (t : State) (o : ℕ) → ls ≡ [] → Shows os (pile_of os ls) m t → on t (Close o) ≡ broken CLOSE o
+pub ends_none : (os : List Object) (ls : List Layer) (m : List (ℕ × Option ℕ)) (t : State) (o : ℕ) → ls ≡ [] → Shows os (pile_of os ls) m t → on t (Close o) ≡ broken CLOSE o
 ends_none os ls m t o e h = on_close os (pile_of os ls) m t o h ∙ ap (λ u. close_pile o (pile_of os u) (labels_of t)) e
 
-pub ends_dot : (os : List Object) (ls : List Layer) (m : BTreeMap ℕ (Option ℕ)) (t : State) (o : ℕ) (l : Layer) → EndsWith ls l → IsPile os ls → l ≡ layers.Dot → Shows os (pile_of os ls) m t → on t (Close o) ≡ broken DOT o
+pub ends_dot : (os : List Object) (ls : List Layer) (m : List (ℕ × Option ℕ)) (t : State) (o : ℕ) (l : Layer) → EndsWith ls l → IsPile os ls → l ≡ layers.Dot → Shows os (pile_of os ls) m t → on t (Close o) ≡ broken DOT o
 ends_dot os ls m t o l e p q h =
     let k = split_lies os ls e.0 layers.Dot (e.1 ∙ ap (λ u. e.0 ++ u ∷ []) q) p in
     on_close os (pile_of os ls) m t o h ∙ ap (λ u. close_pile o u (labels_of t)) k.1 ∙ dot_closes os (pile_of os e.0) o (labels_of t) k.0
 
-pub ends_waiting : (os : List Object) (ls : List Layer) (m : BTreeMap ℕ (Option ℕ)) (t : State) (o : ℕ) (l : Layer) → EndsWith ls l → IsPile os ls → (l ≡ layers.Quote) ⊎ ((n : ℕ) × (l ≡ layers.Mark n)) → Shows os (pile_of os ls) m t →
+pub ends_waiting : (os : List Object) (ls : List Layer) (m : List (ℕ × Option ℕ)) (t : State) (o : ℕ) (l : Layer) → EndsWith ls l → IsPile os ls → (l ≡ layers.Quote) ⊎ ((n : ℕ) × (l ≡ layers.Mark n)) → Shows os (pile_of os ls) m t →
     on t (Close o) ≡ broken CLOSE o
 ends_waiting os ls m t o l e p (inl q) h =
     let k = split_lies os ls e.0 layers.Quote (e.1 ∙ ap (λ u. e.0 ++ u ∷ []) q) p in
@@ -338,7 +337,7 @@ popped_layer ls seen new l m n e s q a b =
     f ∙ ap (λ u. u ++ m ∷ []) (sym (popped_is ls e.0 new m n f a b))
 
 pub under_last : (os : List Object) (ls new : List Layer) (l : Layer) (x n : ℕ) (e : EndsWith ls l) → IsPile os ls → l ≡ layers.Last x → n ≡ length ls → new ≡ take (n - 1) ls →
-    IsPile os new × (IsInList (pile_of os new) × ((m : BTreeMap ℕ (Option ℕ)) (t : State) (o : ℕ) → Shows os (pile_of os ls) m t → closed_with (pile_of os new) (object_at os x) (labels_of t) ≡ on t (Close o)))
+    IsPile os new × (IsInList (pile_of os new) × ((m : List (ℕ × Option ℕ)) (t : State) (o : ℕ) → Shows os (pile_of os ls) m t → closed_with (pile_of os new) (object_at os x) (labels_of t) ≡ on t (Close o)))
 under_last os ls new l x n e p q a b =
     let f : ls ≡ e.0 ++ layers.Last x ∷ [] = e.1 ∙ ap (λ u. e.0 ++ u ∷ []) q in
     let g = popped_is ls e.0 new (layers.Last x) n f a b in

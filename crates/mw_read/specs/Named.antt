@@ -1,7 +1,6 @@
 -- The labels of a datum, as the code keeps them: a map from a label to the reference of its datum.
-use Rattle.std.specs.Prelude.{◌≡◌, ℕ, ◌<◌, List, eqb, Option, Some, None, IfSome, if◌then◌else◌}
-use Rattle.std.specs.BTreeMap.{BTreeMap, get}
-use Rattle.std.specs.Ordering.{nat_cmp}
+use Rattle.std.specs.Prelude.{◌≡◌, ℕ, ◌<◌, List, eqb, nat_eq, Option, Some, None, IfSome, if◌then◌else◌}
+use Rattle.std.specs.Map.{lookup}
 use Rattle.mw_model.specs.Object.{Object}
 use Rattle.mw_model.specs.Grammar.{Labels, Unused, Label}
 use Rattle.mw_heap.specs.Objects.{object_at}
@@ -20,9 +19,9 @@ seen os None = None
 seen os (Some o) = Some (seen_at os o)
 
 -- the map says of each label what the labels say
-abbrev pub Agree : List Object → BTreeMap ℕ (Option ℕ) → Labels → Type 0
-Agree os m ls = (n : ℕ) → seen os (get nat_cmp m n) ≡ status n ls
+abbrev pub Agree : List Object → List (ℕ × Option ℕ) → Labels → Type 0
+Agree os m ls = (n : ℕ) → seen os (lookup (nat_eq n) m) ≡ status n ls
 
 -- its references are below k
-abbrev pub IsListed : ℕ → BTreeMap ℕ (Option ℕ) → Type 0
-IsListed k m = (n : ℕ) → IfSome (get nat_cmp m n) (λ o. IfSome o (λ r. r < k))
+abbrev pub IsListed : ℕ → List (ℕ × Option ℕ) → Type 0
+IsListed k m = (n : ℕ) → IfSome (lookup (nat_eq n) m) (λ o. IfSome o (λ r. r < k))

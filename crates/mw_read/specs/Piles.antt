@@ -1,6 +1,5 @@
 -- What the reader's stack stands for.
 use Rattle.std.specs.Prelude.{◌≡◌, ℕ, ◌<◌, Bool, true, false, List, [], ◌∷◌, ◌++◌, length, Option}
-use Rattle.std.specs.BTreeMap.{BTreeMap}
 use Rattle.mw_model.specs.Object.{Object}
 use Rattle.mw_model.specs.Grammar.{Labels, Unused}
 use Rattle.mw_read.specs.Named.{Agree, IsListed}
@@ -69,7 +68,7 @@ give_to (Frames s) y ls = given y s ls
 give_to (Ready xs x s) y ls = quiet (Full xs x s ls)
 
 -- a pile and labels that are in this state
-abbrev pub Shows : List Object → Pile → BTreeMap ℕ (Option ℕ) → State → Type 0
+abbrev pub Shows : List Object → Pile → List (ℕ × Option ℕ) → State → Type 0
 Shows os p m Idle = (p ≡ Frames []) × Agree os m Unused
 Shows os p m (Within f s ls) = (p ≡ Frames (f ∷ s)) × Agree os m ls
 Shows os p m (Full xs x s ls) = (p ≡ Ready xs x s) × Agree os m ls
@@ -88,7 +87,7 @@ abbrev pub fault_of : code.Fault → lex.Fault
 fault_of f = lex.fault (kind_of f.kind) f.offset
 
 -- the outcome is that of the turn
-abbrev pub Does : List Object → List Layer → BTreeMap ℕ (Option ℕ) → Outcome → Turn → Type 0
+abbrev pub Does : List Object → List Layer → List (ℕ × Option ℕ) → Outcome → Turn → Type 0
 Does os ls m outcomes.Pending t = ([] ≡ t.events) × Shows os (pile_of os ls) m t.state
 Does os ls m (outcomes.Datum r) t = (t ≡ event (object_at os r)) × Shows os (pile_of os ls) m Idle
 Does os ls m (outcomes.Fault f) t = t ≡ quiet (Broken (fault_of f))
@@ -142,7 +141,7 @@ abbrev pub EndsWith : List Layer → Layer → Type 0
 EndsWith ls l = (rest : List Layer) × (ls ≡ rest ++ l ∷ [])
 
 -- what giving a datum keeps
-pub record Gives (old : List Object) (before : List Layer) (labels : BTreeMap ℕ (Option ℕ)) (first : ℕ) (os : List Object) (ls : List Layer) (m : BTreeMap ℕ (Option ℕ)) (x : ℕ) : Type 0 where
+pub record Gives (old : List Object) (before : List Layer) (labels : List (ℕ × Option ℕ)) (first : ℕ) (os : List Object) (ls : List Layer) (m : List (ℕ × Option ℕ)) (x : ℕ) : Type 0 where
   pub pile : IsPile os ls
   pub waits : IsFrames (pile_of os ls)
   pub listed : x < length os

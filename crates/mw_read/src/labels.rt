@@ -5,14 +5,14 @@ ghost use Rattle.mw_model.specs.Grammar.{Labels, Label, is_begun, labelled, comp
 ghost use Rattle.mw_heap.specs.Objects.{object_at};
 ghost use Rattle.mw_read.specs.Named.{Agree, seen_at, IsListed};
 
+use indexmap::IndexMap;
 use mw_heap::{Memory, Ref};
-use std::collections::BTreeMap;
 
 // Begins the label, or says that it was begun already.
-pub(crate) fn begin(labels: &mut BTreeMap<u32, Option<Ref>>, n: u32) -> Result<bool, Memory>
-    ensures begun { IfOk result (λ new. (os : List Object) (ls : Labels) → Agree os labels.old ls →
-        MatchBool new ((is_begun n ls ≡ false) × Agree os labels.new (Label n None ls)) ((is_begun n ls ≡ true) × Agree os labels.new ls)) }
-    ensures listed { IfOk result (λ new. (k : ℕ) → IsListed k labels.old → IsListed k labels.new) }
+pub(crate) fn begin(labels: &mut IndexMap<u32, Option<Ref>>, n: u32) -> Result<bool, Memory>
+    ensures begun { IfOk result (λ new. (os : List Object) (ls : Labels) → Agree os labels.old.entries ls →
+        MatchBool new ((is_begun n ls ≡ false) × Agree os labels.new.entries (Label n None ls)) ((is_begun n ls ≡ true) × Agree os labels.new.entries ls)) }
+    ensures listed { IfOk result (λ new. (k : ℕ) → IsListed k labels.old.entries → IsListed k labels.new.entries) }
 {
     if labels.contains_key(&n) {
         return Ok(false);
@@ -22,9 +22,9 @@ pub(crate) fn begin(labels: &mut BTreeMap<u32, Option<Ref>>, n: u32) -> Result<b
 }
 
 // The datum of the label is complete.
-pub(crate) fn end(labels: &mut BTreeMap<u32, Option<Ref>>, n: u32, x: Ref) -> Result<(), Memory>
-    ensures agrees { OnOk result ((os : List Object) (ls : Labels) → Agree os labels.old ls → Agree os labels.new (complete n (object_at os x) ls)) }
-    ensures listed { OnOk result ((k : ℕ) → x < k → IsListed k labels.old → IsListed k labels.new) }
+pub(crate) fn end(labels: &mut IndexMap<u32, Option<Ref>>, n: u32, x: Ref) -> Result<(), Memory>
+    ensures agrees { OnOk result ((os : List Object) (ls : Labels) → Agree os labels.old.entries ls → Agree os labels.new.entries (complete n (object_at os x) ls)) }
+    ensures listed { OnOk result ((k : ℕ) → x < k → IsListed k labels.old.entries → IsListed k labels.new.entries) }
 {
     if labels.contains_key(&n) {
         labels.insert(n, Some(x))?;
@@ -33,9 +33,9 @@ pub(crate) fn end(labels: &mut BTreeMap<u32, Option<Ref>>, n: u32, x: Ref) -> Re
 }
 
 // What a reference to the label names.
-pub(crate) fn look(labels: &BTreeMap<u32, Option<Ref>>, n: u32) -> Option<Ref>
-    ensures names { (os : List Object) (ls : Labels) → Agree os labels.now ls → seen_at os result ≡ labelled n ls }
-    ensures listed { (k : ℕ) → IsListed k labels.now → IfSome result (λ r. r < k) }
+pub(crate) fn look(labels: &IndexMap<u32, Option<Ref>>, n: u32) -> Option<Ref>
+    ensures names { (os : List Object) (ls : Labels) → Agree os labels.now.entries ls → seen_at os result ≡ labelled n ls }
+    ensures listed { (k : ℕ) → IsListed k labels.now.entries → IfSome result (λ r. r < k) }
 {
     match labels.get(&n) {
         Some(place) => *place,

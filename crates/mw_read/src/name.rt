@@ -20,12 +20,21 @@ pub(crate) struct Names {
     raised: Vec<u8>,
 }
 
-// The slot of a token.
-fn slot_of(token: &[u8]) -> usize {
-    let mut mixed: u32 = 0;
-    for b in token {
-        mixed = mixed.wrapping_mul(31).wrapping_add(*b as u32);
+// A byte of a token mixed in, where there is one.
+fn mixed_with(mixed: u32, token: &[u8], place: usize) -> u32 {
+    match token.get(place) {
+        Some(b) => mixed.wrapping_mul(31).wrapping_add(*b as u32),
+        None => mixed,
     }
+}
+
+// The slot of a token, by its length and at most four of its bytes, so that a long one costs no more.
+fn slot_of(token: &[u8]) -> usize {
+    let length = token.len();
+    let mixed = mixed_with((length % SLOTS) as u32, token, 0);
+    let mixed = mixed_with(mixed, token, length / 2);
+    let mixed = mixed_with(mixed, token, length.saturating_sub(2));
+    let mixed = mixed_with(mixed, token, length.saturating_sub(1));
     mixed as usize % SLOTS
 }
 

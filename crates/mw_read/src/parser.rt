@@ -13,9 +13,9 @@ use crate::members::shown;
 use crate::name::Names;
 use crate::stack::{Stack, fault};
 use crate::step::{Outcome, Step, SyntaxKind, lasting};
+use indexmap::IndexMap;
 use mw_heap::{Heap, Memory, Ref};
 use std::alloc::Global;
-use std::collections::BTreeMap;
 
 /// The piece of text that has begun and not ended, or what stands directly before.
 #[derive(Clone, Copy, Debug, PartialEq, Eq)]
@@ -274,7 +274,7 @@ impl Parser {
         Parser {
             stack: Stack {
                 layers: Vec::new(alloc),
-                labels: BTreeMap::new(alloc),
+                labels: IndexMap::new(alloc),
                 big: false,
                 word: None,
             },

@@ -11,8 +11,8 @@ ghost use Rattle.mw_read.specs.Stacks.{IsStack, Means};
 
 use crate::labels::{begin, end, look};
 use crate::step::{Fault, Outcome, SyntaxKind};
+use indexmap::IndexMap;
 use mw_heap::{Heap, Memory, Ref};
-use std::collections::BTreeMap;
 
 /// A part of what is open.
 #[derive(Clone, Copy, Debug, PartialEq, Eq)]
@@ -49,7 +49,7 @@ impl Layer {
 #[derive(Drop)]
 pub(crate) struct Stack {
     pub(crate) layers: Vec<Layer>,
-    pub(crate) labels: BTreeMap<u32, Option<Ref>>,
+    pub(crate) labels: IndexMap<u32, Option<Ref>>,
     // whether a part is a natural of 2^128 or more, which is kept as 0
     pub(crate) big: bool,
     // where QUOTE may stand, which is looked at before it is trusted
@@ -93,7 +93,7 @@ fn quote(noted: &mut Option<Ref>, heap: &mut Heap, x: Ref) -> Result<Ref, Memory
 // A datum is complete: quotes and labels that wait for it take it, and then it is a member of what is open, or an event.
 fn give(
     layers: &mut Vec<Layer>,
-    labels: &mut BTreeMap<u32, Option<Ref>>,
+    labels: &mut IndexMap<u32, Option<Ref>>,
     word: &mut Option<Ref>,
     heap: &mut Heap,
     x: Ref,
@@ -101,13 +101,13 @@ fn give(
     requires object { IsIn heap.old x }
     requires pile { IsPile heap.old layers.old.items }
     requires waits { IsFrames (pile_of heap.old layers.old.items) }
-    requires listed { IsListed (length heap.old) labels.old }
+    requires listed { IsListed (length heap.old) labels.old.entries }
     ensures grows { Grows heap.old heap.new }
     ensures datum { IfOk result (λ r. HoldsDatum heap.new r) }
     ensures pile { IfOk result (λ r. IsPile heap.new layers.new.items) }
-    ensures listed { IfOk result (λ r. IsListed (length heap.new) labels.new) }
-    ensures turn { IfOk result (λ r. (ks : Labels) → Agree heap.old labels.old ks →
-        Does heap.new layers.new.items labels.new r (give_to (pile_of heap.old layers.old.items) (object_at heap.old x) ks)) }
+    ensures listed { IfOk result (λ r. IsListed (length heap.new) labels.new.entries) }
+    ensures turn { IfOk result (λ r. (ks : Labels) → Agree heap.old labels.old.entries ks →
+        Does heap.new layers.new.items labels.new.entries r (give_to (pile_of heap.old layers.old.items) (object_at heap.old x) ks)) }
 {
     let mut x = x;
     while let Some(layer) = top(layers) {
@@ -131,7 +131,7 @@ fn give(
             }
         }
     }
-    labels.clear();
+    labels.truncate(0);
     Ok(Outcome::Datum(x))
 }
 
@@ -186,7 +186,7 @@ impl Stack {
         ensures grows { Grows heap.old heap.new }
         ensures stack { IfOk result (λ r. IsStack heap.new self.new) }
         ensures datum { IfOk result (λ r. HoldsDatum heap.new r) }
-        ensures turn { IfOk result (λ r. (t : State) → Means heap.old self.old t → Does heap.new self.new.layers.items self.new.labels r (on t (Atom offset (object_at heap.old x)))) }
+        ensures turn { IfOk result (λ r. (t : State) → Means heap.old self.old t → Does heap.new self.new.layers.items self.new.labels.entries r (on t (Atom offset (object_at heap.old x)))) }
         ensures big { IfOk result (λ r. self.new.big ≡ self.old.big) }
     {
         if self.is_full() {
@@ -198,7 +198,7 @@ impl Stack {
     // A list begins.
     pub(crate) fn open(&mut self, offset: u64) -> Result<Outcome, Memory>
         ensures turn { IfOk result (λ r. (os : List Object) → IsStack os self.old →
-            IsStack os self.new × HoldsDatum os r × ((t : State) → Means os self.old t → Does os self.new.layers.items self.new.labels r (on t (Open offset)))) }
+            IsStack os self.new × HoldsDatum os r × ((t : State) → Means os self.old t → Does os self.new.layers.items self.new.labels.entries r (on t (Open offset)))) }
         ensures big { IfOk result (λ r. self.new.big ≡ self.old.big) }
     {
         if self.is_full() {
@@ -211,7 +211,7 @@ impl Stack {
     // A quote.
     pub(crate) fn quote(&mut self, offset: u64) -> Result<Outcome, Memory>
         ensures turn { IfOk result (λ r. (os : List Object) → IsStack os self.old →
-            IsStack os self.new × HoldsDatum os r × ((t : State) → Means os self.old t → Does os self.new.layers.items self.new.labels r (on t (Quote offset)))) }
+            IsStack os self.new × HoldsDatum os r × ((t : State) → Means os self.old t → Does os self.new.layers.items self.new.labels.entries r (on t (Quote offset)))) }
         ensures big { IfOk result (λ r. self.new.big ≡ self.old.big) }
     {
         if self.is_full() {
@@ -234,7 +234,7 @@ impl Stack {
     // A dot.
     pub(crate) fn dot(&mut self, offset: u64) -> Result<Outcome, Memory>
         ensures turn { IfOk result (λ r. (os : List Object) → IsStack os self.old →
-            IsStack os self.new × HoldsDatum os r × ((t : State) → Means os self.old t → Does os self.new.layers.items self.new.labels r (on t (Dot offset)))) }
+            IsStack os self.new × HoldsDatum os r × ((t : State) → Means os self.old t → Does os self.new.layers.items self.new.labels.entries r (on t (Dot offset)))) }
         ensures big { IfOk result (λ r. self.new.big ≡ self.old.big) }
     {
         if !self.is_behind_member() {
@@ -247,7 +247,7 @@ impl Stack {
     // A label.
     pub(crate) fn mark(&mut self, n: u32, offset: u64) -> Result<Outcome, Memory>
         ensures turn { IfOk result (λ r. (os : List Object) → IsStack os self.old →
-            IsStack os self.new × HoldsDatum os r × ((t : State) → Means os self.old t → Does os self.new.layers.items self.new.labels r (on t (Mark offset n)))) }
+            IsStack os self.new × HoldsDatum os r × ((t : State) → Means os self.old t → Does os self.new.layers.items self.new.labels.entries r (on t (Mark offset n)))) }
         ensures big { IfOk result (λ r. self.new.big ≡ self.old.big) }
     {
         if self.is_full() {
@@ -266,7 +266,7 @@ impl Stack {
         ensures grows { Grows heap.old heap.new }
         ensures stack { IfOk result (λ r. IsStack heap.new self.new) }
         ensures datum { IfOk result (λ r. HoldsDatum heap.new r) }
-        ensures turn { IfOk result (λ r. (t : State) → Means heap.old self.old t → Does heap.new self.new.layers.items self.new.labels r (on t (Refers offset n))) }
+        ensures turn { IfOk result (λ r. (t : State) → Means heap.old self.old t → Does heap.new self.new.layers.items self.new.labels.entries r (on t (Refers offset n))) }
         ensures big { IfOk result (λ r. self.new.big ≡ self.old.big) }
     {
         if self.is_full() {
@@ -284,7 +284,7 @@ impl Stack {
         ensures grows { Grows heap.old heap.new }
         ensures stack { IfOk result (λ r. IsStack heap.new self.new) }
         ensures datum { IfOk result (λ r. HoldsDatum heap.new r) }
-        ensures turn { IfOk result (λ r. (t : State) → Means heap.old self.old t → Does heap.new self.new.layers.items self.new.labels r (on t (Close offset))) }
+        ensures turn { IfOk result (λ r. (t : State) → Means heap.old self.old t → Does heap.new self.new.layers.items self.new.labels.entries r (on t (Close offset))) }
         ensures big { IfOk result (λ r. self.new.big ≡ self.old.big) }
     {
         let Some(top) = self.top() else {
@@ -312,7 +312,7 @@ impl Stack {
         ensures grows { Grows heap.old heap.new }
         ensures stack { IfOk result (λ r. IsStack heap.new self.new) }
         ensures datum { IfOk result (λ r. HoldsDatum heap.new r) }
-        ensures turn { IfOk result (λ r. (ks : Labels) → Agree heap.old self.old.labels ks → Does heap.new self.new.layers.items self.new.labels r
+        ensures turn { IfOk result (λ r. (ks : Labels) → Agree heap.old self.old.labels.entries ks → Does heap.new self.new.layers.items self.new.labels.entries r
             (closed_with (pile_of heap.old self.old.layers.items) (object_at heap.old last) ks)) }
         ensures big { IfOk result (λ r. self.new.big ≡ self.old.big) }
     {

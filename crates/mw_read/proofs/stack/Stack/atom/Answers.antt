@@ -16,7 +16,7 @@ returns-clause-turn c =
     let p = pile_of os a.layers.items in
     if_ok_map c.give.result
     (λ r f t h.
-    let n = sym (full_is os p a.labels t h) ∙ sym (c.is_full.ensures os c.requires.stack) ∙ c.if-is_full.false in
-    subst (λ (w : Turn). Does c.give.new.heap c.give.new.layers.items c.give.new.labels r w) (give_atom os p a.labels t (object_at os c.args.x) c.args.offset h n)
-    (f (labels_of t) (shows_agree os p a.labels t h)))
+    let n = sym (full_is os p a.labels.entries t h) ∙ sym (c.is_full.ensures os c.requires.stack) ∙ c.if-is_full.false in
+    subst (λ (w : Turn). Does c.give.new.heap c.give.new.layers.items c.give.new.labels.entries r w) (give_atom os p a.labels.entries t (object_at os c.args.x) c.args.offset h n)
+    (f (labels_of t) (shows_agree os p a.labels.entries t h)))
     c.give.ensures.turn

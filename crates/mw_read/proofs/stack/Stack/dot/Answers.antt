@@ -13,5 +13,5 @@ returns-clause-turn c os s =
         listed = s.listed;
       },
       tt,
-      λ t h. (push_dot os a.layers.items c.push.new.self.items a.labels t c.args.offset c.in_ok-push.ensures.items h (sym (member_is os (pile_of os a.layers.items) a.labels t h) ∙ n)).1,
+      λ t h. (push_dot os a.layers.items c.push.new.self.items a.labels.entries t c.args.offset c.in_ok-push.ensures.items h (sym (member_is os (pile_of os a.layers.items) a.labels.entries t h) ∙ n)).1,
     )

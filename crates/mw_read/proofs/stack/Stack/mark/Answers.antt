@@ -14,10 +14,10 @@ returns-then-not-branch-clause-turn c os s =
       record { pile = s.pile; listed = c.in_ok-begin.ensures.listed (length os) s.listed },
       subst (λ u. HoldsDatum os u) r tt,
       λ t h.
-          let f = sym (full_is os (pile_of os a.layers.items) a.labels t h) ∙ n in
-          let b = match_false _ c.in_ok-begin.field-0 c.if-not-branch.true (c.in_ok-begin.ensures.begun os (labels_of t) (shows_agree os (pile_of os a.layers.items) a.labels t h)) in
-          subst (λ u. Does os a.layers.items c.begin.new.labels u (on t (Mark c.args.offset c.args.n))) r
-          (mark_old os (pile_of os a.layers.items) a.labels t c.args.n c.args.offset h f b.0),
+          let f = sym (full_is os (pile_of os a.layers.items) a.labels.entries t h) ∙ n in
+          let b = match_false _ c.in_ok-begin.field-0 c.if-not-branch.true (c.in_ok-begin.ensures.begun os (labels_of t) (shows_agree os (pile_of os a.layers.items) a.labels.entries t h)) in
+          subst (λ u. Does os a.layers.items c.begin.new.labels.entries u (on t (Mark c.args.offset c.args.n))) r
+          (mark_old os (pile_of os a.layers.items) a.labels.entries t c.args.n c.args.offset h f b.0),
     )
 
 pub returns-clause-turn : goal.returns-clause-turn
@@ -31,7 +31,7 @@ returns-clause-turn c os s =
       },
       tt,
       λ t h.
-          let f = sym (full_is os (pile_of os a.layers.items) a.labels t h) ∙ n in
-          let b = match_true _ c.in_ok-begin.field-0 c.if-not-branch.false (c.in_ok-begin.ensures.begun os (labels_of t) (shows_agree os (pile_of os a.layers.items) a.labels t h)) in
-          mark_new os a.layers.items c.push.new.self.items a.labels c.begin.new.labels t c.args.n c.args.offset c.in_ok-push.ensures.items h f b.0 b.1,
+          let f = sym (full_is os (pile_of os a.layers.items) a.labels.entries t h) ∙ n in
+          let b = match_true _ c.in_ok-begin.field-0 c.if-not-branch.false (c.in_ok-begin.ensures.begun os (labels_of t) (shows_agree os (pile_of os a.layers.items) a.labels.entries t h)) in
+          mark_new os a.layers.items c.push.new.self.items a.labels.entries c.begin.new.labels.entries t c.args.n c.args.offset c.in_ok-push.ensures.items h f b.0 b.1,
     )

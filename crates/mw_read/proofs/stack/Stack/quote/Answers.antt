@@ -17,8 +17,8 @@ returns-clause-turn c os s =
       },
       tt,
       λ t h.
-          let f = sym (full_is os (pile_of os a.layers.items) a.labels t h) ∙ n in
-          subst (λ (w : Turn). Does os c.push.new.self.items a.labels outcomes.Pending w)
-          (sym (on_take t (Quote c.args.offset) c.args.offset f (shows_sound os (pile_of os a.layers.items) a.labels t h) refl))
-          (refl, push_frame os a.layers.items c.push.new.self.items a.labels a.labels t layers.Quote Quoting (labels_of t) c.in_ok-push.ensures.items h f (λ s. refl) (shows_agree os (pile_of os a.layers.items) a.labels t h)),
+          let f = sym (full_is os (pile_of os a.layers.items) a.labels.entries t h) ∙ n in
+          subst (λ (w : Turn). Does os c.push.new.self.items a.labels.entries outcomes.Pending w)
+          (sym (on_take t (Quote c.args.offset) c.args.offset f (shows_sound os (pile_of os a.layers.items) a.labels.entries t h) refl))
+          (refl, push_frame os a.layers.items c.push.new.self.items a.labels.entries a.labels.entries t layers.Quote Quoting (labels_of t) c.in_ok-push.ensures.items h f (λ s. refl) (shows_agree os (pile_of os a.layers.items) a.labels.entries t h)),
     )
