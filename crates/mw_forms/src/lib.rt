@@ -2,15 +2,19 @@
 //! no caller has to prove that its parts are there.
 #![tactic(auto)]
 
-ghost use Rattle.std.specs.Prelude.{◌≡◌, ◌↔◌, true, IsTrue};
-ghost use Rattle.mw_model.specs.Object.{is_name};
-ghost use Rattle.mw_heap.specs.Objects.{IsIn};
+ghost use Rattle.std.specs.Prelude.{◌≡◌, ◌↔◌, true, [], All, IsTrue, IfOk, OnOk};
+ghost use Rattle.mw_model.specs.Object.{Symbol, Pair, is_name, name_of_bytes, symbol, list2};
+ghost use Rattle.mw_model.specs.Rules.{equal_object, or_object, not_object};
+ghost use Rattle.mw_heap.specs.Objects.{object_at, IsIn, Grows};
+ghost use Rattle.mw_forms.specs.Lists.{list_object};
 
 use mw_heap::{Heap, Memory, Ref};
 use std::alloc::Global;
 
 /// A heap with no objects, in a box. The error is memory that is refused.
-pub fn boxed(alloc: Global) -> Result<Box<Heap>, Memory> {
+pub fn boxed(alloc: Global) -> Result<Box<Heap>, Memory>
+    ensures { IfOk result (λ heap. heap.value ≡ []) }
+{
     let heap = Heap::new(alloc)?;
     Ok(Box::new(alloc, heap)?)
 }
@@ -22,8 +26,24 @@ pub fn is_in(heap: &Heap, x: Ref) -> bool
     x.index() < heap.mark().cells()
 }
 
+/// Whether the heap has an object of each of these references.
+pub fn are_in(heap: &Heap, xs: &[Ref]) -> bool
+    ensures { result ≡ true → All (IsIn heap.now) xs.now }
+{
+    for x in xs {
+        if !is_in(heap, *x) {
+            return false;
+        }
+    }
+    true
+}
+
 /// The pair of two objects. The error is memory that is refused, or a part that is not in the heap.
-pub fn pair(heap: &mut Heap, first: Ref, second: Ref) -> Result<Ref, Memory> {
+pub fn pair(heap: &mut Heap, first: Ref, second: Ref) -> Result<Ref, Memory>
+    ensures grows { Grows heap.old heap.new }
+    ensures within { OnOk result (IsIn heap.old first × IsIn heap.old second) }
+    ensures made { IfOk result (λ r. IsIn heap.new r × (object_at heap.new r ≡ Pair (object_at heap.old first) (object_at heap.old second))) }
+{
     if is_in(heap, first) && is_in(heap, second) {
         heap.cons(first, second)
     } else {
@@ -32,47 +52,81 @@ pub fn pair(heap: &mut Heap, first: Ref, second: Ref) -> Result<Ref, Memory> {
 }
 
 /// The list of these members. The error is memory that is refused, or a member that is not in the heap.
-pub fn list(heap: &mut Heap, members: &[Ref]) -> Result<Ref, Memory> {
-    let mut all = heap.symbol(b"NIL")?;
-    for member in members.iter().rev() {
-        all = pair(heap, *member, all)?;
+pub fn list(heap: &mut Heap, members: &[Ref]) -> Result<Ref, Memory>
+    ensures grows { Grows heap.old heap.new }
+    ensures within { OnOk result (All (IsIn heap.old) members.now) }
+    ensures made { IfOk result (λ r. IsIn heap.new r × (object_at heap.new r ≡ list_object heap.old members.now)) }
+{
+    if are_in(heap, members) {
+        list_of_parts(heap, members)
+    } else {
+        Err(Memory)
     }
-    Ok(all)
+}
+
+// The list of these, which are in the heap.
+fn list_of_parts(heap: &mut Heap, parts: &[Ref]) -> Result<Ref, Memory>
+    requires { All (IsIn heap.old) parts.now }
+    ensures grows { Grows heap.old heap.new }
+    ensures made { IfOk result (λ r. IsIn heap.new r × (object_at heap.new r ≡ list_object heap.old parts.now)) }
+{
+    let mut list = heap.symbol(b"NIL")?;
+    for index in (0..parts.len()).rev() {
+        list = heap.cons(parts[index], list)?;
+    }
+    Ok(list)
 }
 
 /// The list of the symbol of this name and of these parts. The error is memory that is refused, or a part that is not in the heap.
 pub fn form(heap: &mut Heap, head: &[u8], parts: &[Ref]) -> Result<Ref, Memory>
     requires { is_name head.now ≡ true }
+    ensures grows { Grows heap.old heap.new }
+    ensures within { OnOk result (All (IsIn heap.old) parts.now) }
+    ensures made { IfOk result (λ r. IsIn heap.new r × (object_at heap.new r ≡ Pair (Symbol (name_of_bytes head.now)) (list_object heap.old parts.now))) }
 {
     let rest = list(heap, parts)?;
     let head = heap.symbol(head)?;
-    pair(heap, head, rest)
+    heap.cons(head, rest)
 }
 
 /// The constant 'x. The error is memory that is refused, or an object that is not in the heap.
-pub fn quoted(heap: &mut Heap, x: Ref) -> Result<Ref, Memory> {
+pub fn quoted(heap: &mut Heap, x: Ref) -> Result<Ref, Memory>
+    ensures grows { Grows heap.old heap.new }
+    ensures made { IfOk result (λ r. IsIn heap.new r × (object_at heap.new r ≡ list2 (symbol "QUOTE") (object_at heap.old x))) }
+{
     form(heap, b"QUOTE", &[x])
 }
 
 /// The formula a = b. The error is memory that is refused, or a side that is not in the heap.
-pub fn equation(heap: &mut Heap, a: Ref, b: Ref) -> Result<Ref, Memory> {
+pub fn equation(heap: &mut Heap, a: Ref, b: Ref) -> Result<Ref, Memory>
+    ensures grows { Grows heap.old heap.new }
+    ensures made { IfOk result (λ r. IsIn heap.new r × (object_at heap.new r ≡ equal_object (object_at heap.old a) (object_at heap.old b))) }
+{
     form(heap, b"PEQUAL*", &[a, b])
 }
 
 /// The formula x = x, where x is the symbol of this name. The error is memory that is refused.
 pub fn equation_with_itself(heap: &mut Heap, name: &[u8]) -> Result<Ref, Memory>
     requires { is_name name.now ≡ true }
+    ensures grows { Grows heap.old heap.new }
+    ensures made { IfOk result (λ r. IsIn heap.new r × (object_at heap.new r ≡ equal_object (Symbol (name_of_bytes name.now)) (Symbol (name_of_bytes name.now)))) }
 {
     let x = heap.symbol(name)?;
     equation(heap, x, x)
 }
 
 /// The formula: f or g. The error is memory that is refused, or a part that is not in the heap.
-pub fn or(heap: &mut Heap, f: Ref, g: Ref) -> Result<Ref, Memory> {
+pub fn or(heap: &mut Heap, f: Ref, g: Ref) -> Result<Ref, Memory>
+    ensures grows { Grows heap.old heap.new }
+    ensures made { IfOk result (λ r. IsIn heap.new r × (object_at heap.new r ≡ or_object (object_at heap.old f) (object_at heap.old g))) }
+{
     form(heap, b"POR*", &[f, g])
 }
 
 /// The formula: not f. The error is memory that is refused, or a part that is not in the heap.
-pub fn not(heap: &mut Heap, f: Ref) -> Result<Ref, Memory> {
+pub fn not(heap: &mut Heap, f: Ref) -> Result<Ref, Memory>
+    ensures grows { Grows heap.old heap.new }
+    ensures made { IfOk result (λ r. IsIn heap.new r × (object_at heap.new r ≡ not_object (object_at heap.old f))) }
+{
     form(heap, b"PNOT*", &[f])
 }

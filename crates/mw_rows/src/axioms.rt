@@ -1,6 +1,6 @@
 //! The axioms and the built-in definitions that docs/AXIOMS.md lists, judged by the program.
-use crate::ranks::other_report;
-use crate::switches::book_of_test;
+use crate::row::other_report;
+use crate::switches::book_with_useless_checker;
 use std::alloc::{AllocError, Global};
 use std::test::Fail;
 
@@ -425,7 +425,7 @@ fn report_of_axioms(alloc: Global, events: u8) -> Result<String, AllocError> {
 // definitions, and a wrong one.
 fn book_of_definitions(alloc: Global, profile: u8, own: &[&str]) -> Result<String, AllocError> {
     let mut book = format!(in alloc; "(profile {profile})\n")?;
-    book.push_str(book_of_test(alloc, LOOK)?.as_str())?;
+    book.push_str(book_with_useless_checker(alloc, LOOK)?.as_str())?;
     push_definitions(&mut book, &SHARED)?;
     push_definitions(&mut book, own)?;
     book.push_str(WRONG)?;

@@ -1,7 +1,7 @@
 //! The books of the guide to writing books, docs/BOOKS.md, with the reports that it states.
 use crate::app::{APP, APPENDED};
-use crate::ranks::{other_report, other_report_after_ranks};
-use crate::row::{Row, lines_from, wrong_answers};
+use crate::ranks::other_report_after_ranks;
+use crate::row::{Row, lines_from, other_report, wrong_answers};
 use crate::wrap::{SHORTENED, SHORTHAND, WRAP, WRAPPED};
 use mw_book::Status;
 use mw_read::SyntaxKind;

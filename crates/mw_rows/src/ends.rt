@@ -62,7 +62,7 @@ const NUMBERS: [(Status, u8); 8] = [
 
 // What the program answers to a book where each read gives so many bytes at most, each write takes three at most, and the reads and the
 // writes of these numbers fail.
-fn checked(
+fn answer_with_faults(
     alloc: Global,
     book: &str,
     size: usize,
@@ -80,7 +80,7 @@ fn checked(
 // How many reads may come before the one that fails, so that the run ends there with the lines of what was complete.
 fn failing_reads(alloc: Global) -> Result<usize, AllocError> {
     for done in 0..100 {
-        let answer = checked(alloc, NEVER, READ, &[done as u64 + 1], &[])?;
+        let answer = answer_with_faults(alloc, NEVER, READ, &[done as u64 + 1], &[])?;
         let lines = lines_within(alloc, &DATA, READ * done)?;
         if answer.status != Status::ReadFault || answer.report != lines {
             return Ok(done);
@@ -92,7 +92,7 @@ fn failing_reads(alloc: Global) -> Result<usize, AllocError> {
 // How many writes may come before the one that fails, so that the run ends there with the beginning of the report which these took.
 fn failing_writes(alloc: Global) -> Result<usize, AllocError> {
     for done in 0..100 {
-        let answer = checked(alloc, NEVER, READ, &[], &[done as u64 + 1])?;
+        let answer = answer_with_faults(alloc, NEVER, READ, &[], &[done as u64 + 1])?;
         let text = answer.report.as_str();
         if answer.status != Status::WriteFault
             || !OF_NEVER.starts_with(text)
@@ -106,7 +106,7 @@ fn failing_writes(alloc: Global) -> Result<usize, AllocError> {
 
 #[test]
 fn a_failed_read_leaves_the_lines_before_it(rt: HostRuntime) -> Result<(), Fail> {
-    let answer = checked(rt.alloc(), BOOK, 4096, &[2], &[])?;
+    let answer = answer_with_faults(rt.alloc(), BOOK, 4096, &[2], &[])?;
     assert_eq!(rt; answer.status, Status::ReadFault);
     assert_eq!(rt; answer.report.as_str(), "1 VERIFY REFL accepted\n");
     Ok(())
@@ -114,7 +114,7 @@ fn a_failed_read_leaves_the_lines_before_it(rt: HostRuntime) -> Result<(), Fail>
 
 #[test]
 fn a_failed_write_leaves_nothing(rt: HostRuntime) -> Result<(), Fail> {
-    let answer = checked(rt.alloc(), BOOK, 4096, &[], &[1])?;
+    let answer = answer_with_faults(rt.alloc(), BOOK, 4096, &[], &[1])?;
     assert_eq!(rt; answer.status, Status::WriteFault);
     assert_eq!(rt; answer.report.as_str(), "");
     Ok(())
@@ -122,7 +122,7 @@ fn a_failed_write_leaves_nothing(rt: HostRuntime) -> Result<(), Fail> {
 
 #[test]
 fn short_writes_take_the_whole_report(rt: HostRuntime) -> Result<(), Fail> {
-    let answer = checked(rt.alloc(), BOOK, 4096, &[], &[])?;
+    let answer = answer_with_faults(rt.alloc(), BOOK, 4096, &[], &[])?;
     assert_eq!(rt; answer.status, Status::Done);
     assert_eq!(rt; answer.report.as_str(), REPORT);
     Ok(())
@@ -132,7 +132,7 @@ fn short_writes_take_the_whole_report(rt: HostRuntime) -> Result<(), Fail> {
 #[test]
 fn any_read_may_fail(rt: HostRuntime) -> Result<(), Fail> {
     assert_eq!(rt; failing_reads(rt.alloc())?, 40);
-    let answer = checked(rt.alloc(), NEVER, READ, &[41], &[])?;
+    let answer = answer_with_faults(rt.alloc(), NEVER, READ, &[41], &[])?;
     assert_eq!(rt; answer.status, Status::SomeRefused);
     assert_eq!(rt; answer.report.as_str(), OF_NEVER);
     Ok(())
@@ -143,7 +143,7 @@ fn any_write_may_fail(rt: HostRuntime) -> Result<(), Fail> {
     let done = failing_writes(rt.alloc())?;
     assert!(rt; OF_NEVER.len().div_ceil(WRITTEN) <= done, "write {done}");
     let next = (done as u64).saturating_add(1);
-    let answer = checked(rt.alloc(), NEVER, READ, &[], &[next])?;
+    let answer = answer_with_faults(rt.alloc(), NEVER, READ, &[], &[next])?;
     assert_eq!(rt; answer.status, Status::SomeRefused);
     assert_eq!(rt; answer.report.as_str(), OF_NEVER);
     Ok(())

@@ -1,5 +1,5 @@
 //! The book books/ranks.book, after which others define recursive functions: theorems up to the two that a recursion down CDR owes.
-use crate::row::answer_within;
+use crate::row::other_report;
 use std::alloc::{AllocError, Global};
 
 const RANKS: &str =
@@ -265,21 +265,6 @@ const OF_RANKS: &str = "1 VERIFY SYMMETRY accepted
 12 VERIFY RANK-ORDINAL accepted
 13 VERIFY RANK-FALLS accepted
 ";
-
-/// The report on a book within so many units, where it does not begin with what is due.
-pub(crate) fn other_report(
-    alloc: Global,
-    steps: &str,
-    book: &str,
-    due: &str,
-) -> Result<String, AllocError> {
-    let answer = answer_within(alloc, &["check", "--steps", steps], book, 4096)?;
-    if answer.report.as_str().starts_with(due) {
-        Ok(String::new(alloc))
-    } else {
-        Ok(answer.report)
-    }
-}
 
 /// The report on the theorems on ranks and these events after them, where these lines do not come after theirs.
 pub(crate) fn other_report_after_ranks(

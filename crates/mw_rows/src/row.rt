@@ -68,6 +68,21 @@ pub(crate) fn answer_between(
     Ok(Answer { report, status })
 }
 
+/// The report on a book within so many units, where it does not begin with what is due.
+pub(crate) fn other_report(
+    alloc: Global,
+    steps: &str,
+    book: &str,
+    due: &str,
+) -> Result<String, AllocError> {
+    let answer = answer_within(alloc, &["check", "--steps", steps], book, 4096)?;
+    if answer.report.as_str().starts_with(due) {
+        Ok(String::new(alloc))
+    } else {
+        Ok(answer.report)
+    }
+}
+
 /// The lines of events that are accepted, from this number on: of each its word and its label.
 pub(crate) fn lines_from(alloc: Global, first: u64, events: &[&str]) -> Result<String, AllocError> {
     let mut lines = String::new(alloc);

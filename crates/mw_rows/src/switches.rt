@@ -1,6 +1,6 @@
 //! Switches to a checker of the book: what is refused, and how proofs are judged after one.
-use crate::ranks::{other_report, other_report_after_ranks};
-use crate::row::{Row, lines_from, wrong_answers};
+use crate::ranks::other_report_after_ranks;
+use crate::row::{Row, lines_from, other_report, wrong_answers};
 use crate::wrap::{WRAP, WRAPPED};
 use mw_book::Status;
 use std::alloc::{AllocError, Global};
@@ -210,7 +210,7 @@ const DEFINED_WITHIN: [(&str, &str); 3] = [
 
 /// A book that defines a checker whose two runs of this test are compared, so that it accepts nothing, proves its claim and switches
 /// to it. The test is a term over the variables of the claim.
-pub(crate) fn book_of_test(alloc: Global, test: &str) -> Result<String, AllocError> {
+pub(crate) fn book_with_useless_checker(alloc: Global, test: &str) -> Result<String, AllocError> {
     format!(in alloc;
         "(define useless (x axioms thms atbl) (< {test} {test}) nil ())
 (verify claim
@@ -245,7 +245,7 @@ pub(crate) fn book_of_test(alloc: Global, test: &str) -> Result<String, AllocErr
 fn wrong_outcomes(alloc: Global) -> Result<String, AllocError> {
     let mut wrong = String::new(alloc);
     for (steps, test, reason) in OUTCOMES {
-        let book = book_of_test(alloc, test)?;
+        let book = book_with_useless_checker(alloc, test)?;
         let book = format!(in alloc; "{book}(verify refl (pequal* x x) (axiom (pequal* x x)))\n")?;
         let due = format!(in alloc;
             "1 DEFINE USELESS accepted\n2 VERIFY CLAIM accepted\n3 SWITCH USELESS accepted\n4 VERIFY REFL refused {reason}\n"

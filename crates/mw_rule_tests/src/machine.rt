@@ -6,7 +6,7 @@ ghost use Rattle.mw_code.specs.Tables.{StandsFor};
 ghost use Rattle.mw_preamble.specs.Admitted.{first_definitions};
 
 use mw_code::Table;
-use mw_forms::{boxed, is_in, list};
+use mw_forms::{are_in, boxed, is_in, list};
 use mw_heap::{Heap, Memory, Profile, Ref, View};
 use mw_machine::{Machine, Outcome};
 use mw_preamble::admit_all;
@@ -20,18 +20,6 @@ struct Answer {
     number: u128,
     left: u64,
     frames: u64,
-}
-
-// Whether all are of the heap.
-fn are_in(heap: &Heap, xs: &[Ref]) -> bool
-    ensures { result ≡ true → All (IsIn heap.now) xs.now }
-{
-    for x in xs {
-        if !is_in(heap, *x) {
-            return false;
-        }
-    }
-    true
 }
 
 // What a run of the function of this name on these values comes to, and the frames of the run; nothing where it has no code for so many.

@@ -3,7 +3,7 @@ use Rattle.std.proofs.Common.{refl, subst, All}
 use Rattle.std.proofs.lemmas.List.{take_all}
 use Rattle.std.proofs.lemmas.List.Elements.{All-more}
 use Rattle.mw_heap.specs.Objects.{IsIn}
-use Rattle.mw_rule_tests.proofs.machine.are_in.Goals as goal
+use Rattle.mw_forms.proofs.are_in.Goals as goal
 
 pub loop-x-preserved : goal.loop-x-preserved
 loop-x-preserved c = All-more (IsIn c.args.heap.now) c.args.xs.now c.loop-x.x-index c.x-item.result c.loop-x-test.true c.loop-x.invariant (subst (IsIn c.args.heap.now) c.x-item.is (c.if-not-is_in.ensures.0 refl))

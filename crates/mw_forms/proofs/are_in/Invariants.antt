@@ -1,7 +1,7 @@
 -- Those so far are of the heap.
 use Rattle.std.proofs.Common.{All, take}
 use Rattle.mw_heap.specs.Objects.{IsIn}
-use Rattle.mw_rule_tests.proofs.machine.are_in.Given as goal
+use Rattle.mw_forms.proofs.are_in.Given as goal
 
 abbrev pub invariant-loop-x : goal.invariant-loop-x
 invariant-loop-x l = All (IsIn l.heap) (take l.x-index l.xs)

@@ -1,0 +1,9 @@
+-- Lists of objects of a heap.
+use Rattle.std.specs.Prelude.{ℕ, List, [], ◌∷◌}
+use Rattle.mw_model.specs.Object.{Object, Pair, NIL}
+use Rattle.mw_heap.specs.Objects.{object_at}
+
+-- the list of the objects of these references
+abbrev pub list_object : List Object → List ℕ → Object
+list_object os [] = NIL
+list_object os (x ∷ xs) = Pair (object_at os x) (list_object os xs)
