@@ -1,7 +1,8 @@
 -- What an event that defines comes to, by the tests of its definitions and of its proofs.
 use Rattle.std.proofs.Common.{◌≡◌, ℕ, ◌≤◌, Bool, true, false, cond, List, [], ◌∷◌, length, take, map, option_map, Option, Some, None, refl, sym, ap, ap₂, ◌∙◌, subst, arith, true≢false}
-use Rattle.mw_model.specs.Object.{Object, has_members}
-use Rattle.mw_model.specs.Term.{ArityTable}
+use Rattle.mw_model.specs.Object.{Object, NIL, same_object, has_members}
+use Rattle.mw_model.specs.Term.{ArityTable, Formula}
+use Rattle.mw_model.specs.RulesInduction.{formulas_object}
 use Rattle.mw_model.specs.Definition.{Function as Defined, Block, Functions, Choice, arity_table}
 use Rattle.mw_model.specs.Obligation.{obligations}
 use Rattle.mw_model.specs.Theory.{Theory, IsSound}
@@ -74,6 +75,15 @@ module _ (t : Theory) (N : ℕ) (proofs : Object) (os : List Object) where
       ap (λ g. need t EVENT g (λ drafts. define t N drafts proofs)) h.given_is
       ∙ (define-judged t N proofs h.drafts os owed h.passes
       ∙ must_unless t (has_members (length Fs) proofs) (judged_each t N Fs proofs) r (Functions (functions h.passes.names h.passes.formals h.passes.bodies)) told)
+
+-- no proofs are just as many as are owed where nothing is
+judged-none : (t : Theory) (N : ℕ) (Fs : List Formula) → same_object (formulas_object Fs) NIL ≡ true → judged_all t N Fs NIL ≡ None
+judged-none t N [] h = refl
+judged-none t N (F ∷ Fs) h = cc
+
+judged-some : (t : Theory) (N : ℕ) (Fs : List Formula) → same_object (formulas_object Fs) NIL ≡ false → judged_all t N Fs NIL ≡ Some COUNT
+judged-some t N [] h = cc
+judged-some t N (F ∷ Fs) h = refl
 
 -- the entries of functions mean them
 pub functions-mean : (os : List Object) (B : List Defined) (es : List Entry) → Each2 (IsFunctionEntry os) B es → AreFunctions os (map function_of_entry es) B
@@ -207,6 +217,20 @@ module _ (os : List Object) (n : ℕ) (t : Kept) (marks : List CellMark) (N : �
           subst (λ v. defined (theory_of v) M (drafts_given v.objects drafts) proofs ≡ accept (add_to_theory (theory_of v) block_of)) is
           (accepted-these (meant os (parts_of t)) M proofs new (drafts_given os drafts) owed p a.0
           (subst (λ v. defined (theory_of v) M (drafts_given v.objects drafts) proofs ≡ accept (add_to_theory (theory_of v) a.0)) (sym is) a.1))
+
+      -- without proofs they are accepted where nothing is owed
+      pub alone-passes : (M : ℕ) → same_object (object_at new owed.obligations) NIL ≡ true → defined (theory_of old) M (drafts_given old.objects drafts) NIL ≡ accept (add_to_theory (theory_of old) block_of)
+      alone-passes M none =
+          subst (λ v. defined (theory_of v) M (drafts_given v.objects drafts) NIL ≡ accept (add_to_theory (theory_of v) block_of)) is
+          (judged-given (meant os (parts_of t)) M NIL new (drafts_given os drafts) owed p None (judged-none (meant os (parts_of t)) M _ (sym (ap (λ o. same_object o NIL) p.passes.obligations) ∙ none)))
+
+      pub alone-fails : (M : ℕ) → same_object (object_at new owed.obligations) NIL ≡ false → defined (theory_of old) M (drafts_given old.objects drafts) NIL ≡ refuse (theory_of old) COUNT
+      alone-fails M some =
+          subst (λ v. defined (theory_of v) M (drafts_given v.objects drafts) NIL ≡ refuse (theory_of v) COUNT) is
+          (judged-given (meant os (parts_of t)) M NIL new (drafts_given os drafts) owed p (Some COUNT) (judged-some (meant os (parts_of t)) M _ (sym (ap (λ o. same_object o NIL) p.passes.obligations) ∙ some)))
+
+      pub alone-accepted : (M : ℕ) → same_object (object_at new owed.obligations) NIL ≡ true → IsSound (defined (theory_of old) M (drafts_given old.objects drafts) NIL).1 → IsAccepted (theory_of old) M (drafts_given old.objects drafts) NIL
+      alone-accepted M none sound = let e = alone-passes M none in (block_of, e, subst (λ r. IsSound r.1) e sound)
 
       -- they are a new block
       pub functions-block : (M : ℕ) (proofs : Object) → IsAccepted (theory_of old) M (drafts_given old.objects drafts) proofs → (ds : List Definition) → ds ≡ map function_of_entry owed.entries.items → IsNewBlock new (parts_of t) ds owed.axioms block_of

@@ -1,6 +1,6 @@
 //! The kernel.
 ghost use Rattle.std.specs.Prelude.{◌≡◌, ℕ, ◌+◌, ◌≤◌, ◌⊎◌, true, List, [], length, take, option_map, IfOk, IfSome, OnOk, OnErr};
-ghost use Rattle.mw_model.specs.Object.{Object, Symbol};
+ghost use Rattle.mw_model.specs.Object.{Object, Symbol, NIL};
 ghost use Rattle.mw_model.specs.Term.{ArityTable, formula_object, table_object};
 ghost use Rattle.mw_model.specs.Primitive.{One, Two, is_symbol, name_of};
 ghost use Rattle.mw_model.specs.Definition.{Block, arity_table};
@@ -341,6 +341,9 @@ impl Kernel {
         ensures steps { self.new.steps ≡ self.old.steps }
         ensures kept { IfOk result (λ f. KeepsRoom f self.old.needed self.new.needed) }
     {
+        if self.heap.is_nil(Some(proofs)) {
+            return self.define_alone(drafts);
+        }
         let refused = refusal_of_definitions(
             &mut self.heap,
             &drafts,
@@ -355,6 +358,29 @@ impl Kernel {
         }
         self.cut_behind(&drafts);
         self.add_functions(drafts)
+    }
+
+    // The same without proofs, where nothing may be owed: then nothing was made for proofs, and the functions are tested once.
+    fn define_alone(&mut self, drafts: Drafts) -> Result<Fate, Memory>
+        requires drafts { AreWithin self.old.objects drafts }
+        requires sound { IsSound (defined (theory_of self.old) self.old.steps (drafts_given self.old.objects drafts) NIL).1 }
+        ensures fate { IfOk result (λ f. fate_of f ≡ (defined (theory_of self.old) self.old.steps (drafts_given self.old.objects drafts) NIL).0) }
+        ensures theory { OnOk result (theory_of self.new ≡ (defined (theory_of self.old) self.old.steps (drafts_given self.old.objects drafts) NIL).1) }
+        ensures err { OnErr result (theory_of self.new ≡ theory_of self.old) }
+        ensures steps { self.new.steps ≡ self.old.steps }
+        ensures kept { IfOk result (λ f. KeepsRoom f self.old.needed self.new.needed) }
+    {
+        let owed = match admit(&mut self.heap, drafts, &self.theory.arity) {
+            Admitted::Obligations(owed) => owed,
+            Admitted::Refused(reason) => return Ok(Fate::Refused(reason)),
+            Admitted::Memory => return Err(Memory),
+        };
+        if !self.heap.is_nil(Some(owed.obligations)) {
+            return Ok(Fate::Refused(Refusal::Count));
+        }
+        let block = functions_of(self.heap.alloc(), owed.entries.as_slice())?;
+        self.add_definitions(block.as_slice(), owed.axioms)?;
+        Ok(accepted(&self.heap))
     }
 
     // Forgets what stands behind these definitions and all that the theory needs.

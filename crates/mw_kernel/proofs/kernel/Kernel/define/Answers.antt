@@ -1,12 +1,38 @@
 -- The tests of the functions and of their proofs; what is accepted is then added.
-use Rattle.std.proofs.Common.{option_map, Some, sym, ap, ◌∙◌, subst}
+use Rattle.std.proofs.Common.{◌≡◌, option_map, Some, IfOk, OnOk, sym, ap, ◌∙◌, subst}
+use Rattle.mw_model.specs.Object.{NIL}
+use Rattle.mw_model.specs.Theory.{IsSound}
+use Rattle.mw_model.proofs.Names.{same_object-eq}
 use Rattle.mw_heap.specs.Objects.{object_at}
 use Rattle.mw_heap.specs.Variants.{refusal_of}
-use Rattle.mw_kernel.specs.Admitting.{AreWithin}
+use Rattle.mw_kernel.specs.Knowledge.{theory_of}
+use Rattle.mw_kernel.specs.Fates.{fate_of}
+use Rattle.mw_kernel.specs.Admitting.{AreWithin, drafts_given, defined}
 use Rattle.mw_kernel.proofs.Held.{held, grown-marked}
 use Rattle.mw_kernel.proofs.Happening.{IfOk-map, OnOk-map, OnErr-from, OnErr-map}
 use Rattle.mw_kernel.proofs.Defined.{theory-same, definitions-told, kept-theory, kept-defined, kept-accepted, within-grows}
 use Rattle.mw_kernel.proofs.kernel.Kernel.define.Goals as goal
+
+pub define_alone-requires-clause-sound : goal.define_alone-requires-clause-sound
+define_alone-requires-clause-sound c =
+    let old = c.args.self.now in
+    let nil = same_object-eq (object_at c.self.inside.heap c.args.proofs) NIL (sym c.is_nil.ensures ∙ c.if-is_nil.true) in
+    let none = sym (ap (λ v. object_at v.objects c.args.proofs) c.self.view_is) ∙ nil in
+    subst (λ P. IsSound (defined (theory_of old) old.steps (drafts_given old.objects c.args.drafts) P).1) none c.requires.sound
+
+pub returns-then-is_nil-clause-fate : goal.returns-then-is_nil-clause-fate
+returns-then-is_nil-clause-fate c =
+    let old = c.args.self.now in
+    let nil = same_object-eq (object_at c.self.inside.heap c.args.proofs) NIL (sym c.is_nil.ensures ∙ c.if-is_nil.true) in
+    let none = sym (ap (λ v. object_at v.objects c.args.proofs) c.self.view_is) ∙ nil in
+    subst (λ P. IfOk c.define_alone.result (λ f. fate_of f ≡ (defined (theory_of old) old.steps (drafts_given old.objects c.args.drafts) P).0)) (sym none) c.define_alone.ensures.fate
+
+pub returns-then-is_nil-clause-theory : goal.returns-then-is_nil-clause-theory
+returns-then-is_nil-clause-theory c =
+    let old = c.args.self.now in
+    let nil = same_object-eq (object_at c.self.inside.heap c.args.proofs) NIL (sym c.is_nil.ensures ∙ c.if-is_nil.true) in
+    let none = sym (ap (λ v. object_at v.objects c.args.proofs) c.self.view_is) ∙ nil in
+    subst (λ P. OnOk c.define_alone.result (theory_of c.define_alone.new.self ≡ (defined (theory_of old) old.steps (drafts_given old.objects c.args.drafts) P).1)) (sym none) c.define_alone.ensures.theory
 
 pub refusal_of_definitions-requires-clause-held : goal.refusal_of_definitions-requires-clause-held
 refusal_of_definitions-requires-clause-held c = held _ _ _ _ c.self.invariant
