@@ -8,6 +8,7 @@ ghost use Rattle.mw_heap.specs.Objects.{object_at, IsIn, Grows, Shows, NamesOlde
 
 use crate::cell::Cell;
 use crate::lengths::Lengths;
+use crate::looks::take_look;
 use crate::sets::{
     cell_at, counts_from, find_name, insert_measured, insert_name, insert_natural, is_place,
     note_place,
@@ -29,6 +30,8 @@ pub struct Heap {
     places: Vec<Ref>,
     // where NIL may stand, which is looked up there before it is searched for
     nil: Ref,
+    // how many looks at cells are left to work that may look at a cell many times
+    looks_left: u64,
     alloc: Global,
 }
 
@@ -62,6 +65,7 @@ impl Heap {
             names: IndexSet::new(alloc),
             places: Vec::new(alloc),
             nil: Ref::new(0),
+            looks_left: u64::MAX,
             alloc,
         })
     }
@@ -69,6 +73,21 @@ impl Heap {
     /// The allocator from which the heap has its memory.
     pub fn alloc(&self) -> Global {
         self.alloc
+    }
+
+    /// Allows so many looks at cells, in place of those that were left, to work that may look at a cell many times, as where labels share
+    /// what is substituted in. A new heap allows as many as a u64 can tell.
+    pub fn allow_looks(&mut self, looks: u64)
+        ensures { self.new ≡ self.old }
+    {
+        self.looks_left = looks;
+    }
+
+    /// Takes one look from those that are allowed. The error is that none is left: so much work is answered as out of memory.
+    pub fn take_look(&mut self) -> Result<(), Memory>
+        ensures { self.new ≡ self.old }
+    {
+        take_look(&mut self.looks_left)
     }
 
     /// The natural `n`.

@@ -6,6 +6,7 @@ mod bare;
 mod cell;
 mod heap;
 mod lengths;
+mod looks;
 mod mark;
 mod members;
 mod memory;
@@ -20,6 +21,7 @@ mod view;
 
 pub use bare::is_bare_name;
 pub use heap::Heap;
+pub use looks::{looks_for, take_look};
 pub use mark::Mark;
 pub use memory::Memory;
 pub use primitive::Primitive;

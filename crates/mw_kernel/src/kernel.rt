@@ -34,7 +34,7 @@ use crate::switch::refusal_of_switch;
 use crate::theory::Theory;
 use crate::verify::refusal;
 use mw_define::{Admitted, Draft, admit_witness};
-use mw_heap::{Heap, Mark, Memory, Profile, Ref, Refusal};
+use mw_heap::{Heap, Mark, Memory, Profile, Ref, Refusal, looks_for};
 use mw_machine::Machine;
 use mw_preamble::Definition;
 use mw_read::{Reader, Step};
@@ -137,9 +137,18 @@ impl Kernel {
         ensures room { length self.new.objects ≡ self.new.needed }
         ensures kept { IfOk result (λ f. KeepsRoom f self.old.needed self.new.needed) }
     {
+        self.allow_looks();
         let fate = self.happens(event);
         self.cut();
         fate
+    }
+
+    // Allows an event as many looks at cells as its own cells give it.
+    fn allow_looks(&mut self)
+        ensures { self.new ≡ self.old }
+    {
+        let cells = self.heap.mark().cells().saturating_sub(self.needed.cells());
+        self.heap.allow_looks(looks_for(cells));
     }
 
     /// The heap of the theory.

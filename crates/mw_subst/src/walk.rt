@@ -126,8 +126,8 @@ fn advance<L: Ledger>(
     ensures advanced { OnOk result (Advances heap.old heap.new (sigma_object heap.old sigma.now) memo.old memo.new path.old.items path.new.items part steps.old steps.new) }
     ensures err { OnErr result (steps.new ≡ steps.old) }
 {
-    let progress = take_step(heap, sigma, memo, &part)?;
-    match progress {
+    heap.take_look()?;
+    match take_step(heap, sigma, memo, &part)? {
         Progress::Wants(inner) => {
             let is_new = memo.find(inner.other_kind()).is_none();
             path.push(part)?;
@@ -143,8 +143,8 @@ fn advance<L: Ledger>(
 
 /// The term x with the terms of a substitution for its variables. It takes one step for each cell that it reaches, however often that
 /// stands in x, and no other step. It reaches the term x; with a term (h . r) the list r, unless h is QUOTE; and with a list (a . r) the
-/// term a and the list r. It looks at no cell more than five times. Where memory is refused, each step was for another cell that it
-/// reaches.
+/// term a and the list r. It looks at no cell more than five times, and takes each look from those that the heap allows. Where memory is
+/// refused, or no look is left, each step was for another cell that it reaches.
 pub fn substitute_counted<L: Ledger>(
     heap: &mut Heap,
     x: Ref,

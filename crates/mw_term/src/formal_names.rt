@@ -8,6 +8,7 @@ ghost use Rattle.mw_term.specs.Parts.{formals_of, names_at, AreSymbols};
 
 use crate::formals::{formal_set, is_among_symbols};
 use crate::free::is_closed;
+use crate::work::Work;
 use indexmap::IndexSet;
 use mw_heap::{Heap, Memory, Ref};
 use std::marker::Model;
@@ -33,7 +34,8 @@ impl Formals {
         ensures formals { IfOk result (λ o. option_map (names_at heap.now) o ≡ formals_of (object_at heap.now x)) }
         ensures symbols { IfOk result (λ o. IfSome o (AreSymbols heap.now)) }
     {
-        match formal_set(heap, x, heap.alloc())? {
+        let mut work = Work::of_one_walk(heap.alloc());
+        match formal_set(heap, x, &mut work)? {
             Some(symbols) => Ok(Some(Formals { symbols })),
             None => Ok(None),
         }
@@ -69,6 +71,7 @@ impl Formals {
         requires symbols { AreSymbols heap.now self.now }
         ensures { IfOk result (λ b. (t : Term) → term_of (object_at heap.now term) ≡ Some t → b ≡ is_closed (names_at heap.now self.now) t) }
     {
-        Ok(is_closed(heap, &self.symbols, term, heap.alloc())?)
+        let mut work = Work::of_one_walk(heap.alloc());
+        Ok(is_closed(heap, &self.symbols, term, &mut work)?)
     }
 }

@@ -7,9 +7,9 @@ ghost use Rattle.mw_heap.specs.Objects.{object_at, IsIn};
 ghost use Rattle.mw_term.specs.Parts.{formals_of, names_at, AreSymbols, is_new_variable};
 
 use crate::names::{is_symbol_of, is_variable_name};
+use crate::work::Work;
 use indexmap::IndexSet;
 use mw_heap::{Heap, Memory, Ref, View};
-use std::alloc::Global;
 
 // Whether the symbol x is among these.
 pub(crate) fn is_among_symbols(heap: &Heap, symbols: &IndexSet<Ref>, x: Ref) -> bool
@@ -45,15 +45,16 @@ fn add_formal(heap: &Heap, formals: &mut IndexSet<Ref>, x: Ref) -> Result<bool, 
 pub(crate) fn formal_set(
     heap: &Heap,
     x: Ref,
-    alloc: Global,
+    work: &mut Work,
 ) -> Result<Option<IndexSet<Ref>>, Memory>
     requires { IsIn heap.now x }
     ensures formals { IfOk result (λ o. option_map (λ s. names_at heap.now s.keys) o ≡ formals_of (object_at heap.now x)) }
     ensures symbols { IfOk result (λ o. IfSome o (λ s. AreSymbols heap.now s.keys)) }
 {
-    let mut formals = IndexSet::new(alloc);
+    let mut formals = IndexSet::new(work.alloc);
     let mut rest = x;
     while let View::Pair(first, more) = heap.view(rest) {
+        work.take_look()?;
         if !add_formal(heap, &mut formals, first)? {
             return Ok(None);
         }

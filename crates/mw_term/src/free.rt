@@ -6,22 +6,22 @@ ghost use Rattle.mw_term.specs.Occurrences.{is_closed_object};
 
 use crate::formals::is_among_symbols;
 use crate::gather::variables_in;
+use crate::work::Work;
 use indexmap::IndexSet;
 use mw_heap::{Heap, Memory, Ref};
-use std::alloc::Global;
 
 // Whether each free variable of the term is among the names.
 pub(crate) fn is_closed(
     heap: &Heap,
     names: &IndexSet<Ref>,
     term: Ref,
-    alloc: Global,
+    work: &mut Work,
 ) -> Result<bool, Memory>
     requires within { IsIn heap.now term }
     requires symbols { AreSymbols heap.now names.now.keys }
     ensures { IfOk result (λ b. b ≡ is_closed_object (names_at heap.now names.now.keys) (object_at heap.now term)) }
 {
-    let variables = variables_in(heap, term, alloc)?;
+    let variables = variables_in(heap, term, work)?;
     for x in variables.as_slice() {
         if !is_among_symbols(heap, names, *x) {
             return Ok(false);

@@ -12,9 +12,9 @@ use crate::formals::is_among_symbols;
 use crate::names::is_symbol_of;
 use crate::part::Part;
 use crate::variables::Vars;
+use crate::work::Work;
 use indexmap::IndexSet;
 use mw_heap::{Heap, Memory, Ref, View};
-use std::alloc::Global;
 
 /// The free variables of a term, in order of first occurrence. Those of a lambda call are those of its actuals. The one error is that
 /// memory is refused. It takes time and memory in proportion to the distinct objects that make up the term. Of an object that is no
@@ -25,21 +25,23 @@ pub fn vars(heap: &Heap, t: Ref) -> Result<Vars, Memory>
     ensures symbols { IfOk result (λ vs. AreSymbols heap.now vs) }
     ensures variables { IfOk result (λ vs. (u : Term) → term_of (object_at heap.now t) ≡ Some u → map (object_at heap.now) vs ≡ map Symbol (variables u)) }
 {
-    let symbols = variables_in(heap, t, heap.alloc())?;
+    let mut work = Work::of_one_walk(heap.alloc());
+    let symbols = variables_in(heap, t, &mut work)?;
     Ok(Vars::from_set(symbols))
 }
 
 // The free variables of a term. Each of its parts is looked at once.
-pub(crate) fn variables_in(heap: &Heap, term: Ref, alloc: Global) -> Result<IndexSet<Ref>, Memory>
+pub(crate) fn variables_in(heap: &Heap, term: Ref, work: &mut Work) -> Result<IndexSet<Ref>, Memory>
     requires { IsIn heap.now term }
     ensures symbols { IfOk result (λ s. AreSymbols heap.now s.keys) }
     ensures names { IfOk result (λ s. names_at heap.now s.keys ≡ object_variables (object_at heap.now term)) }
 {
-    let mut found = IndexSet::new(alloc);
-    let mut looked = IndexSet::new(alloc);
-    let mut waiting = Vec::new(alloc);
+    let mut found = IndexSet::new(work.alloc);
+    let mut looked = IndexSet::new(work.alloc);
+    let mut waiting = Vec::new(work.alloc);
     waiting.push(Part::Term(term))?;
     while let Some(part) = waiting.pop() {
+        work.take_look()?;
         if !looked.insert(part)? {
             continue;
         }

@@ -9,8 +9,8 @@ use crate::cell_mark::CellMark;
 use crate::formals::formal_set;
 use crate::free::is_closed;
 use crate::names::{is_symbol_of, is_word};
+use crate::work::Work;
 use mw_heap::{Heap, Memory, Ref, View};
-use std::alloc::Global;
 
 // How many formals (name . rest) has, where it is the head of a lambda call.
 pub(crate) fn count_formals(
@@ -18,7 +18,7 @@ pub(crate) fn count_formals(
     marks: &[CellMark],
     name: &[u8],
     rest: Ref,
-    alloc: Global,
+    work: &mut Work,
 ) -> Result<Option<u32>, Memory>
     requires name { is_name name.now ≡ true }
     requires within { IsIn heap.now rest }
@@ -40,10 +40,10 @@ pub(crate) fn count_formals(
     if !marks[body.index()].is_term {
         return Ok(None);
     }
-    let Some(formals) = formal_set(heap, list, alloc)? else {
+    let Some(formals) = formal_set(heap, list, work)? else {
         return Ok(None);
     };
-    if !is_closed(heap, &formals, body, alloc)? {
+    if !is_closed(heap, &formals, body, work)? {
         return Ok(None);
     }
     match u32::try_from(formals.len()) {

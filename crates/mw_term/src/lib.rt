@@ -14,6 +14,7 @@ mod names;
 mod part;
 mod substitutions;
 mod variables;
+mod work;
 
 pub use arity::Arity;
 pub use formal_names::Formals;

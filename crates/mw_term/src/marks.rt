@@ -11,7 +11,8 @@ use crate::cell_mark::CellMark;
 use crate::head::count_formals;
 use crate::list::{count_more, is_call, is_formula_list, is_lambda_call};
 use crate::names::{is_variable_name, is_word};
-use mw_heap::{Heap, Mark, Memory, Ref, View};
+use crate::work::Work;
+use mw_heap::{Heap, Mark, Memory, Ref, View, looks_for};
 use std::alloc::Global;
 use std::marker::Model;
 
@@ -35,7 +36,7 @@ fn mark_pair(
     marks: &[CellMark],
     first: Ref,
     rest: Ref,
-    alloc: Global,
+    work: &mut Work,
 ) -> Result<CellMark, Memory>
     requires marked { AreMarks arity.now heap.now marks.now }
     requires first { first < length marks.now }
@@ -58,7 +59,7 @@ fn mark_pair(
                 is_term: is_call(heap, arity, name, rest, actuals.terms),
                 terms,
                 is_formula: is_formula_list(heap, marks, name, rest),
-                formals: count_formals(heap, marks, name, rest, alloc)?,
+                formals: count_formals(heap, marks, name, rest, work)?,
             })
         }
         View::Pair(_, _) => Ok(CellMark {
@@ -76,7 +77,7 @@ fn mark_cell(
     arity: &Arity,
     marks: &[CellMark],
     x: Ref,
-    alloc: Global,
+    work: &mut Work,
 ) -> Result<CellMark, Memory>
     requires within { IsIn heap.now x }
     requires marked { AreMarks arity.now heap.now marks.now }
@@ -91,7 +92,7 @@ fn mark_cell(
             formals: None,
         }),
         View::Symbol => Ok(mark_symbol(heap.name_of(x))),
-        View::Pair(first, rest) => mark_pair(heap, arity, marks, first, rest, alloc),
+        View::Pair(first, rest) => mark_pair(heap, arity, marks, first, rest, work),
     }
 }
 
@@ -101,7 +102,7 @@ fn mark_up_to(
     heap: &Heap,
     arity: &Arity,
     end: usize,
-    alloc: Global,
+    work: &mut Work,
 ) -> Result<(), Memory>
     requires marked { AreMarks arity.now heap.now cells.old.items }
     requires from { length cells.old.items ≤ end }
@@ -111,7 +112,7 @@ fn mark_up_to(
     ensures kept { take (length cells.old.items) cells.new.items ≡ cells.old.items }
 {
     for i in cells.len()..end {
-        let mark = mark_cell(heap, arity, cells.as_slice(), heap.nth(i), alloc)?;
+        let mark = mark_cell(heap, arity, cells.as_slice(), heap.nth(i), work)?;
         cells.push(mark)?;
     }
     Ok(())
@@ -135,7 +136,7 @@ impl Model for Marks {
 }
 
 /// The marks of the objects of the heap below a mark. It takes time in proportion to them, and to the size of each distinct head of
-/// a lambda call.
+/// a lambda call; where these share so much that it would be more than an allowance, it is answered as out of memory.
 pub fn mark_terms(alloc: Global, heap: &Heap, arity: &Arity, below: Mark) -> Result<Marks, Memory>
     requires { below ≤ length heap.now }
     ensures marked { IfOk result (AreMarks arity.now heap.now) }
@@ -164,7 +165,8 @@ impl Marks {
         self.cells.len()
     }
 
-    /// Adds the marks of the objects of the heap below a mark. Where memory is refused nothing changes.
+    /// Adds the marks of the objects of the heap below a mark, at the cost of `mark_terms` for these. Where memory is refused nothing
+    /// changes.
     pub fn extend(&mut self, heap: &Heap, arity: &Arity, below: Mark) -> Result<(), Memory>
         requires marked { AreMarks arity.now heap.now self.old }
         requires from { length self.old ≤ below }
@@ -174,7 +176,9 @@ impl Marks {
         ensures err { OnErr result (self.new ≡ self.old) }
     {
         let had = self.cells.len();
-        let done = mark_up_to(&mut self.cells, heap, arity, below.cells(), self.alloc);
+        let looks = looks_for(below.cells() - had);
+        let mut work = Work::new(self.alloc, looks);
+        let done = mark_up_to(&mut self.cells, heap, arity, below.cells(), &mut work);
         if done.is_err() {
             self.cells.truncate(had);
         }

@@ -4,7 +4,7 @@ ghost use Rattle.mw_model.specs.Object.{is_name};
 ghost use Rattle.mw_heap.specs.Objects.{IsIn};
 
 use mw_forms::{boxed, form, is_in, quoted};
-use mw_heap::{Heap, Memory, Ref};
+use mw_heap::{Heap, Memory, Ref, looks_for};
 use mw_subst::{Sigma, Steps, sigma_of, substitute, substitute_counted};
 use std::marker::Brand;
 use std::sync::ledger::{Blank, Ledger};
@@ -80,6 +80,36 @@ fn substitutes(heap: &mut Heap) -> Result<bool, Memory> {
 fn variables_become_terms(rt: HostRuntime) -> Result<(), Fail> {
     let mut heap = boxed(rt.alloc())?;
     assert!(rt; substitutes(&mut heap)?);
+    Ok(())
+}
+
+// Whether (F X) with 'A for X is refused where no look is allowed and where one too few is, and is (F 'A) where as many are as it takes,
+// and where as many as an event may take. The call is looked at twice, its list three times, and X and NIL once each.
+fn takes_seven_looks(heap: &mut Heap) -> Result<[bool; 4], Memory> {
+    let x = heap.symbol(b"X")?;
+    let quoted_a = quoted_symbol(heap, b"A")?;
+    let before = form(heap, b"F", &[x])?;
+    let after = form(heap, b"F", &[quoted_a])?;
+    heap.allow_looks(0);
+    let with_none = with_term(heap, before, x, quoted_a);
+    heap.allow_looks(6);
+    let with_few = with_term(heap, before, x, quoted_a);
+    heap.allow_looks(7);
+    let made = with_term(heap, before, x, quoted_a)?;
+    heap.allow_looks(looks_for(4));
+    let again = with_term(heap, before, x, quoted_a)?;
+    Ok([
+        with_none.is_err(),
+        with_few.is_err(),
+        made == after,
+        again == after,
+    ])
+}
+
+#[test]
+fn looks_past_those_allowed_are_out_of_memory(rt: HostRuntime) -> Result<(), Fail> {
+    let mut heap = boxed(rt.alloc())?;
+    assert_eq!(rt; takes_seven_looks(&mut heap)?, [true; 4]);
     Ok(())
 }
 

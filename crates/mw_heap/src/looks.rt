@@ -1,0 +1,30 @@
+//! How much work may go over the same cells again and again.
+ghost use Rattle.std.specs.Prelude.{◌≡◌, ◌+◌, ◌*◌, ◌-◌, ◌^◌, min, OnOk, OnErr};
+
+use crate::Memory;
+
+// The looks that any work may take, and how many more for each cell that it is about.
+const MOST_LOOKS: u64 = 1 << 26;
+
+const LOOKS_FOR_A_CELL: u64 = 64;
+
+/// How many looks at cells work on so many cells may take, where labels may have it look at a cell many times: past them it is answered
+/// as out of memory.
+pub fn looks_for(cells: usize) -> u64
+    ensures { result ≡ min (2 ^ 26 + min (cells * 64) (2 ^ 64 - 1)) (2 ^ 64 - 1) }
+{
+    MOST_LOOKS.saturating_add((cells as u64).saturating_mul(LOOKS_FOR_A_CELL))
+}
+
+/// Takes one look from those that are left. The error is that none is left: so much work is answered as out of memory.
+pub fn take_look(left: &mut u64) -> Result<(), Memory>
+    ensures taken { OnOk result (left.old ≡ left.new + 1) }
+    ensures none { OnErr result (left.old ≡ 0) }
+    ensures kept { OnErr result (left.new ≡ left.old) }
+{
+    if *left == 0 {
+        return Err(Memory);
+    }
+    *left -= 1;
+    Ok(())
+}
