@@ -7,7 +7,7 @@ use std::env::{self, Env};
 use std::io::{self, ErrorKind};
 use std::process::ExitCode;
 
-// The arguments behind the program's name.
+// The arguments after the program's name.
 fn words(rt: &(impl Env + AllocGlobal)) -> io::Result<Vec<Text>> {
     let mut words = Vec::new(rt.alloc());
     for word in env::args(rt)?.skip(1) {

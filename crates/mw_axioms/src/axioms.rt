@@ -43,9 +43,9 @@ impl Axioms {
 
 /// Makes the axioms of the profile's primitives.
 pub fn build(heap: &mut Heap, profile: Profile) -> Result<Axioms, Memory>
-    ensures grows { Grows heap.old heap.new }
-    ensures within { IfOk result (λ a. AreIn heap.new a) }
-    ensures axioms { IfOk result (λ a. map (object_at heap.new) a ≡ map formula_object (primitive_axioms (profile_of profile))) }
+    ensures grows { Grows heap.old.objects heap.new.objects }
+    ensures within { IfOk result (λ a. AreIn heap.new.objects a) }
+    ensures axioms { IfOk result (λ a. map (object_at heap.new.objects) a ≡ map formula_object (primitive_axioms (profile_of profile))) }
 {
     let mut formulas = Vec::new(heap.alloc());
     run(heap, &mut formulas, &SHARED)?;

@@ -10,10 +10,10 @@ use mw_heap::{Heap, Memory, Ref};
 
 // Puts the list of the word and of the newest `count` references in their place.
 fn make_list(heap: &mut Heap, stack: &mut Vec<Ref>, word: Word, count: usize) -> Result<(), Memory>
-    requires { AreIn heap.old stack.old.items }
-    ensures grows { Grows heap.old heap.new }
-    ensures within { OnOk result (AreIn heap.new stack.new.items) }
-    ensures made { OnOk result (stack_of heap.new stack.new.items ≡ gather word count NIL (stack_of heap.old stack.old.items)) }
+    requires { AreIn heap.old.objects stack.old.items }
+    ensures grows { Grows heap.old.objects heap.new.objects }
+    ensures within { OnOk result (AreIn heap.new.objects stack.new.items) }
+    ensures made { OnOk result (stack_of heap.new.objects stack.new.items ≡ gather word count NIL (stack_of heap.old.objects stack.old.items)) }
 {
     let mut members = heap.symbol(b"NIL")?;
     for _ in 0..count {
@@ -29,10 +29,10 @@ fn make_list(heap: &mut Heap, stack: &mut Vec<Ref>, word: Word, count: usize) ->
 
 // Does what one piece says.
 fn take_step(heap: &mut Heap, stack: &mut Vec<Ref>, piece: Piece) -> Result<(), Memory>
-    requires { AreIn heap.old stack.old.items }
-    ensures grows { Grows heap.old heap.new }
-    ensures within { OnOk result (AreIn heap.new stack.new.items) }
-    ensures made { OnOk result (stack_of heap.new stack.new.items ≡ step piece (stack_of heap.old stack.old.items)) }
+    requires { AreIn heap.old.objects stack.old.items }
+    ensures grows { Grows heap.old.objects heap.new.objects }
+    ensures within { OnOk result (AreIn heap.new.objects stack.new.items) }
+    ensures made { OnOk result (stack_of heap.new.objects stack.new.items ≡ step piece (stack_of heap.old.objects stack.old.items)) }
 {
     let made = match piece {
         Piece::Symbol(word) => heap.symbol(word.name())?,
@@ -45,10 +45,10 @@ fn take_step(heap: &mut Heap, stack: &mut Vec<Ref>, piece: Piece) -> Result<(), 
 
 // Does what the pieces say, in order.
 pub(crate) fn run(heap: &mut Heap, stack: &mut Vec<Ref>, pieces: &[Piece]) -> Result<(), Memory>
-    requires { AreIn heap.old stack.old.items }
-    ensures grows { Grows heap.old heap.new }
-    ensures within { OnOk result (AreIn heap.new stack.new.items) }
-    ensures made { OnOk result (stack_of heap.new stack.new.items ≡ run (stack_of heap.old stack.old.items) pieces.now) }
+    requires { AreIn heap.old.objects stack.old.items }
+    ensures grows { Grows heap.old.objects heap.new.objects }
+    ensures within { OnOk result (AreIn heap.new.objects stack.new.items) }
+    ensures made { OnOk result (stack_of heap.new.objects stack.new.items ≡ run (stack_of heap.old.objects stack.old.items) pieces.now) }
 {
     for piece in pieces {
         take_step(heap, stack, *piece)?;

@@ -38,3 +38,9 @@ abbrev pub Answers : List Object → Bool → Object → Applied → Type 0
 Answers os past v (Value r) = (past ≡ false) × IsIn os r × (object_at os r ≡ v)
 Answers os past v Overflow = past ≡ true
 Answers os past v Memory = Unit {0}
+
+-- it is answered, and memory was not refused
+abbrev pub IsAnswered : Applied → Type 0
+IsAnswered (Value r) = Unit {0}
+IsAnswered Overflow = Unit {0}
+IsAnswered Memory = ⊥

@@ -1,55 +1,21 @@
 //! Answers from what was found.
-ghost use Rattle.std.specs.Prelude.{◌≡◌, true, false, MatchOption};
-ghost use Rattle.mw_model.specs.Object.{Natural, Symbol, Pair, is_name, name_of_bytes, truth_of};
+ghost use Rattle.std.specs.Prelude.{◌≡◌, ◌<◌, ◌≤◌, ◌+◌, false, MatchOption};
+ghost use Rattle.mw_model.specs.Object.{Natural, Pair};
 ghost use Rattle.mw_heap.specs.Objects.{object_at, IsIn, Grows};
-ghost use Rattle.mw_heap.specs.Parts.{part_at, IsPart};
 ghost use Rattle.mw_base.specs.declared.applied.Applied.TheVariants.{Overflow};
-ghost use Rattle.mw_base.specs.Answers.{Answers};
+ghost use Rattle.mw_base.specs.Answers.{Answers, IsAnswered};
 
 use crate::Applied;
 use mw_heap::{Heap, Memory, Ref};
 
-// The symbol of this name.
-fn symbol(heap: &mut Heap, name: &[u8]) -> Applied
-    requires { is_name name.now ≡ true }
-    ensures grows { Grows heap.old heap.new }
-    ensures answer { Answers heap.new false (Symbol (name_of_bytes name.now)) result }
-{
-    match heap.symbol(name) {
-        Ok(value) => Applied::Value(value),
-        Err(Memory) => Applied::Memory,
-    }
-}
-
-// T or NIL.
-pub(crate) fn truth(heap: &mut Heap, holds: bool) -> Applied
-    ensures grows { Grows heap.old heap.new }
-    ensures answer { Answers heap.new false (truth_of holds) result }
-{
-    if holds {
-        return symbol(heap, b"T");
-    }
-    symbol(heap, b"NIL")
-}
-
-// The part, or NIL where there is none.
-pub(crate) fn part(heap: &mut Heap, x: Option<Ref>) -> Applied
-    requires { IsPart heap.old x }
-    ensures grows { Grows heap.old heap.new }
-    ensures answer { Answers heap.new false (part_at heap.old x) result }
-{
-    match x {
-        Some(x) => Applied::Value(x),
-        None => truth(heap, false),
-    }
-}
-
 // The pair.
 pub(crate) fn pair(heap: &mut Heap, first: Ref, second: Ref) -> Applied
-    requires first_in { IsIn heap.old first }
-    requires second_in { IsIn heap.old second }
-    ensures grows { Grows heap.old heap.new }
-    ensures answer { Answers heap.new false (Pair (object_at heap.old first) (object_at heap.old second)) result }
+    requires first_in { IsIn heap.old.objects first }
+    requires second_in { IsIn heap.old.objects second }
+    ensures grows { Grows heap.old.objects heap.new.objects }
+    ensures answer { Answers heap.new.objects false (Pair (object_at heap.old.objects first) (object_at heap.old.objects second)) result }
+    ensures room { 0 < heap.old.spare → IsAnswered result }
+    ensures spare { heap.old.spare ≤ heap.new.spare + 1 }
 {
     match heap.cons(first, second) {
         Ok(value) => Applied::Value(value),
@@ -59,8 +25,10 @@ pub(crate) fn pair(heap: &mut Heap, first: Ref, second: Ref) -> Applied
 
 // The natural, or Overflow where there is none.
 pub(crate) fn natural(heap: &mut Heap, n: Option<u128>) -> Applied
-    ensures grows { Grows heap.old heap.new }
-    ensures answer { MatchOption n (result ≡ Overflow) (λ n. Answers heap.new false (Natural n) result) }
+    ensures grows { Grows heap.old.objects heap.new.objects }
+    ensures answer { MatchOption n (result ≡ Overflow) (λ n. Answers heap.new.objects false (Natural n) result) }
+    ensures room { 0 < heap.old.spare → IsAnswered result }
+    ensures spare { heap.old.spare ≤ heap.new.spare + 1 }
 {
     let Some(n) = n else {
         return Applied::Overflow;

@@ -1,79 +1,76 @@
 //! The values of the primitive functions.
-ghost use Rattle.std.specs.Prelude.{◌≡◌, false, [], ◌∷◌, length, map, All};
+ghost use Rattle.std.specs.Prelude.{◌≡◌, ◌<◌, ◌≤◌, ◌+◌, [], ◌∷◌, length, map, All};
 ghost use Rattle.mw_heap.specs.Objects.{object_at, IsIn, Grows};
-ghost use Rattle.mw_base.specs.Answers.{Answers, arity, value_of, overflows};
+ghost use Rattle.mw_base.specs.Answers.{Answers, IsAnswered, arity, value_of, overflows};
+ghost use Rattle.mw_base.specs.Truths.{AreTruths};
 
-use crate::Applied;
-use crate::answers::{natural, pair, part, truth};
+use crate::answers::{natural, pair};
 use crate::values::{is_before, is_natural, is_symbol};
+use crate::{Applied, Truths};
 use mw_heap::{Heap, Primitive, Ref};
 
-/// The value of a primitive function, or of IF, at as many arguments as it takes.
-pub fn apply(heap: &mut Heap, p: Primitive, args: &[Ref]) -> Applied
+/// The value of a primitive function, or of IF, at as many arguments as it takes. It makes one object at most, and so it asks for no
+/// memory where the heap has room for one.
+pub fn apply(heap: &mut Heap, p: Primitive, args: &[Ref], truths: &Truths) -> Applied
     requires count { length args.now ≡ arity p }
-    requires within { All (IsIn heap.old) args.now }
-    ensures grows { Grows heap.old heap.new }
-    ensures answer { Answers heap.new (overflows p (map (object_at heap.old) args.now)) (value_of p (map (object_at heap.old) args.now)) result }
+    requires within { All (IsIn heap.old.objects) args.now }
+    requires truths { AreTruths heap.old.objects truths.now }
+    ensures grows { Grows heap.old.objects heap.new.objects }
+    ensures answer { Answers heap.new.objects (overflows p (map (object_at heap.old.objects) args.now)) (value_of p (map (object_at heap.old.objects) args.now)) result }
+    ensures room { 0 < heap.old.spare → IsAnswered result }
+    ensures spare { heap.old.spare ≤ heap.new.spare + 1 }
 {
     match args {
-        [a] => apply_to_one(heap, p, *a),
-        [a, b] => apply_to_two(heap, p, *a, *b),
+        [a] => Applied::Value(apply_to_one(heap, p, *a, truths)),
+        [a, b] => apply_to_two(heap, p, *a, *b, truths),
         [a, b, c] => Applied::Value(if heap.is_nil(Some(*a)) { *c } else { *b }),
         _ => unreachable!(),
     }
 }
 
-fn apply_to_one(heap: &mut Heap, p: Primitive, a: Ref) -> Applied
+fn apply_to_one(heap: &Heap, p: Primitive, a: Ref, truths: &Truths) -> Ref
     requires count { arity p ≡ 1 }
-    requires within { IsIn heap.old a }
-    ensures grows { Grows heap.old heap.new }
-    ensures answer { Answers heap.new false (value_of p (object_at heap.old a ∷ [])) result }
+    requires within { IsIn heap.now.objects a }
+    requires truths { AreTruths heap.now.objects truths.now }
+    ensures within { IsIn heap.now.objects result }
+    ensures value { object_at heap.now.objects result ≡ value_of p (object_at heap.now.objects a ∷ []) }
 {
     match p {
-        Primitive::Consp => {
-            let holds = heap.is_pair(Some(a));
-            truth(heap, holds)
-        }
-        Primitive::Car => {
-            let first = heap.car(a);
-            part(heap, first)
-        }
-        Primitive::Cdr => {
-            let second = heap.cdr(a);
-            part(heap, second)
-        }
-        Primitive::Symbolp => {
-            let holds = is_symbol(heap, Some(a));
-            truth(heap, holds)
-        }
-        Primitive::Natp => {
-            let holds = is_natural(heap, Some(a));
-            truth(heap, holds)
-        }
+        Primitive::Consp => truths.of(heap, heap.is_pair(Some(a))),
+        Primitive::Car => match heap.car(a) {
+            Some(first) => first,
+            None => truths.nil,
+        },
+        Primitive::Cdr => match heap.cdr(a) {
+            Some(second) => second,
+            None => truths.nil,
+        },
+        Primitive::Symbolp => truths.of(heap, is_symbol(heap, Some(a))),
+        Primitive::Natp => truths.of(heap, is_natural(heap, Some(a))),
         _ => unreachable!(),
     }
 }
 
-fn apply_to_two(heap: &mut Heap, p: Primitive, a: Ref, b: Ref) -> Applied
+fn apply_to_two(heap: &mut Heap, p: Primitive, a: Ref, b: Ref, truths: &Truths) -> Applied
     requires count { arity p ≡ 2 }
-    requires a_in { IsIn heap.old a }
-    requires b_in { IsIn heap.old b }
-    ensures grows { Grows heap.old heap.new }
-    ensures answer { Answers heap.new (overflows p (object_at heap.old a ∷ object_at heap.old b ∷ [])) (value_of p (object_at heap.old a ∷ object_at heap.old b ∷ [])) result }
+    requires a_in { IsIn heap.old.objects a }
+    requires b_in { IsIn heap.old.objects b }
+    requires truths { AreTruths heap.old.objects truths.now }
+    ensures grows { Grows heap.old.objects heap.new.objects }
+    ensures answer { Answers heap.new.objects (overflows p (object_at heap.old.objects a ∷ object_at heap.old.objects b ∷ [])) (value_of p (object_at heap.old.objects a ∷ object_at heap.old.objects b ∷ [])) result }
+    ensures room { 0 < heap.old.spare → IsAnswered result }
+    ensures spare { heap.old.spare ≤ heap.new.spare + 1 }
 {
     match p {
-        Primitive::Equal => {
-            let holds = heap.same(a, b);
-            truth(heap, holds)
-        }
+        Primitive::Equal => Applied::Value(truths.of(heap, heap.same(a, b))),
         Primitive::Cons => pair(heap, a, b),
         Primitive::SymbolLess => {
             let holds = is_before(heap, Some(a), Some(b));
-            truth(heap, holds)
+            Applied::Value(truths.of(heap, holds))
         }
         Primitive::Less => {
             let holds = heap.number(Some(a)) < heap.number(Some(b));
-            truth(heap, holds)
+            Applied::Value(truths.of(heap, holds))
         }
         Primitive::Plus => {
             let sum = heap.number(Some(a)).checked_add(heap.number(Some(b)));

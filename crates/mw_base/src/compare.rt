@@ -12,8 +12,8 @@ use mw_heap::{Heap, Primitive, Ref, View};
 // Whether v is T or NIL, as the test says.
 
 fn is_truth(heap: &Heap, holds: bool, v: Option<Ref>) -> bool
-    requires { IsPart heap.now v }
-    ensures { result ≡ same_object (truth_of holds) (part_at heap.now v) }
+    requires { IsPart heap.now.objects v }
+    ensures { result ≡ same_object (truth_of holds) (part_at heap.now.objects v) }
 {
     if holds {
         heap.is_named(v, b"T")
@@ -24,8 +24,8 @@ fn is_truth(heap: &Heap, holds: bool, v: Option<Ref>) -> bool
 
 // Whether v is the number n, where there is none if it is 2^128 or more.
 fn is_number(heap: &Heap, n: Option<u128>, v: Option<Ref>) -> bool
-    requires { IsPart heap.now v }
-    ensures { (m : ℕ) → SomeIff n (m < 2 ^ 128) m → result ≡ same_object (Natural m) (part_at heap.now v) }
+    requires { IsPart heap.now.objects v }
+    ensures { (m : ℕ) → SomeIff n (m < 2 ^ 128) m → result ≡ same_object (Natural m) (part_at heap.now.objects v) }
 {
     let Some(v) = v else {
         return false;
@@ -38,10 +38,10 @@ fn is_number(heap: &Heap, n: Option<u128>, v: Option<Ref>) -> bool
 
 // Whether v is the pair of the two.
 fn is_pair_of(heap: &Heap, first: Option<Ref>, second: Option<Ref>, v: Option<Ref>) -> bool
-    requires first_within { IsPart heap.now first }
-    requires second_within { IsPart heap.now second }
-    requires v_within { IsPart heap.now v }
-    ensures { result ≡ same_object (Pair (part_at heap.now first) (part_at heap.now second)) (part_at heap.now v) }
+    requires first_within { IsPart heap.now.objects first }
+    requires second_within { IsPart heap.now.objects second }
+    requires v_within { IsPart heap.now.objects v }
+    ensures { result ≡ same_object (Pair (part_at heap.now.objects first) (part_at heap.now.objects second)) (part_at heap.now.objects v) }
 {
     let Some(v) = v else {
         return false;
@@ -54,29 +54,29 @@ fn is_pair_of(heap: &Heap, first: Option<Ref>, second: Option<Ref>, v: Option<Re
 
 // The first part; nothing of what is no pair.
 fn first_part(heap: &Heap, x: Option<Ref>) -> Option<Ref>
-    requires { IsPart heap.now x }
-    ensures within { IsPart heap.now result }
-    ensures value { part_at heap.now result ≡ car (part_at heap.now x) }
+    requires { IsPart heap.now.objects x }
+    ensures within { IsPart heap.now.objects result }
+    ensures value { part_at heap.now.objects result ≡ car (part_at heap.now.objects x) }
 {
     heap.car(x?)
 }
 
 // The second part; nothing of what is no pair.
 fn second_part(heap: &Heap, x: Option<Ref>) -> Option<Ref>
-    requires { IsPart heap.now x }
-    ensures within { IsPart heap.now result }
-    ensures value { part_at heap.now result ≡ cdr (part_at heap.now x) }
+    requires { IsPart heap.now.objects x }
+    ensures within { IsPart heap.now.objects result }
+    ensures value { part_at heap.now.objects result ≡ cdr (part_at heap.now.objects x) }
 {
     heap.cdr(x?)
 }
 
 // Whether v is what IF chooses.
 fn is_choice(heap: &Heap, a: Option<Ref>, b: Option<Ref>, c: Option<Ref>, v: Option<Ref>) -> bool
-    requires a_within { IsPart heap.now a }
-    requires b_within { IsPart heap.now b }
-    requires c_within { IsPart heap.now c }
-    requires v_within { IsPart heap.now v }
-    ensures { result ≡ same_object (choose (part_at heap.now a) (part_at heap.now b) (part_at heap.now c)) (part_at heap.now v) }
+    requires a_within { IsPart heap.now.objects a }
+    requires b_within { IsPart heap.now.objects b }
+    requires c_within { IsPart heap.now.objects c }
+    requires v_within { IsPart heap.now.objects v }
+    ensures { result ≡ same_object (choose (part_at heap.now.objects a) (part_at heap.now.objects b) (part_at heap.now.objects c)) (part_at heap.now.objects v) }
 {
     if heap.is_nil(a) {
         heap.is_same(c, v)
@@ -94,11 +94,11 @@ pub(crate) fn is_value(
     c: Option<Ref>,
     v: Option<Ref>,
 ) -> bool
-    requires a_within { IsPart heap.now a }
-    requires b_within { IsPart heap.now b }
-    requires c_within { IsPart heap.now c }
-    requires v_within { IsPart heap.now v }
-    ensures { result ≡ same_object (value_of p (part_at heap.now a ∷ part_at heap.now b ∷ part_at heap.now c ∷ [])) (part_at heap.now v) }
+    requires a_within { IsPart heap.now.objects a }
+    requires b_within { IsPart heap.now.objects b }
+    requires c_within { IsPart heap.now.objects c }
+    requires v_within { IsPart heap.now.objects v }
+    ensures { result ≡ same_object (value_of p (part_at heap.now.objects a ∷ part_at heap.now.objects b ∷ part_at heap.now.objects c ∷ [])) (part_at heap.now.objects v) }
 {
     match p {
         Primitive::If => is_choice(heap, a, b, c, v),

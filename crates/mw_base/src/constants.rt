@@ -10,8 +10,8 @@ use mw_heap::{Heap, Ref, View};
 // Whether it is (quote c).
 #[tactic(auto, using(crate::proofs::ConstantTests::is_constant_object_at))]
 pub(crate) fn is_constant(heap: &Heap, x: Ref) -> bool
-    requires { IsIn heap.now x }
-    ensures { result ≡ is_constant_object (object_at heap.now x) }
+    requires { IsIn heap.now.objects x }
+    ensures { result ≡ is_constant_object (object_at heap.now.objects x) }
 {
     let View::Pair(head, rest) = heap.view(x) else {
         return false;
@@ -24,8 +24,8 @@ pub(crate) fn is_constant(heap: &Heap, x: Ref) -> bool
 
 // Whether it is a proper list of constants.
 pub(crate) fn are_constants(heap: &Heap, x: Ref) -> bool
-    requires { IsIn heap.now x }
-    ensures { result ≡ are_constant_objects (object_at heap.now x) }
+    requires { IsIn heap.now.objects x }
+    ensures { result ≡ are_constant_objects (object_at heap.now.objects x) }
 {
     let mut rest = x;
     while let View::Pair(first, others) = heap.view(rest) {
@@ -39,9 +39,9 @@ pub(crate) fn are_constants(heap: &Heap, x: Ref) -> bool
 
 // What the constant is of; nothing where there is no constant.
 pub(crate) fn unquoted(heap: &Heap, x: Option<Ref>) -> Option<Ref>
-    requires { IsPart heap.now x }
-    ensures within { IsPart heap.now result }
-    ensures value { part_at heap.now result ≡ second_of (part_at heap.now x) }
+    requires { IsPart heap.now.objects x }
+    ensures within { IsPart heap.now.objects result }
+    ensures value { part_at heap.now.objects result ≡ second_of (part_at heap.now.objects x) }
 {
     heap.second_of(x?)
 }

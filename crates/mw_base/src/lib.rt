@@ -7,8 +7,11 @@ mod applied;
 mod compare;
 mod constants;
 mod rule;
+mod truths;
 mod values;
 
 pub use application::apply;
 pub use applied::Applied;
 pub use rule::base_eval;
+pub use truths::Truths;
+pub use values::blocks_of_names;

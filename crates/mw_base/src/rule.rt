@@ -13,18 +13,18 @@ use mw_heap::{Heap, Memory, Primitive, Profile, Ref, View};
 /// Conclude (f 'c1 .. 'cn) = 'v, where f is a primitive function of the profile, or IF, and v its value at c1 .. cn. The value
 /// is not made but compared, so that the heap stays as it is and no memory is wanted.
 pub fn base_eval(heap: &mut Heap, c: Ref, profile: Profile) -> Result<bool, Memory>
-    requires { IsIn heap.old c }
-    ensures answer { result ≡ Ok (object_is_base_eval (profile_of profile) (object_at heap.old c)) }
-    ensures unchanged { heap.new ≡ heap.old }
-    ensures grows { Grows heap.old heap.new }
+    requires { IsIn heap.old.objects c }
+    ensures answer { result ≡ Ok (object_is_base_eval (profile_of profile) (object_at heap.old.objects c)) }
+    ensures unchanged { heap.new.objects ≡ heap.old.objects }
+    ensures grows { Grows heap.old.objects heap.new.objects }
 {
     Ok(is_base_eval(heap, c, profile))
 }
 
 // The rule, on a heap that is only looked at.
 fn is_base_eval(heap: &Heap, c: Ref, profile: Profile) -> bool
-    requires { IsIn heap.now c }
-    ensures { result ≡ object_is_base_eval (profile_of profile) (object_at heap.now c) }
+    requires { IsIn heap.now.objects c }
+    ensures { result ≡ object_is_base_eval (profile_of profile) (object_at heap.now.objects c) }
 {
     let Some(value) = heap.third_of(c) else {
         return false;
@@ -36,9 +36,9 @@ fn is_base_eval(heap: &Heap, c: Ref, profile: Profile) -> bool
 
 // Whether x is a call of a primitive function, or of IF, at constants, with the value v.
 fn is_call_with_value(heap: &Heap, x: Option<Ref>, v: Option<Ref>, profile: Profile) -> bool
-    requires x_within { IsPart heap.now x }
-    requires v_within { IsPart heap.now v }
-    ensures { result ≡ is_call_with_value (profile_of profile) (part_at heap.now x) (part_at heap.now v) }
+    requires x_within { IsPart heap.now.objects x }
+    requires v_within { IsPart heap.now.objects v }
+    ensures { result ≡ is_call_with_value (profile_of profile) (part_at heap.now.objects x) (part_at heap.now.objects v) }
 {
     let Some(x) = x else {
         return false;
@@ -54,11 +54,11 @@ fn is_call_with_value(heap: &Heap, x: Option<Ref>, v: Option<Ref>, profile: Prof
 
 // Whether the symbol f names a primitive function, or IF, whose value at the constants is v.
 fn has_value(heap: &Heap, f: Ref, args: Ref, v: Option<Ref>, profile: Profile) -> bool
-    requires f_in { IsIn heap.now f }
-    requires f_symbol { is_symbol (object_at heap.now f) ≡ true }
-    requires args_in { IsIn heap.now args }
-    requires v_within { IsPart heap.now v }
-    ensures { result ≡ is_that_value (primitive_value (profile_of profile) (name_of (object_at heap.now f)) (unquoted (object_at heap.now args))) (part_at heap.now v) }
+    requires f_in { IsIn heap.now.objects f }
+    requires f_symbol { is_symbol (object_at heap.now.objects f) ≡ true }
+    requires args_in { IsIn heap.now.objects args }
+    requires v_within { IsPart heap.now.objects v }
+    ensures { result ≡ is_that_value (primitive_value (profile_of profile) (name_of (object_at heap.now.objects f)) (unquoted (object_at heap.now.objects args))) (part_at heap.now.objects v) }
 {
     match Primitive::named(heap.name_of(f), profile) {
         Some(p) => {

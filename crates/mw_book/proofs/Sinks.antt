@@ -18,6 +18,6 @@ take-both n m text h =
     ap (take n) (sym (take-append-drop (n + m) text)) ∙ take-append-le n more (drop (n + m) text) (omega (arith, length-take (n + m) text)) in
     ap (λ l. l ++ take m (drop n text)) front ∙ ap (λ l. take n more ++ l) (sym (drop-take n m text)) ∙ take-append-drop n more
 
--- the bytes up to n, and m of those behind them
+-- the bytes up to n, and m of those after them
 pub take-more : (n m : ℕ) (text : List ℕ) → n ≤ length text → take n text ++ take m (take (length text - n) (drop n text)) ≡ take (n + m) text
 take-more n m text h = ap (λ l. take n text ++ take m l) (take_rest text n) ∙ take-both n m text h

@@ -1,4 +1,4 @@
--- The last line as it is written, part behind part.
+-- The last line as it is written, part after part.
 use Rattle.std.proofs.Common.{◌≡◌, ℕ, List, [], ◌∷◌, ◌++◌, append_assoc}
 use Rattle.std.specs.Prelude.{codes}
 use Rattle.mw_model.specs.Report.{spaced}

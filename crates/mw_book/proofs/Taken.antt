@@ -1,4 +1,4 @@
--- What was judged of a piece, and behind the end of the book.
+-- What was judged of a piece, and after the end of the book.
 use Rattle.std.proofs.Common.{◌≡◌, ℕ, ◌+◌, ◌<◌, ◌≤◌, true, List, [], ◌∷◌, ◌++◌, length, take, drop, Some, None, sym, ap, ◌∙◌, subst, arith, append_assoc, append-nil}
 use Rattle.std.proofs.lemmas.List.{take-append-drop, drop-drop, length-drop}
 use Rattle.std.proofs.Math.Seq.{take-add}
@@ -35,7 +35,7 @@ judges_read j k given t s = record {
   lines = λ N h w e. e;
 }
 
--- The events of the first bytes of a piece were judged, and the reader stands behind those bytes.
+-- The events of the first bytes of a piece were judged, and the reader stands after those bytes.
 pub record Taking (o : Judging) (r : Parser) (piece : List ℕ) (j : Judging) (p : Parser) (at : ℕ) : Type 0 where
   pub within : at ≤ length piece
   pub reads : (g : List ℕ) (given : List Object) → Stands o.kernel.objects r g given → (more : List Object) × Judges o given j more × Stands j.kernel.objects p (g ++ take at piece) more

@@ -20,7 +20,7 @@ never_rises : (old new : ℕ) → old ≡ no_faults → new ≡ no_faults → Ri
 never_rises old new p q (inl h) = omega (arith, p, q, h)
 never_rises old new p q (inr h) = let k = h.1 in omega (arith, p, q, k)
 
--- between a source and a sink that never fail, want of memory alone stops the judging of a book
+-- between a source and a sink that never fail, running out of memory alone stops the judging of a book
 pub memory_alone : (e : Ending) (old new : ℕ) → old ≡ no_faults → new ≡ no_faults → IsStop e → SourceCounts e old new → SinkCounts e no_faults no_faults → e ≡ ending.Memory
 memory_alone ending.Memory old new p q h s k = refl
 memory_alone ending.ReadFault old new p q h s k = absurd (never_rises old new p q s)

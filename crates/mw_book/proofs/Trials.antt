@@ -1,13 +1,13 @@
--- The trial book is its lines, one behind another, and is given part by part.
+-- The trial book is its lines, one after another, and is given part by part.
 use Rattle.std.proofs.Common.{◌≡◌, ℕ, zero, suc, ◌+◌, ◌-◌, ◌*◌, ◌%◌, ◌<◌, ◌≤◌, cond, List, [], ◌∷◌, ◌++◌, length, take, drop, sym, ap, ◌∙◌, append_assoc, add-zero, add-one, arith}
 use Rattle.std.proofs.Math.Seq.{take-append-add}
 use Rattle.std.proofs.lemmas.Bool.{eq-eqb, ne_eqb}
 use Rattle.std.proofs.lemmas.List.{append-nil, drop-drop, length-take-le, take-append-drop, take-append-le}
 use borrow.Rule.Slice.PartMut.{put_mid}
 use Rattle.mw_model.specs.Trial.{sum_formula, x_formula, odd_line, even_line, trial_line, trial_book}
-use Rattle.mw_book.specs.Trials.{lines_behind}
+use Rattle.mw_book.specs.Trials.{lines_after}
 
--- one text put behind another
+-- one text put after another
 abbrev pub appended : List ℕ → List (List ℕ) → List ℕ
 appended old [] = old
 appended old (t ∷ ts) = appended (old ++ t) ts
@@ -30,24 +30,24 @@ trial_line-even i h =
     let p = sum_formula i ((i * i) % 1000) in
     ap (λ b. cond b (odd_line p) (even_line p (x_formula i)) ++ 10 ∷ []) (ne_eqb (i % 2) 1 h)
 
-pub trial_book-from : (event count : ℕ) → trial_book (event + count) ≡ trial_book event ++ lines_behind event count
+pub trial_book-from : (event count : ℕ) → trial_book (event + count) ≡ trial_book event ++ lines_after event count
 trial_book-from event zero = ap trial_book (add-zero event) ∙ sym (append-nil (trial_book event))
 trial_book-from event (suc count) =
     let e : event + suc count ≡ suc event + count = omega arith in
-    ap trial_book e ∙ trial_book-from (suc event) count ∙ append_assoc (trial_book event) (trial_line (suc event)) (lines_behind (suc event) count)
+    ap trial_book e ∙ trial_book-from (suc event) count ∙ append_assoc (trial_book event) (trial_line (suc event)) (lines_after (suc event) count)
 
-pub trial_book-lines : (events : ℕ) → lines_behind 0 (events - 0) ≡ trial_book events
+pub trial_book-lines : (events : ℕ) → lines_after 0 (events - 0) ≡ trial_book events
 trial_book-lines events =
     let e : events - 0 ≡ events = omega arith in
     let f : 0 + events ≡ events = omega arith in
-    ap (lines_behind 0) e ∙ sym (trial_book-from 0 events) ∙ ap trial_book f
+    ap (lines_after 0) e ∙ sym (trial_book-from 0 events) ∙ ap trial_book f
 
 -- while events are left, the lines begin with the next one
-pub lines_behind-next : (event events : ℕ) → event < events →
-    lines_behind event (events - event) ≡ trial_line (event + 1) ++ lines_behind (event + 1) (events - (event + 1))
-lines_behind-next event events h =
+pub lines_after-next : (event events : ℕ) → event < events →
+    lines_after event (events - event) ≡ trial_line (event + 1) ++ lines_after (event + 1) (events - (event + 1))
+lines_after-next event events h =
     let e : events - event ≡ suc (events - (event + 1)) = omega arith in
-    ap (lines_behind event) e ∙ ap (λ k. trial_line k ++ lines_behind k (events - (event + 1))) (sym (add-one event))
+    ap (lines_after event) e ∙ ap (λ k. trial_line k ++ lines_after k (events - (event + 1))) (sym (add-one event))
 
 -- n bytes of a line are given
 pub given_part : (line rest piece : List ℕ) (at n : ℕ) → piece ≡ take n (drop at line) → drop at line ++ rest ≡ piece ++ (drop (at + n) line ++ rest)

@@ -15,7 +15,7 @@ takes_both None (Some v) c x y p q = absurd p
 takes_both (Some u) (Some v) None x y p q = absurd q
 takes_both None None (Some w) x y p q = absurd q
 
--- leading bytes of any text
+-- a prefix of any text
 pub nothing_taken : (text : List ℕ) (a : Option (List ℕ)) → TakesSome a a text
 nothing_taken text a = ([], text, refl, takes_none a)
 

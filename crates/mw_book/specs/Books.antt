@@ -7,6 +7,6 @@ abbrev pub Has : Option (List ℕ) → List ℕ → Type 0
 Has (Some left) bytes = left ≡ bytes
 Has None bytes = Unit {0}
 
--- the sink took leading bytes of the text
+-- the sink took a prefix of the text
 abbrev pub TakesSome : Option (List ℕ) → Option (List ℕ) → List ℕ → Type 0
 TakesSome old new text = (written : List ℕ) × (rest : List ℕ) × (text ≡ written ++ rest) × Takes old new written

@@ -5,7 +5,7 @@ use Rattle.mw_model.specs.Command.{Check}
 use Rattle.mw_model.specs.Grammar.{book, trees}
 use Rattle.mw_model.specs.Report.{Status, Done, SomeRefused, Syntax, lines_so_far, last_line}
 use Rattle.mw_model.specs.Trial.{trial_book}
-use Rattle.mw_book.specs.Headline.{Headline, TrialHeadline}
+use Rattle.mw_model.specs.Headline.{Headline, TrialHeadline}
 use Rattle.mw_port.specs.Ports.{Rises, Gives, Takes, HasEnded}
 use Rattle.mw_read.specs.Piles.{kind_of}
 use Rattle.mw_read.specs.declared.step.SyntaxKind.{SyntaxKind}
@@ -57,7 +57,7 @@ abbrev pub SinkCounts : Ending → ℕ → ℕ → Type 0
 SinkCounts ending.WriteFault old new = Rises old new
 SinkCounts s old new = new ≡ old
 
--- The book was read to its end or its first fault and its data were judged. Behind what the sink took the other lines are due.
+-- The book was read to its end or its first fault and its data were judged. After what the sink took the other lines are due.
 pub record ReadWhole (N : ℕ) (old_book new_book old new : Option (List ℕ)) (fault : Option (SyntaxKind × ℕ)) (j : Judging) : Type 0 where
   pub bytes : List ℕ
   pub has : Has old_book bytes
@@ -69,7 +69,7 @@ pub record ReadWhole (N : ℕ) (old_book new_book old new : Option (List ℕ)) (
   pub takes : Takes old new written
   pub lines : written ++ j.lines.items ≡ lines_of given N
 
--- a report with this status ends with this text, of which the sink took all, or leading bytes
+-- a report with this status ends with this text, of which the sink took all, or a prefix
 abbrev pub Concludes : Ending → Status → List ℕ → Option (List ℕ) → Option (List ℕ) → Type 0
 Concludes ending.WriteFault s text old new = TakesSome old new text
 Concludes ending.Memory s text old new = TakesSome old new text

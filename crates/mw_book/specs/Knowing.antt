@@ -19,7 +19,7 @@ pub record Judged (j : Judging) (N : ℕ) (given : List Object) : Type 0 where
   pub counted : j.events ≡ length given
   pub refused_counted : j.refused ≡ refused_among (initial One) given N
 
--- From the data given to more: where those were judged, these are, and behind what was written the lines are due.
+-- From the data given to more: where those were judged, these are, and after what was written the lines are due.
 pub record Judges (old : Judging) (given : List Object) (new : Judging) (more : List Object) : Type 0 where
   pub judged : (N : ℕ) → Judged old N given → Judged new N more
   pub lines : (N : ℕ) → Judged old N given → (written : List ℕ) → written ++ old.lines.items ≡ lines_of given N → written ++ new.lines.items ≡ lines_of more N

@@ -1,4 +1,3 @@
-pub mod Headline
 pub mod Books
 pub mod Statuses
 pub mod Numbers

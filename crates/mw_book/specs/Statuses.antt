@@ -4,7 +4,7 @@ use Rattle.mw_model.specs.Command.{Request, Check, Trial, Help, Usage, asked, he
 use Rattle.mw_model.specs.Grammar.{trees}
 use Rattle.mw_model.specs.Report.{Status, Done, SomeRefused, Syntax, lines_so_far, report, last_line}
 use Rattle.mw_model.specs.Trial.{trial_book}
-use Rattle.mw_book.specs.Headline.{Headline, TrialHeadline}
+use Rattle.mw_model.specs.Headline.{Headline, TrialHeadline}
 use Rattle.mw_port.specs.Ports.{Gives, Takes}
 use Rattle.mw_read.specs.Piles.{kind_of}
 use Rattle.mw_port.specs.declared.sink.Halt.{Halt}
@@ -42,7 +42,7 @@ ReportsOn Usage book old new s = ⊥
 abbrev pub Reports : List (List ℕ) → Option (List ℕ) → Option (List ℕ) → Option (List ℕ) → Status → Type 0
 Reports words book old new s = ReportsOn (asked words) book old new s
 
--- The sink took leading bytes of what is due: the report on the book, the last line of that on the trial book, or the help text.
+-- The sink took a prefix of what is due: the report on the book, the last line of that on the trial book, or the help text.
 abbrev pub IsPartOf : Request → Option (List ℕ) → Option (List ℕ) → Option (List ℕ) → Type 0
 IsPartOf (Check N) book old new = (bytes : List ℕ) × Has book bytes × TakesSome old new (report bytes N).text
 IsPartOf (Trial m N) book old new = TakesSome old new (last_line (trees (trial_book m)) N)

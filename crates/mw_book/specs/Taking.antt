@@ -15,13 +15,13 @@ abbrev pub fault_of : Option (SyntaxKind × ℕ) → Option Fault
 fault_of None = None
 fault_of (Some f) = Some (fault (kind_of f.0) f.1)
 
--- Behind bytes g, of which these data were given, a piece was taken whole, or up to the first fault of the book.
+-- After bytes g, of which these data were given, a piece was taken whole, or up to the first fault of the book.
 abbrev pub Takes : Option (SyntaxKind × ℕ) → Judging → List ℕ → List Object → List ℕ → Judging → Parser → Type 0
 Takes None old g given piece new r =
     (more : List Object) × Judges old given new more × Stands new.kernel.objects r (g ++ piece) more × IsFree r × (reading Goes (g ++ piece) ≡ book more None)
 Takes (Some f) old g given piece new r =
     (more : List Object) × Judges old given new more × ((rest : List ℕ) → trees (g ++ (piece ++ rest)) ≡ book more (fault_of (Some f)))
 
--- Behind bytes g, of which these data were given, the book has ended.
+-- After bytes g, of which these data were given, the book has ended.
 abbrev pub Ends : Option (SyntaxKind × ℕ) → Judging → List ℕ → List Object → Judging → Type 0
 Ends f old g given new = (more : List Object) × Judges old given new more × (trees g ≡ book more (fault_of f))

@@ -2,7 +2,7 @@
 use Rattle.std.specs.Prelude.{ℕ, zero, suc, List, [], ◌++◌}
 use Rattle.mw_model.specs.Trial.{trial_line}
 
--- the lines of so many events behind this one
-abbrev pub lines_behind : (event count : ℕ) → List ℕ
-lines_behind event zero = []
-lines_behind event (suc count) = trial_line (suc event) ++ lines_behind (suc event) count
+-- the lines of so many events after this one
+abbrev pub lines_after : (event count : ℕ) → List ℕ
+lines_after event zero = []
+lines_after event (suc count) = trial_line (suc event) ++ lines_after (suc event) count

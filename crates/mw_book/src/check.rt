@@ -29,7 +29,7 @@ const LIMIT: u64 = 1 << 40;
 // How many bytes are read at a time.
 const PIECE: usize = 4096;
 
-// Nothing was read. It stands behind a box, so that the proofs of its owners are short.
+// Nothing was read. It is boxed, so that the proofs of its owners are short.
 fn begin(alloc: Global, steps: u64) -> Result<Box<Judging>, Memory>
     ensures judged { IfOk result (λ b. Judged b.value steps []) }
     ensures lines { IfOk result (λ b. b.value.lines.items ≡ []) }
@@ -143,7 +143,7 @@ fn write_lines<K: Sink>(judging: &mut Judging, sink: &mut K) -> Result<(), Statu
     written.map_err(status_of)
 }
 
-// Puts the last line behind those that were not written yet.
+// Puts the last line after those that were not written yet.
 fn write_last(judging: &mut Judging, fault: Option<(SyntaxKind, u64)>) -> Result<(), Memory>
     requires few { judging.old.refused ≤ judging.old.events }
     ensures last { OnOk result ((N : ℕ) (given : List Object) → Judged judging.old N given → judging.new.lines.items ≡ judging.old.lines.items ++ last_line (book given (fault_of fault)) N) }

@@ -23,7 +23,7 @@ const HELP: &[u8] = b"milawa check [--steps N]\nmilawa trial M [--steps N]\n";
 /// `Done`, `SomeRefused` and `Syntax` come where the words ask for a book to be judged and the report on it has that status; the
 /// sink then took the report whole, or its last line: what it calls accepted is true in the standard model. `Help` comes where the
 /// words ask how the program is used, and `Usage` where they ask for nothing that it does. `ReadFault` and `WriteFault` come where
-/// the source, or the sink, counted a fault in this call, and `Memory` where memory was refused: what the sink took are leading bytes
+/// the source, or the sink, counted a fault in this call, and `Memory` where memory was refused: what the sink took is a prefix
 /// of the text that was due, and at a fault in reading the lines of all data that are complete in the bytes read.
 pub fn run<S: Source, K: Sink>(
     alloc: Global,

@@ -24,8 +24,8 @@ pub(crate) fn begin_line(
     word: Option<Ref>,
     label: Option<Ref>,
 ) -> Result<(), Memory>
-    requires shows { (e : Object) × ShowsEvent heap.now word label e }
-    ensures { OnOk result ((e : Object) → ShowsEvent heap.now word label e → lines.new.items ≡ lines.old.items ++ line_begun number e) }
+    requires shows { (e : Object) × ShowsEvent heap.now.objects word label e }
+    ensures { OnOk result ((e : Object) → ShowsEvent heap.now.objects word label e → lines.new.items ≡ lines.old.items ++ line_begun number e) }
 {
     write_number(lines, number)?;
     lines.push(b' ')?;
@@ -110,9 +110,9 @@ fn write_dash(lines: &mut Vec<u8>) -> Result<(), Memory>
 
 // Writes a symbol, or a dash where its text is too long.
 fn write_symbol(lines: &mut Vec<u8>, heap: &Heap, x: Ref) -> Result<(), Memory>
-    requires within { IsIn heap.now x }
-    requires symbol { is_symbol (object_at heap.now x) ≡ true }
-    ensures { OnOk result (lines.new.items ≡ lines.old.items ++ symbol_text (object_at heap.now x)) }
+    requires within { IsIn heap.now.objects x }
+    requires symbol { is_symbol (object_at heap.now.objects x) ≡ true }
+    ensures { OnOk result (lines.new.items ≡ lines.old.items ++ symbol_text (object_at heap.now.objects x)) }
 {
     match print(heap, x, lines) {
         Printed::Ok => Ok(()),
@@ -123,8 +123,8 @@ fn write_symbol(lines: &mut Vec<u8>, heap: &Heap, x: Ref) -> Result<(), Memory>
 
 // Writes a member that is shown, or a dash where there is none.
 fn write_shown(lines: &mut Vec<u8>, heap: &Heap, x: Option<Ref>) -> Result<(), Memory>
-    requires { IsShown heap.now x }
-    ensures { OnOk result (lines.new.items ≡ lines.old.items ++ shown_text heap.now x) }
+    requires { IsShown heap.now.objects x }
+    ensures { OnOk result (lines.new.items ≡ lines.old.items ++ shown_text heap.now.objects x) }
 {
     match x {
         Some(x) => write_symbol(lines, heap, x),

@@ -141,11 +141,11 @@ pub struct TrialSource {
 // Seen as the bytes that are left.
 impl Model for TrialSource {
     ghost use Rattle.std.specs.Prelude.{ℕ, ◌-◌, ◌≤◌, List, ◌++◌, length, drop};
-    ghost use Rattle.mw_book.specs.Trials.{lines_behind};
+    ghost use Rattle.mw_book.specs.Trials.{lines_after};
 
     ghost Value = { List ℕ };
 
-    ghost view = { λ s. drop s.given s.line.bytes ++ lines_behind s.event (s.events - s.event) };
+    ghost view = { λ s. drop s.given s.line.bytes ++ lines_after s.event (s.events - s.event) };
 
     ghost invariant = { λ s. (s.given ≤ length s.line.bytes) × (s.event ≤ s.events) };
 }

@@ -21,9 +21,9 @@ fn admit_expanded(
     names: &IndexSet<Ref>,
     block: &[Draft],
 ) -> Result<Admitted, Memory>
-    requires { AreBlock heap.old names.now.keys block.now }
-    ensures grows { Grows heap.old heap.new }
-    ensures admitted { IfOk result (IsExpandedBlock heap.old heap.new block.now) }
+    requires { AreBlock heap.old.objects names.now.keys block.now }
+    ensures grows { Grows heap.old.objects heap.new.objects }
+    ensures admitted { IfOk result (IsExpandedBlock heap.old.objects heap.new.objects block.now) }
 {
     let Some(entries) = close_all(heap, block)? else {
         return Ok(Admitted::Refused(Refusal::Variables));
@@ -46,10 +46,10 @@ fn admit_named(
     drafts: &[Draft],
     arity: &Arity,
 ) -> Result<Admitted, Memory>
-    requires within { AreDraftsIn heap.old drafts.now }
-    requires names { AreNames arity.now heap.old drafts.now names.now.keys }
-    ensures grows { Grows heap.old heap.new }
-    ensures admitted { IfOk result (IsBlock arity.now (map (draft_at heap.old) drafts.now) heap.new) }
+    requires within { AreDraftsIn heap.old.objects drafts.now }
+    requires names { AreNames arity.now heap.old.objects drafts.now names.now.keys }
+    ensures grows { Grows heap.old.objects heap.new.objects }
+    ensures admitted { IfOk result (IsBlock arity.now (map (draft_at heap.old.objects) drafts.now) heap.new.objects) }
 {
     let Some(pairs) = pairs_of(heap, drafts)? else {
         return Ok(Admitted::Refused(Refusal::Formals));
@@ -62,9 +62,9 @@ fn admit_named(
 
 // The block of these drafts.
 fn admit_drafts(heap: &mut Heap, drafts: &[Draft], arity: &Arity) -> Result<Admitted, Memory>
-    requires { AreDraftsIn heap.old drafts.now }
-    ensures grows { Grows heap.old heap.new }
-    ensures admitted { IfOk result (IsBlock arity.now (map (draft_at heap.old) drafts.now) heap.new) }
+    requires { AreDraftsIn heap.old.objects drafts.now }
+    ensures grows { Grows heap.old.objects heap.new.objects }
+    ensures admitted { IfOk result (IsBlock arity.now (map (draft_at heap.old.objects) drafts.now) heap.new.objects) }
 {
     match names_of(heap, drafts, arity)? {
         Some(names) => Ok(admit_named(heap, &names, drafts, arity)?),
@@ -74,9 +74,9 @@ fn admit_drafts(heap: &mut Heap, drafts: &[Draft], arity: &Arity) -> Result<Admi
 
 // The block of a list of drafts.
 fn admit_list(heap: &mut Heap, defs: Ref, arity: &Arity) -> Result<Admitted, Memory>
-    requires { IsIn heap.old defs }
-    ensures grows { Grows heap.old heap.new }
-    ensures admitted { IfOk result (IsBlockOf arity.now (some_drafts (object_at heap.old defs)) heap.new) }
+    requires { IsIn heap.old.objects defs }
+    ensures grows { Grows heap.old.objects heap.new.objects }
+    ensures admitted { IfOk result (IsBlockOf arity.now (some_drafts (object_at heap.old.objects defs)) heap.new.objects) }
 {
     match read_drafts(heap, defs)? {
         Some(drafts) => Ok(admit_drafts(heap, drafts.as_slice(), arity)?),
@@ -89,11 +89,12 @@ fn admit_list(heap: &mut Heap, defs: Ref, arity: &Arity) -> Result<Admitted, Mem
 /// `defs` is such a list, that the names are new and none comes twice, that each has a list of formals, that the bodies expand to
 /// terms, where the functions may be called, and the measures to terms, where they may not, that both have no variables but the
 /// formals, and that no function of the block is called in an actual of a call of one. Where all pass it answers the obligations, in
-/// order and each once, the axioms, and the entries. A block whose calls take more than 2^24 looks is answered as out of memory.
+/// order and each once, the axioms, and the entries. A block whose calls take more than 2^24 looks is answered as out of memory, and so
+/// is one that takes more looks than the heap allows.
 pub fn admit_block(heap: &mut Heap, defs: Ref, arity: &Arity) -> Admitted
-    requires { IsIn heap.old defs }
-    ensures grows { Grows heap.old heap.new }
-    ensures admitted { IsBlockOf arity.now (some_drafts (object_at heap.old defs)) heap.new result }
+    requires { IsIn heap.old.objects defs }
+    ensures grows { Grows heap.old.objects heap.new.objects }
+    ensures admitted { IsBlockOf arity.now (some_drafts (object_at heap.old.objects defs)) heap.new.objects result }
 {
     match admit_list(heap, defs, arity) {
         Ok(admitted) => admitted,
@@ -104,9 +105,9 @@ pub fn admit_block(heap: &mut Heap, defs: Ref, arity: &Arity) -> Admitted
 /// Tests a function that may call itself, given by its name, the list of its formals, its raw body and its raw measure, as
 /// `admit_block` does a block of it alone.
 pub fn admit_function(heap: &mut Heap, draft: Draft, arity: &Arity) -> Admitted
-    requires { IsDraftIn heap.old draft }
-    ensures grows { Grows heap.old heap.new }
-    ensures admitted { IsBlock arity.now (draft_at heap.old draft ∷ []) heap.new result }
+    requires { IsDraftIn heap.old.objects draft }
+    ensures grows { Grows heap.old.objects heap.new.objects }
+    ensures admitted { IsBlock arity.now (draft_at heap.old.objects draft ∷ []) heap.new.objects result }
 {
     match admit_drafts(heap, &[draft], arity) {
         Ok(admitted) => admitted,

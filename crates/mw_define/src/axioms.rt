@@ -10,12 +10,12 @@ use mw_translate::{call_of_one, call_of_two, quoted_symbol};
 
 // The call of a lambda with the bound variable and the free ones on the witness and the free ones.
 fn chosen(heap: &mut Heap, name: Ref, formals: Ref, free: Ref, body: Ref) -> Result<Ref, Memory>
-    requires name_in { IsIn heap.old name }
-    requires formals_in { IsIn heap.old formals }
-    requires free_in { IsIn heap.old free }
-    requires body_in { IsIn heap.old body }
-    ensures grows { Grows heap.old heap.new }
-    ensures made { IfOk result (λ r. IsIn heap.new r × (object_at heap.new r ≡ Pair (list3 (symbol "LAMBDA") (object_at heap.old formals) (object_at heap.old body)) (Pair (Pair (object_at heap.old name) (object_at heap.old free)) (object_at heap.old free)))) }
+    requires name_in { IsIn heap.old.objects name }
+    requires formals_in { IsIn heap.old.objects formals }
+    requires free_in { IsIn heap.old.objects free }
+    requires body_in { IsIn heap.old.objects body }
+    ensures grows { Grows heap.old.objects heap.new.objects }
+    ensures made { IfOk result (λ r. IsIn heap.new.objects r × (object_at heap.new.objects r ≡ Pair (list3 (symbol "LAMBDA") (object_at heap.old.objects formals) (object_at heap.old.objects body)) (Pair (Pair (object_at heap.old.objects name) (object_at heap.old.objects free)) (object_at heap.old.objects free)))) }
 {
     let call = heap.cons(name, free)?;
     let actuals = heap.cons(call, free)?;
@@ -25,9 +25,9 @@ fn chosen(heap: &mut Heap, name: Ref, formals: Ref, free: Ref, body: Ref) -> Res
 
 // x = 'nil.
 pub(crate) fn equal_nil(heap: &mut Heap, x: Ref) -> Result<Ref, Memory>
-    requires { IsIn heap.old x }
-    ensures grows { Grows heap.old heap.new }
-    ensures made { IfOk result (λ r. IsIn heap.new r × (object_at heap.new r ≡ equal_object (object_at heap.old x) quoted_nil)) }
+    requires { IsIn heap.old.objects x }
+    ensures grows { Grows heap.old.objects heap.new.objects }
+    ensures made { IfOk result (λ r. IsIn heap.new.objects r × (object_at heap.new.objects r ≡ equal_object (object_at heap.old.objects x) quoted_nil)) }
 {
     let nil = quoted_symbol(heap, b"NIL")?;
     Ok(call_of_two(heap, b"PEQUAL*", x, nil)?)
@@ -41,12 +41,12 @@ pub(crate) fn choice_axiom(
     free: Ref,
     body: Ref,
 ) -> Result<Ref, Memory>
-    requires name_in { IsIn heap.old name }
-    requires formals_in { IsIn heap.old formals }
-    requires free_in { IsIn heap.old free }
-    requires body_in { IsIn heap.old body }
-    ensures grows { Grows heap.old heap.new }
-    ensures made { IfOk result (λ r. IsIn heap.new r × (object_at heap.new r ≡ choice_object (object_at heap.old name) (object_at heap.old formals) (object_at heap.old free) (object_at heap.old body))) }
+    requires name_in { IsIn heap.old.objects name }
+    requires formals_in { IsIn heap.old.objects formals }
+    requires free_in { IsIn heap.old.objects free }
+    requires body_in { IsIn heap.old.objects body }
+    ensures grows { Grows heap.old.objects heap.new.objects }
+    ensures made { IfOk result (λ r. IsIn heap.new.objects r × (object_at heap.new.objects r ≡ choice_object (object_at heap.old.objects name) (object_at heap.old.objects formals) (object_at heap.old.objects free) (object_at heap.old.objects body))) }
 {
     let call = chosen(heap, name, formals, free, body)?;
     let none = equal_nil(heap, body)?;
@@ -62,11 +62,11 @@ pub(crate) fn function_axiom(
     formals: Ref,
     body: Ref,
 ) -> Result<Ref, Memory>
-    requires name_in { IsIn heap.old name }
-    requires formals_in { IsIn heap.old formals }
-    requires body_in { IsIn heap.old body }
-    ensures grows { Grows heap.old heap.new }
-    ensures made { IfOk result (λ r. IsIn heap.new r × (object_at heap.new r ≡ equal_object (Pair (object_at heap.old name) (object_at heap.old formals)) (object_at heap.old body))) }
+    requires name_in { IsIn heap.old.objects name }
+    requires formals_in { IsIn heap.old.objects formals }
+    requires body_in { IsIn heap.old.objects body }
+    ensures grows { Grows heap.old.objects heap.new.objects }
+    ensures made { IfOk result (λ r. IsIn heap.new.objects r × (object_at heap.new.objects r ≡ equal_object (Pair (object_at heap.old.objects name) (object_at heap.old.objects formals)) (object_at heap.old.objects body))) }
 {
     let call = heap.cons(name, formals)?;
     Ok(call_of_two(heap, b"PEQUAL*", call, body)?)

@@ -15,15 +15,15 @@ use crate::block_names::is_among_names;
 use crate::draft::Draft;
 use crate::names::is_new_name;
 use indexmap::IndexSet;
-use mw_heap::{Heap, Memory, Ref};
+use mw_heap::{Heap, Memory, Ref, looks_for};
 use mw_term::{Arity, Formals};
 use mw_translate::{Expanded, arities_of, expand, expand_under};
 
 // Adds x where it is a new name that is not there yet, and says whether it is.
 fn add_name(heap: &Heap, names: &mut IndexSet<Ref>, x: Ref, arity: &Arity) -> Result<bool, Memory>
-    requires within { IsIn heap.now x }
-    requires symbols { AreSymbols heap.now names.old.keys }
-    ensures new { IfOk result (λ b. b ≡ is_next_name arity.now (names_at heap.now names.old.keys) (object_at heap.now x)) }
+    requires within { IsIn heap.now.objects x }
+    requires symbols { AreSymbols heap.now.objects names.old.keys }
+    ensures new { IfOk result (λ b. b ≡ is_next_name arity.now (names_at heap.now.objects names.old.keys) (object_at heap.now.objects x)) }
     ensures added { IfOk result (λ b. names.new.keys ≡ (if b then names.old.keys ++ x ∷ [] else names.old.keys)) }
 {
     if !is_new_name(heap, x, arity) {
@@ -42,8 +42,8 @@ pub(crate) fn names_of(
     drafts: &[Draft],
     arity: &Arity,
 ) -> Result<Option<IndexSet<Ref>>, Memory>
-    requires { AreDraftsIn heap.now drafts.now }
-    ensures { IfOk result (λ o. MatchOption o (that are_distinct (names_of_drafts arity.now heap.now drafts.now) ≡ None) (λ s. AreNames arity.now heap.now drafts.now s.keys)) }
+    requires { AreDraftsIn heap.now.objects drafts.now }
+    ensures { IfOk result (λ o. MatchOption o (that are_distinct (names_of_drafts arity.now heap.now.objects drafts.now) ≡ None) (λ s. AreNames arity.now heap.now.objects drafts.now s.keys)) }
 {
     let mut names = IndexSet::new(heap.alloc());
     for draft in drafts {
@@ -54,25 +54,27 @@ pub(crate) fn names_of(
     Ok(Some(names))
 }
 
-// How many formals a list has, where it is one of formals.
-fn count_of(heap: &Heap, list: Ref) -> Result<Option<u64>, Memory>
-    requires { IsIn heap.now list }
-    ensures { IfOk result (λ o. MatchOption o (formals_of (object_at heap.now list) ≡ None) (λ n. (xs : List Name) × (formals_of (object_at heap.now list) ≡ Some xs) × (n ≡ length xs))) }
+// How many formals a list has, where it is one of formals. Each takes a look.
+fn count_of(heap: &Heap, list: Ref, looks_left: &mut u64) -> Result<Option<u64>, Memory>
+    requires { IsIn heap.now.objects list }
+    ensures { IfOk result (λ o. MatchOption o (formals_of (object_at heap.now.objects list) ≡ None) (λ n. (xs : List Name) × (formals_of (object_at heap.now.objects list) ≡ Some xs) × (n ≡ length xs))) }
 {
-    match Formals::of_list(heap, list)? {
+    match Formals::of_list_counted(heap, list, looks_left)? {
         Some(formals) => Ok(Some(formals.len() as u64)),
         None => Ok(None),
     }
 }
 
-// The names of the drafts with how many formals each has, where each has a list of formals.
+// The names of the drafts with how many formals each has, where each has a list of formals. The functions may share their formals, which
+// are walked for each, here and when the block is closed, compiled and added: so a quarter of the looks is allowed.
 pub(crate) fn pairs_of(heap: &Heap, drafts: &[Draft]) -> Result<Option<Vec<(Ref, u64)>>, Memory>
-    requires { AreDraftsIn heap.now drafts.now }
-    ensures { IfOk result (λ o. MatchOption o (formals_of_drafts heap.now drafts.now ≡ None) (λ v. Each2 (IsCounted heap.now) drafts.now v.items)) }
+    requires { AreDraftsIn heap.now.objects drafts.now }
+    ensures { IfOk result (λ o. MatchOption o (formals_of_drafts heap.now.objects drafts.now ≡ None) (λ v. Each2 (IsCounted heap.now.objects) drafts.now v.items)) }
 {
     let mut pairs = Vec::new(heap.alloc());
+    let mut looks_left = looks_for(heap.mark().cells()) / 4;
     for draft in drafts {
-        let Some(count) = count_of(heap, draft.formals)? else {
+        let Some(count) = count_of(heap, draft.formals, &mut looks_left)? else {
             return Ok(None);
         };
         pairs.push((draft.name, count))?;
@@ -87,9 +89,9 @@ fn expanded_body(
     newer: &Arity,
     older: &Arity,
 ) -> Result<Option<Ref>, Memory>
-    requires { IsIn heap.old raw }
-    ensures grows { Grows heap.old heap.new }
-    ensures expanded { IfOk result (λ o. MatchOption o (expand (newer.now ++ older.now) (object_at heap.old raw) ≡ None) (IsExpansion (newer.now ++ older.now) heap.new (object_at heap.old raw))) }
+    requires { IsIn heap.old.objects raw }
+    ensures grows { Grows heap.old.objects heap.new.objects }
+    ensures expanded { IfOk result (λ o. MatchOption o (expand (newer.now ++ older.now) (object_at heap.old.objects raw) ≡ None) (IsExpansion (newer.now ++ older.now) heap.new.objects (object_at heap.old.objects raw))) }
 {
     match expand_under(heap, raw, newer, older) {
         Expanded::Term(term) => Ok(Some(term)),
@@ -100,9 +102,9 @@ fn expanded_body(
 
 // What a raw measure expands to, where that is a term.
 fn expanded_measure(heap: &mut Heap, raw: Ref, arity: &Arity) -> Result<Option<Ref>, Memory>
-    requires { IsIn heap.old raw }
-    ensures grows { Grows heap.old heap.new }
-    ensures expanded { IfOk result (λ o. MatchOption o (expand arity.now (object_at heap.old raw) ≡ None) (IsExpansion arity.now heap.new (object_at heap.old raw))) }
+    requires { IsIn heap.old.objects raw }
+    ensures grows { Grows heap.old.objects heap.new.objects }
+    ensures expanded { IfOk result (λ o. MatchOption o (expand arity.now (object_at heap.old.objects raw) ≡ None) (IsExpansion arity.now heap.new.objects (object_at heap.old.objects raw))) }
 {
     match expand(heap, raw, arity, &[]) {
         Expanded::Term(term) => Ok(Some(term)),
@@ -118,9 +120,9 @@ fn expand_draft(
     newer: &Arity,
     older: &Arity,
 ) -> Result<Option<Draft>, Memory>
-    requires { IsDraftIn heap.old draft }
-    ensures grows { Grows heap.old heap.new }
-    ensures expanded { IfOk result (λ o. MatchOption o (ExpandsNone (newer.now ++ older.now) older.now heap.old draft) (Expands (newer.now ++ older.now) older.now heap.old heap.new draft)) }
+    requires { IsDraftIn heap.old.objects draft }
+    ensures grows { Grows heap.old.objects heap.new.objects }
+    ensures expanded { IfOk result (λ o. MatchOption o (ExpandsNone (newer.now ++ older.now) older.now heap.old.objects draft) (Expands (newer.now ++ older.now) older.now heap.old.objects heap.new.objects draft)) }
 {
     let Some(body) = expanded_body(heap, draft.body, newer, older)? else {
         return Ok(None);
@@ -143,9 +145,9 @@ fn expand_each(
     newer: &Arity,
     older: &Arity,
 ) -> Result<Option<Vec<Draft>>, Memory>
-    requires { AreDraftsIn heap.old drafts.now }
-    ensures grows { Grows heap.old heap.new }
-    ensures expanded { IfOk result (λ o. MatchOption o (HasNoTerm (newer.now ++ older.now) older.now heap.old drafts.now) (λ v. Each2 (Expands (newer.now ++ older.now) older.now heap.old heap.new) drafts.now v.items)) }
+    requires { AreDraftsIn heap.old.objects drafts.now }
+    ensures grows { Grows heap.old.objects heap.new.objects }
+    ensures expanded { IfOk result (λ o. MatchOption o (HasNoTerm (newer.now ++ older.now) older.now heap.old.objects drafts.now) (λ v. Each2 (Expands (newer.now ++ older.now) older.now heap.old.objects heap.new.objects) drafts.now v.items)) }
 {
     let mut expanded = Vec::new(heap.alloc());
     for draft in drafts {
@@ -164,11 +166,11 @@ pub(crate) fn expand_all(
     pairs: &[(Ref, u64)],
     arity: &Arity,
 ) -> Result<Option<Vec<Draft>>, Memory>
-    requires within { AreDraftsIn heap.old drafts.now }
-    requires symbols { ArePairsOfSymbols heap.old pairs.now }
-    requires distinct { are_distinct (pair_names heap.old pairs.now) ≡ true }
-    ensures grows { Grows heap.old heap.new }
-    ensures expanded { IfOk result (λ o. MatchOption o (HasNoTerm (with_pairs heap.old pairs.now arity.now) arity.now heap.old drafts.now) (λ v. Each2 (Expands (with_pairs heap.old pairs.now arity.now) arity.now heap.old heap.new) drafts.now v.items)) }
+    requires within { AreDraftsIn heap.old.objects drafts.now }
+    requires symbols { ArePairsOfSymbols heap.old.objects pairs.now }
+    requires distinct { are_distinct (pair_names heap.old.objects pairs.now) ≡ true }
+    ensures grows { Grows heap.old.objects heap.new.objects }
+    ensures expanded { IfOk result (λ o. MatchOption o (HasNoTerm (with_pairs heap.old.objects pairs.now arity.now) arity.now heap.old.objects drafts.now) (λ v. Each2 (Expands (with_pairs heap.old.objects pairs.now arity.now) arity.now heap.old.objects heap.new.objects) drafts.now v.items)) }
 {
     match arities_of(heap, pairs) {
         Ok(newer) => expand_each(heap, drafts, &newer, arity),
@@ -178,10 +180,10 @@ pub(crate) fn expand_all(
 
 // Whether the body and the measure have no variables but the formals.
 fn closes_both(heap: &Heap, formals: &Formals, expanded: Draft) -> Result<bool, Memory>
-    requires expanded { IsExpanded heap.now expanded }
-    requires symbols { AreSymbols heap.now formals.now }
-    requires formals { names_at heap.now formals.now ≡ (function_at heap.now expanded).formals }
-    ensures { IfOk result (λ b. b ≡ is_closed_at heap.now expanded) }
+    requires expanded { IsExpanded heap.now.objects expanded }
+    requires symbols { AreSymbols heap.now.objects formals.now }
+    requires formals { names_at heap.now.objects formals.now ≡ (function_at heap.now.objects expanded).formals }
+    ensures { IfOk result (λ b. b ≡ is_closed_at heap.now.objects expanded) }
 {
     if !formals.closes(heap, expanded.body)? {
         return Ok(false);
@@ -191,8 +193,8 @@ fn closes_both(heap: &Heap, formals: &Formals, expanded: Draft) -> Result<bool, 
 
 // The entry of an expanded draft, where it is closed.
 fn close(heap: &Heap, expanded: Draft) -> Result<Option<Entry>, Memory>
-    requires { IsExpanded heap.now expanded }
-    ensures { IfOk result (λ o. MatchOption o (is_closed_at heap.now expanded ≡ false) (IsClosedEntry heap.now expanded)) }
+    requires { IsExpanded heap.now.objects expanded }
+    ensures { IfOk result (λ o. MatchOption o (is_closed_at heap.now.objects expanded ≡ false) (IsClosedEntry heap.now.objects expanded)) }
 {
     let Some(formals) = Formals::of_list(heap, expanded.formals)? else {
         unreachable!()
@@ -209,8 +211,8 @@ fn close(heap: &Heap, expanded: Draft) -> Result<Option<Entry>, Memory>
 
 // The entries of expanded drafts, where all are closed.
 pub(crate) fn close_all(heap: &Heap, expanded: &[Draft]) -> Result<Option<Vec<Entry>>, Memory>
-    requires { AreExpanded heap.now expanded.now }
-    ensures { IfOk result (λ o. MatchOption o (are_closed_at heap.now expanded.now ≡ false) (λ v. Each2 (IsClosedEntry heap.now) expanded.now v.items)) }
+    requires { AreExpanded heap.now.objects expanded.now }
+    ensures { IfOk result (λ o. MatchOption o (are_closed_at heap.now.objects expanded.now ≡ false) (λ v. Each2 (IsClosedEntry heap.now.objects) expanded.now v.items)) }
 {
     let mut entries = Vec::new(heap.alloc());
     for draft in expanded {

@@ -11,10 +11,10 @@ use mw_heap::{Heap, Ref};
 
 // Whether the symbol x is one of the names.
 pub(crate) fn is_among_names(heap: &Heap, names: &IndexSet<Ref>, x: Ref) -> bool
-    requires within { IsIn heap.now x }
-    requires symbol { is_symbol (object_at heap.now x) ≡ true }
-    requires symbols { AreSymbols heap.now names.now.keys }
-    ensures among { result ≡ is_among (name_of (object_at heap.now x)) (names_at heap.now names.now.keys) }
+    requires within { IsIn heap.now.objects x }
+    requires symbol { is_symbol (object_at heap.now.objects x) ≡ true }
+    requires symbols { AreSymbols heap.now.objects names.now.keys }
+    ensures among { result ≡ is_among (name_of (object_at heap.now.objects x)) (names_at heap.now.objects names.now.keys) }
     ensures held { result ≡ list_any (nat_eq x) names.now.keys }
 {
     heap.same(x, x) && names.contains(&x)

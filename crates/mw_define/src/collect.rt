@@ -15,6 +15,7 @@ use crate::piece::Piece;
 use indexmap::IndexSet;
 use mw_code::check_size;
 use mw_heap::{Heap, Memory, Ref};
+use mw_term::take_looks_since;
 
 // The most looks at a term that is walked as a tree: one that needs more is answered as out of memory.
 const MOST_LOOKS: u32 = 1 << 24;
@@ -27,11 +28,11 @@ fn advance(
     found: &mut Vec<FoundCall>,
     waiting: &mut Vec<Item>,
 ) -> Result<(), Memory>
-    requires part { IsPartOf heap.old (names_at heap.old names.now.keys) item.now.part }
-    requires tests_in { HasTests heap.old item.now.tests }
-    requires symbols { AreSymbols heap.old names.now.keys }
-    ensures grows { Grows heap.old heap.new }
-    ensures advances { OnOk result (Advances (names_at heap.old names.now.keys) heap.old heap.new item.now found.old.items found.new.items waiting.old.items waiting.new.items) }
+    requires part { IsPartOf heap.old.objects (names_at heap.old.objects names.now.keys) item.now.part }
+    requires tests_in { HasTests heap.old.objects item.now.tests }
+    requires symbols { AreSymbols heap.old.objects names.now.keys }
+    ensures grows { Grows heap.old.objects heap.new.objects }
+    ensures advances { OnOk result (Advances (names_at heap.old.objects names.now.keys) heap.old.objects heap.new.objects item.now found.old.items found.new.items waiting.old.items waiting.new.items) }
 {
     if let Part::Call(name, actuals) = item.part {
         found.push(FoundCall {
@@ -51,12 +52,12 @@ fn collect_calls(
     names: &IndexSet<Ref>,
     term: Ref,
 ) -> Result<Vec<FoundCall>, Memory>
-    requires within { IsIn heap.old term }
-    requires symbols { AreSymbols heap.old names.now.keys }
-    requires read { (t : Term) × (term_of (object_at heap.old term) ≡ Some t) }
-    ensures grows { Grows heap.old heap.new }
-    ensures found { IfOk result (λ fs. AreFoundCalls heap.new (names_at heap.old names.now.keys) fs.items) }
-    ensures calls { IfOk result (λ fs. (B : List Function) (t : Term) → HasNames B (names_at heap.old names.now.keys) → term_of (object_at heap.old term) ≡ Some t → found_calls B heap.new fs.items ≡ collect B [] t) }
+    requires within { IsIn heap.old.objects term }
+    requires symbols { AreSymbols heap.old.objects names.now.keys }
+    requires read { (t : Term) × (term_of (object_at heap.old.objects term) ≡ Some t) }
+    ensures grows { Grows heap.old.objects heap.new.objects }
+    ensures found { IfOk result (λ fs. AreFoundCalls heap.new.objects (names_at heap.old.objects names.now.keys) fs.items) }
+    ensures calls { IfOk result (λ fs. (B : List Function) (t : Term) → HasNames B (names_at heap.old.objects names.now.keys) → term_of (object_at heap.old.objects term) ≡ Some t → found_calls B heap.new.objects fs.items ≡ collect B [] t) }
 {
     let tests = heap.nil()?;
     let mut found = Vec::new(heap.alloc());
@@ -71,7 +72,9 @@ fn collect_calls(
             return Err(Memory);
         }
         looks_left -= 1;
+        let had = heap.mark();
         advance(heap, names, &item, &mut found, &mut waiting)?;
+        take_looks_since(heap, had, 1)?;
     }
     Ok(found)
 }
@@ -83,14 +86,15 @@ pub(crate) fn find_calls(
     names: &IndexSet<Ref>,
     term: Ref,
 ) -> Result<Vec<FoundCall>, Memory>
-    requires within { IsIn heap.old term }
-    requires symbols { AreSymbols heap.old names.now.keys }
-    requires read { (t : Term) × (term_of (object_at heap.old term) ≡ Some t) }
-    ensures grows { Grows heap.old heap.new }
-    ensures found { IfOk result (λ fs. AreFoundCalls heap.new (names_at heap.old names.now.keys) fs.items) }
-    ensures calls { IfOk result (λ fs. (B : List Function) (t : Term) → HasNames B (names_at heap.old names.now.keys) → term_of (object_at heap.old term) ≡ Some t → found_calls B heap.new fs.items ≡ collect B [] t) }
+    requires within { IsIn heap.old.objects term }
+    requires symbols { AreSymbols heap.old.objects names.now.keys }
+    requires read { (t : Term) × (term_of (object_at heap.old.objects term) ≡ Some t) }
+    ensures grows { Grows heap.old.objects heap.new.objects }
+    ensures found { IfOk result (λ fs. AreFoundCalls heap.new.objects (names_at heap.old.objects names.now.keys) fs.items) }
+    ensures calls { IfOk result (λ fs. (B : List Function) (t : Term) → HasNames B (names_at heap.old.objects names.now.keys) → term_of (object_at heap.old.objects term) ≡ Some t → found_calls B heap.new.objects fs.items ≡ collect B [] t) }
 {
-    if mentions_some(heap, names, Piece::Term(term))? {
+    let mut looks_left = u64::MAX;
+    if mentions_some(heap, names, Piece::Term(term), &mut looks_left)? {
         check_size(heap, term)?;
         return Ok(collect_calls(heap, names, term)?);
     }

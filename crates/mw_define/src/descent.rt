@@ -12,9 +12,9 @@ use mw_translate::{call_of_one, call_of_two, quoted_symbol};
 
 // (ordp measure) = 't.
 pub(crate) fn is_ordinal(heap: &mut Heap, measure: Ref) -> Result<Ref, Memory>
-    requires { IsIn heap.old measure }
-    ensures grows { Grows heap.old heap.new }
-    ensures made { IfOk result (λ r. IsIn heap.new r × ((m : Term) → term_of (object_at heap.old measure) ≡ Some m → object_at heap.new r ≡ formula_object (ordinal_formula m))) }
+    requires { IsIn heap.old.objects measure }
+    ensures grows { Grows heap.old.objects heap.new.objects }
+    ensures made { IfOk result (λ r. IsIn heap.new.objects r × ((m : Term) → term_of (object_at heap.old.objects measure) ≡ Some m → object_at heap.new.objects r ≡ formula_object (ordinal_formula m))) }
 {
     let call = call_of_one(heap, b"ORDP", measure)?;
     let truth = quoted_symbol(heap, b"T")?;
@@ -29,12 +29,12 @@ pub(crate) fn falls(
     actuals: Ref,
     measure: Ref,
 ) -> Result<Ref, Memory>
-    requires formals_in { IsIn heap.old formals }
-    requires called_in { IsIn heap.old called_measure }
-    requires actuals_in { IsIn heap.old actuals }
-    requires measure_in { IsIn heap.old measure }
-    ensures grows { Grows heap.old heap.new }
-    ensures made { IfOk result (λ r. IsIn heap.new r × Falls heap.old formals called_measure actuals measure (object_at heap.new r)) }
+    requires formals_in { IsIn heap.old.objects formals }
+    requires called_in { IsIn heap.old.objects called_measure }
+    requires actuals_in { IsIn heap.old.objects actuals }
+    requires measure_in { IsIn heap.old.objects measure }
+    ensures grows { Grows heap.old.objects heap.new.objects }
+    ensures made { IfOk result (λ r. IsIn heap.new.objects r × Falls heap.old.objects formals called_measure actuals measure (object_at heap.new.objects r)) }
 {
     let function = call_of_two(heap, b"LAMBDA", formals, called_measure)?;
     let lower = reduced(heap, function, actuals)?;

@@ -9,8 +9,8 @@ use mw_heap::{Heap, Memory, Ref, View};
 
 // The draft of a list of four.
 fn read_draft(heap: &Heap, x: Ref) -> Option<Draft>
-    requires { IsIn heap.now x }
-    ensures { MatchOption result (draft_of (object_at heap.now x) ≡ None) (λ d. IsDraftIn heap.now d × (draft_of (object_at heap.now x) ≡ Some (draft_at heap.now d))) }
+    requires { IsIn heap.now.objects x }
+    ensures { MatchOption result (draft_of (object_at heap.now.objects x) ≡ None) (λ d. IsDraftIn heap.now.objects d × (draft_of (object_at heap.now.objects x) ≡ Some (draft_at heap.now.objects d))) }
 {
     let View::Pair(name, rest) = heap.view(x) else {
         return None;
@@ -37,8 +37,8 @@ fn read_draft(heap: &Heap, x: Ref) -> Option<Draft>
 
 // The drafts of a list.
 fn drafts_of(heap: &Heap, list: Ref) -> Result<Option<Vec<Draft>>, Memory>
-    requires { IsIn heap.now list }
-    ensures { IfOk result (λ o. MatchOption o (drafts_of (object_at heap.now list) ≡ None) (λ v. AreDraftsIn heap.now v.items × (drafts_of (object_at heap.now list) ≡ Some (map (draft_at heap.now) v.items)))) }
+    requires { IsIn heap.now.objects list }
+    ensures { IfOk result (λ o. MatchOption o (drafts_of (object_at heap.now.objects list) ≡ None) (λ v. AreDraftsIn heap.now.objects v.items × (drafts_of (object_at heap.now.objects list) ≡ Some (map (draft_at heap.now.objects) v.items)))) }
 {
     let mut drafts = Vec::new(heap.alloc());
     let mut rest = list;
@@ -58,8 +58,8 @@ fn drafts_of(heap: &Heap, list: Ref) -> Result<Option<Vec<Draft>>, Memory>
 
 // The drafts of a list of one or more of them.
 pub(crate) fn read_drafts(heap: &Heap, defs: Ref) -> Result<Option<Vec<Draft>>, Memory>
-    requires { IsIn heap.now defs }
-    ensures { IfOk result (λ o. MatchOption o (some_drafts (object_at heap.now defs) ≡ None) (λ v. AreDraftsIn heap.now v.items × (some_drafts (object_at heap.now defs) ≡ Some (map (draft_at heap.now) v.items)))) }
+    requires { IsIn heap.now.objects defs }
+    ensures { IfOk result (λ o. MatchOption o (some_drafts (object_at heap.now.objects defs) ≡ None) (λ v. AreDraftsIn heap.now.objects v.items × (some_drafts (object_at heap.now.objects defs) ≡ Some (map (draft_at heap.now.objects) v.items)))) }
 {
     if !heap.is_pair(Some(defs)) {
         return Ok(None);

@@ -34,9 +34,9 @@ fn owe_each(
     block: &[Draft],
     owed: &mut IndexSet<Ref>,
 ) -> Result<Recursion, Memory>
-    requires { AreBlock heap.old names.now.keys block.now }
-    ensures grows { Grows heap.old heap.new }
-    ensures owed { IfOk result (OwesAll heap.old heap.new block.now owed.old.keys owed.new.keys) }
+    requires { AreBlock heap.old.objects names.now.keys block.now }
+    ensures grows { Grows heap.old.objects heap.new.objects }
+    ensures owed { IfOk result (OwesAll heap.old.objects heap.new.objects block.now owed.old.keys owed.new.keys) }
 {
     let mut recursion = Recursion::Absent;
     for function in block {
@@ -50,9 +50,9 @@ fn owe_each(
 
 // The list of these formulas.
 fn list_of(heap: &mut Heap, formulas: &[Ref]) -> Result<Ref, Memory>
-    requires { AreAllIn heap.old formulas.now }
-    ensures grows { Grows heap.old heap.new }
-    ensures made { IfOk result (λ r. IsIn heap.new r × (object_at heap.new r ≡ prepend heap.old formulas.now NIL)) }
+    requires { AreAllIn heap.old.objects formulas.now }
+    ensures grows { Grows heap.old.objects heap.new.objects }
+    ensures made { IfOk result (λ r. IsIn heap.new.objects r × (object_at heap.new.objects r ≡ prepend heap.old.objects formulas.now NIL)) }
 {
     let copy = Vec::from_slice(heap.alloc(), formulas)?;
     let nil = heap.nil()?;
@@ -61,9 +61,9 @@ fn list_of(heap: &mut Heap, formulas: &[Ref]) -> Result<Ref, Memory>
 
 // The list of what a block owes: nothing where it has no recursive calls, and no list where its calls are nested.
 fn list_owed(heap: &mut Heap, recursion: Recursion, owed: &[Ref]) -> Result<Option<Ref>, Memory>
-    requires { recursion ≡ Recursion.Present → AreAllIn heap.old owed.now }
-    ensures grows { Grows heap.old heap.new }
-    ensures listed { IfOk result (IsListed heap.old heap.new recursion owed.now) }
+    requires { recursion ≡ Recursion.Present → AreAllIn heap.old.objects owed.now }
+    ensures grows { Grows heap.old.objects heap.new.objects }
+    ensures listed { IfOk result (IsListed heap.old.objects heap.new.objects recursion owed.now) }
 {
     match recursion {
         Recursion::Nested => Ok(None),
@@ -78,9 +78,9 @@ pub(crate) fn list_obligations(
     names: &IndexSet<Ref>,
     block: &[Draft],
 ) -> Result<Option<Ref>, Memory>
-    requires { AreBlock heap.old names.now.keys block.now }
-    ensures grows { Grows heap.old heap.new }
-    ensures listed { IfOk result (λ o. MatchOption o (is_nested (functions_at heap.old block.now) (functions_at heap.old block.now) ≡ true) (IsOwedList heap.old heap.new block.now)) }
+    requires { AreBlock heap.old.objects names.now.keys block.now }
+    ensures grows { Grows heap.old.objects heap.new.objects }
+    ensures listed { IfOk result (λ o. MatchOption o (is_nested (functions_at heap.old.objects block.now) (functions_at heap.old.objects block.now) ≡ true) (IsOwedList heap.old.objects heap.new.objects block.now)) }
 {
     let mut owed = IndexSet::new(heap.alloc());
     let recursion = owe_each(heap, names, block, &mut owed)?;
@@ -89,9 +89,9 @@ pub(crate) fn list_obligations(
 
 // The axioms of a block.
 fn axioms_of(heap: &mut Heap, block: &[Draft]) -> Result<Vec<Ref>, Memory>
-    requires { AreExpanded heap.old block.now }
-    ensures grows { Grows heap.old heap.new }
-    ensures made { IfOk result (λ v. Each2 (IsAxiomOf heap.old heap.new) block.now v.items) }
+    requires { AreExpanded heap.old.objects block.now }
+    ensures grows { Grows heap.old.objects heap.new.objects }
+    ensures made { IfOk result (λ v. Each2 (IsAxiomOf heap.old.objects heap.new.objects) block.now v.items) }
 {
     let mut axioms = Vec::new(heap.alloc());
     for function in block {
@@ -103,9 +103,9 @@ fn axioms_of(heap: &mut Heap, block: &[Draft]) -> Result<Vec<Ref>, Memory>
 
 // The list of the axioms of a block, in order.
 pub(crate) fn list_axioms(heap: &mut Heap, block: &[Draft]) -> Result<Ref, Memory>
-    requires { AreExpanded heap.old block.now }
-    ensures grows { Grows heap.old heap.new }
-    ensures made { IfOk result (λ r. IsIn heap.new r × (object_at heap.new r ≡ formulas_object (function_axioms (functions_at heap.old block.now)))) }
+    requires { AreExpanded heap.old.objects block.now }
+    ensures grows { Grows heap.old.objects heap.new.objects }
+    ensures made { IfOk result (λ r. IsIn heap.new.objects r × (object_at heap.new.objects r ≡ formulas_object (function_axioms (functions_at heap.old.objects block.now)))) }
 {
     let axioms = axioms_of(heap, block)?;
     let nil = heap.nil()?;

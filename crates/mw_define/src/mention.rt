@@ -14,10 +14,7 @@ ghost use Rattle.mw_define.specs.declared.piece.Piece.TheVariants as piece;
 use crate::block_names::is_among_names;
 use crate::piece::Piece;
 use indexmap::IndexSet;
-use mw_heap::{Heap, Memory, Ref, View};
-
-// The most looks at a term: one that needs more is answered as out of memory.
-const MOST_LOOKS: u32 = 1 << 28;
+use mw_heap::{Heap, Memory, Ref, View, take_look};
 
 fn split_lambda(
     heap: &Heap,
@@ -27,14 +24,14 @@ fn split_lambda(
     arguments: Ref,
     waiting: &mut Vec<Piece>,
 ) -> Result<(), Memory>
-    requires function_in { IsIn heap.now function }
-    requires within { IsIn heap.now arguments }
+    requires function_in { IsIn heap.now.objects function }
+    requires within { IsIn heap.now.objects arguments }
     requires function_older { function < x }
     requires arguments_older { arguments < x }
-    requires read { (t : Term) × (term_of (object_at heap.now x) ≡ Some t) }
-    requires whole { object_at heap.now x ≡ Pair (object_at heap.now function) (object_at heap.now arguments) }
-    requires pair { is_symbol (object_at heap.now function) ≡ false }
-    ensures { IfOk result (λ u. Splits (names_at heap.now names.now.keys) heap.now (piece.Term x) waiting.old.items waiting.new.items) }
+    requires read { (t : Term) × (term_of (object_at heap.now.objects x) ≡ Some t) }
+    requires whole { object_at heap.now.objects x ≡ Pair (object_at heap.now.objects function) (object_at heap.now.objects arguments) }
+    requires pair { is_symbol (object_at heap.now.objects function) ≡ false }
+    ensures { IfOk result (λ u. Splits (names_at heap.now.objects names.now.keys) heap.now.objects (piece.Term x) waiting.old.items waiting.new.items) }
 {
     waiting.push(Piece::Terms(arguments))?;
     let Some(body) = heap.third_of(function) else {
@@ -53,14 +50,14 @@ fn look_at_named(
     arguments: Ref,
     waiting: &mut Vec<Piece>,
 ) -> Result<bool, Memory>
-    requires name_in { IsIn heap.now name }
-    requires within { IsIn heap.now arguments }
+    requires name_in { IsIn heap.now.objects name }
+    requires within { IsIn heap.now.objects arguments }
     requires arguments_older { arguments < x }
-    requires symbol { is_symbol (object_at heap.now name) ≡ true }
-    requires symbols { AreSymbols heap.now names.now.keys }
-    requires read { (t : Term) × (term_of (object_at heap.now x) ≡ Some t) }
-    requires whole { object_at heap.now x ≡ Pair (object_at heap.now name) (object_at heap.now arguments) }
-    ensures { IfOk result (IsLook (names_at heap.now names.now.keys) heap.now (piece.Term x) waiting.old.items waiting.new.items) }
+    requires symbol { is_symbol (object_at heap.now.objects name) ≡ true }
+    requires symbols { AreSymbols heap.now.objects names.now.keys }
+    requires read { (t : Term) × (term_of (object_at heap.now.objects x) ≡ Some t) }
+    requires whole { object_at heap.now.objects x ≡ Pair (object_at heap.now.objects name) (object_at heap.now.objects arguments) }
+    ensures { IfOk result (IsLook (names_at heap.now.objects names.now.keys) heap.now.objects (piece.Term x) waiting.old.items waiting.new.items) }
 {
     if heap.is_named(Some(name), b"QUOTE") {
         return Ok(false);
@@ -82,10 +79,10 @@ fn look_at_term(
     x: Ref,
     waiting: &mut Vec<Piece>,
 ) -> Result<bool, Memory>
-    requires within { IsIn heap.now x }
-    requires symbols { AreSymbols heap.now names.now.keys }
-    requires read { (t : Term) × (term_of (object_at heap.now x) ≡ Some t) }
-    ensures { IfOk result (IsLook (names_at heap.now names.now.keys) heap.now (piece.Term x) waiting.old.items waiting.new.items) }
+    requires within { IsIn heap.now.objects x }
+    requires symbols { AreSymbols heap.now.objects names.now.keys }
+    requires read { (t : Term) × (term_of (object_at heap.now.objects x) ≡ Some t) }
+    ensures { IfOk result (IsLook (names_at heap.now.objects names.now.keys) heap.now.objects (piece.Term x) waiting.old.items waiting.new.items) }
 {
     let View::Pair(head, arguments) = heap.view(x) else {
         return Ok(false);
@@ -103,9 +100,9 @@ fn split_terms(
     x: Ref,
     waiting: &mut Vec<Piece>,
 ) -> Result<(), Memory>
-    requires within { IsIn heap.now x }
-    requires read { (ts : Terms) × (terms_of (object_at heap.now x) ≡ Some ts) }
-    ensures { IfOk result (λ u. Splits (names_at heap.now names.now.keys) heap.now (piece.Terms x) waiting.old.items waiting.new.items) }
+    requires within { IsIn heap.now.objects x }
+    requires read { (ts : Terms) × (terms_of (object_at heap.now.objects x) ≡ Some ts) }
+    ensures { IfOk result (λ u. Splits (names_at heap.now.objects names.now.keys) heap.now.objects (piece.Terms x) waiting.old.items waiting.new.items) }
 {
     let View::Pair(first, rest) = heap.view(x) else {
         return Ok(());
@@ -122,9 +119,9 @@ fn look(
     piece: Piece,
     waiting: &mut Vec<Piece>,
 ) -> Result<bool, Memory>
-    requires within { IsPiece heap.now piece }
-    requires symbols { AreSymbols heap.now names.now.keys }
-    ensures { IfOk result (IsLook (names_at heap.now names.now.keys) heap.now piece waiting.old.items waiting.new.items) }
+    requires within { IsPiece heap.now.objects piece }
+    requires symbols { AreSymbols heap.now.objects names.now.keys }
+    ensures { IfOk result (IsLook (names_at heap.now.objects names.now.keys) heap.now.objects piece waiting.old.items waiting.new.items) }
 {
     match piece {
         Piece::Term(x) => Ok(look_at_term(heap, names, x, waiting)?),
@@ -136,21 +133,22 @@ fn look(
 }
 
 // Whether a function of these names is called in a term or a list of terms, bodies of lambda calls included. Each piece is looked at
-// once.
-pub(crate) fn mentions_some(heap: &Heap, names: &IndexSet<Ref>, root: Piece) -> Result<bool, Memory>
-    requires within { IsPiece heap.now root }
-    requires symbols { AreSymbols heap.now names.now.keys }
-    ensures { IfOk result (λ b. (B : List Function) → HasNames B (names_at heap.now names.now.keys) → b ≡ piece_mentions B heap.now root) }
+// once, and takes a look.
+pub(crate) fn mentions_some(
+    heap: &Heap,
+    names: &IndexSet<Ref>,
+    root: Piece,
+    looks_left: &mut u64,
+) -> Result<bool, Memory>
+    requires within { IsPiece heap.now.objects root }
+    requires symbols { AreSymbols heap.now.objects names.now.keys }
+    ensures { IfOk result (λ b. (B : List Function) → HasNames B (names_at heap.now.objects names.now.keys) → b ≡ piece_mentions B heap.now.objects root) }
 {
     let mut looked = IndexSet::new(heap.alloc());
     let mut waiting = Vec::new(heap.alloc());
     waiting.push(root)?;
-    let mut looks_left = MOST_LOOKS;
     while let Some(piece) = waiting.pop() {
-        if looks_left == 0 {
-            return Err(Memory);
-        }
-        looks_left -= 1;
+        take_look(looks_left)?;
         if !looked.insert(piece)? {
             continue;
         }

@@ -20,6 +20,7 @@ use crate::recursion::Recursion;
 use crate::testing::under_each;
 use indexmap::IndexSet;
 use mw_heap::{Heap, Memory, Ref};
+use mw_term::{take_looks, take_looks_since};
 
 // That the measure falls at a call, under those of its tests that mention no function of these names.
 fn obligation(
@@ -29,24 +30,25 @@ fn obligation(
     formals: Ref,
     called_measure: Ref,
     measure: Ref,
+    looks_left: &mut u64,
 ) -> Result<Ref, Memory>
-    requires symbols { AreSymbols heap.old names.now.keys }
-    requires tests { HasTests heap.old call.now.tests }
-    requires actuals_in { IsIn heap.old call.now.actuals }
-    requires formals_in { IsIn heap.old formals }
-    requires called_in { IsIn heap.old called_measure }
-    requires measure_in { IsIn heap.old measure }
-    ensures grows { Grows heap.old heap.new }
-    ensures made { IfOk result (λ r. IsIn heap.new r × Owes (names_at heap.old names.now.keys) heap.old formals called_measure call.now.actuals measure call.now.tests (object_at heap.new r)) }
+    requires symbols { AreSymbols heap.old.objects names.now.keys }
+    requires tests { HasTests heap.old.objects call.now.tests }
+    requires actuals_in { IsIn heap.old.objects call.now.actuals }
+    requires formals_in { IsIn heap.old.objects formals }
+    requires called_in { IsIn heap.old.objects called_measure }
+    requires measure_in { IsIn heap.old.objects measure }
+    ensures grows { Grows heap.old.objects heap.new.objects }
+    ensures made { IfOk result (λ r. IsIn heap.new.objects r × Owes (names_at heap.old.objects names.now.keys) heap.old.objects formals called_measure call.now.actuals measure call.now.tests (object_at heap.new.objects r)) }
 {
     let below = falls(heap, formals, called_measure, call.actuals, measure)?;
-    Ok(under_each(heap, names, call.tests, below)?)
+    Ok(under_each(heap, names, call.tests, below, looks_left)?)
 }
 
 // Adds a formula where it is not there yet: equal formulas have equal references.
 fn add_formula(heap: &Heap, owed: &mut IndexSet<Ref>, formula: Ref) -> Result<(), Memory>
-    requires { IsIn heap.now formula }
-    ensures { OnOk result ((F : Formula) → object_at heap.now formula ≡ formula_object F → IsReadBack F → Adds heap.now heap.now owed.old.keys owed.new.keys (F ∷ [])) }
+    requires { IsIn heap.now.objects formula }
+    ensures { OnOk result ((F : Formula) → object_at heap.now.objects formula ≡ formula_object F → IsReadBack F → Adds heap.now.objects heap.now.objects owed.old.keys owed.new.keys (F ∷ [])) }
 {
     if heap.same(formula, formula) {
         owed.insert(formula)?;
@@ -56,11 +58,11 @@ fn add_formula(heap: &Heap, owed: &mut IndexSet<Ref>, formula: Ref) -> Result<()
 
 // The function of the block that has this name.
 fn function_named(heap: &Heap, names: &IndexSet<Ref>, block: &[Draft], name: Ref) -> Draft
-    requires block { AreBlock heap.now names.now.keys block.now }
-    requires within { IsIn heap.now name }
-    requires symbol { is_symbol (object_at heap.now name) ≡ true }
-    requires among { is_among (name_of (object_at heap.now name)) (names_at heap.now names.now.keys) ≡ true }
-    ensures { IsNamed heap.now block.now name result }
+    requires block { AreBlock heap.now.objects names.now.keys block.now }
+    requires within { IsIn heap.now.objects name }
+    requires symbol { is_symbol (object_at heap.now.objects name) ≡ true }
+    requires among { is_among (name_of (object_at heap.now.objects name)) (names_at heap.now.objects names.now.keys) ≡ true }
+    ensures { IsNamed heap.now.objects block.now name result }
 {
     let _ = heap.same(name, name);
     let Some(index) = names.get_index_of(&name) else {
@@ -69,7 +71,7 @@ fn function_named(heap: &Heap, names: &IndexSet<Ref>, block: &[Draft], name: Ref
     block[index]
 }
 
-// Adds what a function owes at one of its calls.
+// Adds what a function owes at one of its calls. Many calls may share their tests and a measure, which are walked or copied for each.
 fn owe_call(
     heap: &mut Heap,
     names: &IndexSet<Ref>,
@@ -78,12 +80,14 @@ fn owe_call(
     call: &FoundCall,
     owed: &mut IndexSet<Ref>,
 ) -> Result<(), Memory>
-    requires block { AreBlock heap.old names.now.keys block.now }
-    requires named { IsNamed heap.old block.now function.now.name function.now }
-    requires call { IsPartOf heap.old (names_at heap.old names.now.keys) (part.Call call.now.name call.now.actuals) × HasTests heap.old call.now.tests }
-    ensures grows { Grows heap.old heap.new }
-    ensures owed { OnOk result (Adds heap.old heap.new owed.old.keys owed.new.keys (owed_at heap.old block.now function.now (found_calls (functions_at heap.old block.now) heap.old (call.now ∷ [])))) }
+    requires block { AreBlock heap.old.objects names.now.keys block.now }
+    requires named { IsNamed heap.old.objects block.now function.now.name function.now }
+    requires call { IsPartOf heap.old.objects (names_at heap.old.objects names.now.keys) (part.Call call.now.name call.now.actuals) × HasTests heap.old.objects call.now.tests }
+    ensures grows { Grows heap.old.objects heap.new.objects }
+    ensures owed { OnOk result (Adds heap.old.objects heap.new.objects owed.old.keys owed.new.keys (owed_at heap.old.objects block.now function.now (found_calls (functions_at heap.old.objects block.now) heap.old.objects (call.now ∷ [])))) }
 {
+    let had = heap.mark();
+    let mut looks_left = u64::MAX;
     let called = function_named(heap, names, block, call.name);
     let formula = obligation(
         heap,
@@ -92,8 +96,10 @@ fn owe_call(
         called.formals,
         called.measure,
         function.measure,
+        &mut looks_left,
     )?;
-    Ok(add_formula(heap, owed, formula)?)
+    add_formula(heap, owed, formula)?;
+    Ok(take_looks_since(heap, had, u64::MAX.saturating_sub(looks_left))?)
 }
 
 // Adds what a function owes at each of its calls.
@@ -105,11 +111,11 @@ fn owe_calls(
     calls: &[FoundCall],
     owed: &mut IndexSet<Ref>,
 ) -> Result<(), Memory>
-    requires block { AreBlock heap.old names.now.keys block.now }
-    requires named { IsNamed heap.old block.now function.now.name function.now }
-    requires calls { AreFoundCalls heap.old (names_at heap.old names.now.keys) calls.now }
-    ensures grows { Grows heap.old heap.new }
-    ensures owed { OnOk result (Adds heap.old heap.new owed.old.keys owed.new.keys (owed_at heap.old block.now function.now (found_calls (functions_at heap.old block.now) heap.old calls.now))) }
+    requires block { AreBlock heap.old.objects names.now.keys block.now }
+    requires named { IsNamed heap.old.objects block.now function.now.name function.now }
+    requires calls { AreFoundCalls heap.old.objects (names_at heap.old.objects names.now.keys) calls.now }
+    ensures grows { Grows heap.old.objects heap.new.objects }
+    ensures owed { OnOk result (Adds heap.old.objects heap.new.objects owed.old.keys owed.new.keys (owed_at heap.old.objects block.now function.now (found_calls (functions_at heap.old.objects block.now) heap.old.objects calls.now))) }
 {
     for call in calls {
         owe_call(heap, names, block, function, call, owed)?;
@@ -124,9 +130,9 @@ fn owe_ordinal(
     function: &Draft,
     owed: &mut IndexSet<Ref>,
 ) -> Result<(), Memory>
-    requires { IsNamed heap.old block.now function.now.name function.now }
-    ensures grows { Grows heap.old heap.new }
-    ensures owed { OnOk result (Adds heap.old heap.new owed.old.keys owed.new.keys (ordinal_formula (measure_of (measures_at heap.old block.now) (name_of (object_at heap.old function.now.name))) ∷ [])) }
+    requires { IsNamed heap.old.objects block.now function.now.name function.now }
+    ensures grows { Grows heap.old.objects heap.new.objects }
+    ensures owed { OnOk result (Adds heap.old.objects heap.new.objects owed.old.keys owed.new.keys (ordinal_formula (measure_of (measures_at heap.old.objects block.now) (name_of (object_at heap.old.objects function.now.name))) ∷ [])) }
 {
     let formula = is_ordinal(heap, function.measure)?;
     Ok(add_formula(heap, owed, formula)?)
@@ -141,15 +147,18 @@ fn owe_flat(
     calls: &[FoundCall],
     owed: &mut IndexSet<Ref>,
 ) -> Result<(), Memory>
-    requires block { AreBlock heap.old names.now.keys block.now }
-    requires named { IsNamed heap.old block.now function.now.name function.now }
-    requires calls { AreFoundCalls heap.old (names_at heap.old names.now.keys) calls.now }
-    ensures grows { Grows heap.old heap.new }
-    ensures owed { OnOk result (Adds heap.old heap.new owed.old.keys owed.new.keys (ordinal_formula (measure_of (measures_at heap.old block.now) (name_of (object_at heap.old function.now.name))) ∷ owed_at heap.old block.now function.now (found_calls (functions_at heap.old block.now) heap.old calls.now))) }
+    requires block { AreBlock heap.old.objects names.now.keys block.now }
+    requires named { IsNamed heap.old.objects block.now function.now.name function.now }
+    requires calls { AreFoundCalls heap.old.objects (names_at heap.old.objects names.now.keys) calls.now }
+    ensures grows { Grows heap.old.objects heap.new.objects }
+    ensures owed { OnOk result (Adds heap.old.objects heap.new.objects owed.old.keys owed.new.keys (ordinal_formula (measure_of (measures_at heap.old.objects block.now) (name_of (object_at heap.old.objects function.now.name))) ∷ owed_at heap.old.objects block.now function.now (found_calls (functions_at heap.old.objects block.now) heap.old.objects calls.now))) }
 {
     owe_ordinal(heap, block, function, owed)?;
     Ok(owe_calls(heap, names, block, function, calls, owed)?)
 }
+
+// The most looks at the actuals of one function's calls: where more are needed the answer is out of memory.
+const MOST_LOOKS: u64 = 1 << 26;
 
 // Adds what a function owes, where none of its calls is in an actual of another. These are all its calls.
 fn owe_found(
@@ -159,15 +168,16 @@ fn owe_found(
     function: &Draft,
     calls: &[FoundCall],
     owed: &mut IndexSet<Ref>,
+    looks_left: &mut u64,
 ) -> Result<Recursion, Memory>
-    requires block { AreBlock heap.old names.now.keys block.now }
-    requires named { IsNamed heap.old block.now function.now.name function.now }
-    requires calls { AreFoundCalls heap.old (names_at heap.old names.now.keys) calls.now }
-    requires all { found_calls (functions_at heap.old block.now) heap.old calls.now ≡ calls_of heap.old block.now function.now }
-    ensures grows { Grows heap.old heap.new }
-    ensures owed { IfOk result (OwesOne heap.old heap.new block.now function.now owed.old.keys owed.new.keys) }
+    requires block { AreBlock heap.old.objects names.now.keys block.now }
+    requires named { IsNamed heap.old.objects block.now function.now.name function.now }
+    requires calls { AreFoundCalls heap.old.objects (names_at heap.old.objects names.now.keys) calls.now }
+    requires all { found_calls (functions_at heap.old.objects block.now) heap.old.objects calls.now ≡ calls_of heap.old.objects block.now function.now }
+    ensures grows { Grows heap.old.objects heap.new.objects }
+    ensures owed { IfOk result (OwesOne heap.old.objects heap.new.objects block.now function.now owed.old.keys owed.new.keys) }
 {
-    if are_nested(heap, names, calls)? {
+    if are_nested(heap, names, calls, looks_left)? {
         return Ok(Recursion::Nested);
     }
     owe_flat(heap, names, block, function, calls, owed)?;
@@ -186,11 +196,22 @@ pub(crate) fn owe_function(
     function: &Draft,
     owed: &mut IndexSet<Ref>,
 ) -> Result<Recursion, Memory>
-    requires block { AreBlock heap.old names.now.keys block.now }
-    requires named { IsNamed heap.old block.now function.now.name function.now }
-    ensures grows { Grows heap.old heap.new }
-    ensures owed { IfOk result (OwesOne heap.old heap.new block.now function.now owed.old.keys owed.new.keys) }
+    requires block { AreBlock heap.old.objects names.now.keys block.now }
+    requires named { IsNamed heap.old.objects block.now function.now.name function.now }
+    ensures grows { Grows heap.old.objects heap.new.objects }
+    ensures owed { IfOk result (OwesOne heap.old.objects heap.new.objects block.now function.now owed.old.keys owed.new.keys) }
 {
     let calls = find_calls(heap, names, function.body)?;
-    Ok(owe_found(heap, names, block, function, calls.as_slice(), owed)?)
+    let mut looks_left = MOST_LOOKS;
+    let recursion = owe_found(
+        heap,
+        names,
+        block,
+        function,
+        calls.as_slice(),
+        owed,
+        &mut looks_left,
+    )?;
+    take_looks(heap, MOST_LOOKS.saturating_sub(looks_left))?;
+    Ok(recursion)
 }

@@ -17,10 +17,10 @@ use mw_translate::{call_of_one, call_of_two};
 
 // What is left to show where a test of this kind fails.
 fn failing(heap: &mut Heap, kind: Ref, term: Ref) -> Result<Ref, Memory>
-    requires kind_in { IsIn heap.old kind }
-    requires term_in { IsIn heap.old term }
-    ensures grows { Grows heap.old heap.new }
-    ensures made { IfOk result (λ r. IsIn heap.new r × (object_at heap.new r ≡ test_object (object_at heap.old kind) (object_at heap.old term))) }
+    requires kind_in { IsIn heap.old.objects kind }
+    requires term_in { IsIn heap.old.objects term }
+    ensures grows { Grows heap.old.objects heap.new.objects }
+    ensures made { IfOk result (λ r. IsIn heap.new.objects r × (object_at heap.new.objects r ≡ test_object (object_at heap.old.objects kind) (object_at heap.old.objects term))) }
 {
     let is_nil = heap.is_nil(Some(kind));
     let equation = equal_nil(heap, term)?;
@@ -31,42 +31,50 @@ fn failing(heap: &mut Heap, kind: Ref, term: Ref) -> Result<Ref, Memory>
 }
 
 // The formula under a test, or as it is where the test mentions the block.
-fn under_one(heap: &mut Heap, names: &IndexSet<Ref>, test: Ref, formula: Ref) -> Result<Ref, Memory>
-    requires test_in { IsIn heap.old test }
-    requires read { IsTest (object_at heap.old test) }
-    requires formula_in { IsIn heap.old formula }
-    requires symbols { AreSymbols heap.old names.now.keys }
-    ensures grows { Grows heap.old heap.new }
-    ensures made { IfOk result (IsUnderTest (names_at heap.old names.now.keys) heap.old heap.new test formula) }
+fn under_one(
+    heap: &mut Heap,
+    names: &IndexSet<Ref>,
+    test: Ref,
+    formula: Ref,
+    looks_left: &mut u64,
+) -> Result<Ref, Memory>
+    requires test_in { IsIn heap.old.objects test }
+    requires read { IsTest (object_at heap.old.objects test) }
+    requires formula_in { IsIn heap.old.objects formula }
+    requires symbols { AreSymbols heap.old.objects names.now.keys }
+    ensures grows { Grows heap.old.objects heap.new.objects }
+    ensures made { IfOk result (IsUnderTest (names_at heap.old.objects names.now.keys) heap.old.objects heap.new.objects test formula) }
 {
     let View::Pair(kind, term) = heap.view(test) else {
         unreachable!()
     };
-    if mentions_some(heap, names, Piece::Term(term))? {
+    if mentions_some(heap, names, Piece::Term(term), looks_left)? {
         return Ok(formula);
     }
     let fails = failing(heap, kind, term)?;
     Ok(call_of_two(heap, b"POR*", fails, formula)?)
 }
 
-// The formula under those tests of a list, the innermost first, that mention no function of these names.
+// The formula under those tests of a list, the innermost first, that mention no function of these names. Each cell of a test that is
+// looked at takes a look.
 pub(crate) fn under_each(
     heap: &mut Heap,
     names: &IndexSet<Ref>,
     tests: Ref,
     formula: Ref,
+    looks_left: &mut u64,
 ) -> Result<Ref, Memory>
-    requires tests_in { IsIn heap.old tests }
-    requires read { AreTests (object_at heap.old tests) }
-    requires formula_in { IsIn heap.old formula }
-    requires symbols { AreSymbols heap.old names.now.keys }
-    ensures grows { Grows heap.old heap.new }
-    ensures made { IfOk result (IsUnderTests (names_at heap.old names.now.keys) heap.old heap.new tests formula) }
+    requires tests_in { IsIn heap.old.objects tests }
+    requires read { AreTests (object_at heap.old.objects tests) }
+    requires formula_in { IsIn heap.old.objects formula }
+    requires symbols { AreSymbols heap.old.objects names.now.keys }
+    ensures grows { Grows heap.old.objects heap.new.objects }
+    ensures made { IfOk result (IsUnderTests (names_at heap.old.objects names.now.keys) heap.old.objects heap.new.objects tests formula) }
 {
     let mut rest = tests;
     let mut made = formula;
     while let View::Pair(test, more) = heap.view(rest) {
-        made = under_one(heap, names, test, made)?;
+        made = under_one(heap, names, test, made, looks_left)?;
         rest = more;
     }
     Ok(made)

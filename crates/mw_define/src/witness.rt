@@ -23,13 +23,13 @@ fn closed_witness(
     formals: &Formals,
     term: Ref,
 ) -> Result<Admitted, Memory>
-    requires name_in { IsIn heap.old name }
-    requires list_in { IsIn heap.old list }
-    requires free_in { IsIn heap.old free }
-    requires term_in { IsIn heap.old term }
-    requires formals { AreSymbols heap.old formals.now }
-    ensures grows { Grows heap.old heap.new }
-    ensures admitted { (t : Term) → term_of (object_at heap.old term) ≡ Some t → IfOk result (IsClosedWitness heap.old heap.new name list free formals.now term t) }
+    requires name_in { IsIn heap.old.objects name }
+    requires list_in { IsIn heap.old.objects list }
+    requires free_in { IsIn heap.old.objects free }
+    requires term_in { IsIn heap.old.objects term }
+    requires formals { AreSymbols heap.old.objects formals.now }
+    ensures grows { Grows heap.old.objects heap.new.objects }
+    ensures admitted { (t : Term) → term_of (object_at heap.old.objects term) ≡ Some t → IfOk result (IsClosedWitness heap.old.objects heap.new.objects name list free formals.now term t) }
 {
     if !formals.closes(heap, term)? {
         return Ok(Admitted::Refused(Refusal::Variables));
@@ -59,12 +59,12 @@ fn tested_witness(
     body: Ref,
     arity: &Arity,
 ) -> Result<Admitted, Memory>
-    requires name_in { IsIn heap.old name }
-    requires bound_in { IsIn heap.old bound }
-    requires free_in { IsIn heap.old free }
-    requires body_in { IsIn heap.old body }
-    ensures grows { Grows heap.old heap.new }
-    ensures admitted { IfOk result (IsWitness arity.now heap.old heap.new name bound free body) }
+    requires name_in { IsIn heap.old.objects name }
+    requires bound_in { IsIn heap.old.objects bound }
+    requires free_in { IsIn heap.old.objects free }
+    requires body_in { IsIn heap.old.objects body }
+    ensures grows { Grows heap.old.objects heap.new.objects }
+    ensures admitted { IfOk result (IsWitness arity.now heap.old.objects heap.new.objects name bound free body) }
 {
     if !is_new_name(heap, name, arity) {
         return Ok(Admitted::Refused(Refusal::Name));
@@ -92,12 +92,12 @@ pub fn admit_witness(
     body: Ref,
     arity: &Arity,
 ) -> Admitted
-    requires name_in { IsIn heap.old name }
-    requires bound_in { IsIn heap.old bound }
-    requires free_in { IsIn heap.old free }
-    requires body_in { IsIn heap.old body }
-    ensures grows { Grows heap.old heap.new }
-    ensures admitted { IsWitness arity.now heap.old heap.new name bound free body result }
+    requires name_in { IsIn heap.old.objects name }
+    requires bound_in { IsIn heap.old.objects bound }
+    requires free_in { IsIn heap.old.objects free }
+    requires body_in { IsIn heap.old.objects body }
+    ensures grows { Grows heap.old.objects heap.new.objects }
+    ensures admitted { IsWitness arity.now heap.old.objects heap.new.objects name bound free body result }
 {
     match tested_witness(heap, name, bound, free, body, arity) {
         Ok(admitted) => admitted,

@@ -9,17 +9,17 @@ use mw_heap::{Heap, Ref, View};
 
 /// Whether `c` is: not a1 = b1 or .. or not an = bn or (f a1 .. an) = (f b1 .. bn), where f is the name of a function.
 pub fn functional_equality(heap: &Heap, c: Ref) -> bool
-    requires { IsIn heap.now c }
-    ensures { result ≡ object_is_functional_equality (object_at heap.now c) }
+    requires { IsIn heap.now.objects c }
+    ensures { result ≡ object_is_functional_equality (object_at heap.now.objects c) }
 {
     ends_with_equality(heap, c, last_disjunct(heap, c))
 }
 
 // The last disjunct of c.
 fn last_disjunct(heap: &Heap, c: Ref) -> Ref
-    requires { IsIn heap.now c }
-    ensures within { IsIn heap.now result }
-    ensures last { object_at heap.now result ≡ last_disjunct_object (object_at heap.now c) }
+    requires { IsIn heap.now.objects c }
+    ensures within { IsIn heap.now.objects result }
+    ensures last { object_at heap.now.objects result ≡ last_disjunct_object (object_at heap.now.objects c) }
 {
     let mut last = c;
     while let Some(later) = later_disjunct(heap, last) {
@@ -30,9 +30,9 @@ fn last_disjunct(heap: &Heap, c: Ref) -> Ref
 
 // What follows the first disjunct, of a list that begins like a disjunction.
 fn later_disjunct(heap: &Heap, x: Ref) -> Option<Ref>
-    requires { IsIn heap.now x }
-    ensures within { IfSome result (λ y. IsIn heap.now y × (y < x)) }
-    ensures last { MatchOption result (last_disjunct_object (object_at heap.now x) ≡ object_at heap.now x) (λ y. last_disjunct_object (object_at heap.now x) ≡ last_disjunct_object (object_at heap.now y)) }
+    requires { IsIn heap.now.objects x }
+    ensures within { IfSome result (λ y. IsIn heap.now.objects y × (y < x)) }
+    ensures last { MatchOption result (last_disjunct_object (object_at heap.now.objects x) ≡ object_at heap.now.objects x) (λ y. last_disjunct_object (object_at heap.now.objects x) ≡ last_disjunct_object (object_at heap.now.objects y)) }
 {
     let View::Pair(head, sides) = heap.view(x) else {
         return None;
@@ -52,9 +52,9 @@ fn later_disjunct(heap: &Heap, x: Ref) -> Option<Ref>
 
 // Whether c is a disjunction by which the arguments of the two calls that e equates are equal.
 fn ends_with_equality(heap: &Heap, c: Ref, e: Ref) -> bool
-    requires within { IsIn heap.now c }
-    requires end_within { IsIn heap.now e }
-    ensures { result ≡ object_ends_with_equality (object_at heap.now c) (object_at heap.now e) }
+    requires within { IsIn heap.now.objects c }
+    requires end_within { IsIn heap.now.objects e }
+    ensures { result ≡ object_ends_with_equality (object_at heap.now.objects c) (object_at heap.now.objects e) }
 {
     if !heap.is_headed(e, b"PEQUAL*") {
         return false;
@@ -67,11 +67,11 @@ fn ends_with_equality(heap: &Heap, c: Ref, e: Ref) -> bool
 
 // Whether c is: not a1 = b1 or .. or not an = bn or end, for the members of two lists.
 fn is_unless_equal(heap: &Heap, c: Ref, firsts: Ref, seconds: Ref, end: Ref) -> bool
-    requires within { IsIn heap.now c }
-    requires firsts_within { IsIn heap.now firsts }
-    requires seconds_within { IsIn heap.now seconds }
-    requires end_within { IsIn heap.now end }
-    ensures { result ≡ same_object (object_at heap.now c) (unless_equal_object (object_at heap.now firsts) (object_at heap.now seconds) (object_at heap.now end)) }
+    requires within { IsIn heap.now.objects c }
+    requires firsts_within { IsIn heap.now.objects firsts }
+    requires seconds_within { IsIn heap.now.objects seconds }
+    requires end_within { IsIn heap.now.objects end }
+    ensures { result ≡ same_object (object_at heap.now.objects c) (unless_equal_object (object_at heap.now.objects firsts) (object_at heap.now.objects seconds) (object_at heap.now.objects end)) }
 {
     let mut rest = c;
     let mut firsts = firsts;

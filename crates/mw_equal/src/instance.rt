@@ -10,15 +10,15 @@ use mw_subst::{sigma_of, substitute};
 use mw_term::{Marks, is_substitution};
 
 /// Whether the formula `c` is the formula `a` under the substitution `s`, a proper list of pairs (variable . term), where the marks
-/// say what is a term. The heap grows by what the substitution makes; the only error is want of memory.
+/// say what is a term. The heap grows by what the substitution makes; the only error is being out of memory.
 pub fn instantiation(heap: &mut Heap, c: Ref, a: Ref, s: Ref, marks: &Marks) -> Result<bool, Memory>
-    requires marks { (A : ArityTable) × AreMarks A heap.old marks.now }
-    requires conclusion { IsIn heap.old c }
-    requires premise { IsIn heap.old a }
+    requires marks { (A : ArityTable) × AreMarks A heap.old.objects marks.now }
+    requires conclusion { IsIn heap.old.objects c }
+    requires premise { IsIn heap.old.objects a }
     requires substitution { s < length marks.now }
-    requires formula { (A : ArityTable) × (is_formula_object A (object_at heap.old a) ≡ true) }
-    ensures grows { Grows heap.old heap.new }
-    ensures answer { IfOk result (λ b. (A : ArityTable) → AreMarks A heap.old marks.now → b ≡ object_is_instance A (object_at heap.old c) (object_at heap.old a) (object_at heap.old s)) }
+    requires formula { (A : ArityTable) × (is_formula_object A (object_at heap.old.objects a) ≡ true) }
+    ensures grows { Grows heap.old.objects heap.new.objects }
+    ensures answer { IfOk result (λ b. (A : ArityTable) → AreMarks A heap.old.objects marks.now → b ≡ object_is_instance A (object_at heap.old.objects c) (object_at heap.old.objects a) (object_at heap.old.objects s)) }
 {
     if !is_substitution(heap, marks, s) {
         return Ok(false);

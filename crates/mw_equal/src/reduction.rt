@@ -7,15 +7,16 @@ ghost use Rattle.mw_heap.specs.Parts.{part_at, IsPart};
 ghost use Rattle.mw_subst.specs.Sigma.{sigma_object, AreIn};
 
 use crate::shapes::members;
-use mw_heap::{Heap, Memory, Ref, View};
+use mw_heap::{Heap, Memory, Ref, View, take_look};
 use mw_subst::{Sigma, substitute};
+use mw_term::take_looks;
 
 /// Whether `c` is: ((lambda (x1 .. xn) b) t1 .. tn) = b with t1 .. tn for x1 .. xn. The heap grows by what the substitution makes; the
 /// only error is want of memory.
 pub fn beta(heap: &mut Heap, c: Ref) -> Result<bool, Memory>
-    requires { IsIn heap.old c }
-    ensures grows { Grows heap.old heap.new }
-    ensures answer { IfOk result (λ b. b ≡ object_is_beta (object_at heap.old c)) }
+    requires { IsIn heap.old.objects c }
+    ensures grows { Grows heap.old.objects heap.new.objects }
+    ensures answer { IfOk result (λ b. b ≡ object_is_beta (object_at heap.old.objects c)) }
 {
     if !heap.is_headed(c, b"PEQUAL*") {
         return Ok(false);
@@ -36,21 +37,24 @@ pub fn beta(heap: &mut Heap, c: Ref) -> Result<bool, Memory>
 
 /// The body of the function of a lambda call with the arguments for its formals. The only error is want of memory.
 pub fn reduced(heap: &mut Heap, function: Ref, arguments: Ref) -> Result<Ref, Memory>
-    requires within { IsIn heap.old function }
-    requires arguments_within { IsIn heap.old arguments }
-    ensures grows { Grows heap.old heap.new }
-    ensures reduced { IfOk result (λ r. IsIn heap.new r × (object_at heap.new r ≡ beta_object (Pair (object_at heap.old function) (object_at heap.old arguments)))) }
+    requires within { IsIn heap.old.objects function }
+    requires arguments_within { IsIn heap.old.objects arguments }
+    ensures grows { Grows heap.old.objects heap.new.objects }
+    ensures reduced { IfOk result (λ r. IsIn heap.new.objects r × (object_at heap.new.objects r ≡ beta_object (Pair (object_at heap.old.objects function) (object_at heap.old.objects arguments)))) }
 {
     let body = present(heap, heap.third_of(function))?;
-    let sigma = actuals(heap, heap.second_of(function), arguments)?;
-    substitute(heap, body, &sigma)
+    let mut looks_left = u64::MAX;
+    let sigma = actuals(heap, heap.second_of(function), arguments, &mut looks_left)?;
+    let made = substitute(heap, body, &sigma)?;
+    take_looks(heap, u64::MAX.saturating_sub(looks_left))?;
+    Ok(made)
 }
 
 // A part as an object of the heap: NIL where there is none.
 fn present(heap: &mut Heap, x: Option<Ref>) -> Result<Ref, Memory>
-    requires { IsPart heap.old x }
-    ensures grows { Grows heap.old heap.new }
-    ensures made { IfOk result (λ r. IsIn heap.new r × (object_at heap.new r ≡ part_at heap.old x)) }
+    requires { IsPart heap.old.objects x }
+    ensures grows { Grows heap.old.objects heap.new.objects }
+    ensures made { IfOk result (λ r. IsIn heap.new.objects r × (object_at heap.new.objects r ≡ part_at heap.old.objects x)) }
 {
     match x {
         Some(x) => Ok(x),
@@ -58,12 +62,17 @@ fn present(heap: &mut Heap, x: Option<Ref>) -> Result<Ref, Memory>
     }
 }
 
-// The arguments for the formals.
-fn actuals(heap: &Heap, formals: Option<Ref>, arguments: Ref) -> Result<Sigma, Memory>
-    requires within { IsPart heap.now formals }
-    requires arguments_within { IsIn heap.now arguments }
-    ensures within { IfOk result (λ s. AreIn heap.now s) }
-    ensures actuals { IfOk result (λ s. sigma_object heap.now s ≡ actuals_object (part_at heap.now formals) (object_at heap.now arguments)) }
+// The arguments for the formals. Each takes a look: many calls may share them.
+fn actuals(
+    heap: &Heap,
+    formals: Option<Ref>,
+    arguments: Ref,
+    looks_left: &mut u64,
+) -> Result<Sigma, Memory>
+    requires within { IsPart heap.now.objects formals }
+    requires arguments_within { IsIn heap.now.objects arguments }
+    ensures within { IfOk result (λ s. AreIn heap.now.objects s) }
+    ensures actuals { IfOk result (λ s. sigma_object heap.now.objects s ≡ actuals_object (part_at heap.now.objects formals) (object_at heap.now.objects arguments)) }
 {
     let mut sigma = Sigma::new(heap.alloc());
     let Some(mut formals) = formals else {
@@ -71,6 +80,7 @@ fn actuals(heap: &Heap, formals: Option<Ref>, arguments: Ref) -> Result<Sigma, M
     };
     let mut arguments = arguments;
     while let Some(((x, more_formals), (t, more_arguments))) = members(heap, formals, arguments) {
+        take_look(looks_left)?;
         sigma.put(x, t)?;
         formals = more_formals;
         arguments = more_arguments;

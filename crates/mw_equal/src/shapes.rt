@@ -18,10 +18,10 @@ const OTHER_WORDS: [&[u8]; 18] = [
 
 // Whether x is: not a = b.
 pub(crate) fn is_inequality(heap: &Heap, x: Ref, a: Ref, b: Ref) -> bool
-    requires within { IsIn heap.now x }
-    requires first_within { IsIn heap.now a }
-    requires second_within { IsIn heap.now b }
-    ensures { result ≡ same_object (object_at heap.now x) (not_object (equal_object (object_at heap.now a) (object_at heap.now b))) }
+    requires within { IsIn heap.now.objects x }
+    requires first_within { IsIn heap.now.objects a }
+    requires second_within { IsIn heap.now.objects b }
+    ensures { result ≡ same_object (object_at heap.now.objects x) (not_object (equal_object (object_at heap.now.objects a) (object_at heap.now.objects b))) }
 {
     match heap.member_after(x, b"PNOT*") {
         Some(equality) => heap.is_list3(Some(equality), b"PEQUAL*", Some(a), Some(b)),
@@ -31,11 +31,11 @@ pub(crate) fn is_inequality(heap: &Heap, x: Ref, a: Ref, b: Ref) -> bool
 
 // The lists of arguments of two calls of one function.
 pub(crate) fn arguments_of_one(heap: &Heap, x: Option<Ref>, y: Option<Ref>) -> Option<(Ref, Ref)>
-    requires first_within { IsPart heap.now x }
-    requires second_within { IsPart heap.now y }
-    ensures within { IfSome result (λ p. IsIn heap.now p.0 × IsIn heap.now p.1) }
-    ensures calls { are_calls_of_one (part_at heap.now x) (part_at heap.now y) ≡ is_some result }
-    ensures arguments { IfSome result (λ p. (object_at heap.now p.0 ≡ cdr (part_at heap.now x)) × (object_at heap.now p.1 ≡ cdr (part_at heap.now y))) }
+    requires first_within { IsPart heap.now.objects x }
+    requires second_within { IsPart heap.now.objects y }
+    ensures within { IfSome result (λ p. IsIn heap.now.objects p.0 × IsIn heap.now.objects p.1) }
+    ensures calls { are_calls_of_one (part_at heap.now.objects x) (part_at heap.now.objects y) ≡ is_some result }
+    ensures arguments { IfSome result (λ p. (object_at heap.now.objects p.0 ≡ cdr (part_at heap.now.objects x)) × (object_at heap.now.objects p.1 ≡ cdr (part_at heap.now.objects y))) }
 {
     let (Some(x), Some(y)) = (x, y) else {
         return None;
@@ -57,8 +57,8 @@ pub(crate) fn arguments_of_one(heap: &Heap, x: Option<Ref>, y: Option<Ref>) -> O
 
 // Whether it is the name of a function.
 fn is_function(heap: &Heap, x: Ref) -> bool
-    requires { IsIn heap.now x }
-    ensures { result ≡ (is_symbol (object_at heap.now x) && is_function_name (name_of (object_at heap.now x))) }
+    requires { IsIn heap.now.objects x }
+    ensures { result ≡ (is_symbol (object_at heap.now.objects x) && is_function_name (name_of (object_at heap.now.objects x))) }
 {
     match heap.view(x) {
         View::Symbol => is_function_word(heap.name_of(x)),
@@ -83,11 +83,11 @@ fn is_one_of(name: &[u8], words: &[&[u8]]) -> bool
 
 // The first member and the rest of each of two lists that have members.
 pub(crate) fn members(heap: &Heap, xs: Ref, ys: Ref) -> Option<((Ref, Ref), (Ref, Ref))>
-    requires first_within { IsIn heap.now xs }
-    requires second_within { IsIn heap.now ys }
-    ensures within { IfSome result (λ p. IsIn heap.now p.0.0 × IsIn heap.now p.0.1 × IsIn heap.now p.1.0 × IsIn heap.now p.1.1 × (p.0.1 < xs)) }
-    ensures members { IfSome result (λ p. (object_at heap.now xs ≡ Pair (object_at heap.now p.0.0) (object_at heap.now p.0.1)) × (object_at heap.now ys ≡ Pair (object_at heap.now p.1.0) (object_at heap.now p.1.1))) }
-    ensures both { is_some result ≡ (is_pair (object_at heap.now xs) && is_pair (object_at heap.now ys)) }
+    requires first_within { IsIn heap.now.objects xs }
+    requires second_within { IsIn heap.now.objects ys }
+    ensures within { IfSome result (λ p. IsIn heap.now.objects p.0.0 × IsIn heap.now.objects p.0.1 × IsIn heap.now.objects p.1.0 × IsIn heap.now.objects p.1.1 × (p.0.1 < xs)) }
+    ensures members { IfSome result (λ p. (object_at heap.now.objects xs ≡ Pair (object_at heap.now.objects p.0.0) (object_at heap.now.objects p.0.1)) × (object_at heap.now.objects ys ≡ Pair (object_at heap.now.objects p.1.0) (object_at heap.now.objects p.1.1))) }
+    ensures both { is_some result ≡ (is_pair (object_at heap.now.objects xs) && is_pair (object_at heap.now.objects ys)) }
 {
     let View::Pair(a, more_xs) = heap.view(xs) else {
         return None;

@@ -41,7 +41,7 @@ natural_count cells = count_of is_large cells
 abbrev pub name_count : List Cell → ℕ
 name_count cells = count_of is_named cells
 
--- the cell may stand behind these: a large natural and a name are the next of their kind, and a pair's parts are older
+-- the cell may stand after these: a large natural and a name are the next of their kind, and a pair's parts are older
 abbrev pub MayFollow : List Cell → Cell → Type 0
 MayFollow older (Small n) = n < 2 ^ 32
 MayFollow older (Large i) = i ≡ natural_count older

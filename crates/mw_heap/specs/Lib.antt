@@ -1,8 +1,10 @@
 pub mod Objects
+pub mod Lists
 pub mod Inserted
 pub mod Cells
 pub mod Lengths
 pub mod Code
+pub mod Contents
 pub mod Variants
 pub mod Parts
 pub mod PrimitiveNames

@@ -1,5 +1,5 @@
 //! The heap.
-ghost use Rattle.std.specs.Prelude.{◌≡◌, ℕ, ◌+◌, ◌<◌, ◌≤◌, ◌^◌, List, [], true, false, length, take, IfOk, IfSome, OnErr, IsTrue};
+ghost use Rattle.std.specs.Prelude.{◌≡◌, ℕ, ◌+◌, ◌<◌, ◌≤◌, ◌^◌, List, [], true, false, length, take, IfOk, IfSome, IsOk, OnOk, OnErr, IsTrue};
 ghost use Rattle.mw_model.specs.Object.{Symbol, Natural, Pair, NIL, name_of_bytes, is_name, same_object, is_before_bytes};
 ghost use Rattle.mw_model.specs.Primitive.{is_symbol, name_of};
 ghost use Rattle.mw_model.specs.Fate.{is_out_of_range};
@@ -10,12 +10,13 @@ use crate::cell::Cell;
 use crate::lengths::Lengths;
 use crate::looks::take_look;
 use crate::sets::{
-    cell_at, counts_from, find_name, insert_measured, insert_name, insert_natural, is_place,
-    note_place,
+    Naturals, can_number, cell_at, counts_from, find_name, insert_measured, insert_name,
+    insert_natural, is_place, note_place,
 };
 use crate::{Mark, Memory, Ref, View};
 use indexmap::IndexSet;
 use std::alloc::Global;
+use std::hash::BuildHasherDefault;
 use std::marker::Model;
 
 /// Objects, each kept once: equal objects have equal references, so that equality is one comparison. A heap only grows, but for
@@ -24,7 +25,7 @@ use std::marker::Model;
 pub struct Heap {
     cells: IndexSet<Cell>,
     lengths: Vec<Lengths>,
-    naturals: IndexSet<u128>,
+    naturals: Naturals,
     names: IndexSet<Vec<u8>>,
     // for each name where its cell may stand, which is looked up there before it is searched for
     places: Vec<Ref>,
@@ -36,19 +37,19 @@ pub struct Heap {
 }
 
 impl Model for Heap {
-    ghost use Rattle.std.specs.Prelude.{List};
-    ghost use Rattle.std.specs.Coded.{coded_list};
-    ghost use Rattle.mw_model.specs.Object.{Object};
-    ghost use Rattle.mw_heap.specs.Code.{coded_object};
+    ghost use Rattle.mw_heap.specs.Contents.{Contents, coded_contents};
 
-    ghost Value = { List Object };
+    ghost Value = { Contents };
 
-    ghost coded = { coded_list coded_object };
+    ghost coded = { coded_contents };
 
+    ghost use Rattle.std.specs.Prelude.{◌-◌, ◌^◌, length, vec_len, vec_capacity};
+    ghost use Rattle.indexmap.specs.IndexSet.{spare};
     ghost use Rattle.mw_heap.specs.Cells.{objects, bytes_of};
     ghost use Rattle.mw_heap.specs.Lengths.{IsMeasured};
+    ghost use Rattle.mw_heap.specs.Contents.{room};
 
-    ghost view = { λ h. objects h.naturals.keys (bytes_of h.names.keys) h.cells.keys };
+    ghost view = { λ h. record { objects = objects h.naturals.keys (bytes_of h.names.keys) h.cells.keys; spare = room (spare h.cells) (spare h.naturals) (vec_capacity h.lengths - vec_len h.lengths) (2 ^ 32 - 1 - length h.cells.keys) } };
 
     ghost invariant = { λ h. IsMeasured h.naturals.keys (bytes_of h.names.keys) h.cells.keys h.lengths.items };
 }
@@ -56,12 +57,12 @@ impl Model for Heap {
 impl Heap {
     /// A heap with no objects.
     pub fn new(alloc: Global) -> Result<Heap, Memory>
-        ensures empty { IfOk result (λ h. h ≡ []) }
+        ensures empty { IfOk result (λ h. h.objects ≡ []) }
     {
         Ok(Heap {
             cells: IndexSet::new(alloc),
             lengths: Vec::new(alloc),
-            naturals: IndexSet::new(alloc),
+            naturals: IndexSet::with_hasher(alloc, BuildHasherDefault::new()),
             names: IndexSet::new(alloc),
             places: Vec::new(alloc),
             nil: Ref::new(0),
@@ -78,23 +79,25 @@ impl Heap {
     /// Allows so many looks at cells, in place of those that were left, to work that may look at a cell many times, as where labels share
     /// what is substituted in. A new heap allows as many as a u64 can tell.
     pub fn allow_looks(&mut self, looks: u64)
-        ensures { self.new ≡ self.old }
+        ensures { self.new.objects ≡ self.old.objects }
     {
         self.looks_left = looks;
     }
 
     /// Takes one look from those that are allowed. The error is that none is left: so much work is answered as out of memory.
     pub fn take_look(&mut self) -> Result<(), Memory>
-        ensures { self.new ≡ self.old }
+        ensures { self.new.objects ≡ self.old.objects }
     {
         take_look(&mut self.looks_left)
     }
 
     /// The natural `n`.
     pub fn nat(&mut self, n: u128) -> Result<Ref, Memory>
-        ensures grows { Grows self.old self.new }
-        ensures made { IfOk result (λ r. IsIn self.new r × (object_at self.new r ≡ Natural n)) }
-        ensures err { OnErr result (self.new ≡ self.old) }
+        ensures grows { Grows self.old.objects self.new.objects }
+        ensures made { IfOk result (λ r. IsIn self.new.objects r × (object_at self.new.objects r ≡ Natural n)) }
+        ensures err { OnErr result (self.new.objects ≡ self.old.objects) }
+        ensures room { 0 < self.old.spare → IsOk result }
+        ensures spare { self.old.spare ≤ self.new.spare + 1 }
     {
         if let Ok(small) = u32::try_from(n) {
             return insert_measured(
@@ -125,9 +128,9 @@ impl Heap {
     /// The symbol of this name.
     pub fn symbol(&mut self, name: &[u8]) -> Result<Ref, Memory>
         requires { is_name name.now ≡ true }
-        ensures grows { Grows self.old self.new }
-        ensures made { IfOk result (λ r. IsIn self.new r × (object_at self.new r ≡ Symbol (name_of_bytes name.now))) }
-        ensures err { OnErr result (self.new ≡ self.old) }
+        ensures grows { Grows self.old.objects self.new.objects }
+        ensures made { IfOk result (λ r. IsIn self.new.objects r × (object_at self.new.objects r ≡ Symbol (name_of_bytes name.now))) }
+        ensures err { OnErr result (self.new.objects ≡ self.old.objects) }
     {
         match self.known_symbol(name) {
             Some(known) => Ok(known),
@@ -137,9 +140,9 @@ impl Heap {
 
     /// NIL.
     pub fn nil(&mut self) -> Result<Ref, Memory>
-        ensures grows { Grows self.old self.new }
-        ensures made { IfOk result (λ r. IsIn self.new r × (object_at self.new r ≡ NIL)) }
-        ensures err { OnErr result (self.new ≡ self.old) }
+        ensures grows { Grows self.old.objects self.new.objects }
+        ensures made { IfOk result (λ r. IsIn self.new.objects r × (object_at self.new.objects r ≡ NIL)) }
+        ensures err { OnErr result (self.new.objects ≡ self.old.objects) }
     {
         if let Some(known) = self.known_nil() {
             return Ok(known);
@@ -151,7 +154,7 @@ impl Heap {
 
     // NIL, where it stands in its noted place.
     fn known_nil(&self) -> Option<Ref>
-        ensures { IfSome result (λ r. IsIn self.now r × (object_at self.now r ≡ NIL)) }
+        ensures { IfSome result (λ r. IsIn self.now.objects r × (object_at self.now.objects r ≡ NIL)) }
     {
         let place = self.nil;
         if place.index() < self.cells.len() && self.is_nil(Some(place)) {
@@ -164,7 +167,7 @@ impl Heap {
     // The symbol of this name, where its cell stands in its noted place.
     fn known_symbol(&self, name: &[u8]) -> Option<Ref>
         requires { is_name name.now ≡ true }
-        ensures { IfSome result (λ r. IsIn self.now r × (object_at self.now r ≡ Symbol (name_of_bytes name.now))) }
+        ensures { IfSome result (λ r. IsIn self.now.objects r × (object_at self.now.objects r ≡ Symbol (name_of_bytes name.now))) }
     {
         let index = find_name(&self.names, name)?;
         let place = *self.places.get(index)?;
@@ -178,9 +181,9 @@ impl Heap {
     // The symbol of this name, which is searched for, and added if it is new.
     fn put_symbol(&mut self, name: &[u8]) -> Result<Ref, Memory>
         requires { is_name name.now ≡ true }
-        ensures grows { Grows self.old self.new }
-        ensures made { IfOk result (λ r. IsIn self.new r × (object_at self.new r ≡ Symbol (name_of_bytes name.now))) }
-        ensures err { OnErr result (self.new ≡ self.old) }
+        ensures grows { Grows self.old.objects self.new.objects }
+        ensures made { IfOk result (λ r. IsIn self.new.objects r × (object_at self.new.objects r ≡ Symbol (name_of_bytes name.now))) }
+        ensures err { OnErr result (self.new.objects ≡ self.old.objects) }
     {
         let had = self.names.len();
         let index = insert_name(&mut self.names, self.alloc, name)?;
@@ -204,11 +207,13 @@ impl Heap {
 
     /// The pair of these parts.
     pub fn cons(&mut self, first: Ref, second: Ref) -> Result<Ref, Memory>
-        requires first_in { IsIn self.old first }
-        requires second_in { IsIn self.old second }
-        ensures grows { Grows self.old self.new }
-        ensures made { IfOk result (λ r. IsIn self.new r × (object_at self.new r ≡ Pair (object_at self.old first) (object_at self.old second))) }
-        ensures err { OnErr result (self.new ≡ self.old) }
+        requires first_in { IsIn self.old.objects first }
+        requires second_in { IsIn self.old.objects second }
+        ensures grows { Grows self.old.objects self.new.objects }
+        ensures made { IfOk result (λ r. IsIn self.new.objects r × (object_at self.new.objects r ≡ Pair (object_at self.old.objects first) (object_at self.old.objects second))) }
+        ensures err { OnErr result (self.new.objects ≡ self.old.objects) }
+        ensures room { 0 < self.old.spare → IsOk result }
+        ensures spare { self.old.spare ≤ self.new.spare + 1 }
     {
         insert_measured(
             &mut self.cells,
@@ -221,10 +226,10 @@ impl Heap {
 
     /// What an object is made of. A pair's parts stand before it.
     pub fn view(&self, x: Ref) -> View
-        requires { IsIn self.now x }
-        ensures shows { Shows self.now result (object_at self.now x) }
+        requires { IsIn self.now.objects x }
+        ensures shows { Shows self.now.objects result (object_at self.now.objects x) }
         ensures below { NamesOlder result x }
-        ensures in_range { is_out_of_range (object_at self.now x) ≡ false }
+        ensures in_range { is_out_of_range (object_at self.now.objects x) ≡ false }
     {
         match cell_at(&self.cells, x) {
             Cell::Small(n) => View::Nat(n as u128),
@@ -236,9 +241,9 @@ impl Heap {
 
     /// The name of a symbol.
     pub fn name_of(&self, x: Ref) -> &[u8]
-        requires within { IsIn self.now x }
-        requires symbol { is_symbol (object_at self.now x) ≡ true }
-        ensures { (name_of (object_at self.now x)).bytes ≡ result.now }
+        requires within { IsIn self.now.objects x }
+        requires symbol { is_symbol (object_at self.now.objects x) ≡ true }
+        ensures { (name_of (object_at self.now.objects x)).bytes ≡ result.now }
     {
         match cell_at(&self.cells, x) {
             Cell::Symbol(i) => self.names.as_slice()[i as usize].as_slice(),
@@ -248,10 +253,10 @@ impl Heap {
 
     /// Whether two references have equal objects, which are those of equal references.
     pub fn same(&self, x: Ref, y: Ref) -> bool
-        requires first_in { IsIn self.now x }
-        requires second_in { IsIn self.now y }
-        ensures same { result ≡ same_object (object_at self.now x) (object_at self.now y) }
-        ensures distinct { AreDistinct self.now }
+        requires first_in { IsIn self.now.objects x }
+        requires second_in { IsIn self.now.objects y }
+        ensures same { result ≡ same_object (object_at self.now.objects x) (object_at self.now.objects y) }
+        ensures distinct { AreDistinct self.now.objects }
     {
         let _ = &self.cells;
         x == y
@@ -259,19 +264,19 @@ impl Heap {
 
     /// How the objects stand: no two are equal, and the parts of each pair come before it.
     pub fn order(&self)
-        ensures distinct { AreDistinct self.now }
-        ensures older { ArePartsOlder self.now }
+        ensures distinct { AreDistinct self.now.objects }
+        ensures older { ArePartsOlder self.now.objects }
     {
         let _ = &self.cells;
     }
 
     /// Whether the name of the symbol `x` is before that of the symbol `y`: byte by byte, a proper prefix first.
     pub fn symbol_less(&self, x: Ref, y: Ref) -> bool
-        requires first_in { IsIn self.now x }
-        requires second_in { IsIn self.now y }
-        requires first_symbol { is_symbol (object_at self.now x) ≡ true }
-        requires second_symbol { is_symbol (object_at self.now y) ≡ true }
-        ensures { result ≡ is_before_bytes (name_of (object_at self.now x)).bytes (name_of (object_at self.now y)).bytes }
+        requires first_in { IsIn self.now.objects x }
+        requires second_in { IsIn self.now.objects y }
+        requires first_symbol { is_symbol (object_at self.now.objects x) ≡ true }
+        requires second_symbol { is_symbol (object_at self.now.objects y) ≡ true }
+        ensures { result ≡ is_before_bytes (name_of (object_at self.now.objects x)).bytes (name_of (object_at self.now.objects y)).bytes }
     {
         self.name_of(x) < self.name_of(y)
     }
@@ -279,9 +284,9 @@ impl Heap {
     /// The length of the object's text, and of what follows the first member in the text of a list of which the object is the rest,
     /// less the closing parenthesis. Lengths over 65,537 are given as 65,537.
     pub fn lengths(&self, x: Ref) -> (u64, u64)
-        requires { IsIn self.now x }
-        ensures text { result.0 ≡ text_length (object_at self.now x) }
-        ensures tail { result.1 ≡ tail_length (object_at self.now x) }
+        requires { IsIn self.now.objects x }
+        ensures text { result.0 ≡ text_length (object_at self.now.objects x) }
+        ensures tail { result.1 ≡ tail_length (object_at self.now.objects x) }
     {
         let lengths = self.lengths[x.index()];
         (lengths.text as u64, lengths.tail as u64)
@@ -289,14 +294,14 @@ impl Heap {
 
     /// The number of objects, to go back to.
     pub fn mark(&self) -> Mark
-        ensures { result ≡ length self.now }
+        ensures { result ≡ length self.now.objects }
     {
         Mark::new(self.cells.len())
     }
 
     /// The number of objects up to this one, with it, to go back to.
-    pub fn mark_behind(&self, x: Ref) -> Mark
-        requires { IsIn self.now x }
+    pub fn mark_after(&self, x: Ref) -> Mark
+        requires { IsIn self.now.objects x }
         ensures { result ≡ x + 1 }
     {
         let _ = &self.cells;
@@ -305,18 +310,36 @@ impl Heap {
 
     /// The object at this index, in the order in which objects came.
     pub fn nth(&self, index: usize) -> Ref
-        requires { index < length self.now }
+        requires { index < length self.now.objects }
         ensures { result ≡ index }
     {
         let _ = &self.cells;
         Ref::new(index as u32)
     }
 
+    /// Makes room for so many more cells of naturals and pairs: as many calls of `nat` and `cons` then ask for no memory. The error is
+    /// memory that is refused, or that so many more cells could not be numbered; no room is then smaller than before.
+    pub fn reserve(&mut self, cells: usize) -> Result<(), Memory>
+        ensures objects { self.new.objects ≡ self.old.objects }
+        ensures room { OnOk result (cells ≤ self.new.spare) }
+        ensures spare { self.old.spare ≤ self.new.spare }
+    {
+        self.cells.reserve(cells)?;
+        self.naturals.reserve(cells)?;
+        self.lengths.reserve(cells)?;
+        if can_number(&self.cells, cells) {
+            Ok(())
+        } else {
+            Err(Memory)
+        }
+    }
+
     /// Forgets each object that came after the mark. References to those that stay keep their meaning. It takes time in proportion
     /// to what goes.
     pub fn cut_back(&mut self, to: Mark)
-        requires { to ≤ length self.old }
-        ensures { self.new ≡ take to self.old }
+        requires { to ≤ length self.old.objects }
+        ensures kept { self.new.objects ≡ take to self.old.objects }
+        ensures spare { self.old.spare ≤ self.new.spare }
     {
         let (naturals, names) = counts_from(&self.cells, to.cells());
         self.naturals.truncate(self.naturals.len() - naturals);

@@ -6,6 +6,7 @@ ghost use Rattle.mw_heap.specs.Lengths.{lengths_of, atom_lengths, IsMeasurable, 
 
 use crate::bare::is_bare_name;
 use crate::cell::Cell;
+use crate::sets::Naturals;
 use indexmap::IndexSet;
 use itoa::Buffer;
 
@@ -66,7 +67,7 @@ fn pair_lengths(first: Lengths, second: Lengths) -> Lengths
 // The lengths of a cell's object, by what the cell points to.
 pub(crate) fn measure(
     cell: Cell,
-    naturals: &IndexSet<u128>,
+    naturals: &Naturals,
     names: &IndexSet<Vec<u8>>,
     lengths: &[Lengths],
 ) -> Lengths

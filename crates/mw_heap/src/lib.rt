@@ -1,11 +1,12 @@
 //! Objects in memory: naturals, symbols and pairs, each kept once and named by its index. And the words that the layers above share:
-//! want of memory, the primitives, the profiles and the reasons of refusal.
+//! out of memory, the primitives, the profiles and the reasons of refusal.
 #![tactic(auto)]
 
 mod bare;
 mod cell;
 mod heap;
 mod lengths;
+mod list;
 mod looks;
 mod mark;
 mod members;
@@ -21,6 +22,7 @@ mod view;
 
 pub use bare::is_bare_name;
 pub use heap::Heap;
+pub use list::{form_of, list_of};
 pub use looks::{looks_for, take_look};
 pub use mark::Mark;
 pub use memory::Memory;

@@ -8,10 +8,10 @@ use crate::{Heap, Ref, View};
 impl Heap {
     /// The member a of the list (NAME a), where NAME is the symbol of this name; nothing where it is no such list.
     pub fn member_after(&self, x: Ref, name: &[u8]) -> Option<Ref>
-        requires within { IsIn self.now x }
+        requires within { IsIn self.now.objects x }
         requires name { is_name name.now ≡ true }
-        ensures within { IfSome result (λ a. IsIn self.now a) }
-        ensures member { MatchOption result ((a : Object) → same_object (object_at self.now x) (list2 (Symbol (name_of_bytes name.now)) a) ≡ false) (λ a. object_at self.now x ≡ list2 (Symbol (name_of_bytes name.now)) (object_at self.now a)) }
+        ensures within { IfSome result (λ a. IsIn self.now.objects a) }
+        ensures member { MatchOption result ((a : Object) → same_object (object_at self.now.objects x) (list2 (Symbol (name_of_bytes name.now)) a) ≡ false) (λ a. object_at self.now.objects x ≡ list2 (Symbol (name_of_bytes name.now)) (object_at self.now.objects a)) }
     {
         let View::Pair(head, rest) = self.view(x) else {
             return None;
@@ -28,10 +28,10 @@ impl Heap {
 
     /// The members a and b of the list (NAME a b), where NAME is the symbol of this name; nothing where it is no such list.
     pub fn members_after(&self, x: Ref, name: &[u8]) -> Option<(Ref, Ref)>
-        requires within { IsIn self.now x }
+        requires within { IsIn self.now.objects x }
         requires name { is_name name.now ≡ true }
-        ensures within { IfSome result (λ p. IsIn self.now p.0 × IsIn self.now p.1) }
-        ensures members { MatchOption result ((a b : Object) → same_object (object_at self.now x) (list3 (Symbol (name_of_bytes name.now)) a b) ≡ false) (λ p. object_at self.now x ≡ list3 (Symbol (name_of_bytes name.now)) (object_at self.now p.0) (object_at self.now p.1)) }
+        ensures within { IfSome result (λ p. IsIn self.now.objects p.0 × IsIn self.now.objects p.1) }
+        ensures members { MatchOption result ((a b : Object) → same_object (object_at self.now.objects x) (list3 (Symbol (name_of_bytes name.now)) a b) ≡ false) (λ p. object_at self.now.objects x ≡ list3 (Symbol (name_of_bytes name.now)) (object_at self.now.objects p.0) (object_at self.now.objects p.1)) }
     {
         let View::Pair(head, rest) = self.view(x) else {
             return None;

@@ -1,8 +1,9 @@
-//! Want of memory.
+//! Out of memory.
 use std::alloc::{AllocError, AllocFailed};
 use thiserror::Error;
 
-/// Memory was refused, or a heap has all the cells that it can number.
+/// Memory was refused, or a bound was passed past which the answer is the same: all the cells that a heap can number, the looks that an
+/// event's work may take, the jobs of one body's code, the turns of a run.
 #[derive(Clone, Copy, Debug, PartialEq, Eq, Error)]
 #[error("out of memory")]
 pub struct Memory;

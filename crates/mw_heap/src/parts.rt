@@ -11,9 +11,9 @@ use crate::{Heap, Ref, View};
 impl Heap {
     /// The first part of a pair; nothing of what is no pair.
     pub fn car(&self, x: Ref) -> Option<Ref>
-        requires { IsIn self.now x }
-        ensures within { IsPart self.now result }
-        ensures value { part_at self.now result ≡ car (object_at self.now x) }
+        requires { IsIn self.now.objects x }
+        ensures within { IsPart self.now.objects result }
+        ensures value { part_at self.now.objects result ≡ car (object_at self.now.objects x) }
         ensures older { IfSome result (λ r. r < x) }
     {
         match self.view(x) {
@@ -24,9 +24,9 @@ impl Heap {
 
     /// The second part of a pair; nothing of what is no pair.
     pub fn cdr(&self, x: Ref) -> Option<Ref>
-        requires { IsIn self.now x }
-        ensures within { IsPart self.now result }
-        ensures value { part_at self.now result ≡ cdr (object_at self.now x) }
+        requires { IsIn self.now.objects x }
+        ensures within { IsPart self.now.objects result }
+        ensures value { part_at self.now.objects result ≡ cdr (object_at self.now.objects x) }
         ensures older { IfSome result (λ r. r < x) }
     {
         match self.view(x) {
@@ -37,9 +37,9 @@ impl Heap {
 
     /// The second member of a list; nothing where there is none.
     pub fn second_of(&self, x: Ref) -> Option<Ref>
-        requires { IsIn self.now x }
-        ensures within { IsPart self.now result }
-        ensures value { part_at self.now result ≡ second_of (object_at self.now x) }
+        requires { IsIn self.now.objects x }
+        ensures within { IsPart self.now.objects result }
+        ensures value { part_at self.now.objects result ≡ second_of (object_at self.now.objects x) }
         ensures older { IfSome result (λ r. r < x) }
     {
         self.car(self.cdr(x)?)
@@ -47,9 +47,9 @@ impl Heap {
 
     /// The third member of a list; nothing where there is none.
     pub fn third_of(&self, x: Ref) -> Option<Ref>
-        requires { IsIn self.now x }
-        ensures within { IsPart self.now result }
-        ensures value { part_at self.now result ≡ third_of (object_at self.now x) }
+        requires { IsIn self.now.objects x }
+        ensures within { IsPart self.now.objects result }
+        ensures value { part_at self.now.objects result ≡ third_of (object_at self.now.objects x) }
         ensures older { IfSome result (λ r. r < x) }
     {
         self.second_of(self.cdr(x)?)
@@ -57,8 +57,8 @@ impl Heap {
 
     /// The number; 0 of what is no natural.
     pub fn number(&self, x: Option<Ref>) -> u128
-        requires { IsPart self.now x }
-        ensures { result ≡ number (part_at self.now x) }
+        requires { IsPart self.now.objects x }
+        ensures { result ≡ number (part_at self.now.objects x) }
     {
         let Some(x) = x else {
             return 0;
@@ -71,8 +71,8 @@ impl Heap {
 
     /// Whether it is a pair.
     pub fn is_pair(&self, x: Option<Ref>) -> bool
-        requires { IsPart self.now x }
-        ensures { result ≡ is_pair (part_at self.now x) }
+        requires { IsPart self.now.objects x }
+        ensures { result ≡ is_pair (part_at self.now.objects x) }
     {
         match x {
             Some(x) => matches!(self.view(x), View::Pair(_, _)),
@@ -82,9 +82,9 @@ impl Heap {
 
     /// Whether it is the symbol of this name.
     pub fn is_named(&self, x: Option<Ref>, name: &[u8]) -> bool
-        requires within { IsPart self.now x }
+        requires within { IsPart self.now.objects x }
         requires name { is_name name.now ≡ true }
-        ensures { result ≡ same_object (part_at self.now x) (Symbol (name_of_bytes name.now)) }
+        ensures { result ≡ same_object (part_at self.now.objects x) (Symbol (name_of_bytes name.now)) }
     {
         match x {
             Some(x) => match self.view(x) {
@@ -97,8 +97,8 @@ impl Heap {
 
     /// Whether it is NIL.
     pub fn is_nil(&self, x: Option<Ref>) -> bool
-        requires { IsPart self.now x }
-        ensures { result ≡ same_object (part_at self.now x) NIL }
+        requires { IsPart self.now.objects x }
+        ensures { result ≡ same_object (part_at self.now.objects x) NIL }
     {
         match x {
             Some(x) => match self.view(x) {
@@ -111,9 +111,9 @@ impl Heap {
 
     /// Whether two parts are equal.
     pub fn is_same(&self, x: Option<Ref>, y: Option<Ref>) -> bool
-        requires first_within { IsPart self.now x }
-        requires second_within { IsPart self.now y }
-        ensures { result ≡ same_object (part_at self.now x) (part_at self.now y) }
+        requires first_within { IsPart self.now.objects x }
+        requires second_within { IsPart self.now.objects y }
+        ensures { result ≡ same_object (part_at self.now.objects x) (part_at self.now.objects y) }
     {
         match (x, y) {
             (Some(x), Some(y)) => self.same(x, y),
@@ -124,19 +124,19 @@ impl Heap {
 
     /// Whether its first part is the symbol of this name.
     pub fn is_headed(&self, x: Ref, name: &[u8]) -> bool
-        requires within { IsIn self.now x }
+        requires within { IsIn self.now.objects x }
         requires name { is_name name.now ≡ true }
-        ensures { result ≡ same_object (car (object_at self.now x)) (Symbol (name_of_bytes name.now)) }
+        ensures { result ≡ same_object (car (object_at self.now.objects x)) (Symbol (name_of_bytes name.now)) }
     {
         self.is_named(self.car(x), name)
     }
 
     /// Whether it is the list (NAME a), where NAME is the symbol of this name.
     pub fn is_list2(&self, x: Option<Ref>, name: &[u8], a: Option<Ref>) -> bool
-        requires within { IsPart self.now x }
+        requires within { IsPart self.now.objects x }
         requires name { is_name name.now ≡ true }
-        requires member_within { IsPart self.now a }
-        ensures { result ≡ same_object (part_at self.now x) (list2 (Symbol (name_of_bytes name.now)) (part_at self.now a)) }
+        requires member_within { IsPart self.now.objects a }
+        ensures { result ≡ same_object (part_at self.now.objects x) (list2 (Symbol (name_of_bytes name.now)) (part_at self.now.objects a)) }
     {
         let Some(x) = x else {
             return false;
@@ -150,11 +150,11 @@ impl Heap {
 
     /// Whether it is the list (NAME a b), where NAME is the symbol of this name.
     pub fn is_list3(&self, x: Option<Ref>, name: &[u8], a: Option<Ref>, b: Option<Ref>) -> bool
-        requires within { IsPart self.now x }
+        requires within { IsPart self.now.objects x }
         requires name { is_name name.now ≡ true }
-        requires first_within { IsPart self.now a }
-        requires second_within { IsPart self.now b }
-        ensures { result ≡ same_object (part_at self.now x) (list3 (Symbol (name_of_bytes name.now)) (part_at self.now a) (part_at self.now b)) }
+        requires first_within { IsPart self.now.objects a }
+        requires second_within { IsPart self.now.objects b }
+        ensures { result ≡ same_object (part_at self.now.objects x) (list3 (Symbol (name_of_bytes name.now)) (part_at self.now.objects a) (part_at self.now.objects b)) }
     {
         let Some(x) = x else {
             return false;
@@ -168,9 +168,9 @@ impl Heap {
 
     // Whether it is the list (a).
     fn is_list_of_one(&self, x: Ref, a: Option<Ref>) -> bool
-        requires within { IsIn self.now x }
-        requires member_within { IsPart self.now a }
-        ensures { result ≡ same_object (object_at self.now x) (list1 (part_at self.now a)) }
+        requires within { IsIn self.now.objects x }
+        requires member_within { IsPart self.now.objects a }
+        ensures { result ≡ same_object (object_at self.now.objects x) (list1 (part_at self.now.objects a)) }
     {
         match self.view(x) {
             View::Pair(first, rest) => self.is_same(Some(first), a) && self.is_nil(Some(rest)),
@@ -180,10 +180,10 @@ impl Heap {
 
     // Whether it is the list (a b).
     fn is_list_of_two(&self, x: Ref, a: Option<Ref>, b: Option<Ref>) -> bool
-        requires within { IsIn self.now x }
-        requires first_within { IsPart self.now a }
-        requires second_within { IsPart self.now b }
-        ensures { result ≡ same_object (object_at self.now x) (Pair (part_at self.now a) (list1 (part_at self.now b))) }
+        requires within { IsIn self.now.objects x }
+        requires first_within { IsPart self.now.objects a }
+        requires second_within { IsPart self.now.objects b }
+        ensures { result ≡ same_object (object_at self.now.objects x) (Pair (part_at self.now.objects a) (list1 (part_at self.now.objects b))) }
     {
         match self.view(x) {
             View::Pair(first, rest) => self.is_same(Some(first), a) && self.is_list_of_one(rest, b),

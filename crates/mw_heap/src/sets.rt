@@ -1,5 +1,6 @@
 //! The sets that a heap is made of: a value's place in each is its index.
-ghost use Rattle.std.specs.Prelude.{◌≡◌, ◌<◌, ◌≤◌, ◌^◌, true, ℕ, List, length, vec_len, drop, slice_get, Some, IfOk, IfSome, OnOk, OnErr};
+ghost use Rattle.std.specs.Prelude.{◌≡◌, ◌+◌, ◌-◌, ◌<◌, ◌≤◌, ◌^◌, true, min, ℕ, List, length, vec_len, vec_capacity, drop, slice_get, Some, IfOk, IfSome, IsOk, IsTrue, ◌↔◌, OnOk, OnErr};
+ghost use Rattle.indexmap.specs.IndexSet.{spare};
 ghost use Rattle.mw_heap.specs.Cells.{natural_count, name_count, bytes_of, IsInjective};
 ghost use Rattle.mw_heap.specs.Inserted.{Inserts};
 ghost use Rattle.mw_heap.specs.Lengths.{IsMeasurable, Measures};
@@ -9,6 +10,11 @@ use crate::lengths::{Lengths, measure};
 use crate::{Memory, Ref};
 use indexmap::IndexSet;
 use std::alloc::Global;
+use std::hash::{BuildHasherDefault, DefaultHasher};
+
+/// The large naturals. A book chooses them, and the default hash of one is a product of its halves, so that many with one hash are
+/// easily made up: these are hashed by SipHash.
+pub(crate) type Naturals = IndexSet<u128, BuildHasherDefault<DefaultHasher>>;
 
 // The cells that a heap can have.
 const LIMIT: usize = u32::MAX as usize;
@@ -20,6 +26,8 @@ pub(crate) fn insert_cell(cells: &mut IndexSet<Cell>, cell: Cell) -> Result<Ref,
     ensures distinct { OnOk result (IsInjective cells.new.keys) }
     ensures few { length cells.new.keys < 2 ^ 32 }
     ensures err { OnErr result (cells.new.keys ≡ cells.old.keys) }
+    ensures room { 0 < min (spare cells.old) (2 ^ 32 - 1 - length cells.old.keys) → IsOk result }
+    ensures spare { spare cells.old ≤ spare cells.new + 1 }
 {
     let (index, _) = cells.insert_full(cell)?;
     if index < LIMIT {
@@ -29,11 +37,19 @@ pub(crate) fn insert_cell(cells: &mut IndexSet<Cell>, cell: Cell) -> Result<Ref,
     Err(Memory)
 }
 
+// Whether so many more cells can be numbered.
+pub(crate) fn can_number(cells: &IndexSet<Cell>, more: usize) -> bool
+    requires { length cells.now.keys < 2 ^ 32 }
+    ensures { IsTrue result ↔ (more ≤ 2 ^ 32 - 1 - length cells.now.keys) }
+{
+    more <= LIMIT.saturating_sub(cells.len())
+}
+
 // The same, where the lengths of a new cell's object are put beside it.
 pub(crate) fn insert_measured(
     cells: &mut IndexSet<Cell>,
     lengths: &mut Vec<Lengths>,
-    naturals: &IndexSet<u128>,
+    naturals: &Naturals,
     names: &IndexSet<Vec<u8>>,
     cell: Cell,
 ) -> Result<Ref, Memory>
@@ -46,6 +62,10 @@ pub(crate) fn insert_measured(
     ensures measured { OnOk result (Measures naturals.now.keys (bytes_of names.now.keys) cells.old.keys cells.new.keys lengths.old.items lengths.new.items cell) }
     ensures err { OnErr result (cells.new.keys ≡ cells.old.keys) }
     ensures lengths_err { OnErr result (lengths.new.items ≡ lengths.old.items) }
+    ensures room { 0 < min (spare cells.old) (min (vec_capacity lengths.old - vec_len lengths.old) (2 ^ 32 - 1 - length cells.old.keys)) → IsOk result }
+    ensures spare { spare cells.old ≤ spare cells.new + 1 }
+    ensures lengths_spare { vec_capacity lengths.old - vec_len lengths.old ≤ vec_capacity lengths.new - vec_len lengths.new + 1 }
+    ensures numbers { length cells.new.keys ≤ length cells.old.keys + 1 }
 {
     let had = lengths.len();
     let made = insert_cell(cells, cell)?;
@@ -63,10 +83,12 @@ pub(crate) fn insert_measured(
 }
 
 // The index of the natural, which goes last if it is new.
-pub(crate) fn insert_natural(naturals: &mut IndexSet<u128>, n: u128) -> Result<usize, Memory>
+pub(crate) fn insert_natural(naturals: &mut Naturals, n: u128) -> Result<usize, Memory>
     ensures inserted { IfOk result (λ i. Inserts naturals.old.keys naturals.new.keys n i) }
     ensures distinct { OnOk result (IsInjective naturals.new.keys) }
     ensures err { OnErr result (naturals.new.keys ≡ naturals.old.keys) }
+    ensures room { 0 < spare naturals.old → IsOk result }
+    ensures spare { spare naturals.old ≤ spare naturals.new + 1 }
 {
     let (index, _) = naturals.insert_full(n)?;
     Ok(index)

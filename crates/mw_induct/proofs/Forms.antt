@@ -4,7 +4,7 @@ use Rattle.std.proofs.Math.Bool.{and-true, and-false}
 use Rattle.mw_model.specs.Object.{Object, Natural, Symbol, Pair, symbol, same_object, list2, list3, NIL, T}
 use Rattle.mw_model.specs.Primitive.{is_pair}
 use Rattle.mw_model.specs.Rules.{or_object, not_object, substitute_formula_object}
-use Rattle.mw_model.specs.RulesInduction.{true_object, disjunction_object, hypotheses_object, steps_object, falls_object, all_falls_object}
+use Rattle.mw_model.specs.RulesInduction.{true_object, disjunction_object, hypotheses_object, steps_object, fall_object, falls_object, all_falls_object}
 use Rattle.mw_model.proofs.Names.{same_object-refl}
 
 pub same_list3 : (h a b c d : Object) → same_object (list3 h a b) (list3 h c d) ≡ (same_object a c && same_object b d)
@@ -57,6 +57,14 @@ steps_next a p ps q qs s ss conclusions conditions cases rest d e f h = rw (d, e
 
 pub steps_none : (a q qs conclusions conditions cases rest : Object) → conclusions ≡ NIL → conditions ≡ Pair q qs → same_object conclusions (steps_object a conditions cases rest) ≡ false
 steps_none a q qs conclusions conditions cases rest d e = rw (d, e) refl
+
+-- where the next conclusion is another, none fit
+pub steps_other : (a p ps q qs s ss conclusions conditions cases rest : Object) → conclusions ≡ Pair p ps → conditions ≡ Pair q qs → cases ≡ Pair s ss → same_object p (step_object a q s) ≡ false → same_object conclusions (steps_object a conditions cases rest) ≡ false
+steps_other a p ps q qs s ss conclusions conditions cases rest d e f h = rw (d, e, f) (ap (λ b. b && same_object ps (steps_object a qs ss rest)) h)
+
+-- one fall, and those after it
+pub falls_next : (m q p ps s more conclusions substitutions rest : Object) → conclusions ≡ Pair p ps → substitutions ≡ Pair s more → same_object p (fall_object m q s) ≡ true → same_object conclusions (falls_object m q substitutions rest) ≡ same_object ps (falls_object m q more rest)
+falls_next m q p ps s more conclusions substitutions rest d e h = rw (d, e) (ap (λ b. b && same_object ps (falls_object m q more rest)) h)
 
 -- the falls of one case, and those of the others
 pub all_falls_next : (m q qs s ss conditions cases : Object) → conditions ≡ Pair q qs → cases ≡ Pair s ss → all_falls_object m conditions cases ≡ falls_object m q s (all_falls_object m qs ss)

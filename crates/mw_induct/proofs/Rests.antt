@@ -7,7 +7,7 @@ use Rattle.std.proofs.Math.Seq.{take-length}
 use Rattle.mw_model.specs.Object.{Object, Natural, Symbol, Pair, NIL, same_object}
 use Rattle.mw_heap.specs.Objects.{object_at, IsIn, Grows}
 use Rattle.mw_heap.proofs.Objects.{object_at-Grows}
-use Rattle.mw_model.specs.RulesInduction.{disjunction_object, steps_object, ordinal_object, falls_object, all_falls_object, premises_object}
+use Rattle.mw_model.specs.RulesInduction.{disjunction_object, steps_object, ordinal_object, fall_object, falls_object, all_falls_object, premises_object}
 use Rattle.mw_induct.proofs.Forms.{step_object, same_step}
 use Rattle.mw_induct.specs.Conclusions.{conclusions_object, Takes}
 
@@ -59,6 +59,9 @@ takes_some premises os xs o n e t = subst (Takes premises os xs) e t
 module _ (os new : List Object) (g : Grows os new) where
   pub same_step-Grows : (x a q s : ℕ) → IsIn os x → IsIn os a → IsIn os q → IsIn os s → same_object (object_at new x) (step_object (object_at new a) (object_at new q) (object_at new s)) ≡ same_object (object_at os x) (step_object (object_at os a) (object_at os q) (object_at os s))
   same_step-Grows x a q s i j k l = same_step _ _ _ _ _ _ _ _ (object_at-Grows os new g x i) (object_at-Grows os new g a j) (object_at-Grows os new g q k) (object_at-Grows os new g s l)
+
+  pub same_fall-Grows : (x m q s : ℕ) → IsIn os x → IsIn os m → IsIn os q → IsIn os s → same_object (object_at new x) (fall_object (object_at new m) (object_at new q) (object_at new s)) ≡ same_object (object_at os x) (fall_object (object_at os m) (object_at os q) (object_at os s))
+  same_fall-Grows x m q s h i j k = rw (object_at-Grows os new g x h, object_at-Grows os new g m i, object_at-Grows os new g q j, object_at-Grows os new g s k) refl
 
   pub same_falls-Grows : (xs : List ℕ) (m q s : ℕ) (rest : Object) → All (IsIn os) xs → IsIn os m → IsIn os q → IsIn os s → same_object (conclusions_object new xs) (falls_object (object_at new m) (object_at new q) (object_at new s) rest) ≡ same_object (conclusions_object os xs) (falls_object (object_at os m) (object_at os q) (object_at os s) rest)
   same_falls-Grows xs m q s rest h i j k = rw (conclusions_object-Grows os new g xs h, object_at-Grows os new g m i, object_at-Grows os new g q j, object_at-Grows os new g s k) refl

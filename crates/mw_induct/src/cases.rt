@@ -11,9 +11,9 @@ use mw_term::{Marks, is_substitution};
 
 // The members of a list of three.
 pub(crate) fn three_members(heap: &Heap, x: Ref) -> Option<(Ref, Ref, Ref)>
-    requires { IsIn heap.now x }
+    requires { IsIn heap.now.objects x }
     ensures within { IfSome result (λ p. (p.0 < x) × (p.1 < x) × (p.2 < x)) }
-    ensures members { MatchOption result (has_members 3 (object_at heap.now x) ≡ false) (λ p. object_at heap.now x ≡ list3 (object_at heap.now p.0) (object_at heap.now p.1) (object_at heap.now p.2)) }
+    ensures members { MatchOption result (has_members 3 (object_at heap.now.objects x) ≡ false) (λ p. object_at heap.now.objects x ≡ list3 (object_at heap.now.objects p.0) (object_at heap.now.objects p.1) (object_at heap.now.objects p.2)) }
 {
     let View::Pair(first, rest) = heap.view(x) else {
         return None;
@@ -33,10 +33,10 @@ pub(crate) fn three_members(heap: &Heap, x: Ref) -> Option<(Ref, Ref, Ref)>
 
 // Whether the conditions are a proper list, and the cases one of as many lists of substitutions.
 pub(crate) fn are_cases(heap: &Heap, marks: &Marks, conditions: Ref, cases: Ref) -> bool
-    requires conditions_within { IsIn heap.now conditions }
-    requires cases_within { IsIn heap.now cases }
+    requires conditions_within { IsIn heap.now.objects conditions }
+    requires cases_within { IsIn heap.now.objects cases }
     requires marked { cases < length marks.now }
-    ensures { (A : ArityTable) → AreMarks A heap.now marks.now → result ≡ (is_list_object (object_at heap.now conditions) && (eqb (length_object (object_at heap.now conditions)) (length_object (object_at heap.now cases)) && are_case_objects A (object_at heap.now cases))) }
+    ensures { (A : ArityTable) → AreMarks A heap.now.objects marks.now → result ≡ (is_list_object (object_at heap.now.objects conditions) && (eqb (length_object (object_at heap.now.objects conditions)) (length_object (object_at heap.now.objects cases)) && are_case_objects A (object_at heap.now.objects cases))) }
 {
     let mut conditions = conditions;
     let mut cases = cases;
@@ -55,9 +55,9 @@ pub(crate) fn are_cases(heap: &Heap, marks: &Marks, conditions: Ref, cases: Ref)
 
 // Whether it is a proper list of substitutions.
 fn are_substitutions(heap: &Heap, marks: &Marks, x: Ref) -> bool
-    requires within { IsIn heap.now x }
+    requires within { IsIn heap.now.objects x }
     requires marked { x < length marks.now }
-    ensures { (A : ArityTable) → AreMarks A heap.now marks.now → result ≡ are_substitution_objects A (object_at heap.now x) }
+    ensures { (A : ArityTable) → AreMarks A heap.now.objects marks.now → result ≡ are_substitution_objects A (object_at heap.now.objects x) }
 {
     let mut rest = x;
     while let View::Pair(s, more) = heap.view(rest) {

@@ -19,14 +19,14 @@ pub(crate) fn are_all_falls(
     cases: Ref,
     conclusions: &[Ref],
 ) -> Result<bool, Memory>
-    requires within { IsIn heap.old measure }
-    requires conditions_within { IsIn heap.old conditions }
-    requires cases_within { IsIn heap.old cases }
-    requires conclusions_within { All (IsIn heap.old) conclusions.now }
-    requires as_many { length_object (object_at heap.old conditions) ≡ length_object (object_at heap.old cases) }
-    requires pairs { are_cases_of_pairs (object_at heap.old cases) ≡ true }
-    ensures grows { Grows heap.old heap.new }
-    ensures falls { IfOk result (λ b. b ≡ same_object (conclusions_object heap.old conclusions.now) (all_falls_object (object_at heap.old measure) (object_at heap.old conditions) (object_at heap.old cases))) }
+    requires within { IsIn heap.old.objects measure }
+    requires conditions_within { IsIn heap.old.objects conditions }
+    requires cases_within { IsIn heap.old.objects cases }
+    requires conclusions_within { All (IsIn heap.old.objects) conclusions.now }
+    requires as_many { length_object (object_at heap.old.objects conditions) ≡ length_object (object_at heap.old.objects cases) }
+    requires pairs { are_cases_of_pairs (object_at heap.old.objects cases) ≡ true }
+    ensures grows { Grows heap.old.objects heap.new.objects }
+    ensures falls { IfOk result (λ b. b ≡ same_object (conclusions_object heap.old.objects conclusions.now) (all_falls_object (object_at heap.old.objects measure) (object_at heap.old.objects conditions) (object_at heap.old.objects cases))) }
 {
     let mut taken = 0;
     let mut conditions = conditions;
@@ -59,13 +59,13 @@ fn take_falls(
     substitutions: Ref,
     conclusions: &[Ref],
 ) -> Result<Option<usize>, Memory>
-    requires within { IsIn heap.old measure }
-    requires condition_within { IsIn heap.old condition }
-    requires substitutions_within { IsIn heap.old substitutions }
-    requires conclusions_within { All (IsIn heap.old) conclusions.now }
-    requires pairs { are_lists_of_pairs (object_at heap.old substitutions) ≡ true }
-    ensures grows { Grows heap.old heap.new }
-    ensures falls { IfOk result (Takes (falls_object (object_at heap.old measure) (object_at heap.old condition) (object_at heap.old substitutions)) heap.old conclusions.now) }
+    requires within { IsIn heap.old.objects measure }
+    requires condition_within { IsIn heap.old.objects condition }
+    requires substitutions_within { IsIn heap.old.objects substitutions }
+    requires conclusions_within { All (IsIn heap.old.objects) conclusions.now }
+    requires pairs { are_lists_of_pairs (object_at heap.old.objects substitutions) ≡ true }
+    ensures grows { Grows heap.old.objects heap.new.objects }
+    ensures falls { IfOk result (Takes (falls_object (object_at heap.old.objects measure) (object_at heap.old.objects condition) (object_at heap.old.objects substitutions)) heap.old.objects conclusions.now) }
 {
     let mut taken = 0;
     let mut substitutions = substitutions;
@@ -84,13 +84,13 @@ fn take_falls(
 
 // Whether x is: not q or (ord< m/s m) = 't.
 fn is_fall(heap: &mut Heap, x: Ref, measure: Ref, condition: Ref, s: Ref) -> Result<bool, Memory>
-    requires within { IsIn heap.old x }
-    requires measure_within { IsIn heap.old measure }
-    requires condition_within { IsIn heap.old condition }
-    requires substitution_within { IsIn heap.old s }
-    requires pairs { is_list_of_pairs (object_at heap.old s) ≡ true }
-    ensures grows { Grows heap.old heap.new }
-    ensures fall { IfOk result (λ b. b ≡ same_object (object_at heap.old x) (fall_object (object_at heap.old measure) (object_at heap.old condition) (object_at heap.old s))) }
+    requires within { IsIn heap.old.objects x }
+    requires measure_within { IsIn heap.old.objects measure }
+    requires condition_within { IsIn heap.old.objects condition }
+    requires substitution_within { IsIn heap.old.objects s }
+    requires pairs { is_list_of_pairs (object_at heap.old.objects s) ≡ true }
+    ensures grows { Grows heap.old.objects heap.new.objects }
+    ensures fall { IfOk result (λ b. b ≡ same_object (object_at heap.old.objects x) (fall_object (object_at heap.old.objects measure) (object_at heap.old.objects condition) (object_at heap.old.objects s))) }
 {
     let Some((negation, fall)) = heap.members_after(x, b"POR*") else {
         return Ok(false);

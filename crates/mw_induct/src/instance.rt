@@ -9,11 +9,11 @@ use mw_subst::{sigma_of, substitute};
 
 // The object under the substitution s, a proper list of pairs.
 pub(crate) fn instance_of(heap: &mut Heap, x: Ref, s: Ref) -> Result<Ref, Memory>
-    requires within { IsIn heap.old x }
-    requires substitution_within { IsIn heap.old s }
-    requires pairs { is_list_of_pairs (object_at heap.old s) ≡ true }
-    ensures grows { Grows heap.old heap.new }
-    ensures instance { IfOk result (λ r. IsIn heap.new r × (object_at heap.new r ≡ substitute_object (object_at heap.old s) (object_at heap.old x))) }
+    requires within { IsIn heap.old.objects x }
+    requires substitution_within { IsIn heap.old.objects s }
+    requires pairs { is_list_of_pairs (object_at heap.old.objects s) ≡ true }
+    ensures grows { Grows heap.old.objects heap.new.objects }
+    ensures instance { IfOk result (λ r. IsIn heap.new.objects r × (object_at heap.new.objects r ≡ substitute_object (object_at heap.old.objects s) (object_at heap.old.objects x))) }
 {
     let sigma = sigma_of(heap, s)?;
     substitute(heap, x, &sigma)

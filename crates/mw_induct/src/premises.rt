@@ -18,7 +18,7 @@ use mw_term::Marks;
 
 /// Whether the conclusions are, in order, the premises of an induction that concludes the formula `f`, by `extras`: a list of the
 /// measure, the conditions, and for each condition a list of substitutions. The marks say what is a term.
-/// The heap grows by what the substitutions make; the only error is want of memory.
+/// The heap grows by what the substitutions make; the only error is being out of memory.
 pub fn premises_hold(
     heap: &mut Heap,
     f: Ref,
@@ -26,13 +26,13 @@ pub fn premises_hold(
     conclusions: &[Ref],
     marks: &Marks,
 ) -> Result<bool, Memory>
-    requires marks { (A : ArityTable) × AreMarks A heap.old marks.now }
-    requires conclusion { IsIn heap.old f }
+    requires marks { (A : ArityTable) × AreMarks A heap.old.objects marks.now }
+    requires conclusion { IsIn heap.old.objects f }
     requires extras { extras < length marks.now }
-    requires premises { All (IsIn heap.old) conclusions.now }
-    requires formula { (A : ArityTable) × (is_formula_object A (object_at heap.old f) ≡ true) }
-    ensures grows { Grows heap.old heap.new }
-    ensures answer { IfOk result (λ b. (A : ArityTable) → AreMarks A heap.old marks.now → b ≡ object_is_induction A (object_at heap.old f) (conclusions_object heap.old conclusions.now) (object_at heap.old extras)) }
+    requires premises { All (IsIn heap.old.objects) conclusions.now }
+    requires formula { (A : ArityTable) × (is_formula_object A (object_at heap.old.objects f) ≡ true) }
+    ensures grows { Grows heap.old.objects heap.new.objects }
+    ensures answer { IfOk result (λ b. (A : ArityTable) → AreMarks A heap.old.objects marks.now → b ≡ object_is_induction A (object_at heap.old.objects f) (conclusions_object heap.old.objects conclusions.now) (object_at heap.old.objects extras)) }
 {
     // what costs a constant comes first
     if conclusions.len() < 2 || !is_disjunction_from(heap, conclusions[0], f) {
@@ -56,16 +56,16 @@ fn are_premises(
     cases: Ref,
     conclusions: &[Ref],
 ) -> Result<bool, Memory>
-    requires within { IsIn heap.old a }
-    requires measure_within { IsIn heap.old measure }
-    requires conditions_within { IsIn heap.old conditions }
-    requires cases_within { IsIn heap.old cases }
-    requires conclusions_within { All (IsIn heap.old) conclusions.now }
-    requires as_many { length_object (object_at heap.old conditions) ≡ length_object (object_at heap.old cases) }
-    requires pairs { are_cases_of_pairs (object_at heap.old cases) ≡ true }
-    requires formula { IsLikeFormula (object_at heap.old a) }
-    ensures grows { Grows heap.old heap.new }
-    ensures premises { IfOk result (λ b. b ≡ same_object (conclusions_object heap.old conclusions.now) (premises_object (object_at heap.old a) (object_at heap.old measure) (object_at heap.old conditions) (object_at heap.old cases))) }
+    requires within { IsIn heap.old.objects a }
+    requires measure_within { IsIn heap.old.objects measure }
+    requires conditions_within { IsIn heap.old.objects conditions }
+    requires cases_within { IsIn heap.old.objects cases }
+    requires conclusions_within { All (IsIn heap.old.objects) conclusions.now }
+    requires as_many { length_object (object_at heap.old.objects conditions) ≡ length_object (object_at heap.old.objects cases) }
+    requires pairs { are_cases_of_pairs (object_at heap.old.objects cases) ≡ true }
+    requires formula { IsLikeFormula (object_at heap.old.objects a) }
+    ensures grows { Grows heap.old.objects heap.new.objects }
+    ensures premises { IfOk result (λ b. b ≡ same_object (conclusions_object heap.old.objects conclusions.now) (premises_object (object_at heap.old.objects a) (object_at heap.old.objects measure) (object_at heap.old.objects conditions) (object_at heap.old.objects cases))) }
 {
     if conclusions.is_empty() {
         return Ok(false);
@@ -88,14 +88,14 @@ fn are_measured(
     cases: Ref,
     conclusions: &[Ref],
 ) -> Result<bool, Memory>
-    requires within { IsIn heap.old measure }
-    requires conditions_within { IsIn heap.old conditions }
-    requires cases_within { IsIn heap.old cases }
-    requires conclusions_within { All (IsIn heap.old) conclusions.now }
-    requires as_many { length_object (object_at heap.old conditions) ≡ length_object (object_at heap.old cases) }
-    requires pairs { are_cases_of_pairs (object_at heap.old cases) ≡ true }
-    ensures grows { Grows heap.old heap.new }
-    ensures premises { IfOk result (λ b. b ≡ same_object (conclusions_object heap.old conclusions.now) (Pair (ordinal_object (object_at heap.old measure)) (all_falls_object (object_at heap.old measure) (object_at heap.old conditions) (object_at heap.old cases)))) }
+    requires within { IsIn heap.old.objects measure }
+    requires conditions_within { IsIn heap.old.objects conditions }
+    requires cases_within { IsIn heap.old.objects cases }
+    requires conclusions_within { All (IsIn heap.old.objects) conclusions.now }
+    requires as_many { length_object (object_at heap.old.objects conditions) ≡ length_object (object_at heap.old.objects cases) }
+    requires pairs { are_cases_of_pairs (object_at heap.old.objects cases) ≡ true }
+    ensures grows { Grows heap.old.objects heap.new.objects }
+    ensures premises { IfOk result (λ b. b ≡ same_object (conclusions_object heap.old.objects conclusions.now) (Pair (ordinal_object (object_at heap.old.objects measure)) (all_falls_object (object_at heap.old.objects measure) (object_at heap.old.objects conditions) (object_at heap.old.objects cases)))) }
 {
     if conclusions.is_empty() {
         return Ok(false);

@@ -8,10 +8,10 @@ use mw_heap::{Heap, Ref, View};
 
 // Whether x is: A or q1 or .. or qn, for the formula A and the members of a list.
 pub(crate) fn is_disjunction(heap: &Heap, x: Ref, a: Ref, members: Ref) -> bool
-    requires within { IsIn heap.now x }
-    requires first_within { IsIn heap.now a }
-    requires members_within { IsIn heap.now members }
-    ensures { result ≡ same_object (object_at heap.now x) (disjunction_object (Pair (object_at heap.now a) (object_at heap.now members))) }
+    requires within { IsIn heap.now.objects x }
+    requires first_within { IsIn heap.now.objects a }
+    requires members_within { IsIn heap.now.objects members }
+    ensures { result ≡ same_object (object_at heap.now.objects x) (disjunction_object (Pair (object_at heap.now.objects a) (object_at heap.now.objects members))) }
 {
     let mut rest = x;
     let mut first = a;
@@ -32,10 +32,10 @@ pub(crate) fn is_disjunction(heap: &Heap, x: Ref, a: Ref, members: Ref) -> bool
 
 // Whether x is: A or q1 or .. or qn, for the formula A and any members. It looks no further than at the first disjunct.
 pub(crate) fn is_disjunction_from(heap: &Heap, x: Ref, a: Ref) -> bool
-    requires within { IsIn heap.now x }
-    requires first_within { IsIn heap.now a }
-    ensures no { result ≡ false → (members : Object) → same_object (object_at heap.now x) (disjunction_object (Pair (object_at heap.now a) members)) ≡ false }
-    ensures yes { result ≡ true → (members : Object) × (same_object (object_at heap.now x) (disjunction_object (Pair (object_at heap.now a) members)) ≡ true) }
+    requires within { IsIn heap.now.objects x }
+    requires first_within { IsIn heap.now.objects a }
+    ensures no { result ≡ false → (members : Object) → same_object (object_at heap.now.objects x) (disjunction_object (Pair (object_at heap.now.objects a) members)) ≡ false }
+    ensures yes { result ≡ true → (members : Object) × (same_object (object_at heap.now.objects x) (disjunction_object (Pair (object_at heap.now.objects a) members)) ≡ true) }
 {
     if let Some((first, _)) = heap.members_after(x, b"POR*") {
         if heap.same(first, a) {
@@ -47,9 +47,9 @@ pub(crate) fn is_disjunction_from(heap: &Heap, x: Ref, a: Ref) -> bool
 
 // The term t, where x is: t = 't.
 pub(crate) fn true_term(heap: &Heap, x: Ref) -> Option<Ref>
-    requires { IsIn heap.now x }
-    ensures within { IfSome result (λ t. IsIn heap.now t) }
-    ensures term { MatchOption result ((t : Object) → same_object (object_at heap.now x) (true_object t) ≡ false) (λ t. object_at heap.now x ≡ true_object (object_at heap.now t)) }
+    requires { IsIn heap.now.objects x }
+    ensures within { IfSome result (λ t. IsIn heap.now.objects t) }
+    ensures term { MatchOption result ((t : Object) → same_object (object_at heap.now.objects x) (true_object t) ≡ false) (λ t. object_at heap.now.objects x ≡ true_object (object_at heap.now.objects t)) }
 {
     let Some((term, constant)) = heap.members_after(x, b"PEQUAL*") else {
         return None;
@@ -66,9 +66,9 @@ pub(crate) fn true_term(heap: &Heap, x: Ref) -> Option<Ref>
 
 // Whether x is: (ordp m) = 't.
 pub(crate) fn is_ordinal_premise(heap: &Heap, x: Ref, measure: Ref) -> bool
-    requires within { IsIn heap.now x }
-    requires measure_within { IsIn heap.now measure }
-    ensures { result ≡ same_object (object_at heap.now x) (ordinal_object (object_at heap.now measure)) }
+    requires within { IsIn heap.now.objects x }
+    requires measure_within { IsIn heap.now.objects measure }
+    ensures { result ≡ same_object (object_at heap.now.objects x) (ordinal_object (object_at heap.now.objects measure)) }
 {
     match true_term(heap, x) {
         Some(term) => heap.is_list2(Some(term), b"ORDP", Some(measure)),

@@ -18,15 +18,15 @@ pub(crate) fn take_steps(
     cases: Ref,
     conclusions: &[Ref],
 ) -> Result<Option<usize>, Memory>
-    requires within { IsIn heap.old a }
-    requires conditions_within { IsIn heap.old conditions }
-    requires cases_within { IsIn heap.old cases }
-    requires conclusions_within { All (IsIn heap.old) conclusions.now }
-    requires as_many { length_object (object_at heap.old conditions) ≡ length_object (object_at heap.old cases) }
-    requires pairs { are_cases_of_pairs (object_at heap.old cases) ≡ true }
-    requires formula { IsLikeFormula (object_at heap.old a) }
-    ensures grows { Grows heap.old heap.new }
-    ensures steps { IfOk result (Takes (steps_object (object_at heap.old a) (object_at heap.old conditions) (object_at heap.old cases)) heap.old conclusions.now) }
+    requires within { IsIn heap.old.objects a }
+    requires conditions_within { IsIn heap.old.objects conditions }
+    requires cases_within { IsIn heap.old.objects cases }
+    requires conclusions_within { All (IsIn heap.old.objects) conclusions.now }
+    requires as_many { length_object (object_at heap.old.objects conditions) ≡ length_object (object_at heap.old.objects cases) }
+    requires pairs { are_cases_of_pairs (object_at heap.old.objects cases) ≡ true }
+    requires formula { IsLikeFormula (object_at heap.old.objects a) }
+    ensures grows { Grows heap.old.objects heap.new.objects }
+    ensures steps { IfOk result (Takes (steps_object (object_at heap.old.objects a) (object_at heap.old.objects conditions) (object_at heap.old.objects cases)) heap.old.objects conclusions.now) }
 {
     let mut taken = 0;
     let mut conditions = conditions;
@@ -56,14 +56,14 @@ fn is_step(
     condition: Ref,
     substitutions: Ref,
 ) -> Result<bool, Memory>
-    requires within { IsIn heap.old x }
-    requires formula_within { IsIn heap.old a }
-    requires condition_within { IsIn heap.old condition }
-    requires substitutions_within { IsIn heap.old substitutions }
-    requires pairs { are_lists_of_pairs (object_at heap.old substitutions) ≡ true }
-    requires formula { IsLikeFormula (object_at heap.old a) }
-    ensures grows { Grows heap.old heap.new }
-    ensures step { IfOk result (λ b. b ≡ same_object (object_at heap.old x) (disjunction_object (Pair (object_at heap.old a) (Pair (not_object (object_at heap.old condition)) (hypotheses_object (object_at heap.old a) (object_at heap.old substitutions)))))) }
+    requires within { IsIn heap.old.objects x }
+    requires formula_within { IsIn heap.old.objects a }
+    requires condition_within { IsIn heap.old.objects condition }
+    requires substitutions_within { IsIn heap.old.objects substitutions }
+    requires pairs { are_lists_of_pairs (object_at heap.old.objects substitutions) ≡ true }
+    requires formula { IsLikeFormula (object_at heap.old.objects a) }
+    ensures grows { Grows heap.old.objects heap.new.objects }
+    ensures step { IfOk result (λ b. b ≡ same_object (object_at heap.old.objects x) (disjunction_object (Pair (object_at heap.old.objects a) (Pair (not_object (object_at heap.old.objects condition)) (hypotheses_object (object_at heap.old.objects a) (object_at heap.old.objects substitutions)))))) }
 {
     let Some((side, others)) = heap.members_after(x, b"POR*") else {
         return Ok(false);
@@ -82,14 +82,14 @@ fn are_hypotheses(
     a: Ref,
     substitutions: Ref,
 ) -> Result<bool, Memory>
-    requires within { IsIn heap.old x }
-    requires first_within { IsIn heap.old b }
-    requires formula_within { IsIn heap.old a }
-    requires substitutions_within { IsIn heap.old substitutions }
-    requires pairs { are_lists_of_pairs (object_at heap.old substitutions) ≡ true }
-    requires formula { IsLikeFormula (object_at heap.old a) }
-    ensures grows { Grows heap.old heap.new }
-    ensures hypotheses { IfOk result (λ r. r ≡ same_object (object_at heap.old x) (disjunction_object (Pair (not_object (object_at heap.old b)) (hypotheses_object (object_at heap.old a) (object_at heap.old substitutions))))) }
+    requires within { IsIn heap.old.objects x }
+    requires first_within { IsIn heap.old.objects b }
+    requires formula_within { IsIn heap.old.objects a }
+    requires substitutions_within { IsIn heap.old.objects substitutions }
+    requires pairs { are_lists_of_pairs (object_at heap.old.objects substitutions) ≡ true }
+    requires formula { IsLikeFormula (object_at heap.old.objects a) }
+    ensures grows { Grows heap.old.objects heap.new.objects }
+    ensures hypotheses { IfOk result (λ r. r ≡ same_object (object_at heap.old.objects x) (disjunction_object (Pair (not_object (object_at heap.old.objects b)) (hypotheses_object (object_at heap.old.objects a) (object_at heap.old.objects substitutions))))) }
 {
     let mut rest = x;
     let mut negated = b;

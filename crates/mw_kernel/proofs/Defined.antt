@@ -135,7 +135,7 @@ accepted-these t N proofs os given owed p B accepted = go r (judged-given t N pr
 pub accepted-sound : (t : Theory) (N : ℕ) (given : Option (List Draft)) (proofs : Object) → IsDefined t N given proofs None → IsSound (defined t N given proofs).1 → IsAccepted t N given proofs
 accepted-sound t N given proofs d sound = (d.0, d.1, subst (λ r. IsSound r.1) d.1 sound)
 
--- definitions stand where they stood as the heap grows, and after a cut behind them
+-- definitions stand where they stood as the heap grows, and after a cut after them
 pub within-grows : (old new : List Object) → Grows old new → (drafts : Drafts) → AreWithin old drafts → AreWithin new drafts
 within-grows old new g (One d) h = (IsIn-Grows old new g d.name h.0, IsIn-Grows old new g d.formals h.1, IsIn-Grows old new g d.body h.2, IsIn-Grows old new g d.measure h.3)
 within-grows old new g (All x) h = IsIn-Grows old new g x h
@@ -177,7 +177,7 @@ module _ (os : List Object) (n : ℕ) (t : Kept) (marks : List CellMark) (N : �
         subst (λ v. IsDefined (theory_of v) v.steps (drafts_given v.objects drafts) (object_at v.objects proofs) q) is
         (subst (IsDefined (meant os (parts_of t)) N (drafts_given os drafts) (object_at os proofs)) r_is told)
 
-    -- behind a cut that keeps the theory and the definitions, what was accepted is accepted
+    -- after a cut that keeps the theory and the definitions, what was accepted is accepted
     module _ (cut : Knowledge) (theory : theory_of cut ≡ meant new (parts_of t)) (given : drafts_given cut.objects drafts ≡ drafts_given new drafts) (within : AreWithin old.objects drafts) where
       pub kept-theory : theory_of cut ≡ theory_of old
       kept-theory = theory ∙ theory-same

@@ -13,7 +13,7 @@ use Rattle.mw_model.specs.Admission.{add_to_theory}
 use Rattle.mw_heap.specs.Objects.{object_at, IsIn, Grows}
 use Rattle.mw_heap.specs.Variants.{profile_of}
 use Rattle.mw_heap.proofs.Objects.{IsIn-Grows, object_at-Grows}
-use Rattle.mw_proof.specs.Known.{known_object}
+use Rattle.mw_heap.specs.Lists.{list_object}
 use Rattle.mw_code.specs.Tables.{StandsFor}
 use Rattle.mw_preamble.specs.declared.definition.Definition.{Definition}
 use Rattle.mw_preamble.specs.Entries.{IsBlock, AreEntries}
@@ -29,7 +29,7 @@ use Rattle.mw_kernel.proofs.Held.{known-grow, all-grow, named-grows, meant-grows
 use Rattle.mw_kernel.proofs.Listing.{put_formulas}
 use Rattle.mw_kernel.proofs.Initial.{known_put, all_put, map_grown}
 
--- One theorem more, whose list was made behind what the heap had.
+-- One theorem more, whose list was made after what the heap had.
 abbrev with_theorems : Theory → Object → Theory
 with_theorems t x = record t { theorems = x }
 
@@ -99,7 +99,7 @@ pub record IsAdded (os : List Object) (t : Kept) (B : Block) (ds : List Definiti
   pub arity_list_is : object_at new after.arity_list ≡ table_object after.arity
   pub arities : after.arity ≡ arity_table (with_block B (definitions_of os (parts_of t)))
   pub each_axiom : All (IsIn new) after.known_axioms
-  pub axioms_known : known_object new after.known_axioms ≡ object_at new after.axioms
+  pub axioms_known : list_object new after.known_axioms ≡ object_at new after.axioms
   pub known_theorems : after.known_theorems ≡ t.known_theorems
   pub entries : after.entries ≡ t.entries ++ ds ∷ []
   pub stands : StandsFor new after.table.value (with_block B (definitions_of os (parts_of t)))
@@ -137,7 +137,7 @@ module _ (os : List Object) (t : Kept) (h : IsHeld os t) (B : Block) (ds : List 
         each_axiom_in = a.each_axiom;
         each_theorem_in = subst (All (IsIn new)) (sym a.known_theorems) g.each_theorem_in;
         axioms_known = a.axioms_known;
-        theorems_known = ap (known_object new) a.known_theorems ∙ (g.theorems_known ∙ ap (object_at new) (sym a.theorems));
+        theorems_known = ap (list_object new) a.known_theorems ∙ (g.theorems_known ∙ ap (object_at new) (sym a.theorems));
         arities = a.arities ∙ ap arity_table (sym definitions_are);
         arities_listed = a.arity_list_is;
         entered = subst (λ D. AreEntries new after.entries D.blocks) (sym definitions_are) entered;
@@ -152,7 +152,7 @@ list_of_formulas : (Fs : List Formula) → is_list_object (formulas_object Fs) �
 list_of_formulas [] = refl
 list_of_formulas (F ∷ Fs) = list_of_formulas Fs
 
-known_formulas : (os : List Object) (ms : List ℕ) (Fs : List Formula) → known_object os ms ≡ formulas_object Fs → map (object_at os) ms ≡ map formula_object Fs
+known_formulas : (os : List Object) (ms : List ℕ) (Fs : List Formula) → list_object os ms ≡ formulas_object Fs → map (object_at os) ms ≡ map formula_object Fs
 known_formulas os [] [] h = refl
 known_formulas os [] (F ∷ Fs) h = cc
 known_formulas os (m ∷ ms) [] h = cc
@@ -167,14 +167,14 @@ module _ (os : List Object) (t : Kept) (h : IsHeld os t) (B : Block) (ds : List 
     made = (and_parts (is_block (arity_table (definitions_of os (parts_of t))) B) (are_blocks (profile_of t.profile) (definitions_of os (parts_of t)).blocks) n.sound.made).0;
   }
 
-  module _ (ms : List ℕ) (within : All (IsIn os) ms) (members : is_list_object (object_at os list) ≡ true → known_object os ms ≡ object_at os list) (new : List Object) (grows : Grows os new) (axiom_list : ℕ) (put : object_at new axiom_list ≡ put_all (map (object_at os) ms) (object_at os t.axioms)) where
+  module _ (ms : List ℕ) (within : All (IsIn os) ms) (members : is_list_object (object_at os list) ≡ true → list_object os ms ≡ object_at os list) (new : List Object) (grows : Grows os new) (axiom_list : ℕ) (put : object_at new axiom_list ≡ put_all (map (object_at os) ms) (object_at os t.axioms)) where
     members_are : map (object_at os) ms ≡ map formula_object (block_axioms B)
     members_are = known_formulas os ms (block_axioms B) (members (ap is_list_object n.axioms_are ∙ list_of_formulas (block_axioms B)) ∙ n.axioms_are)
 
     axioms_are : object_at new axiom_list ≡ add_formulas (block_axioms B) (object_at os t.axioms)
     axioms_are = put ∙ (ap (λ xs. put_all xs (object_at os t.axioms)) members_are ∙ put_formulas (block_axioms B) (object_at os t.axioms))
 
-    known_are : known_object new (reverse ms ++ t.known_axioms) ≡ object_at new axiom_list
+    known_are : list_object new (reverse ms ++ t.known_axioms) ≡ object_at new axiom_list
     known_are =
         known_put new ms t.known_axioms
         ∙ (ap₂ put_all (map_grown os new grows ms within) (known-grow os new grows t.known_axioms h.each_axiom_in ∙ h.axioms_known) ∙ sym put)
@@ -194,7 +194,7 @@ module _ (os : List Object) (t : Kept) (h : IsHeld os t) (B : Block) (ds : List 
       arity_list_is = listed ∙ ap table_object (sym arities);
       arities = arities;
       each_axiom = subst (All (IsIn new)) (sym known) each_known;
-      axioms_known = ap (known_object new) known ∙ (known_are ∙ ap (object_at new) (sym axioms));
+      axioms_known = ap (list_object new) known ∙ (known_are ∙ ap (object_at new) (sym axioms));
       known_theorems = known_theorems;
       entries = entries;
       stands = stands;

@@ -1,4 +1,4 @@
--- What is kept of a theory stays right as the heap grows, where it is cut back behind what is needed, and where the code alone changes.
+-- What is kept of a theory stays right as the heap grows, where it is cut back after what is needed, and where the code alone changes.
 use Rattle.std.proofs.Common.{◌≡◌, ℕ, ◌<◌, ◌≤◌, max, List, [], ◌∷◌, length, take, Option, Some, None, IfSome, refl, sym, ap, ap₂, ◌∙◌, subst, arith}
 use Rattle.std.specs.List.{All}
 use Rattle.std.proofs.lemmas.List.{length-take-le, take-append-le}
@@ -13,7 +13,7 @@ use Rattle.mw_heap.proofs.Objects.{length-Grows, IsIn-Grows, IsIn-take, object_a
 use Rattle.mw_term.specs.declared.cell_mark.CellMark.{CellMark}
 use Rattle.mw_term.specs.Marking.{AreMarks}
 use Rattle.mw_term.proofs.CallerLemmas.{AreMarks-grows, AreMarks-cut}
-use Rattle.mw_proof.specs.Known.{known_object}
+use Rattle.mw_heap.specs.Lists.{list_object}
 use Rattle.mw_code.specs.Tables.{StandsFor}
 use Rattle.mw_code.specs.declared.table.Table.{Table}
 use Rattle.mw_code.proofs.CallerLemmas.{stands-grows}
@@ -26,7 +26,7 @@ use Rattle.mw_kernel.proofs.Entered.{blocks-read}
 
 -- known formulas, as the heap grows
 module _ (old new : List Object) (grows : Grows old new) where
-  pub known-grow : (xs : List ℕ) → All (IsIn old) xs → known_object new xs ≡ known_object old xs
+  pub known-grow : (xs : List ℕ) → All (IsIn old) xs → list_object new xs ≡ list_object old xs
   known-grow [] h = refl
   known-grow (x ∷ xs) h = ap₂ Pair (object_at-Grows old new grows x (All-head (IsIn old) x xs h)) (known-grow xs (All-tail (IsIn old) x xs h))
 
@@ -168,7 +168,7 @@ module _ (os : List Object) (n : ℕ) (t : Kept) (N : ℕ) (cut old : Knowledge)
     pub same-cut : object_at os x ≡ object_at old.objects x
     same-cut = ap (λ o. object_at o x) heap-cut ∙ object_at-take m old.objects x before
 
--- a mark behind what is there, and behind what is needed, stands within the heap
+-- a mark after what is there, and after what is needed, stands within the heap
 pub mark-within : (os : List Object) (n : ℕ) (t : Kept) (marks : List CellMark) (N : ℕ) → IsKernel os n t marks → (old : Knowledge) → held-by os n t N ≡ old → (behind later : ℕ) → later ≡ max behind n → behind ≤ length old.objects → later ≤ length old.objects
 mark-within os n t marks N h old is behind later later_is within =
     let kept : n ≤ length old.objects = subst (λ v. n ≤ length v.objects) is h.kept in

@@ -13,7 +13,7 @@ use Rattle.mw_model.specs.Fate.{is_one}
 use Rattle.mw_heap.specs.Objects.{object_at, IsIn, Grows}
 use Rattle.mw_heap.specs.Variants.{profile_of}
 use Rattle.mw_heap.proofs.Objects.{Grows-trans, IsIn-Grows, object_at-Grows}
-use Rattle.mw_proof.specs.Known.{known_object}
+use Rattle.mw_heap.specs.Lists.{list_object}
 use Rattle.mw_code.specs.Tables.{StandsFor}
 use Rattle.mw_preamble.specs.Admitted.{axioms_in_order}
 use Rattle.mw_preamble.specs.Admitted as admitted
@@ -37,10 +37,10 @@ axioms_put P (B ∷ D) =
     ∙ (put_more (map formula_object (axioms_in_order D)) (map formula_object (block_axioms B)) (axioms_of P [])
     ∙ (ap (put_all (map formula_object (block_axioms B))) (axioms_put P D) ∙ put_formulas (block_axioms B) (axioms_of P D)))
 
-pub known_put : (os : List Object) (xs k : List ℕ) → known_object os (reverse xs ++ k) ≡ put_all (map (object_at os) xs) (known_object os k)
+pub known_put : (os : List Object) (xs k : List ℕ) → list_object os (reverse xs ++ k) ≡ put_all (map (object_at os) xs) (list_object os k)
 known_put os [] k = refl
 known_put os (x ∷ xs) k =
-    ap (known_object os) (ap (λ l. l ++ k) (reverse-append (x ∷ []) xs) ∙ append_assoc (reverse xs) (x ∷ []) k)
+    ap (list_object os) (ap (λ l. l ++ k) (reverse-append (x ∷ []) xs) ∙ append_assoc (reverse xs) (x ∷ []) k)
     ∙ known_put os xs (x ∷ k)
 
 pub all_put : (P : ℕ → Type 0) (xs k : List ℕ) → All P xs → All P k → All P (reverse xs ++ k)
@@ -97,9 +97,9 @@ module _ (P : Profile) (a b n p q : List Object) (primitives definitions : List 
   b_last : Grows b q
   b_last = Grows-trans b n q h.b_grows (Grows-trans n p q h.n_grows h.p_grows)
 
-  pub known_last : known_object q known ≡ object_at q second
+  pub known_last : list_object q known ≡ object_at q second
   known_last =
-      ap (known_object q) h.known_is
+      ap (list_object q) h.known_is
       ∙ (known_put q definitions (reverse primitives ++ [])
       ∙ (ap₂ put_all (map_grown b q b_last definitions h.definitions_in ∙ (sym (map_grown b p (Grows-trans b n p h.b_grows h.n_grows) definitions h.definitions_in)))
       (known_put q primitives [] ∙ (ap₂ put_all (map_grown a q a_last primitives h.primitives_in ∙ sym (map_grown a n (Grows-trans a b n h.a_grows h.b_grows) primitives h.primitives_in)) (sym h.nil_is) ∙ sym h.first_is))
@@ -127,7 +127,7 @@ module _ (q : List Object) (t : Kept) (P : Profile) (profile : profile_of t.prof
       ap₂ (λ c l. theory_with (object_at q t.axioms) (object_at q t.theorems) (definitions_of q (parts_of t)) (name_read q c) l) checker level
       ∙ (ap (λ D. theory_with (object_at q t.axioms) (object_at q t.theorems) D None 1) definitions_are ∙ theory)
 
-  pub begins : IsIn q t.axioms → IsIn q t.theorems → IsIn q t.arity_list → All (IsIn q) t.known_axioms → t.known_theorems ≡ [] → known_object q t.known_axioms ≡ object_at q t.axioms → object_at q t.arity_list ≡ table_object (arity_table (admitted.definitions_of P)) → t.arity ≡ arity_table (admitted.definitions_of P) → StandsFor q t.table.value (admitted.definitions_of P) → t.is_initial ≡ is_one P → IsHeld q t
+  pub begins : IsIn q t.axioms → IsIn q t.theorems → IsIn q t.arity_list → All (IsIn q) t.known_axioms → t.known_theorems ≡ [] → list_object q t.known_axioms ≡ object_at q t.axioms → object_at q t.arity_list ≡ table_object (arity_table (admitted.definitions_of P)) → t.arity ≡ arity_table (admitted.definitions_of P) → StandsFor q t.table.value (admitted.definitions_of P) → t.is_initial ≡ is_one P → IsHeld q t
   begins axioms_in nil_in arity_list_in known_in none known_is listed arities coded first = record {
     axioms_in = axioms_in;
     theorems_in = nil_in;
@@ -135,7 +135,7 @@ module _ (q : List Object) (t : Kept) (P : Profile) (profile : profile_of t.prof
     each_axiom_in = known_in;
     each_theorem_in = subst (All (IsIn q)) (sym none) (All-nil (IsIn q));
     axioms_known = known_is;
-    theorems_known = ap (known_object q) none ∙ sym (ap (λ t. t.theorems) theory);
+    theorems_known = ap (list_object q) none ∙ sym (ap (λ t. t.theorems) theory);
     arities_listed = listed ∙ ap table_object (sym arities);
     arities = arities ∙ ap arity_table (sym definitions_are);
     entered = subst (λ D. AreEntries q t.entries D.blocks) (sym definitions_are) entered;

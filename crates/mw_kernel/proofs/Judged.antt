@@ -95,11 +95,15 @@ module _ (os : List Object) (t : Kept) (h : IsHeld os t) (checker : ℕ) (is : t
   abbrev pub checker_call : ℕ → Term
   checker_call p = Call named (constants (values p))
 
+  pub checker-count : (e : Entry) (r : Option Entry) → r ≡ Some e → IsCodeOf os t.table.value D named r → 4 ≡ e.arity
+  checker-count e r some found =
+      let code = subst (IsCodeOf os t.table.value D named) some found in
+      sym (code.2 ∙ (ap (λ k. length k.formals) (same-code D.blocks named code.0 coded.0 code.1 coded.1) ∙ coded.2))
+
   pub checker-entry : (p : ℕ) (T : Table) → T ≡ t.table.value → (e : Entry) (r : Option Entry) → r ≡ Some e → IsCodeOf os t.table.value D named r → IsEntry D.profile os T e (values p) (checker_call p)
   checker-entry p T same e r some found =
       let code = subst (IsCodeOf os t.table.value D named) some found in
-      let four : 4 ≡ e.arity = sym (code.2 ∙ (ap (λ k. length k.formals) (same-code D.blocks named code.0 coded.0 code.1 coded.1) ∙ coded.2)) in
-      subst (λ U. IsEntry D.profile os U e (values p) (checker_call p)) (sym same) (code.3 (values p) four)
+      subst (λ U. IsEntry D.profile os U e (values p) (checker_call p)) (sym same) (code.3 (values p) (checker-count e r some found))
 
   pub checker-verdict : (p N : ℕ) → verdict (evaluate D N [] (checker_call p)) ≡ judged_by (name_read os (Some checker)) (meant os (parts_of t)) (object_at os p) N
   checker-verdict p N =

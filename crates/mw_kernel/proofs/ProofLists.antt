@@ -16,7 +16,7 @@ use Rattle.mw_heap.proofs.Objects.{object_at-Grows, Grows-trans}
 use Rattle.mw_axioms.proofs.OnStack.{AreIn-push}
 use Rattle.mw_term.specs.declared.cell_mark.CellMark.{CellMark}
 use Rattle.mw_term.specs.Marking.{AreMarks}
-use Rattle.mw_proof.specs.Known.{known_object}
+use Rattle.mw_heap.specs.Lists.{list_object}
 use Rattle.mw_kernel.specs.declared.theory.Theory.{Theory as Kept}
 use Rattle.mw_kernel.specs.Knowledge.{parts_of, meant, IsHeld}
 use Rattle.mw_kernel.specs.Proofs.{judged_for, judged_all}
@@ -145,9 +145,9 @@ pub put_before-push : (os : List Object) (xs : List ℕ) (x : ℕ) (rest : Objec
 put_before-push os [] x rest = refl
 put_before-push os (y ∷ xs) x rest = ap (Pair (object_at os y)) (put_before-push os xs x rest)
 
-known_object-before : (os : List Object) (xs : List ℕ) → known_object os xs ≡ put_before os xs NIL
-known_object-before os [] = refl
-known_object-before os (x ∷ xs) = ap (Pair (object_at os x)) (known_object-before os xs)
+list_object-before : (os : List Object) (xs : List ℕ) → list_object os xs ≡ put_before os xs NIL
+list_object-before os [] = refl
+list_object-before os (x ∷ xs) = ap (Pair (object_at os x)) (list_object-before os xs)
 
 list_end : (x : Object) → is_pair x ≡ false → is_list_object x ≡ true → NIL ≡ x
 list_end (Natural n) h k = cc
@@ -169,16 +169,16 @@ AreMembers-next os list members rest first more new m first_in more_in is pushed
       listed = put_before-push os members first (object_at os more) ∙ (ap (put_before os members) (sym is) ∙ m.listed);
     })
 
-pub all_members : (os : List Object) (list : ℕ) (members : List ℕ) (rest : ℕ) → AreMembers os list members rest → is_pair (object_at os rest) ≡ false → is_list_object (object_at os list) ≡ true → known_object os members ≡ object_at os list
+pub all_members : (os : List Object) (list : ℕ) (members : List ℕ) (rest : ℕ) → AreMembers os list members rest → is_pair (object_at os rest) ≡ false → is_list_object (object_at os list) ≡ true → list_object os members ≡ object_at os list
 all_members os list members rest m end proper =
-    known_object-before os members ∙ (ap (put_before os members) (list_end (object_at os rest) end (sym m.proper ∙ proper)) ∙ m.listed)
+    list_object-before os members ∙ (ap (put_before os members) (list_end (object_at os rest) end (sym m.proper ∙ proper)) ∙ m.listed)
 
 -- the members of a list of formulas
 pub formulas_listed : (Fs : List Formula) → is_list_object (formulas_object Fs) ≡ true
 formulas_listed [] = refl
 formulas_listed (F ∷ Fs) = formulas_listed Fs
 
-pub members_formulas : (os : List Object) (members : List ℕ) (Fs : List Formula) → known_object os members ≡ formulas_object Fs → map (object_at os) members ≡ map formula_object Fs
+pub members_formulas : (os : List Object) (members : List ℕ) (Fs : List Formula) → list_object os members ≡ formulas_object Fs → map (object_at os) members ≡ map formula_object Fs
 members_formulas os [] [] h = refl
 members_formulas os [] (F ∷ Fs) h = cc
 members_formulas os (x ∷ xs) [] h = cc

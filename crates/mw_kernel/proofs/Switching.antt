@@ -10,7 +10,7 @@ use Rattle.mw_model.specs.Theory.{Theory, claim}
 use Rattle.mw_model.specs.Refusal.{CHECKER, CLAIM, accept, need, must}
 use Rattle.mw_model.specs.Fate.{has_four_formals, checker_named, switch}
 use Rattle.mw_heap.specs.Objects.{object_at, Grows}
-use Rattle.mw_proof.specs.Known.{known_object}
+use Rattle.mw_heap.specs.Lists.{list_object}
 use Rattle.mw_kernel.specs.declared.theory.Theory.{Theory as Kept}
 use Rattle.mw_kernel.specs.Knowledge.{parts_of, meant, IsHeld}
 use Rattle.mw_kernel.specs.Words.{switch_event}
@@ -97,7 +97,7 @@ symbol-named (Natural n) h = cc
 symbol-named (Pair a b) h = cc
 
 -- of a theory that is kept: whether the claim is known decides
-pub claim-decided : (os : List Object) (t : Kept) (h : IsHeld os t) (name : ℕ) → is_present (checker_named (meant os (parts_of t)) (object_at os name)) ≡ true → (new : List Object) (grows : Grows os new) (r : ℕ) → object_at new r ≡ formula_object (claim (name_of (object_at os name))) → (known b : Bool) → known ≡ is_member (object_at new r) (known_object new t.known_theorems) → known ≡ b → cond b None (Some CLAIM) ≡ switch_refusal (meant os (parts_of t)) (object_at os name)
+pub claim-decided : (os : List Object) (t : Kept) (h : IsHeld os t) (name : ℕ) → is_present (checker_named (meant os (parts_of t)) (object_at os name)) ≡ true → (new : List Object) (grows : Grows os new) (r : ℕ) → object_at new r ≡ formula_object (claim (name_of (object_at os name))) → (known b : Bool) → known ≡ is_member (object_at new r) (list_object new t.known_theorems) → known ≡ b → cond b None (Some CLAIM) ≡ switch_refusal (meant os (parts_of t)) (object_at os name)
 claim-decided os t h name present new grows r r_is known b known_is is_b =
     let u = meant os (parts_of t) in
     let x = object_at os name in

@@ -10,7 +10,7 @@ use Rattle.mw_heap.specs.Objects.{object_at, IsIn}
 use Rattle.mw_heap.specs.Variants.{profile_of}
 use Rattle.mw_term.specs.declared.cell_mark.CellMark.{CellMark}
 use Rattle.mw_term.specs.Marking.{AreMarks}
-use Rattle.mw_proof.specs.Known.{known_object}
+use Rattle.mw_heap.specs.Lists.{list_object}
 use Rattle.mw_code.specs.Tables.{StandsFor}
 use Rattle.mw_preamble.specs.declared.definition.Definition.{Definition}
 use Rattle.mw_preamble.specs.Entries.{AreEntries}
@@ -80,8 +80,8 @@ pub record IsHeld (os : List Object) (t : Kept) : Type 0 where
   pub arity_list_in : IsIn os t.arity_list
   pub each_axiom_in : All (IsIn os) t.known_axioms
   pub each_theorem_in : All (IsIn os) t.known_theorems
-  pub axioms_known : known_object os t.known_axioms ≡ object_at os t.axioms
-  pub theorems_known : known_object os t.known_theorems ≡ object_at os t.theorems
+  pub axioms_known : list_object os t.known_axioms ≡ object_at os t.axioms
+  pub theorems_known : list_object os t.known_theorems ≡ object_at os t.theorems
   pub arities : t.arity ≡ arity_table (definitions_of os (parts_of t))
   pub arities_listed : object_at os t.arity_list ≡ table_object t.arity
   pub entered : AreEntries os t.entries (definitions_of os (parts_of t)).blocks

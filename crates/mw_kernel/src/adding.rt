@@ -38,18 +38,18 @@ pub(crate) fn add_block(
     table: &mut Table,
     known: &mut Known,
 ) -> Result<Lists, Memory>
-    requires block { (D : Definitions) × (B : Block) × MayBeAdded heap.old table.old D block.now B × (arity.old ≡ arity_table D) }
-    requires axioms { All (IsIn heap.old) axioms.now }
-    requires axiom_list { IsIn heap.old lists.axioms }
-    requires arity_list { IsIn heap.old lists.arity_list }
-    requires arities_listed { object_at heap.old lists.arity_list ≡ table_object arity.old }
-    ensures grows { Grows heap.old heap.new }
-    ensures table { (D : Definitions) (B : Block) → MayBeAdded heap.old table.old D block.now B → OnOk result (StandsFor heap.new table.new (with_block B D)) }
-    ensures arity { (D : Definitions) (B : Block) → MayBeAdded heap.old table.old D block.now B → arity.old ≡ arity_table D → OnOk result (arity.new ≡ arity_table (with_block B D)) }
+    requires block { (D : Definitions) × (B : Block) × MayBeAdded heap.old.objects table.old D block.now B × (arity.old ≡ arity_table D) }
+    requires axioms { All (IsIn heap.old.objects) axioms.now }
+    requires axiom_list { IsIn heap.old.objects lists.axioms }
+    requires arity_list { IsIn heap.old.objects lists.arity_list }
+    requires arities_listed { object_at heap.old.objects lists.arity_list ≡ table_object arity.old }
+    ensures grows { Grows heap.old.objects heap.new.objects }
+    ensures table { (D : Definitions) (B : Block) → MayBeAdded heap.old.objects table.old D block.now B → OnOk result (StandsFor heap.new.objects table.new (with_block B D)) }
+    ensures arity { (D : Definitions) (B : Block) → MayBeAdded heap.old.objects table.old D block.now B → arity.old ≡ arity_table D → OnOk result (arity.new ≡ arity_table (with_block B D)) }
     ensures entries { OnOk result (entries.new ≡ entries.old ++ block.now ∷ []) }
     ensures known { OnOk result (known.new ≡ reverse axioms.now ++ known.old) }
-    ensures arity_list { (D : Definitions) (B : Block) → MayBeAdded heap.old table.old D block.now B → arity.old ≡ arity_table D → IfOk result (λ l. IsIn heap.new l.arity_list × (object_at heap.new l.arity_list ≡ table_object (arity_table (with_block B D)))) }
-    ensures axiom_list { IfOk result (λ l. IsIn heap.new l.axioms × (object_at heap.new l.axioms ≡ put_all (map (object_at heap.old) axioms.now) (object_at heap.old lists.axioms))) }
+    ensures arity_list { (D : Definitions) (B : Block) → MayBeAdded heap.old.objects table.old D block.now B → arity.old ≡ arity_table D → IfOk result (λ l. IsIn heap.new.objects l.arity_list × (object_at heap.new.objects l.arity_list ≡ table_object (arity_table (with_block B D)))) }
+    ensures axiom_list { IfOk result (λ l. IsIn heap.new.objects l.axioms × (object_at heap.new.objects l.axioms ≡ put_all (map (object_at heap.old.objects) axioms.now) (object_at heap.old.objects lists.axioms))) }
     ensures err_table { (os : List Object) (E : Definitions) → StandsFor os table.old E → OnErr result (StandsFor os table.new E) }
     ensures err_arity { OnErr result (arity.new ≡ arity.old) }
     ensures err_entries { OnErr result (entries.new ≡ entries.old) }
@@ -77,14 +77,14 @@ fn with_lists(
     axioms: &[Ref],
     lists: Lists,
 ) -> Result<Lists, Memory>
-    requires symbols { ArePairsOfSymbols heap.old pairs.now }
-    requires axioms { All (IsIn heap.old) axioms.now }
-    requires axiom_list { IsIn heap.old lists.axioms }
-    requires arity_list { IsIn heap.old lists.arity_list }
-    ensures grows { Grows heap.old heap.new }
-    ensures arity_list_in { IfOk result (λ l. IsIn heap.new l.arity_list) }
-    ensures arity_list { (A : ArityTable) → object_at heap.old lists.arity_list ≡ table_object A → IfOk result (λ l. object_at heap.new l.arity_list ≡ table_object (with_pairs heap.old pairs.now A)) }
-    ensures axiom_list { IfOk result (λ l. IsIn heap.new l.axioms × (object_at heap.new l.axioms ≡ put_all (map (object_at heap.old) axioms.now) (object_at heap.old lists.axioms))) }
+    requires symbols { ArePairsOfSymbols heap.old.objects pairs.now }
+    requires axioms { All (IsIn heap.old.objects) axioms.now }
+    requires axiom_list { IsIn heap.old.objects lists.axioms }
+    requires arity_list { IsIn heap.old.objects lists.arity_list }
+    ensures grows { Grows heap.old.objects heap.new.objects }
+    ensures arity_list_in { IfOk result (λ l. IsIn heap.new.objects l.arity_list) }
+    ensures arity_list { (A : ArityTable) → object_at heap.old.objects lists.arity_list ≡ table_object A → IfOk result (λ l. object_at heap.new.objects l.arity_list ≡ table_object (with_pairs heap.old.objects pairs.now A)) }
+    ensures axiom_list { IfOk result (λ l. IsIn heap.new.objects l.axioms × (object_at heap.new.objects l.axioms ≡ put_all (map (object_at heap.old.objects) axioms.now) (object_at heap.old.objects lists.axioms))) }
 {
     let arity_list = list_pairs(heap, pairs, lists.arity_list)?;
     let axioms = with_all(heap, axioms, lists.axioms)?;
@@ -102,11 +102,11 @@ fn add_all(
     table: &mut Table,
     known: &mut Known,
 ) -> Result<(), Memory>
-    requires symbols { ArePairsOfSymbols heap.now pairs.now }
-    requires new { AreNew heap.now arity.old pairs.now }
-    requires block { (D : Definitions) × (B : Block) × MayBeAdded heap.now table.old D block.now B }
-    ensures table { (D : Definitions) (B : Block) → MayBeAdded heap.now table.old D block.now B → OnOk result (StandsFor heap.now table.new (with_block B D)) }
-    ensures arity { OnOk result (arity.new ≡ with_pairs heap.now pairs.now arity.old) }
+    requires symbols { ArePairsOfSymbols heap.now.objects pairs.now }
+    requires new { AreNew heap.now.objects arity.old pairs.now }
+    requires block { (D : Definitions) × (B : Block) × MayBeAdded heap.now.objects table.old D block.now B }
+    ensures table { (D : Definitions) (B : Block) → MayBeAdded heap.now.objects table.old D block.now B → OnOk result (StandsFor heap.now.objects table.new (with_block B D)) }
+    ensures arity { OnOk result (arity.new ≡ with_pairs heap.now.objects pairs.now arity.old) }
     ensures entries { OnOk result (entries.new ≡ entries.old ++ block.now ∷ []) }
     ensures known { OnOk result (known.new ≡ reverse axioms.now ++ known.old) }
     ensures err_table { (os : List Object) (E : Definitions) → StandsFor os table.old E → OnErr result (StandsFor os table.new E) }
@@ -134,11 +134,11 @@ fn add_parts(
     table: &mut Table,
     known: &mut Known,
 ) -> Result<(), Memory>
-    requires symbols { ArePairsOfSymbols heap.now pairs.now }
-    requires new { AreNew heap.now arity.old pairs.now }
-    requires block { (D : Definitions) × (B : Block) × MayBeAdded heap.now table.old D block.now B }
-    ensures table { (D : Definitions) (B : Block) → MayBeAdded heap.now table.old D block.now B → OnOk result (StandsFor heap.now table.new (with_block B D)) }
-    ensures arity { OnOk result (arity.new ≡ with_pairs heap.now pairs.now arity.old) }
+    requires symbols { ArePairsOfSymbols heap.now.objects pairs.now }
+    requires new { AreNew heap.now.objects arity.old pairs.now }
+    requires block { (D : Definitions) × (B : Block) × MayBeAdded heap.now.objects table.old D block.now B }
+    ensures table { (D : Definitions) (B : Block) → MayBeAdded heap.now.objects table.old D block.now B → OnOk result (StandsFor heap.now.objects table.new (with_block B D)) }
+    ensures arity { OnOk result (arity.new ≡ with_pairs heap.now.objects pairs.now arity.old) }
     ensures entries { OnOk result (entries.new ≡ entries.old ++ block.now ∷ []) }
     ensures known { OnOk result (known.new ≡ reverse axioms.now ++ known.old) }
     ensures err_table { (os : List Object) (E : Definitions) → StandsFor os table.old E → OnErr result (StandsFor os table.new E) }

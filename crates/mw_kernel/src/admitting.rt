@@ -20,9 +20,9 @@ pub(crate) enum Drafts {
 
 /// Tests these functions under an arity table: what they owe and add, or the first test that fails.
 pub(crate) fn admit(heap: &mut Heap, drafts: Drafts, arity: &Arity) -> Admitted
-    requires { AreWithin heap.old drafts }
-    ensures grows { Grows heap.old heap.new }
-    ensures admitted { IsBlockOf arity.now (drafts_given heap.old drafts) heap.new result }
+    requires { AreWithin heap.old.objects drafts }
+    ensures grows { Grows heap.old.objects heap.new.objects }
+    ensures admitted { IsBlockOf arity.now (drafts_given heap.old.objects drafts) heap.new.objects result }
 {
     match drafts {
         Drafts::One(draft) => admit_function(heap, draft, arity),
@@ -30,25 +30,19 @@ pub(crate) fn admit(heap: &mut Heap, drafts: Drafts, arity: &Arity) -> Admitted
     }
 }
 
-/// The number of objects up to the last one of these definitions, to go back to: what stands behind it is none of theirs.
-pub(crate) fn mark_behind(heap: &Heap, drafts: &Drafts) -> Mark
-    requires { AreWithin heap.now drafts.now }
+/// The number of objects up to the last one of these definitions, to go back to: what stands after it is none of theirs.
+pub(crate) fn mark_after(heap: &Heap, drafts: &Drafts) -> Mark
+    requires { AreWithin heap.now.objects drafts.now }
     ensures before { AreBefore result drafts.now }
-    ensures within { result ≤ length heap.now }
+    ensures within { result ≤ length heap.now.objects }
 {
     match *drafts {
         Drafts::One(draft) => {
-            let names = later(
-                heap.mark_behind(draft.name),
-                heap.mark_behind(draft.formals),
-            );
-            let terms = later(
-                heap.mark_behind(draft.body),
-                heap.mark_behind(draft.measure),
-            );
+            let names = later(heap.mark_after(draft.name), heap.mark_after(draft.formals));
+            let terms = later(heap.mark_after(draft.body), heap.mark_after(draft.measure));
             later(names, terms)
         }
-        Drafts::All(definitions) => heap.mark_behind(definitions),
+        Drafts::All(definitions) => heap.mark_after(definitions),
     }
 }
 

@@ -20,9 +20,9 @@ use mw_truth::soundness::initial_sound;
 
 /// The initial theory of a profile.
 pub(crate) fn begin(heap: &mut Heap, profile: Profile) -> Result<Theory, Memory>
-    ensures grows { Grows heap.old heap.new }
-    ensures held { IfOk result (IsHeld heap.new) }
-    ensures theory { IfOk result (λ t. meant heap.new (parts_of t) ≡ initial (profile_of profile)) }
+    ensures grows { Grows heap.old.objects heap.new.objects }
+    ensures held { IfOk result (IsHeld heap.new.objects) }
+    ensures theory { IfOk result (λ t. meant heap.new.objects (parts_of t) ≡ initial (profile_of profile)) }
 {
     initial_sound();
     let primitives = build(heap, profile)?;
@@ -60,10 +60,10 @@ fn is_first(profile: Profile) -> bool
 
 // Puts these axioms in front of those that are known, the last one foremost. The list of them is handed on.
 fn add_axioms(heap: &mut Heap, known: &mut Known, list: Ref, axioms: &[Ref]) -> Result<Ref, Memory>
-    requires list { IsIn heap.old list }
-    requires axioms { All (IsIn heap.old) axioms.now }
-    ensures grows { Grows heap.old heap.new }
-    ensures list { IfOk result (λ r. IsIn heap.new r × (object_at heap.new r ≡ put_all (map (object_at heap.old) axioms.now) (object_at heap.old list))) }
+    requires list { IsIn heap.old.objects list }
+    requires axioms { All (IsIn heap.old.objects) axioms.now }
+    ensures grows { Grows heap.old.objects heap.new.objects }
+    ensures list { IfOk result (λ r. IsIn heap.new.objects r × (object_at heap.new.objects r ≡ put_all (map (object_at heap.old.objects) axioms.now) (object_at heap.old.objects list))) }
     ensures known { OnOk result (known.new ≡ reverse axioms.now ++ known.old) }
 {
     let list = with_all(heap, axioms, list)?;
@@ -73,8 +73,8 @@ fn add_axioms(heap: &mut Heap, known: &mut Known, list: Ref, axioms: &[Ref]) -> 
 
 // The arity table as an object, the newest pair first.
 fn list_arities(heap: &mut Heap, arity: &Arity) -> Result<Ref, Memory>
-    ensures grows { Grows heap.old heap.new }
-    ensures list { IfOk result (λ r. IsIn heap.new r × (object_at heap.new r ≡ table_object arity.now)) }
+    ensures grows { Grows heap.old.objects heap.new.objects }
+    ensures list { IfOk result (λ r. IsIn heap.new.objects r × (object_at heap.new.objects r ≡ table_object arity.now)) }
 {
     let mut list = heap.symbol(b"NIL")?;
     for index in 0..arity.len() {
@@ -86,10 +86,10 @@ fn list_arities(heap: &mut Heap, arity: &Arity) -> Result<Ref, Memory>
 
 // Puts the pair (name . count) in front of a list.
 fn add_arity(heap: &mut Heap, list: Ref, name: &[u8], count: u64) -> Result<Ref, Memory>
-    requires list { IsIn heap.old list }
+    requires list { IsIn heap.old.objects list }
     requires name { is_name name.now ≡ true }
-    ensures grows { Grows heap.old heap.new }
-    ensures list { IfOk result (λ r. IsIn heap.new r × (object_at heap.new r ≡ Pair (Pair (Symbol (name_of_bytes name.now)) (Natural count)) (object_at heap.old list))) }
+    ensures grows { Grows heap.old.objects heap.new.objects }
+    ensures list { IfOk result (λ r. IsIn heap.new.objects r × (object_at heap.new.objects r ≡ Pair (Pair (Symbol (name_of_bytes name.now)) (Natural count)) (object_at heap.old.objects list))) }
 {
     let name = heap.symbol(name)?;
     with_pair(heap, name, count, list)

@@ -13,8 +13,8 @@ use std::alloc::Global;
 
 /// Adds a block to the code. Where memory is refused the table stands for what it stood for.
 pub(crate) fn add_code(table: &mut Table, heap: &Heap, block: &[Definition]) -> Result<(), Memory>
-    requires block { (D : Definitions) × (B : Block) × MayBeAdded heap.now table.old D block.now B }
-    ensures added { (D : Definitions) (B : Block) → MayBeAdded heap.now table.old D block.now B → OnOk result (StandsFor heap.now table.new (with_block B D)) }
+    requires block { (D : Definitions) × (B : Block) × MayBeAdded heap.now.objects table.old D block.now B }
+    ensures added { (D : Definitions) (B : Block) → MayBeAdded heap.now.objects table.old D block.now B → OnOk result (StandsFor heap.now.objects table.new (with_block B D)) }
     ensures err { (os : List Object) (E : Definitions) → StandsFor os table.old E → OnErr result (StandsFor os table.new E) }
 {
     let spellings = spellings_of(block, heap.alloc())?;

@@ -25,13 +25,13 @@ pub(crate) fn refusal_of_definitions(
     machine: &mut Machine,
     steps: u64,
 ) -> Result<Option<Refusal>, Memory>
-    requires drafts { AreWithin heap.old drafts.now }
-    requires proofs { IsIn heap.old proofs }
-    requires held { IsHeld heap.old theory.now }
-    requires marked { AreMarks theory.now.arity heap.old marks.old }
-    ensures grows { Grows heap.old heap.new }
-    ensures marked { AreMarks theory.now.arity heap.new marks.new }
-    ensures defined { IfOk result (λ r. IsDefined (meant heap.old (parts_of theory.now)) steps (drafts_given heap.old drafts.now) (object_at heap.old proofs) (option_map refusal_of r)) }
+    requires drafts { AreWithin heap.old.objects drafts.now }
+    requires proofs { IsIn heap.old.objects proofs }
+    requires held { IsHeld heap.old.objects theory.now }
+    requires marked { AreMarks theory.now.arity heap.old.objects marks.old }
+    ensures grows { Grows heap.old.objects heap.new.objects }
+    ensures marked { AreMarks theory.now.arity heap.new.objects marks.new }
+    ensures defined { IfOk result (λ r. IsDefined (meant heap.old.objects (parts_of theory.now)) steps (drafts_given heap.old.objects drafts.now) (object_at heap.old.objects proofs) (option_map refusal_of r)) }
 {
     match admit(heap, *drafts, &theory.arity) {
         Admitted::Obligations(owed) => refusal_of_proofs(

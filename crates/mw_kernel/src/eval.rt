@@ -16,6 +16,7 @@ ghost use Rattle.mw_kernel.specs.Evaluating.{IsTried};
 
 use crate::Fate;
 use crate::fate::shown;
+use crate::running::run_entry;
 use mw_code::Table;
 use mw_heap::{Heap, Memory, Ref, Refusal};
 use mw_machine::{Machine, Outcome};
@@ -31,17 +32,17 @@ pub(crate) enum Tried {
 
 // Whether a term has no free variables.
 fn has_no_variables(heap: &Heap, term: Ref) -> Result<bool, Memory>
-    requires { IsIn heap.now term }
-    ensures { IfOk result (λ b. (t : Term) → term_of (object_at heap.now term) ≡ Some t → b ≡ is_closed [] t) }
+    requires { IsIn heap.now.objects term }
+    ensures { IfOk result (λ b. (t : Term) → term_of (object_at heap.now.objects term) ≡ Some t → b ≡ is_closed [] t) }
 {
     Ok(vars(heap, term)?.as_slice().is_empty())
 }
 
 // The term without variables that a raw term expands to, or the first of the reasons Term and Variables that holds.
 fn closed_term(heap: &mut Heap, raw: Ref, arity: &Arity) -> Result<Tried, Memory>
-    requires { IsIn heap.old raw }
-    ensures grows { Grows heap.old heap.new }
-    ensures tried { IfOk result (IsTried arity.now heap.new (object_at heap.old raw)) }
+    requires { IsIn heap.old.objects raw }
+    ensures grows { Grows heap.old.objects heap.new.objects }
+    ensures tried { IfOk result (IsTried arity.now heap.new.objects (object_at heap.old.objects raw)) }
 {
     match expand(heap, raw, arity, &[]) {
         Expanded::Term(term) => {
@@ -58,8 +59,8 @@ fn closed_term(heap: &mut Heap, raw: Ref, arity: &Arity) -> Result<Tried, Memory
 
 // The fate of an EVAL whose run came to this.
 fn fate_of_run(heap: &Heap, outcome: Outcome) -> Result<Fate, Memory>
-    requires { (o : Due) × Answers heap.now o outcome }
-    ensures { IfOk result (λ f. (t : Theory) (o : Due) → Answers heap.now o outcome → fate_of f ≡ (show_outcome t o).0) }
+    requires { (o : Due) × Answers heap.now.objects o outcome }
+    ensures { IfOk result (λ f. (t : Theory) (o : Due) → Answers heap.now.objects o outcome → fate_of f ≡ (show_outcome t o).0) }
 {
     match outcome {
         Outcome::Value(value, _) => shown(heap, value),
@@ -78,16 +79,16 @@ fn run_term(
     machine: &mut Machine,
     steps: u64,
 ) -> Outcome
-    requires { (D : Definitions) × (t : Term) × StandsFor heap.old table.old D × IsClosedTerm D heap.old term t }
-    ensures grows { Grows heap.old heap.new }
+    requires { (D : Definitions) × (t : Term) × StandsFor heap.old.objects table.old D × IsClosedTerm D heap.old.objects term t }
+    ensures grows { Grows heap.old.objects heap.new.objects }
     ensures table { (os : List Object) (D : Definitions) → StandsFor os table.old D → StandsFor os table.new D }
-    ensures outcome { (D : Definitions) (t : Term) → StandsFor heap.old table.old D → IsClosedTerm D heap.old term t → Answers heap.new (evaluate D steps [] t) result }
+    ensures outcome { (D : Definitions) (t : Term) → StandsFor heap.old.objects table.old D → IsClosedTerm D heap.old.objects term t → Answers heap.new.objects (evaluate D steps [] t) result }
 {
     let Ok(entry) = table.compile_call(heap, term) else {
         table.forget_call();
         return Outcome::Memory;
     };
-    let outcome = machine.run(heap, table, &entry, &[], steps);
+    let outcome = run_entry(heap, table, machine, &entry, &[], steps);
     table.forget_call();
     outcome
 }
@@ -106,11 +107,11 @@ pub(crate) fn evaluated(
     machine: &mut Machine,
     steps: u64,
 ) -> Result<Fate, Memory>
-    requires within { IsIn heap.old raw }
-    requires table { (D : Definitions) × StandsFor heap.old table.old D × (arity.now ≡ arity_table D) }
-    ensures grows { Grows heap.old heap.new }
+    requires within { IsIn heap.old.objects raw }
+    requires table { (D : Definitions) × StandsFor heap.old.objects table.old D × (arity.now ≡ arity_table D) }
+    ensures grows { Grows heap.old.objects heap.new.objects }
     ensures table { (os : List Object) (D : Definitions) → StandsFor os table.old D → StandsFor os table.new D }
-    ensures fate { IfOk result (λ f. (t : Theory) → StandsFor heap.old table.old t.definitions → arity.now ≡ arity_table t.definitions → fate_of f ≡ (eval t steps (eval_event (object_at heap.old raw))).0) }
+    ensures fate { IfOk result (λ f. (t : Theory) → StandsFor heap.old.objects table.old t.definitions → arity.now ≡ arity_table t.definitions → fate_of f ≡ (eval t steps (eval_event (object_at heap.old.objects raw))).0) }
 {
     match closed_term(heap, raw, arity)? {
         Tried::Refused(reason) => Ok(Fate::Refused(reason)),

@@ -43,8 +43,8 @@ pub(crate) enum Event {
 
 // The event of this word with these members, where they are as many as it has.
 fn event_with(heap: &Heap, word: Word, members: Ref) -> Option<Event>
-    requires { IsIn heap.now members }
-    ensures { MatchOption result (has_members (members_after word) (object_at heap.now members) ≡ false) (IsEventOf heap.now word members) }
+    requires { IsIn heap.now.objects members }
+    ensures { MatchOption result (has_members (members_after word) (object_at heap.now.objects members) ≡ false) (IsEventOf heap.now.objects word members) }
 {
     match word {
         Word::Verify => {
@@ -90,9 +90,9 @@ fn event_with(heap: &Heap, word: Word, members: Ref) -> Option<Event>
 
 /// The event that an object is; nothing of what is none.
 pub(crate) fn event_of(heap: &Heap, x: Ref) -> Option<Event>
-    requires { IsIn heap.now x }
-    ensures event { MatchOption result (event_word (object_at heap.now x) ≡ None) (IsEvent heap.now x) }
-    ensures in_range { is_out_of_range (object_at heap.now x) ≡ false }
+    requires { IsIn heap.now.objects x }
+    ensures event { MatchOption result (event_word (object_at heap.now.objects x) ≡ None) (IsEvent heap.now.objects x) }
+    ensures in_range { is_out_of_range (object_at heap.now.objects x) ≡ false }
 {
     let View::Pair(first, members) = heap.view(x) else {
         return None;

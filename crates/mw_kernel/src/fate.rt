@@ -28,8 +28,8 @@ pub(crate) fn accepted(heap: &Heap) -> Fate
 
 // The fate of an event that shows an object.
 pub(crate) fn shown(heap: &Heap, x: Ref) -> Result<Fate, Memory>
-    requires { IsIn heap.now x }
-    ensures { IfOk result (λ f. (t : Theory) → fate_of f ≡ (show t (text_of (object_at heap.now x))).0) }
+    requires { IsIn heap.now.objects x }
+    ensures { IfOk result (λ f. (t : Theory) → fate_of f ≡ (show t (text_of (object_at heap.now.objects x))).0) }
 {
     let mut text = Vec::new(heap.alloc());
     match print(heap, x, &mut text) {

@@ -13,8 +13,8 @@ use mw_preamble::Definition;
 /// The objects that stand before each name of a block; all, where it has none. No name of the block is a part of one of them, so that
 /// with the block in the arity table they are what they were: terms, formulas or neither.
 pub(crate) fn first_name(heap: &Heap, block: &[Definition]) -> Mark
-    ensures place { result ≡ first_place (length heap.now) block.now }
-    ensures marks { (A : ArityTable) (B : Block) (ms : List CellMark) → IsBlock heap.now block.now B → length ms ≤ result → AreMarks A heap.now ms → AreMarks (add_block B A) heap.now ms }
+    ensures place { result ≡ first_place (length heap.now.objects) block.now }
+    ensures marks { (A : ArityTable) (B : Block) (ms : List CellMark) → IsBlock heap.now.objects block.now B → length ms ≤ result → AreMarks A heap.now.objects ms → AreMarks (add_block B A) heap.now.objects ms }
 {
     heap.order();
     let mut first = heap.mark();

@@ -9,6 +9,7 @@ ghost use Rattle.mw_machine.specs.State.{Answers};
 ghost use Rattle.mw_kernel.specs.Knowledge.{parts_of, name_read, meant, IsHeld};
 ghost use Rattle.mw_kernel.specs.Proofs.{judged_for};
 
+use crate::running::run_entry;
 use crate::theory::Theory;
 use mw_heap::{Heap, Memory, Ref, Refusal};
 use mw_machine::{Machine, Outcome};
@@ -28,13 +29,13 @@ pub(crate) fn refusal_of_proof(
     machine: &mut Machine,
     steps: u64,
 ) -> Result<Option<Refusal>, Memory>
-    requires formula { IsIn heap.old formula }
-    requires proof { IsIn heap.old proof }
-    requires held { IsHeld heap.old theory.now }
-    requires marked { AreMarks theory.now.arity heap.old marks.old }
-    ensures grows { Grows heap.old heap.new }
-    ensures marked { AreMarks theory.now.arity heap.new marks.new }
-    ensures refusal { IfOk result (λ r. option_map refusal_of r ≡ judged_for (meant heap.old (parts_of theory.now)) steps (object_at heap.old formula) (object_at heap.old proof)) }
+    requires formula { IsIn heap.old.objects formula }
+    requires proof { IsIn heap.old.objects proof }
+    requires held { IsHeld heap.old.objects theory.now }
+    requires marked { AreMarks theory.now.arity heap.old.objects marks.old }
+    ensures grows { Grows heap.old.objects heap.new.objects }
+    ensures marked { AreMarks theory.now.arity heap.new.objects marks.new }
+    ensures refusal { IfOk result (λ r. option_map refusal_of r ≡ judged_for (meant heap.old.objects (parts_of theory.now)) steps (object_at heap.old.objects formula) (object_at heap.old.objects proof)) }
 {
     if !heap.is_same(heap.second_of(proof), Some(formula)) {
         return Ok(Some(Refusal::Conclusion));
@@ -52,12 +53,12 @@ fn refusal_by_rules(
     theory: &Theory,
     marks: &mut Marks,
 ) -> Result<Option<Refusal>, Memory>
-    requires proof { IsIn heap.old proof }
-    requires held { IsHeld heap.old theory.now }
-    requires marked { AreMarks theory.now.arity heap.old marks.old }
-    ensures grows { Grows heap.old heap.new }
-    ensures marked { AreMarks theory.now.arity heap.new marks.new }
-    ensures refusal { (N : ℕ) → IfOk result (λ r. option_map refusal_of r ≡ judged_by None (meant heap.old (parts_of theory.now)) (object_at heap.old proof) N) }
+    requires proof { IsIn heap.old.objects proof }
+    requires held { IsHeld heap.old.objects theory.now }
+    requires marked { AreMarks theory.now.arity heap.old.objects marks.old }
+    ensures grows { Grows heap.old.objects heap.new.objects }
+    ensures marked { AreMarks theory.now.arity heap.new.objects marks.new }
+    ensures refusal { (N : ℕ) → IfOk result (λ r. option_map refusal_of r ≡ judged_by None (meant heap.old.objects (parts_of theory.now)) (object_at heap.old.objects proof) N) }
 {
     match judge(
         heap,
@@ -84,24 +85,24 @@ fn refusal_by_run(
     machine: &mut Machine,
     steps: u64,
 ) -> Result<Option<Refusal>, Memory>
-    requires proof { IsIn heap.old proof }
-    requires held { IsHeld heap.old theory.now }
+    requires proof { IsIn heap.old.objects proof }
+    requires held { IsHeld heap.old.objects theory.now }
     requires checker { theory.now.checker ≡ Some checker }
-    ensures grows { Grows heap.old heap.new }
-    ensures refusal { IfOk result (λ r. option_map refusal_of r ≡ judged_by (name_read heap.old (Some checker)) (meant heap.old (parts_of theory.now)) (object_at heap.old proof) steps) }
+    ensures grows { Grows heap.old.objects heap.new.objects }
+    ensures refusal { IfOk result (λ r. option_map refusal_of r ≡ judged_by (name_read heap.old.objects (Some checker)) (meant heap.old.objects (parts_of theory.now)) (object_at heap.old.objects proof) steps) }
 {
     let Some(code) = theory.table.find(heap.name_of(checker)) else {
         unreachable!()
     };
     let arguments = [proof, theory.axioms, theory.theorems, theory.arity_list];
-    let outcome = machine.run(heap, &theory.table, &code, &arguments, steps);
+    let outcome = run_entry(heap, &theory.table, machine, &code, &arguments, steps);
     refusal_of_outcome(heap, outcome)
 }
 
 // Why a proof on which a checker's run came to this is refused, where it is.
 fn refusal_of_outcome(heap: &Heap, outcome: Outcome) -> Result<Option<Refusal>, Memory>
-    requires { (o : Due) × Answers heap.now o outcome }
-    ensures { (o : Due) → Answers heap.now o outcome → IfOk result (λ r. option_map refusal_of r ≡ verdict o) }
+    requires { (o : Due) × Answers heap.now.objects o outcome }
+    ensures { (o : Due) → Answers heap.now.objects o outcome → IfOk result (λ r. option_map refusal_of r ≡ verdict o) }
 {
     match outcome {
         Outcome::Value(value, _) => Ok(refusal_of_value(heap, value)),
@@ -114,8 +115,8 @@ fn refusal_of_outcome(heap: &Heap, outcome: Outcome) -> Result<Option<Refusal>, 
 
 // A checker says no with NIL, and yes with any other value.
 fn refusal_of_value(heap: &Heap, value: Ref) -> Option<Refusal>
-    requires { IsIn heap.now value }
-    ensures { (left : ℕ) → option_map refusal_of result ≡ verdict (Value (object_at heap.now value) left) }
+    requires { IsIn heap.now.objects value }
+    ensures { (left : ℕ) → option_map refusal_of result ≡ verdict (Value (object_at heap.now.objects value) left) }
 {
     if heap.is_nil(Some(value)) {
         Some(Refusal::Nil)

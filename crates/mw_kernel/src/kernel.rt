@@ -20,7 +20,7 @@ ghost use Rattle.mw_kernel.specs.Switching.{switched, with_checker};
 ghost use Rattle.mw_kernel.specs.Fates.{fate_of, verified, KeepsRoom};
 
 use crate::Fate;
-use crate::admitting::{Drafts, admit, functions_of, mark_behind, witness_of};
+use crate::admitting::{Drafts, admit, functions_of, mark_after, witness_of};
 use crate::beginning::begin;
 use crate::claim::claim;
 use crate::define::refusal_of_definitions;
@@ -46,7 +46,7 @@ use std::marker::Model;
 
 /// A sound theory in a heap, which events change: each event once or not at all.
 /// `level`, `checker`, `axioms`, `theorems` and `arity` show parts of the theory and nothing else, and what `claim` makes depends on the name
-/// alone. So after an event that is refused, and after want of memory, all six show what they showed before.
+/// alone. So after an event that is refused, and after running out of memory, all six show what they showed before.
 #[derive(Drop)]
 pub struct Kernel {
     heap: Heap,
@@ -66,9 +66,9 @@ impl Model for Kernel {
 
     ghost coded = { coded_knowledge };
 
-    ghost view = { λ k. record { objects = k.heap; needed = k.needed; parts = parts_of k.theory; steps = k.steps } };
+    ghost view = { λ k. record { objects = k.heap.objects; needed = k.needed; parts = parts_of k.theory; steps = k.steps } };
 
-    ghost invariant = { λ k. IsKernel k.heap k.needed k.theory k.marks };
+    ghost invariant = { λ k. IsKernel k.heap.objects k.needed k.theory k.marks };
 }
 
 impl Kernel {
@@ -91,7 +91,7 @@ impl Kernel {
         })
     }
 
-    /// What the reader reads next in a piece of the book, and how many bytes that takes. The theory stays. Behind `Syntax` and `Memory`
+    /// What the reader reads next in a piece of the book, and how many bytes that takes. The theory stays. After `Syntax` and `Memory`
     /// the reader answers the same again.
     pub fn step(&mut self, reader: &mut Reader, piece: &[u8]) -> (Step, usize)
         requires stands { IsStanding self.old.objects reader.old.parser ⊎ HasEnded reader.old.parser }
@@ -110,7 +110,7 @@ impl Kernel {
     }
 
     /// What the reader reads next in the bytes that it was fed, or, where it was finished and no datum is left in them, that the book has
-    /// ended. The theory stays. Behind `Syntax` and `Memory` the reader answers the same again.
+    /// ended. The theory stays. After `Syntax` and `Memory` the reader answers the same again.
     pub fn next(&mut self, reader: &mut Reader) -> Step
         requires ready { IsReady self.old.objects reader.old }
         ensures grows { Grows self.old.objects self.new.objects }
@@ -153,7 +153,7 @@ impl Kernel {
 
     /// The heap of the theory.
     pub fn heap(&self) -> &Heap
-        ensures { result.now ≡ self.now.objects }
+        ensures { result.now.objects ≡ self.now.objects }
     {
         &self.heap
     }
@@ -365,7 +365,7 @@ impl Kernel {
         if let Some(reason) = refused {
             return Ok(Fate::Refused(reason));
         }
-        self.cut_behind(&drafts);
+        self.cut_after(&drafts);
         self.add_functions(drafts)
     }
 
@@ -392,15 +392,15 @@ impl Kernel {
         Ok(accepted(&self.heap))
     }
 
-    // Forgets what stands behind these definitions and all that the theory needs.
-    fn cut_behind(&mut self, drafts: &Drafts)
+    // Forgets what stands after these definitions and all that the theory needs.
+    fn cut_after(&mut self, drafts: &Drafts)
         requires { AreWithin self.old.objects drafts.now }
         ensures drafts { (AreWithin self.new.objects drafts.now) × (drafts_given self.new.objects drafts.now ≡ drafts_given self.old.objects drafts.now) }
         ensures theory { theory_of self.new ≡ theory_of self.old }
         ensures needed { self.new.needed ≡ self.old.needed }
         ensures steps { self.new.steps ≡ self.old.steps }
     {
-        let behind = mark_behind(&self.heap, drafts);
+        let behind = mark_after(&self.heap, drafts);
         self.cut_to(later(behind, self.needed));
     }
 
@@ -447,7 +447,7 @@ impl Kernel {
         ensures err { OnErr result (theory_of self.new ≡ theory_of self.old) }
         ensures steps { self.new.steps ≡ self.old.steps }
     {
-        let behind = self.heap.mark_behind(formula);
+        let behind = self.heap.mark_after(formula);
         self.cut_to(later(behind, self.needed));
         self.theory.add_theorem(&mut self.heap, formula)?;
         self.needed = self.heap.mark();
@@ -484,7 +484,7 @@ impl Kernel {
         ensures theory { theory_of self.new ≡ with_checker (theory_of self.old) (name_of (object_at self.old.objects name)) }
         ensures steps { self.new.steps ≡ self.old.steps }
     {
-        let behind = self.heap.mark_behind(name);
+        let behind = self.heap.mark_after(name);
         self.cut_to(later(behind, self.needed));
         self.theory.checker = Some(name);
         self.theory.level = level;

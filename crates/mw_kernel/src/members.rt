@@ -7,8 +7,8 @@ use mw_heap::{Heap, Ref, View};
 
 /// The member of a list of one.
 pub(crate) fn one_member(heap: &Heap, x: Ref) -> Option<Ref>
-    requires { IsIn heap.now x }
-    ensures { MatchOption result (has_members 1 (object_at heap.now x) ≡ false) (λ m. (object_at heap.now x ≡ list1 (object_at heap.now m)) × (m < x)) }
+    requires { IsIn heap.now.objects x }
+    ensures { MatchOption result (has_members 1 (object_at heap.now.objects x) ≡ false) (λ m. (object_at heap.now.objects x ≡ list1 (object_at heap.now.objects m)) × (m < x)) }
 {
     match heap.view(x) {
         View::Pair(first, rest) if heap.is_nil(Some(rest)) => Some(first),
@@ -18,8 +18,8 @@ pub(crate) fn one_member(heap: &Heap, x: Ref) -> Option<Ref>
 
 /// The members of a list of two.
 pub(crate) fn two_members(heap: &Heap, x: Ref) -> Option<(Ref, Ref)>
-    requires { IsIn heap.now x }
-    ensures { MatchOption result (has_members 2 (object_at heap.now x) ≡ false) (λ m. (object_at heap.now x ≡ list2 (object_at heap.now m.0) (object_at heap.now m.1)) × (m.0 < x) × (m.1 < x)) }
+    requires { IsIn heap.now.objects x }
+    ensures { MatchOption result (has_members 2 (object_at heap.now.objects x) ≡ false) (λ m. (object_at heap.now.objects x ≡ list2 (object_at heap.now.objects m.0) (object_at heap.now.objects m.1)) × (m.0 < x) × (m.1 < x)) }
 {
     let View::Pair(first, rest) = heap.view(x) else {
         return None;
@@ -32,8 +32,8 @@ pub(crate) fn two_members(heap: &Heap, x: Ref) -> Option<(Ref, Ref)>
 
 /// The members of a list of three.
 pub(crate) fn three_members(heap: &Heap, x: Ref) -> Option<(Ref, Ref, Ref)>
-    requires { IsIn heap.now x }
-    ensures { MatchOption result (has_members 3 (object_at heap.now x) ≡ false) (λ m. (object_at heap.now x ≡ list3 (object_at heap.now m.0) (object_at heap.now m.1) (object_at heap.now m.2)) × (m.0 < x) × (m.1 < x) × (m.2 < x)) }
+    requires { IsIn heap.now.objects x }
+    ensures { MatchOption result (has_members 3 (object_at heap.now.objects x) ≡ false) (λ m. (object_at heap.now.objects x ≡ list3 (object_at heap.now.objects m.0) (object_at heap.now.objects m.1) (object_at heap.now.objects m.2)) × (m.0 < x) × (m.1 < x) × (m.2 < x)) }
 {
     let View::Pair(first, rest) = heap.view(x) else {
         return None;
@@ -46,8 +46,8 @@ pub(crate) fn three_members(heap: &Heap, x: Ref) -> Option<(Ref, Ref, Ref)>
 
 /// The members of a list of four.
 pub(crate) fn four_members(heap: &Heap, x: Ref) -> Option<(Ref, Ref, Ref, Ref)>
-    requires { IsIn heap.now x }
-    ensures { MatchOption result (has_members 4 (object_at heap.now x) ≡ false) (λ m. (object_at heap.now x ≡ list4 (object_at heap.now m.0) (object_at heap.now m.1) (object_at heap.now m.2) (object_at heap.now m.3)) × (m.0 < x) × (m.1 < x) × (m.2 < x) × (m.3 < x)) }
+    requires { IsIn heap.now.objects x }
+    ensures { MatchOption result (has_members 4 (object_at heap.now.objects x) ≡ false) (λ m. (object_at heap.now.objects x ≡ list4 (object_at heap.now.objects m.0) (object_at heap.now.objects m.1) (object_at heap.now.objects m.2) (object_at heap.now.objects m.3)) × (m.0 < x) × (m.1 < x) × (m.2 < x) × (m.3 < x)) }
 {
     let View::Pair(first, rest) = heap.view(x) else {
         return None;
@@ -60,8 +60,8 @@ pub(crate) fn four_members(heap: &Heap, x: Ref) -> Option<(Ref, Ref, Ref, Ref)>
 
 /// The members of a list of five.
 pub(crate) fn five_members(heap: &Heap, x: Ref) -> Option<(Ref, Ref, Ref, Ref, Ref)>
-    requires { IsIn heap.now x }
-    ensures { MatchOption result (has_members 5 (object_at heap.now x) ≡ false) (λ m. (object_at heap.now x ≡ Pair (object_at heap.now m.0) (list4 (object_at heap.now m.1) (object_at heap.now m.2) (object_at heap.now m.3) (object_at heap.now m.4))) × (m.0 < x) × (m.1 < x) × (m.2 < x) × (m.3 < x) × (m.4 < x)) }
+    requires { IsIn heap.now.objects x }
+    ensures { MatchOption result (has_members 5 (object_at heap.now.objects x) ≡ false) (λ m. (object_at heap.now.objects x ≡ Pair (object_at heap.now.objects m.0) (list4 (object_at heap.now.objects m.1) (object_at heap.now.objects m.2) (object_at heap.now.objects m.3) (object_at heap.now.objects m.4))) × (m.0 < x) × (m.1 < x) × (m.2 < x) × (m.3 < x) × (m.4 < x)) }
 {
     let View::Pair(first, rest) = heap.view(x) else {
         return None;

@@ -8,8 +8,8 @@ use mw_heap::{Heap, Profile, Ref, View};
 
 /// The profile of this number, 1 or 2; nothing of any other object.
 pub(crate) fn profile_numbered(heap: &Heap, number: Ref) -> Option<Profile>
-    requires { IsIn heap.now number }
-    ensures { option_map profile_of result ≡ profile_asked (object_at heap.now number) }
+    requires { IsIn heap.now.objects number }
+    ensures { option_map profile_of result ≡ profile_asked (object_at heap.now.objects number) }
 {
     match heap.view(number) {
         View::Nat(1) => Some(Profile::One),

@@ -7,7 +7,7 @@ ghost use Rattle.mw_model.specs.Checking.{judged_each};
 ghost use Rattle.mw_heap.specs.Objects.{object_at, IsIn, Grows};
 ghost use Rattle.mw_heap.specs.Variants.{refusal_of};
 ghost use Rattle.mw_term.specs.Marking.{AreMarks};
-ghost use Rattle.mw_proof.specs.Known.{known_object};
+ghost use Rattle.mw_heap.specs.Lists.{list_object};
 ghost use Rattle.mw_kernel.specs.Knowledge.{parts_of, meant, IsHeld};
 ghost use Rattle.mw_kernel.specs.Proofs.{judged_all};
 
@@ -28,13 +28,13 @@ pub(crate) fn refusal_of_proofs(
     machine: &mut Machine,
     steps: u64,
 ) -> Result<Option<Refusal>, Memory>
-    requires obligations { IsIn heap.old obligations }
-    requires proofs { IsIn heap.old proofs }
-    requires held { IsHeld heap.old theory.now }
-    requires marked { AreMarks theory.now.arity heap.old marks.old }
-    ensures grows { Grows heap.old heap.new }
-    ensures marked { AreMarks theory.now.arity heap.new marks.new }
-    ensures refusal { IfOk result (λ r. (Fs : List Formula) → object_at heap.old obligations ≡ formulas_object Fs → option_map refusal_of r ≡ judged_all (meant heap.old (parts_of theory.now)) steps Fs (object_at heap.old proofs)) }
+    requires obligations { IsIn heap.old.objects obligations }
+    requires proofs { IsIn heap.old.objects proofs }
+    requires held { IsHeld heap.old.objects theory.now }
+    requires marked { AreMarks theory.now.arity heap.old.objects marks.old }
+    ensures grows { Grows heap.old.objects heap.new.objects }
+    ensures marked { AreMarks theory.now.arity heap.new.objects marks.new }
+    ensures refusal { IfOk result (λ r. (Fs : List Formula) → object_at heap.old.objects obligations ≡ formulas_object Fs → option_map refusal_of r ≡ judged_all (meant heap.old.objects (parts_of theory.now)) steps Fs (object_at heap.old.objects proofs)) }
 {
     if !has_as_many(heap, proofs, obligations) {
         return Ok(Some(Refusal::Count));
@@ -44,9 +44,9 @@ pub(crate) fn refusal_of_proofs(
 
 // Whether it is a proper list of as many members as the other list has.
 fn has_as_many(heap: &Heap, list: Ref, other: Ref) -> bool
-    requires list { IsIn heap.now list }
-    requires other { IsIn heap.now other }
-    ensures { result ≡ has_members (length_object (object_at heap.now other)) (object_at heap.now list) }
+    requires list { IsIn heap.now.objects list }
+    requires other { IsIn heap.now.objects other }
+    ensures { result ≡ has_members (length_object (object_at heap.now.objects other)) (object_at heap.now.objects list) }
 {
     let mut rest = list;
     let mut others = other;
@@ -70,14 +70,14 @@ fn first_refusal(
     machine: &mut Machine,
     steps: u64,
 ) -> Result<Option<Refusal>, Memory>
-    requires obligations { IsIn heap.old obligations }
-    requires proofs { IsIn heap.old proofs }
-    requires many { has_members (length_object (object_at heap.old obligations)) (object_at heap.old proofs) ≡ true }
-    requires held { IsHeld heap.old theory.now }
-    requires marked { AreMarks theory.now.arity heap.old marks.old }
-    ensures grows { Grows heap.old heap.new }
-    ensures marked { AreMarks theory.now.arity heap.new marks.new }
-    ensures refusal { IfOk result (λ r. (Fs : List Formula) → object_at heap.old obligations ≡ formulas_object Fs → option_map refusal_of r ≡ judged_each (meant heap.old (parts_of theory.now)) steps Fs (object_at heap.old proofs)) }
+    requires obligations { IsIn heap.old.objects obligations }
+    requires proofs { IsIn heap.old.objects proofs }
+    requires many { has_members (length_object (object_at heap.old.objects obligations)) (object_at heap.old.objects proofs) ≡ true }
+    requires held { IsHeld heap.old.objects theory.now }
+    requires marked { AreMarks theory.now.arity heap.old.objects marks.old }
+    ensures grows { Grows heap.old.objects heap.new.objects }
+    ensures marked { AreMarks theory.now.arity heap.new.objects marks.new }
+    ensures refusal { IfOk result (λ r. (Fs : List Formula) → object_at heap.old.objects obligations ≡ formulas_object Fs → option_map refusal_of r ≡ judged_each (meant heap.old.objects (parts_of theory.now)) steps Fs (object_at heap.old.objects proofs)) }
 {
     let mut formulas = obligations;
     let mut rest = proofs;
@@ -97,9 +97,9 @@ fn first_refusal(
 
 /// The members of a proper list, in order.
 pub(crate) fn list_members(heap: &Heap, list: Ref) -> Result<Vec<Ref>, Memory>
-    requires { IsIn heap.now list }
-    ensures within { IfOk result (λ members. All (IsIn heap.now) members.items) }
-    ensures members { IfOk result (λ members. is_list_object (object_at heap.now list) ≡ true → known_object heap.now members.items ≡ object_at heap.now list) }
+    requires { IsIn heap.now.objects list }
+    ensures within { IfOk result (λ members. All (IsIn heap.now.objects) members.items) }
+    ensures members { IfOk result (λ members. is_list_object (object_at heap.now.objects list) ≡ true → list_object heap.now.objects members.items ≡ object_at heap.now.objects list) }
 {
     let mut members = Vec::new(heap.alloc());
     let mut rest = list;

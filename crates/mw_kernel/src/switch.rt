@@ -6,7 +6,7 @@ ghost use Rattle.mw_model.specs.Theory.{Theory as Meant};
 ghost use Rattle.mw_model.specs.Fate.{checker_named};
 ghost use Rattle.mw_heap.specs.Objects.{object_at, IsIn, Grows};
 ghost use Rattle.mw_heap.specs.Variants.{refusal_of};
-ghost use Rattle.mw_proof.specs.Known.{known_object};
+ghost use Rattle.mw_heap.specs.Lists.{list_object};
 ghost use Rattle.mw_code.specs.Tables.{StandsFor};
 ghost use Rattle.mw_kernel.specs.Knowledge.{parts_of, meant, IsHeld};
 ghost use Rattle.mw_kernel.specs.Switching.{switch_refusal};
@@ -25,10 +25,10 @@ pub(crate) fn refusal_of_switch(
     name: Ref,
     theory: &Theory,
 ) -> Result<Option<Refusal>, Memory>
-    requires within { IsIn heap.old name }
-    requires held { IsHeld heap.old theory.now }
-    ensures grows { Grows heap.old heap.new }
-    ensures refusal { IfOk result (λ r. option_map refusal_of r ≡ switch_refusal (meant heap.old (parts_of theory.now)) (object_at heap.old name)) }
+    requires within { IsIn heap.old.objects name }
+    requires held { IsHeld heap.old.objects theory.now }
+    ensures grows { Grows heap.old.objects heap.new.objects }
+    ensures refusal { IfOk result (λ r. option_map refusal_of r ≡ switch_refusal (meant heap.old.objects (parts_of theory.now)) (object_at heap.old.objects name)) }
 {
     if !may_check(heap, name, &theory.table) {
         return Ok(Some(Refusal::Checker));
@@ -43,9 +43,9 @@ pub(crate) fn refusal_of_switch(
 
 // Whether a function with code and four formals has the name.
 fn may_check(heap: &Heap, name: Ref, table: &Table) -> bool
-    requires within { IsIn heap.now name }
-    requires table { (D : Definitions) × StandsFor heap.now table.now D }
-    ensures { (t : Meant) → StandsFor heap.now table.now t.definitions → result ≡ is_present (checker_named t (object_at heap.now name)) }
+    requires within { IsIn heap.now.objects name }
+    requires table { (D : Definitions) × StandsFor heap.now.objects table.now D }
+    ensures { (t : Meant) → StandsFor heap.now.objects table.now t.definitions → result ≡ is_present (checker_named t (object_at heap.now.objects name)) }
 {
     if !is_symbol(heap, name) {
         return false;
@@ -58,9 +58,9 @@ fn may_check(heap: &Heap, name: Ref, table: &Table) -> bool
 
 // Whether a formula is one of those that are known.
 fn is_known(heap: &Heap, formula: Ref, known: &Known) -> bool
-    requires within { IsIn heap.now formula }
-    requires known_in { All (IsIn heap.now) known.now }
-    ensures { result ≡ is_member (object_at heap.now formula) (known_object heap.now known.now) }
+    requires within { IsIn heap.now.objects formula }
+    requires known_in { All (IsIn heap.now.objects) known.now }
+    ensures { result ≡ is_member (object_at heap.now.objects formula) (list_object heap.now.objects known.now) }
 {
     // that equal objects have equal references
     let _ = heap.same(formula, formula);

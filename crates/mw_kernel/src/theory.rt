@@ -28,7 +28,7 @@ pub(crate) struct Theory {
     pub theorems: Ref,
     pub arity_list: Ref,
     pub entries: Entries,
-    // It stands behind a box, so that the proofs of its owners are short.
+    // It is boxed, so that the proofs of its owners are short.
     pub table: Box<Table>,
     // the name of a function; none for the built-in checker
     pub checker: Option<Ref>,
@@ -40,12 +40,12 @@ pub(crate) struct Theory {
 impl Theory {
     /// Puts a theorem in front of the others. Where memory is refused the theory stays.
     pub(crate) fn add_theorem(&mut self, heap: &mut Heap, formula: Ref) -> Result<(), Memory>
-        requires held { IsHeld heap.old self.old }
-        requires within { IsIn heap.old formula }
-        requires sound { IsSound (with_theorem (meant heap.old (parts_of self.old)) (object_at heap.old formula)) }
-        ensures grows { Grows heap.old heap.new }
-        ensures held { OnOk result (IsHeld heap.new self.new) }
-        ensures theory { OnOk result (meant heap.new (parts_of self.new) ≡ with_theorem (meant heap.old (parts_of self.old)) (object_at heap.old formula)) }
+        requires held { IsHeld heap.old.objects self.old }
+        requires within { IsIn heap.old.objects formula }
+        requires sound { IsSound (with_theorem (meant heap.old.objects (parts_of self.old)) (object_at heap.old.objects formula)) }
+        ensures grows { Grows heap.old.objects heap.new.objects }
+        ensures held { OnOk result (IsHeld heap.new.objects self.new) }
+        ensures theory { OnOk result (meant heap.new.objects (parts_of self.new) ≡ with_theorem (meant heap.old.objects (parts_of self.old)) (object_at heap.old.objects formula)) }
         ensures arity { OnOk result (self.new.arity ≡ self.old.arity) }
         ensures err { OnErr result (self.new ≡ self.old) }
     {
@@ -63,11 +63,11 @@ impl Theory {
         block: &[Definition],
         axioms: Ref,
     ) -> Result<(), Memory>
-        requires held { IsHeld heap.old self.old }
-        requires block { (B : Block) × IsNewBlock heap.old (parts_of self.old) block.now axioms B }
-        ensures grows { Grows heap.old heap.new }
-        ensures held { OnOk result (IsHeld heap.new self.new) }
-        ensures theory { (B : Block) → IsNewBlock heap.old (parts_of self.old) block.now axioms B → OnOk result (meant heap.new (parts_of self.new) ≡ add_to_theory (meant heap.old (parts_of self.old)) B) }
+        requires held { IsHeld heap.old.objects self.old }
+        requires block { (B : Block) × IsNewBlock heap.old.objects (parts_of self.old) block.now axioms B }
+        ensures grows { Grows heap.old.objects heap.new.objects }
+        ensures held { OnOk result (IsHeld heap.new.objects self.new) }
+        ensures theory { (B : Block) → IsNewBlock heap.old.objects (parts_of self.old) block.now axioms B → OnOk result (meant heap.new.objects (parts_of self.new) ≡ add_to_theory (meant heap.old.objects (parts_of self.old)) B) }
         ensures err { OnErr result (HasOtherCode self.old self.new) }
     {
         let members = list_members(heap, axioms)?;

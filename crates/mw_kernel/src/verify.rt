@@ -25,14 +25,14 @@ pub(crate) fn refusal(
     machine: &mut Machine,
     steps: u64,
 ) -> Result<Option<Refusal>, Memory>
-    requires name { IsIn heap.old name }
-    requires formula { IsIn heap.old formula }
-    requires proof { IsIn heap.old proof }
-    requires held { IsHeld heap.old theory.now }
-    requires marked { AreMarks theory.now.arity heap.old marks.old }
-    ensures grows { Grows heap.old heap.new }
-    ensures marked { AreMarks theory.now.arity heap.new marks.new }
-    ensures refusal { IfOk result (λ r. option_map refusal_of r ≡ verify_refusal (meant heap.old (parts_of theory.now)) steps (object_at heap.old name) (object_at heap.old formula) (object_at heap.old proof)) }
+    requires name { IsIn heap.old.objects name }
+    requires formula { IsIn heap.old.objects formula }
+    requires proof { IsIn heap.old.objects proof }
+    requires held { IsHeld heap.old.objects theory.now }
+    requires marked { AreMarks theory.now.arity heap.old.objects marks.old }
+    ensures grows { Grows heap.old.objects heap.new.objects }
+    ensures marked { AreMarks theory.now.arity heap.new.objects marks.new }
+    ensures refusal { IfOk result (λ r. option_map refusal_of r ≡ verify_refusal (meant heap.old.objects (parts_of theory.now)) steps (object_at heap.old.objects name) (object_at heap.old.objects formula) (object_at heap.old.objects proof)) }
 {
     if !is_symbol(heap, name) {
         return Ok(Some(Refusal::Name));
@@ -47,8 +47,8 @@ pub(crate) fn refusal(
 
 /// Whether an object is a symbol.
 pub(crate) fn is_symbol(heap: &Heap, x: Ref) -> bool
-    requires { IsIn heap.now x }
-    ensures { result ≡ is_symbol (object_at heap.now x) }
+    requires { IsIn heap.now.objects x }
+    ensures { result ≡ is_symbol (object_at heap.now.objects x) }
 {
     matches!(heap.view(x), View::Symbol)
 }

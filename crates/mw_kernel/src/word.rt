@@ -20,8 +20,8 @@ pub(crate) enum Word {
 
 /// The word whose symbol an object is, if it is one of them.
 pub(crate) fn word_of(heap: &Heap, x: Ref) -> Option<Word>
-    requires { IsIn heap.now x }
-    ensures { MatchOption result (word_at (object_at heap.now x) ≡ None) (λ w. object_at heap.now x ≡ word_symbol w) }
+    requires { IsIn heap.now.objects x }
+    ensures { MatchOption result (word_at (object_at heap.now.objects x) ≡ None) (λ w. object_at heap.now.objects x ≡ word_symbol w) }
 {
     if heap.is_named(Some(x), b"VERIFY") {
         return Some(Word::Verify);

@@ -25,8 +25,8 @@ fn answer_of(
     term: Ref,
     steps: u64,
 ) -> Result<Answer, Memory>
-    requires table { IsPlain heap.old table.old }
-    requires term { IsSomeTerm heap.old term }
+    requires table { IsPlain heap.old.objects table.old }
+    requires term { IsSomeTerm heap.old.objects term }
 {
     let entry = table.compile_call(heap, term)?;
     match machine.run(heap, table, &entry, &[], steps) {
@@ -49,7 +49,7 @@ fn nested_in(
     depth: usize,
     steps: u64,
 ) -> Result<Answer, Memory>
-    requires { IsPlain heap.old table.old }
+    requires { IsPlain heap.old.objects table.old }
 {
     let term = nested(heap, depth)?;
     answer_of(heap, table, machine, term, steps)
@@ -63,7 +63,7 @@ fn doubled_in(
     times: usize,
     steps: u64,
 ) -> Result<Answer, Memory>
-    requires { IsPlain heap.old table.old }
+    requires { IsPlain heap.old.objects table.old }
 {
     let term = doubled(heap, n, times)?;
     answer_of(heap, table, machine, term, steps)

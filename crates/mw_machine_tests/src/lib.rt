@@ -7,3 +7,5 @@ mod bench;
 mod terms;
 #[cfg(test)]
 mod values;
+#[cfg(test)]
+mod widths;

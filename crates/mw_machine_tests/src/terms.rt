@@ -7,8 +7,8 @@ use mw_heap::{Heap, Memory, Ref};
 
 // The constant 'n. The error is memory that is refused.
 pub(crate) fn constant(heap: &mut Heap, n: u128) -> Result<Ref, Memory>
-    ensures grows { Grows heap.old heap.new }
-    ensures term { IfOk result (IsSomeTerm heap.new) }
+    ensures grows { Grows heap.old.objects heap.new.objects }
+    ensures term { IfOk result (IsSomeTerm heap.new.objects) }
 {
     let nil = heap.nil()?;
     let n = heap.nat(n)?;
@@ -19,9 +19,9 @@ pub(crate) fn constant(heap: &mut Heap, n: u128) -> Result<Ref, Memory>
 
 // The term (CAR x). The error is memory that is refused.
 pub(crate) fn car_of(heap: &mut Heap, x: Ref) -> Result<Ref, Memory>
-    requires { IsSomeTerm heap.old x }
-    ensures grows { Grows heap.old heap.new }
-    ensures term { IfOk result (IsSomeTerm heap.new) }
+    requires { IsSomeTerm heap.old.objects x }
+    ensures grows { Grows heap.old.objects heap.new.objects }
+    ensures term { IfOk result (IsSomeTerm heap.new.objects) }
 {
     let nil = heap.nil()?;
     let actuals = heap.cons(x, nil)?;
@@ -31,10 +31,10 @@ pub(crate) fn car_of(heap: &mut Heap, x: Ref) -> Result<Ref, Memory>
 
 // The term (+ x y). The error is memory that is refused.
 pub(crate) fn sum_of(heap: &mut Heap, x: Ref, y: Ref) -> Result<Ref, Memory>
-    requires first { IsSomeTerm heap.old x }
-    requires second { IsSomeTerm heap.old y }
-    ensures grows { Grows heap.old heap.new }
-    ensures term { IfOk result (IsSomeTerm heap.new) }
+    requires first { IsSomeTerm heap.old.objects x }
+    requires second { IsSomeTerm heap.old.objects y }
+    ensures grows { Grows heap.old.objects heap.new.objects }
+    ensures term { IfOk result (IsSomeTerm heap.new.objects) }
 {
     let nil = heap.nil()?;
     let last = heap.cons(y, nil)?;
@@ -45,8 +45,8 @@ pub(crate) fn sum_of(heap: &mut Heap, x: Ref, y: Ref) -> Result<Ref, Memory>
 
 // The term (CAR (CAR .. '0)), with so many calls. The error is memory that is refused.
 pub(crate) fn nested(heap: &mut Heap, depth: usize) -> Result<Ref, Memory>
-    ensures grows { Grows heap.old heap.new }
-    ensures term { IfOk result (IsSomeTerm heap.new) }
+    ensures grows { Grows heap.old.objects heap.new.objects }
+    ensures term { IfOk result (IsSomeTerm heap.new.objects) }
 {
     let mut term = constant(heap, 0)?;
     for _ in 0..depth {
@@ -57,8 +57,8 @@ pub(crate) fn nested(heap: &mut Heap, depth: usize) -> Result<Ref, Memory>
 
 // The sum of n with itself, and so on, so many times: both sides of a sum are one term. The error is memory that is refused.
 pub(crate) fn doubled(heap: &mut Heap, n: u128, times: usize) -> Result<Ref, Memory>
-    ensures grows { Grows heap.old heap.new }
-    ensures term { IfOk result (IsSomeTerm heap.new) }
+    ensures grows { Grows heap.old.objects heap.new.objects }
+    ensures term { IfOk result (IsSomeTerm heap.new.objects) }
 {
     let mut term = constant(heap, n)?;
     for _ in 0..times {

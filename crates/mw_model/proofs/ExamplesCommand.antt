@@ -11,9 +11,9 @@ check_alone : asked (codes "check" ∷ []) ≡ Check 10000000
 unfolding clap_on_literals
 check_alone = refl
 
-steps_behind_the_option : asked (codes "check" ∷ codes "--steps" ∷ codes "5" ∷ []) ≡ Check 5
+steps_after_the_option : asked (codes "check" ∷ codes "--steps" ∷ codes "5" ∷ []) ≡ Check 5
 unfolding clap_on_literals
-steps_behind_the_option = refl
+steps_after_the_option = refl
 
 steps_in_the_same_word : asked (codes "check" ∷ codes "--steps=5" ∷ []) ≡ Check 5
 unfolding clap_on_literals
@@ -67,9 +67,9 @@ option_before_the_command : asked (codes "--steps" ∷ codes "5" ∷ codes "chec
 unfolding clap_on_literals
 option_before_the_command = refl
 
-word_behind_check : asked (codes "check" ∷ codes "book" ∷ []) ≡ Usage
+word_after_check : asked (codes "check" ∷ codes "book" ∷ []) ≡ Usage
 unfolding clap_on_literals
-word_behind_check = refl
+word_after_check = refl
 
 trial_of_two : asked (codes "trial" ∷ codes "2" ∷ []) ≡ Trial 2 10000000
 unfolding clap_on_literals
@@ -79,17 +79,17 @@ trial_of_none : asked (codes "trial" ∷ codes "0" ∷ []) ≡ Trial 0 10000000
 unfolding clap_on_literals
 trial_of_none = refl
 
-steps_behind_the_argument : asked (codes "trial" ∷ codes "2" ∷ codes "--steps" ∷ codes "5" ∷ []) ≡ Trial 2 5
+steps_after_the_argument : asked (codes "trial" ∷ codes "2" ∷ codes "--steps" ∷ codes "5" ∷ []) ≡ Trial 2 5
 unfolding clap_on_literals
-steps_behind_the_argument = refl
+steps_after_the_argument = refl
 
 steps_before_the_argument : asked (codes "trial" ∷ codes "--steps" ∷ codes "5" ∷ codes "0002" ∷ []) ≡ Trial 2 5
 unfolding clap_on_literals
 steps_before_the_argument = refl
 
-argument_behind_two_dashes : asked (codes "trial" ∷ codes "--" ∷ codes "5" ∷ []) ≡ Trial 5 10000000
+argument_after_two_dashes : asked (codes "trial" ∷ codes "--" ∷ codes "5" ∷ []) ≡ Trial 5 10000000
 unfolding clap_on_literals
-argument_behind_two_dashes = refl
+argument_after_two_dashes = refl
 
 trial_alone : asked (codes "trial" ∷ []) ≡ Usage
 unfolding clap_on_literals
@@ -107,9 +107,9 @@ help_alone : asked (codes "--help" ∷ []) ≡ Help
 unfolding clap_on_literals
 help_alone = refl
 
-help_behind_a_command : asked (codes "check" ∷ codes "--help" ∷ []) ≡ Usage
+help_after_a_command : asked (codes "check" ∷ codes "--help" ∷ []) ≡ Usage
 unfolding clap_on_literals
-help_behind_a_command = refl
+help_after_a_command = refl
 
 short_help : asked (codes "-h" ∷ []) ≡ Usage
 unfolding clap_on_literals

@@ -94,7 +94,7 @@ bar_after_a_dot_in_its_place : check "(a .|b|)" ≡ says ("syntax TOKEN at 4" �
 unfolding need must unless
 bar_after_a_dot_in_its_place = refl
 
--- What begins after the datum behind a dot is not looked into.
+-- What begins after the datum after a dot is not looked into.
 dots_after_a_dotted_datum : check "(a . b ..)" ≡ says ("syntax DOT at 7" ∷ []) (Syntax DOT 7)
 unfolding need must unless
 dots_after_a_dotted_datum = refl

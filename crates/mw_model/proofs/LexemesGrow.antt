@@ -1,4 +1,4 @@
--- The lexemes of bytes behind which more may follow are, whatever follows, the first lexemes of all the bytes, but for a last
+-- The lexemes of bytes after which more may follow are, whatever follows, the first lexemes of all the bytes, but for a last
 -- one that is not complete. What that one becomes begins at the same offset.
 use Rattle.std.proofs.Common.{◌≡◌, ℕ, zero, suc, ◌+◌, ◌≤◌, ◌<◌, Bool, true, false, eqb, ltb, List, [], ◌∷◌, ◌++◌, length, Some, None, refl, sym, ap, ap₂, ◌∙◌, subst, arith, length-append, ltb-true, lt-ltb, if◌then◌else◌}
 use Rattle.mw_model.specs.Object.{Object, Symbol, is_name_byte, name_of_bytes}
@@ -64,7 +64,7 @@ module _ (p : ℕ → Bool) (more : List ℕ) where
       go true r = omega arith
       go false r = omega arith
 
--- ---- a lexeme with a byte behind it is the same whatever follows; with none it may become another at its offset
+-- ---- a lexeme with a byte after it is the same whatever follows; with none it may become another at its offset
 
 atom_more : (e : Ending) (bad : ℕ → Bool) (o : ℕ) (x : Object) (end b : ℕ) (bs more : List ℕ) → atom e bad o x end (b ∷ (bs ++ more)) ≡ atom Goes bad o x end (b ∷ bs)
 atom_more Ends bad o x end b bs more = refl
@@ -122,7 +122,7 @@ barred_begins e o n (b ∷ bs) = go (eqb b 124) n
     go true (d ∷ m) = atom_begins e glued_bar o (Symbol (name_of_bytes (d ∷ m))) (o + 2 + length (d ∷ m)) bs
     go false m = refl
 
--- a bar or a wrong byte behind the name, and no byte behind that
+-- a bar or a wrong byte after the name, and no byte after that
 barred_grows : (e : Ending) (o : ℕ) (n : List ℕ) (b : ℕ) (more : List ℕ) (L : List Lexeme) → 0 < length L → GrowInto (barred Goes o n (b ∷ []) ++ End None ∷ []) (barred e o n (b ∷ more) ++ L)
 barred_grows e o n b more L s = go (eqb b 124) n
   where
@@ -222,7 +222,7 @@ hash_grows e o b bs more = go (after_run is_digit bs) refl
         let rest = after_more is_digit more bs some ∙ ap (λ u. u ++ more) h in
         same (ap₂ (hashed e o) run rest ∙ hashed_more e o (run_of is_digit bs) c r more ∙ sym (ap (hashed Goes o (run_of is_digit bs)) h)) (ap (λ u. suc (length u)) run)
 
--- a token that begins with byte b, and the bytes behind it
+-- a token that begins with byte b, and the bytes after it
 abbrev of_token : Ending → ℕ → ℕ → List ℕ → List ℕ → List Lexeme
 of_token e o b t rest = token e o (b ∷ t) (token_form (b ∷ t)) rest
 

@@ -1,4 +1,4 @@
--- A token, or a name in bars, with a delimiter or the end behind it is one lexeme.
+-- A token, or a name in bars, with a delimiter or the end after it is one lexeme.
 pub use Rattle.mw_model.proofs.Names.{name_of_bytes-bytes}
 use Rattle.std.proofs.Common.{◌≡◌, ℕ, suc, ◌+◌, Bool, true, false, ◌||◌, ◌&&◌, List, [], ◌∷◌, ◌++◌, length, refl, sym, ap, ap₂, ◌∙◌, if◌then◌else◌, arith, append_assoc, length-append}
 use Rattle.std.proofs.lemmas.Bool.{and_parts, both_ways}

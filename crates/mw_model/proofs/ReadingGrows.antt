@@ -1,4 +1,4 @@
--- What is read of bytes behind which more may follow is read whatever follows: complete data, and a fault that is found.
+-- What is read of bytes after which more may follow is read whatever follows: complete data, and a fault that is found.
 use Rattle.std.proofs.Common.{◌≡◌, ℕ, zero, suc, ◌≤◌, ◌<◌, Bool, true, false, List, [], ◌∷◌, ◌++◌, Option, Some, None, refl, sym, ap, subst, arith, if◌then◌else◌}
 use Rattle.mw_model.specs.Object.{Object, Pair, NIL}
 use Rattle.mw_model.specs.Lexemes.{Lexeme, Atom, Open, Close, Dot, Quote, Mark, Ref, Wrong, Stray, End, Fault, fault, CLOSE, DOT, LABEL, Ending, Goes, lexemes}
@@ -22,7 +22,7 @@ and_then_grows m n f g (unread k) h = unread (and_then k g)
 and_then_grows m n f g (faulty s) h = faulty s
 and_then_grows m n f g (got x ls L M r) h = h x ls L M r
 
--- Behind the datum that follows a dot even a lexeme that is not complete is a fault. The fault tells only its offset, so it is
+-- After the datum that follows a dot even a lexeme that is not complete is a fault. The fault tells only its offset, so it is
 -- the same whatever the lexeme becomes.
 closing_halts : (o : ℕ) (l : Lexeme) (M : List Lexeme) (x : Object) (ls : Labels) → BeginsAt o l → closing x ls (l ∷ M) ≡ halt DOT o
 closing_halts o (Atom p y) M x ls b = ap (halt DOT) b

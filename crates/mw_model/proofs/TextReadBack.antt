@@ -1,4 +1,4 @@
--- What is printed is read again: the lexemes of a text are read as its object, whatever comes behind them.
+-- What is printed is read again: the lexemes of a text are read as its object, whatever comes after them.
 use Rattle.std.proofs.Common.{◌≡◌, ℕ, zero, suc, ◌+◌, ◌≤◌, ◌<◌, Bool, true, false, ◌&&◌, ◌||◌, not, List, [], ◌∷◌, ◌++◌, length, Option, None, refl, sym, ap, ◌∙◌, subst, if◌then◌else◌, arith, append_assoc, append-nil, le-leb, length-append, take}
 use Rattle.std.proofs.lemmas.Bool.{and_parts, and_from, or_left, both_ways}
 use Rattle.mw_model.specs.Object.{Object, Natural, Symbol, Pair, Name, NIL, nil_name, is_name, same_name}
@@ -133,7 +133,7 @@ read_close o (suc k) ls r h = refl
 ends_nil : (t : List ℕ) → EndsAll NIL (end_text true t)
 ends_nil t e o z = record { lexed = Close o ∷ []; cut = ap (λ n. Close o ∷ lexemes_from e n 0 z) (omega arith); some = omega arith; reads = λ k ls r l. read_close o k ls r (omega arith) }
 
--- a tail that is an atom, behind a dot
+-- a tail that is an atom, after a dot
 read_last : (x : Object) (p q o k : ℕ) (ls : Labels) (r : List Lexeme) → 3 ≤ k → read k Tail ls (Dot p ∷ Atom q x ∷ Close o ∷ r) ≡ Got x ls r
 read_last x p q o zero ls r h = absurd (omega arith)
 read_last x p q o (suc zero) ls r h = absurd (omega arith)
@@ -155,7 +155,7 @@ ends_atom x t h e o z =
       reads = λ k ls r l. read_last x (suc o) p (p + length t) k ls r (omega arith);
     }
 
--- a member and the tail behind it
+-- a member and the tail after it
 after_member : (x d : Object) (L M r : List Lexeme) (k : ℕ) (ls : Labels) →
     read k Datum ls (L ++ (M ++ r)) ≡ Got x ls (M ++ r) → read k Tail ls (M ++ r) ≡ Got d ls r →
     and_then (read k Datum ls ((L ++ M) ++ r)) (and_tail (read k Tail)) ≡ Got (Pair x d) ls r
@@ -186,7 +186,7 @@ read_pair x d o L M r (suc (suc k)) ls b h i l =
     read_first k ls ((L ++ M) ++ r) (begins_more (L ++ M) r (begins_more L M b))
     ∙ after_member x d L M r k ls (h k ls (M ++ r) (omega arith)) (i k ls r (omega arith))
 
--- two texts, one behind the other
+-- two texts, one after the other
 cut_both : (e : Ending) (o : ℕ) (t u z : List ℕ) (L M : List Lexeme) →
     lexemes_from e o 0 (t ++ (u ++ z)) ≡ L ++ lexemes_from e (o + length t) 0 (u ++ z) →
     lexemes_from e (o + length t) 0 (u ++ z) ≡ M ++ lexemes_from e (o + length t + length u) 0 z →
@@ -280,7 +280,7 @@ trees-short bytes l = ap (λ v. if v then reading Ends bytes else cut_short (rea
 pub trees-text_lines : (xs : List Object) → length (text_lines xs) ≤ limit → trees (text_lines xs) ≡ book xs None
 trees-text_lines xs l = trees-short (text_lines xs) l ∙ lines_read xs 0 (enough (lexemes_from Ends 0 0 (text_lines xs))) (lines_some xs 0)
 
--- an object that is written with nothing behind it
+-- an object that is written with nothing after it
 last_reads : (s : Option Fault) (x : Object) (L : List Lexeme) → BeginsDatum L →
     ((k : ℕ) (ls : Labels) (r : List Lexeme) → length L + length L ≤ k → read k Datum ls (L ++ r) ≡ Got x ls r) →
     data_of (enough (L ++ End s ∷ [])) (L ++ End s ∷ []) ≡ book (x ∷ []) None

@@ -33,7 +33,7 @@ check_command = record (new_shape (codes "check")) { rules = steps_option ∷ []
 abbrev pub trial_command : Shape
 trial_command = record (new_shape (codes "trial")) { rules = events_argument ∷ steps_option ∷ [] }
 
--- the program's command: the words are those behind the program's name
+-- the program's command: the words are those after the program's name
 abbrev pub program : App
 program =
     with_subcommand (with_subcommand (on_top (λ s. record s { no_binary_name = true }) (new_app (codes "milawa"))) check_command) trial_command

@@ -9,9 +9,9 @@ use Rattle.mw_model.specs.Truth.{AreTrueIn, Each}
 use Rattle.mw_model.specs.Grammar.{book, limit, trees}
 use Rattle.mw_model.specs.Theory.{Theory, initial, IsSound}
 use Rattle.mw_model.specs.Fate.{event_word, after}
-use Rattle.mw_model.specs.Report.{Status, Done, report, last_line, accepted_among}
-use Rattle.mw_model.specs.Trial.{trial_book}
-use Rattle.mw_model.specs.Keeping.{formulas_of_word, EachKeeps}
+use Rattle.mw_model.specs.Report.{Status, Done, report, accepted_among}
+use Rattle.mw_model.specs.Keeping.{formulas_of_word}
+use Rattle.mw_model.specs.Headline.{Headline, TrialHeadline}
 use Rattle.mw_model.specs.Commands.{Request, Check, Trial, Taut, Lower, Slice, Flat, Recheck, Help, Usage, asked}
 use Rattle.mw_model.specs.Pieces.{how_many}
 use Rattle.mw_model.specs.Transition.{last_theory, last_theory_from, is_acceptance}
@@ -22,18 +22,6 @@ use Rattle.mw_model.specs.Slicing.{accepted_events, AreKept, SliceWritten, slici
 use Rattle.mw_model.specs.Log.{Objection, Answer, Yes, No}
 use Rattle.mw_model.specs.LogReport.{Entered, log_of, denied, last_logged, log_report}
 use Rattle.mw_model.specs.Flattening.{plain_course, flat_events, flat_event, before_switch, FlatWritten, flattening_status}
-
--- What was written on the book, with this status, is the report; and what the report calls accepted is true.
-pub record Headline (bytes : List ℕ) (N : ℕ) (written : List ℕ) (status : Status) : Type 0 where
-  pub exact : written ≡ (report bytes N).text
-  pub ends : status ≡ (report bytes N).status
-  pub events_keep : EachKeeps (initial One) N (trees bytes).events
-
--- The same of the trial book of m events, of whose report only the last line is written.
-pub record TrialHeadline (m N : ℕ) (written : List ℕ) (status : Status) : Type 0 where
-  pub exact : written ≡ last_line (trees (trial_book m)) N
-  pub ends : status ≡ (report (trial_book m) N).status
-  pub events_keep : EachKeeps (initial One) N (trees (trial_book m)).events
 
 -- read as a book, the text has so many events, and each is accepted
 pub record AcceptsAll (text : List ℕ) (N events : ℕ) : Type 0 where

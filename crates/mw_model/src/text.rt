@@ -35,7 +35,7 @@ pub fn built_in_text_read()
 {}
 
 /// What is read of bytes stands whatever bytes follow, and whether these end the book or not: the events are the first of all,
-/// and a fault is the fault of all, with no event behind it. So the lines due are a prefix of the lines due for more bytes, and
+/// and a fault is the fault of all, with no event after it. So the lines due are a prefix of the lines due for more bytes, and
 /// of the report on the book; of that only where the bytes so far are not too many for a book, since no event past the limit has
 /// a line in the report.
 pub fn read_so_far()

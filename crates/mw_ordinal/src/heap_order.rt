@@ -14,9 +14,9 @@ use mw_heap::{Heap, Ref, View};
 /// Whether x is below y: what is no pair is below each pair; pairs compare by their exponents where these differ, else by their
 /// coefficients where these differ, else by their rests; others compare as numbers.
 pub fn ordinal_less(heap: &Heap, x: Ref, y: Ref) -> bool
-    requires x_in { IsIn heap.now x }
-    requires y_in { IsIn heap.now y }
-    ensures { result ≡ is_below (object_at heap.now x) (object_at heap.now y) }
+    requires x_in { IsIn heap.now.objects x }
+    requires y_in { IsIn heap.now.objects y }
+    ensures { result ≡ is_below (object_at heap.now.objects x) (object_at heap.now.objects y) }
 {
     let mut x = x;
     let mut y = y;
@@ -34,8 +34,8 @@ pub fn ordinal_less(heap: &Heap, x: Ref, y: Ref) -> bool
 /// Whether x is an ordinal: a natural, or a pair ((e . c) . r) of ordinals e and r and a natural c, where neither e nor c is 0 and
 /// the leading exponent of r, if it has one, is below e. It takes stack in proportion to how deep exponents stand in exponents.
 pub fn is_ordinal(heap: &Heap, x: Ref) -> bool
-    requires { IsIn heap.now x }
-    ensures { result ≡ is_ordinal (object_at heap.now x) }
+    requires { IsIn heap.now.objects x }
+    ensures { result ≡ is_ordinal (object_at heap.now.objects x) }
 {
     let mut rest = x;
     while let View::Pair(term, others) = heap.view(rest) {
@@ -55,18 +55,18 @@ pub fn is_ordinal(heap: &Heap, x: Ref) -> bool
 
 // Whether neither the exponent nor the coefficient is 0, the coefficient is a natural, and the exponent is above those of the rest.
 fn may_lead(heap: &Heap, e: Ref, c: Ref, rest: Ref) -> bool
-    requires e_in { IsIn heap.now e }
-    requires c_in { IsIn heap.now c }
-    requires rest_in { IsIn heap.now rest }
-    ensures { result ≡ may_lead (object_at heap.now e) (object_at heap.now c) (object_at heap.now rest) }
+    requires e_in { IsIn heap.now.objects e }
+    requires c_in { IsIn heap.now.objects c }
+    requires rest_in { IsIn heap.now.objects rest }
+    ensures { result ≡ may_lead (object_at heap.now.objects e) (object_at heap.now.objects c) (object_at heap.now.objects rest) }
 {
     !is_zero(heap, e) && is_positive(heap, c) && leads_below(heap, rest, e)
 }
 
 // Whether it is 0.
 fn is_zero(heap: &Heap, x: Ref) -> bool
-    requires { IsIn heap.now x }
-    ensures { result ≡ same_object (object_at heap.now x) (Natural 0) }
+    requires { IsIn heap.now.objects x }
+    ensures { result ≡ same_object (object_at heap.now.objects x) (Natural 0) }
 {
     match heap.view(x) {
         View::Nat(n) => n == 0,
@@ -76,8 +76,8 @@ fn is_zero(heap: &Heap, x: Ref) -> bool
 
 // Whether it is a natural other than 0.
 fn is_positive(heap: &Heap, x: Ref) -> bool
-    requires { IsIn heap.now x }
-    ensures { result ≡ is_positive (object_at heap.now x) }
+    requires { IsIn heap.now.objects x }
+    ensures { result ≡ is_positive (object_at heap.now.objects x) }
 {
     match heap.view(x) {
         View::Nat(n) => 0 < n,
@@ -87,9 +87,9 @@ fn is_positive(heap: &Heap, x: Ref) -> bool
 
 // Whether the leading exponent of x, if it has one, is below e.
 fn leads_below(heap: &Heap, x: Ref, e: Ref) -> bool
-    requires x_in { IsIn heap.now x }
-    requires e_in { IsIn heap.now e }
-    ensures { result ≡ leads_below (object_at heap.now x) (object_at heap.now e) }
+    requires x_in { IsIn heap.now.objects x }
+    requires e_in { IsIn heap.now.objects e }
+    ensures { result ≡ leads_below (object_at heap.now.objects x) (object_at heap.now.objects e) }
 {
     let View::Pair(q, _) = heap.view(x) else {
         return true;
@@ -102,9 +102,9 @@ fn leads_below(heap: &Heap, x: Ref, e: Ref) -> bool
 
 // Compares what is no pair, or the leading terms of two pairs. What is left to compare where these are equal are the rests.
 fn compare_once(heap: &Heap, x: Ref, y: Ref) -> Turn
-    requires x_in { IsIn heap.now x }
-    requires y_in { IsIn heap.now y }
-    ensures { Turns heap.now x (object_at heap.now x) (object_at heap.now y) result }
+    requires x_in { IsIn heap.now.objects x }
+    requires y_in { IsIn heap.now.objects y }
+    ensures { Turns heap.now.objects x (object_at heap.now.objects x) (object_at heap.now.objects y) result }
 {
     let View::Pair(p, r) = heap.view(x) else {
         return Turn::Decided(is_below_unless_pairs(heap, Some(x), Some(y)));
@@ -123,9 +123,9 @@ fn compare_once(heap: &Heap, x: Ref, y: Ref) -> Turn
 
 // Compares the exponents of two terms.
 fn compare_exponents(heap: &Heap, p: Ref, q: Ref) -> Turn
-    requires p_in { IsIn heap.now p }
-    requires q_in { IsIn heap.now q }
-    ensures { Turns heap.now p (car (object_at heap.now p)) (car (object_at heap.now q)) result }
+    requires p_in { IsIn heap.now.objects p }
+    requires q_in { IsIn heap.now.objects q }
+    ensures { Turns heap.now.objects p (car (object_at heap.now.objects p)) (car (object_at heap.now.objects q)) result }
 {
     let Some(e) = heap.car(p) else {
         return Turn::Decided(is_below_unless_pairs(heap, None, heap.car(q)));
@@ -138,10 +138,10 @@ fn compare_exponents(heap: &Heap, p: Ref, q: Ref) -> Turn
 
 // Whether x is below y, where not both are pairs.
 fn is_below_unless_pairs(heap: &Heap, x: Option<Ref>, y: Option<Ref>) -> bool
-    requires x_within { IsPart heap.now x }
-    requires y_within { IsPart heap.now y }
-    requires no_pair { (is_pair (part_at heap.now x) ≡ false) ⊎ (is_pair (part_at heap.now y) ≡ false) }
-    ensures { result ≡ is_below (part_at heap.now x) (part_at heap.now y) }
+    requires x_within { IsPart heap.now.objects x }
+    requires y_within { IsPart heap.now.objects y }
+    requires no_pair { (is_pair (part_at heap.now.objects x) ≡ false) ⊎ (is_pair (part_at heap.now.objects y) ≡ false) }
+    ensures { result ≡ is_below (part_at heap.now.objects x) (part_at heap.now.objects y) }
 {
     match (number_of_no_pair(heap, x), number_of_no_pair(heap, y)) {
         (None, _) => false,
@@ -152,8 +152,8 @@ fn is_below_unless_pairs(heap: &Heap, x: Option<Ref>, y: Option<Ref>) -> bool
 
 // The number of what is no pair; nothing of a pair.
 fn number_of_no_pair(heap: &Heap, x: Option<Ref>) -> Option<u128>
-    requires { IsPart heap.now x }
-    ensures { MatchOption result (is_pair (part_at heap.now x) ≡ true) (λ n. (is_pair (part_at heap.now x) ≡ false) × (number (part_at heap.now x) ≡ n)) }
+    requires { IsPart heap.now.objects x }
+    ensures { MatchOption result (is_pair (part_at heap.now.objects x) ≡ true) (λ n. (is_pair (part_at heap.now.objects x) ≡ false) × (number (part_at heap.now.objects x) ≡ n)) }
 {
     let Some(x) = x else {
         return Some(0);

@@ -20,7 +20,7 @@ abbrev pub HasEnded : Option (List ℕ) → Type 0
 HasEnded (Some left) = left ≡ []
 HasEnded None = Unit {0}
 
--- the piece went behind the bytes that were taken
+-- the piece went after the bytes that were taken
 abbrev pub Takes : Option (List ℕ) → Option (List ℕ) → List ℕ → Type 0
 Takes (Some old) (Some new) piece = new ≡ old ++ piece
 Takes None None piece = Unit {0}

@@ -23,7 +23,7 @@ pub trait Sink {
 
     ghost faults: { Self → ℕ };
 
-    /// Takes leading bytes of the piece, at least one of a piece that is not empty, and answers how many.
+    /// Takes a prefix of the piece, at least one of a piece that is not empty, and answers how many.
     /// `Failed` only where the count of faults rose, which no other answer changes.
     fn write(&mut self, piece: &[u8]) -> Result<usize, Halt>
         ensures within { IfOk result (λ n. n ≤ length piece.now) }

@@ -88,7 +88,7 @@ impl<W: Write> Sink for StdSink<W> {
         ensures memory { IsErrOf result Halt.Memory → self.new.faults ≡ self.old.faults }
         ensures kept { OnErr result (untold ≡ untold) }
 
-        // Where the writer tells its bytes, those taken went behind them, and none at a fault.
+        // Where the writer tells its bytes, those taken went after them, and none at a fault.
         ensures wrote { IfOk result (λ n. Appends (W.contents self.old.writer) (W.contents self.new.writer) (take n piece.now)) }
         ensures none_added { OnErr result (Keeps (W.contents self.old.writer) (W.contents self.new.writer)) }
         ensures only_failed { IsErrOf result Halt.Memory → ⊥ }

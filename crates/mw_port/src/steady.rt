@@ -60,7 +60,7 @@ impl Source for SteadySource {
     }
 }
 
-/// A sink in memory whose calls all succeed, but for want of memory.
+/// A sink in memory whose calls all succeed, but where memory is refused.
 #[derive(Drop)]
 pub struct SteadySink {
     sink: MemSink,

@@ -17,11 +17,11 @@ use mw_heap::{Heap, Memory, Ref, View};
 
 // Adds the definitions of the rows to the table, in order, and answers them.
 pub(crate) fn define_rows(heap: &Heap, rows: Ref, table: &mut Table) -> Result<Entries, Memory>
-    requires within { IsIn heap.now rows }
-    requires rows { object_at heap.now rows ≡ built_in_rows (profile_of table.old.profile) }
-    requires empty { StandsFor heap.now table.old (definitions (profile_of table.old.profile) []) }
-    ensures entries { IfOk result (λ e. AreEntries heap.now e (definitions_of (profile_of table.old.profile)).blocks) }
-    ensures table { OnOk result (StandsFor heap.now table.new (definitions_of (profile_of table.old.profile))) }
+    requires within { IsIn heap.now.objects rows }
+    requires rows { object_at heap.now.objects rows ≡ built_in_rows (profile_of table.old.profile) }
+    requires empty { StandsFor heap.now.objects table.old (definitions (profile_of table.old.profile) []) }
+    ensures entries { IfOk result (λ e. AreEntries heap.now.objects e (definitions_of (profile_of table.old.profile)).blocks) }
+    ensures table { OnOk result (StandsFor heap.now.objects table.new (definitions_of (profile_of table.old.profile))) }
 {
     let mut entries = Entries::new(heap.alloc());
     let mut rest = rows;
@@ -34,10 +34,10 @@ pub(crate) fn define_rows(heap: &Heap, rows: Ref, table: &mut Table) -> Result<E
 
 // Adds the definition of a row to the table and to the entries, as a block of one.
 fn define_row(heap: &Heap, row: Ref, table: &mut Table, entries: &mut Entries) -> Result<(), Memory>
-    requires within { IsIn heap.now row }
-    requires next { (P : Profile) × (D : List Block) × (B : Block) × IsNextRow heap.now P D B row × StandsFor heap.now table.old (definitions P D) }
-    ensures entries { (D : List Block) (B : Block) → IsRowOf B (object_at heap.now row) → AreEntries heap.now entries.old D → OnOk result (AreEntries heap.now entries.new (B ∷ D)) }
-    ensures table { (P : Profile) (D : List Block) (B : Block) → IsNextRow heap.now P D B row → StandsFor heap.now table.old (definitions P D) → OnOk result (StandsFor heap.now table.new (definitions P (B ∷ D))) }
+    requires within { IsIn heap.now.objects row }
+    requires next { (P : Profile) × (D : List Block) × (B : Block) × IsNextRow heap.now.objects P D B row × StandsFor heap.now.objects table.old (definitions P D) }
+    ensures entries { (D : List Block) (B : Block) → IsRowOf B (object_at heap.now.objects row) → AreEntries heap.now.objects entries.old D → OnOk result (AreEntries heap.now.objects entries.new (B ∷ D)) }
+    ensures table { (P : Profile) (D : List Block) (B : Block) → IsNextRow heap.now.objects P D B row → StandsFor heap.now.objects table.old (definitions P D) → OnOk result (StandsFor heap.now.objects table.new (definitions P (B ∷ D))) }
 {
     let definition = definition_of(heap, row);
     let block = Vec::from_slice(heap.alloc(), &[definition])?;
@@ -47,8 +47,8 @@ fn define_row(heap: &Heap, row: Ref, table: &mut Table, entries: &mut Entries) -
 
 // Adds a block of one definition to the table.
 fn add_code(heap: &Heap, table: &mut Table, definition: &Definition) -> Result<(), Memory>
-    requires { (P : Profile) × (D : List Block) × (B : Block) × IsNext heap.now P D B definition.now × StandsFor heap.now table.old (definitions P D) }
-    ensures { (P : Profile) (D : List Block) (B : Block) → IsNext heap.now P D B definition.now → StandsFor heap.now table.old (definitions P D) → OnOk result (StandsFor heap.now table.new (definitions P (B ∷ D))) }
+    requires { (P : Profile) × (D : List Block) × (B : Block) × IsNext heap.now.objects P D B definition.now × StandsFor heap.now.objects table.old (definitions P D) }
+    ensures { (P : Profile) (D : List Block) (B : Block) → IsNext heap.now.objects P D B definition.now → StandsFor heap.now.objects table.old (definitions P D) → OnOk result (StandsFor heap.now.objects table.new (definitions P (B ∷ D))) }
 {
     table.add(heap, &[definition.spelling()])
 }

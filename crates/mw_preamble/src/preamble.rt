@@ -25,18 +25,18 @@ pub struct Preamble {
     pub definitions: Entries,
     pub axioms: Axioms,
     pub arity: Arity,
-    // It stands behind a box, so that the proofs of its owners are short.
+    // It is boxed, so that the proofs of its owners are short.
     pub table: Box<Table>,
 }
 
 /// Makes the axioms, the entries and the code of the built-in definitions of the profile, and the arity table that begins a theory.
 pub fn admit_all(heap: &mut Heap, profile: Profile) -> Result<Preamble, Memory>
-    ensures grows { Grows heap.old heap.new }
-    ensures definitions { IfOk result (λ p. AreEntries heap.new p.definitions (definitions_of (profile_of profile)).blocks) }
-    ensures within { IfOk result (λ p. All (IsIn heap.new) p.axioms) }
-    ensures axioms { IfOk result (λ p. map (object_at heap.new) p.axioms ≡ map formula_object (axioms_in_order (definitions_of (profile_of profile)).blocks)) }
+    ensures grows { Grows heap.old.objects heap.new.objects }
+    ensures definitions { IfOk result (λ p. AreEntries heap.new.objects p.definitions (definitions_of (profile_of profile)).blocks) }
+    ensures within { IfOk result (λ p. All (IsIn heap.new.objects) p.axioms) }
+    ensures axioms { IfOk result (λ p. map (object_at heap.new.objects) p.axioms ≡ map formula_object (axioms_in_order (definitions_of (profile_of profile)).blocks)) }
     ensures arity { IfOk result (λ p. p.arity ≡ arity_table (definitions_of (profile_of profile))) }
-    ensures table { IfOk result (λ p. StandsFor heap.new p.table.value (definitions_of (profile_of profile))) }
+    ensures table { IfOk result (λ p. StandsFor heap.new.objects p.table.value (definitions_of (profile_of profile))) }
 {
     let rows = read_rows(heap, profile)?;
     let mut arity = primitive_arities(heap.alloc(), profile)?;
@@ -52,10 +52,10 @@ pub fn admit_all(heap: &mut Heap, profile: Profile) -> Result<Preamble, Memory>
 
 // The entries and the code of the profile's rows.
 fn define_all(heap: &Heap, rows: Ref, profile: Profile) -> Result<(Entries, Box<Table>), Memory>
-    requires within { IsIn heap.now rows }
-    requires rows { object_at heap.now rows ≡ built_in_rows (profile_of profile) }
-    ensures definitions { IfOk result (λ d. AreEntries heap.now d.0 (definitions_of (profile_of profile)).blocks) }
-    ensures table { IfOk result (λ d. StandsFor heap.now d.1.value (definitions_of (profile_of profile))) }
+    requires within { IsIn heap.now.objects rows }
+    requires rows { object_at heap.now.objects rows ≡ built_in_rows (profile_of profile) }
+    ensures definitions { IfOk result (λ d. AreEntries heap.now.objects d.0 (definitions_of (profile_of profile)).blocks) }
+    ensures table { IfOk result (λ d. StandsFor heap.now.objects d.1.value (definitions_of (profile_of profile))) }
 {
     let mut boxed = Box::new(heap.alloc(), Table::new(heap.alloc(), profile))?;
     let table: &mut Table = &mut boxed;

@@ -12,9 +12,9 @@ use mw_heap::{Heap, Ref, View};
 
 // The first part of a pair; what is no pair is its own part.
 fn first(heap: &Heap, x: Ref) -> Ref
-    requires { IsIn heap.now x }
-    ensures within { IsIn heap.now result }
-    ensures part { object_at heap.now result ≡ first_part (object_at heap.now x) }
+    requires { IsIn heap.now.objects x }
+    ensures within { IsIn heap.now.objects result }
+    ensures part { object_at heap.now.objects result ≡ first_part (object_at heap.now.objects x) }
 {
     match heap.view(x) {
         View::Pair(part, _) => part,
@@ -24,9 +24,9 @@ fn first(heap: &Heap, x: Ref) -> Ref
 
 // The second part of a pair; what is no pair is its own part.
 fn second(heap: &Heap, x: Ref) -> Ref
-    requires { IsIn heap.now x }
-    ensures within { IsIn heap.now result }
-    ensures part { object_at heap.now result ≡ second_part (object_at heap.now x) }
+    requires { IsIn heap.now.objects x }
+    ensures within { IsIn heap.now.objects result }
+    ensures part { object_at heap.now.objects result ≡ second_part (object_at heap.now.objects x) }
 {
     match heap.view(x) {
         View::Pair(_, part) => part,
@@ -36,26 +36,26 @@ fn second(heap: &Heap, x: Ref) -> Ref
 
 // The second member of a list.
 fn second_member(heap: &Heap, x: Ref) -> Ref
-    requires { IsIn heap.now x }
-    ensures within { IsIn heap.now result }
-    ensures part { object_at heap.now result ≡ first_part (second_part (object_at heap.now x)) }
+    requires { IsIn heap.now.objects x }
+    ensures within { IsIn heap.now.objects result }
+    ensures part { object_at heap.now.objects result ≡ first_part (second_part (object_at heap.now.objects x)) }
 {
     first(heap, second(heap, x))
 }
 
 // The third member of a list.
 fn third_member(heap: &Heap, x: Ref) -> Ref
-    requires { IsIn heap.now x }
-    ensures within { IsIn heap.now result }
-    ensures part { object_at heap.now result ≡ first_part (second_part (second_part (object_at heap.now x))) }
+    requires { IsIn heap.now.objects x }
+    ensures within { IsIn heap.now.objects result }
+    ensures part { object_at heap.now.objects result ≡ first_part (second_part (second_part (object_at heap.now.objects x))) }
 {
     second_member(heap, second(heap, x))
 }
 
 // The definition that a row brings: it is read off its axiom, and nothing is copied.
 pub(crate) fn definition_of(heap: &Heap, row: Ref) -> Definition
-    requires { IsIn heap.now row }
-    ensures { (B : Block) → IsRowOf B (object_at heap.now row) → IsBlock heap.now (result ∷ []) B }
+    requires { IsIn heap.now.objects row }
+    ensures { (B : Block) → IsRowOf B (object_at heap.now.objects row) → IsBlock heap.now.objects (result ∷ []) B }
 {
     let name = first(heap, row);
     let formula = second(heap, second(heap, row));
@@ -68,9 +68,9 @@ pub(crate) fn definition_of(heap: &Heap, row: Ref) -> Definition
 
 // The function whose axiom is (PEQUAL* (NAME x1 .. xn) body).
 fn function_of(heap: &Heap, name: Ref, formula: Ref) -> Definition
-    requires name { IsIn heap.now name }
-    requires formula { IsIn heap.now formula }
-    ensures { (h : Function) → object_at heap.now name ≡ Symbol h.name → object_at heap.now formula ≡ formula_object (function_axiom h) → IsBlock heap.now (result ∷ []) (Functions (h ∷ [])) }
+    requires name { IsIn heap.now.objects name }
+    requires formula { IsIn heap.now.objects formula }
+    ensures { (h : Function) → object_at heap.now.objects name ≡ Symbol h.name → object_at heap.now.objects formula ≡ formula_object (function_axiom h) → IsBlock heap.now.objects (result ∷ []) (Functions (h ∷ [])) }
 {
     let formals = second(heap, second_member(heap, formula));
     let body = third_member(heap, formula);
@@ -83,9 +83,9 @@ fn function_of(heap: &Heap, name: Ref, formula: Ref) -> Definition
 
 // The witness whose axiom is (POR* (PEQUAL* body 'NIL) (PNOT* (PEQUAL* ((LAMBDA (bound x1 .. xn) body) (NAME x1 .. xn) x1 .. xn) 'NIL))).
 fn witness_of(heap: &Heap, name: Ref, formula: Ref) -> Definition
-    requires name { IsIn heap.now name }
-    requires formula { IsIn heap.now formula }
-    ensures { (g y : Name) (xs : List Name) (b : Term) → object_at heap.now name ≡ Symbol g → object_at heap.now formula ≡ formula_object (choice_axiom g y xs b) → IsBlock heap.now (result ∷ []) (Choice g y xs b) }
+    requires name { IsIn heap.now.objects name }
+    requires formula { IsIn heap.now.objects formula }
+    ensures { (g y : Name) (xs : List Name) (b : Term) → object_at heap.now.objects name ≡ Symbol g → object_at heap.now.objects formula ≡ formula_object (choice_axiom g y xs b) → IsBlock heap.now.objects (result ∷ []) (Choice g y xs b) }
 {
     let equation = second_member(heap, third_member(heap, formula));
     let lambda = first(heap, second_member(heap, equation));

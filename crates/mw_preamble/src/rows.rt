@@ -24,9 +24,9 @@ fn rows_text(alloc: Global, profile: Profile) -> Result<Vec<u8>, Memory>
 
 // Reads the list of the profile's rows.
 pub(crate) fn read_rows(heap: &mut Heap, profile: Profile) -> Result<Ref, Memory>
-    ensures grows { Grows heap.old heap.new }
-    ensures within { IfOk result (IsIn heap.new) }
-    ensures rows { IfOk result (λ r. object_at heap.new r ≡ built_in_rows (profile_of profile)) }
+    ensures grows { Grows heap.old.objects heap.new.objects }
+    ensures within { IfOk result (IsIn heap.new.objects) }
+    ensures rows { IfOk result (λ r. object_at heap.new.objects r ≡ built_in_rows (profile_of profile)) }
 {
     let text = rows_text(heap.alloc(), profile)?;
     let mut reader = Reader::new(heap.alloc());
@@ -39,11 +39,11 @@ pub(crate) fn read_rows(heap: &mut Heap, profile: Profile) -> Result<Ref, Memory
 
 // Adds what the rows of a list name to the table, in order, and gives their axioms.
 pub(crate) fn admit_rows(heap: &Heap, rows: Ref, arity: &mut Arity) -> Result<Axioms, Memory>
-    requires within { IsIn heap.now rows }
-    requires rows { are_rows arity.old (object_at heap.now rows) ≡ true }
-    ensures within { IfOk result (λ a. All (IsIn heap.now) a) }
-    ensures axioms { IfOk result (λ a. map (object_at heap.now) a ≡ axioms_of (object_at heap.now rows)) }
-    ensures arity { OnOk result (arity.new ≡ with_rows arity.old (object_at heap.now rows)) }
+    requires within { IsIn heap.now.objects rows }
+    requires rows { are_rows arity.old (object_at heap.now.objects rows) ≡ true }
+    ensures within { IfOk result (λ a. All (IsIn heap.now.objects) a) }
+    ensures axioms { IfOk result (λ a. map (object_at heap.now.objects) a ≡ axioms_of (object_at heap.now.objects rows)) }
+    ensures arity { OnOk result (arity.new ≡ with_rows arity.old (object_at heap.now.objects rows)) }
 {
     let mut axioms = Vec::new(heap.alloc());
     let mut rest = rows;
@@ -57,11 +57,11 @@ pub(crate) fn admit_rows(heap: &Heap, rows: Ref, arity: &mut Arity) -> Result<Ax
 
 // Adds what a row names to the table, and gives its axiom.
 fn admit_row(heap: &Heap, row: Ref, arity: &mut Arity) -> Result<Ref, Memory>
-    requires within { IsIn heap.now row }
-    requires row { is_row arity.old (object_at heap.now row) ≡ true }
-    ensures within { IfOk result (IsIn heap.now) }
-    ensures axiom { IfOk result (λ a. object_at heap.now a ≡ axiom_of (object_at heap.now row)) }
-    ensures arity { OnOk result (arity.new ≡ with_row arity.old (object_at heap.now row)) }
+    requires within { IsIn heap.now.objects row }
+    requires row { is_row arity.old (object_at heap.now.objects row) ≡ true }
+    ensures within { IfOk result (IsIn heap.now.objects) }
+    ensures axiom { IfOk result (λ a. object_at heap.now.objects a ≡ axiom_of (object_at heap.now.objects row)) }
+    ensures arity { OnOk result (arity.new ≡ with_row arity.old (object_at heap.now.objects row)) }
 {
     let View::Pair(name, rest) = heap.view(row) else {
         unreachable!()

@@ -20,9 +20,9 @@ fn write_natural(n: u128, out: &mut Vec<u8>) -> Result<(), Memory>
 
 // Writes the text of a natural or a symbol.
 pub(crate) fn write_atom(heap: &Heap, x: Ref, out: &mut Vec<u8>) -> Result<(), Memory>
-    requires within { IsIn heap.now x }
-    requires atom { is_pair (object_at heap.now x) ≡ false }
-    ensures { OnOk result (out.new.items ≡ out.old.items ++ text_of (object_at heap.now x)) }
+    requires within { IsIn heap.now.objects x }
+    requires atom { is_pair (object_at heap.now.objects x) ≡ false }
+    ensures { OnOk result (out.new.items ≡ out.old.items ++ text_of (object_at heap.now.objects x)) }
 {
     match heap.view(x) {
         View::Nat(n) => write_natural(n, out),
@@ -33,17 +33,17 @@ pub(crate) fn write_atom(heap: &Heap, x: Ref, out: &mut Vec<u8>) -> Result<(), M
 
 // Whether an object is NIL.
 fn is_nil(heap: &Heap, x: Ref) -> bool
-    requires { IsIn heap.now x }
-    ensures { result ≡ same_object (object_at heap.now x) NIL }
+    requires { IsIn heap.now.objects x }
+    ensures { result ≡ same_object (object_at heap.now.objects x) NIL }
 {
     matches!(heap.view(x), View::Symbol) && heap.name_of(x) == b"NIL".as_slice()
 }
 
 // Writes how a list ends of which the natural or symbol is the rest.
 pub(crate) fn write_end(heap: &Heap, x: Ref, out: &mut Vec<u8>) -> Result<(), Memory>
-    requires within { IsIn heap.now x }
-    requires atom { is_pair (object_at heap.now x) ≡ false }
-    ensures { OnOk result (out.new.items ≡ out.old.items ++ tail_text (object_at heap.now x)) }
+    requires within { IsIn heap.now.objects x }
+    requires atom { is_pair (object_at heap.now.objects x) ≡ false }
+    ensures { OnOk result (out.new.items ≡ out.old.items ++ tail_text (object_at heap.now.objects x)) }
 {
     if !is_nil(heap, x) {
         out.extend_from_slice(b" . ")?;

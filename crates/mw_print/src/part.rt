@@ -6,6 +6,6 @@ use mw_heap::Ref;
 pub(crate) enum Part {
     /// The text of an object.
     Text(Ref),
-    /// What follows the first member of a list, by the object behind that member.
+    /// What follows the first member of a list, by the object after that member.
     Tail(Ref),
 }

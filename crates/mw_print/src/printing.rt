@@ -25,16 +25,16 @@ pub enum Printed {
 /// The number of bytes in an object's text, or 65,537 if there are more than 65,536. It takes no time to speak of, however long the
 /// text is.
 pub fn text_len(heap: &Heap, x: Ref) -> u64
-    requires { IsIn heap.now x }
-    ensures { result ≡ min (length (text_of (object_at heap.now x))) (longest + 1) }
+    requires { IsIn heap.now.objects x }
+    ensures { result ≡ min (length (text_of (object_at heap.now.objects x))) (longest + 1) }
 {
     heap.lengths(x).0
 }
 
 // The name of a symbol whose text it is.
 fn bare_name(heap: &Heap, x: Ref) -> Option<&[u8]>
-    requires { IsIn heap.now x }
-    ensures { IfSome result (λ name. name.now ≡ text_of (object_at heap.now x)) }
+    requires { IsIn heap.now.objects x }
+    ensures { IfSome result (λ name. name.now ≡ text_of (object_at heap.now.objects x)) }
 {
     let View::Symbol = heap.view(x) else {
         return None;
@@ -57,8 +57,8 @@ fn put(out: &mut Vec<u8>, text: &[u8]) -> Printed
 /// Writes the text of an object after what `out` has, if it has at most 65,536 bytes. Else, and where memory is refused, `out` keeps
 /// its bytes.
 pub fn print(heap: &Heap, x: Ref, out: &mut Vec<u8>) -> Printed
-    requires { IsIn heap.now x }
-    ensures { Prints (text_of (object_at heap.now x)) result out.old.items out.new.items }
+    requires { IsIn heap.now.objects x }
+    ensures { Prints (text_of (object_at heap.now.objects x)) result out.old.items out.new.items }
 {
     if text_len(heap, x) > LONGEST {
         return Printed::Long;

@@ -10,7 +10,7 @@ use crate::part::Part;
 use mw_heap::{Heap, Memory, Ref, View};
 use std::alloc::Global;
 
-// Writes a byte, and leaves to be written the text of `first`, and behind it what follows with `rest` behind it.
+// Writes a byte, and leaves to be written the text of `first`, and after it what follows with `rest` after it.
 fn write_open(
     byte: u8,
     first: Ref,
@@ -34,9 +34,9 @@ fn write_part(
     parts: &mut Vec<Part>,
     out: &mut Vec<u8>,
 ) -> Result<(), Memory>
-    requires part { IsPart heap.now part }
-    requires parts { All (IsPart heap.now) parts.old.items }
-    ensures { OnOk result (Writes heap.now part parts.old.items parts.new.items out.old.items out.new.items) }
+    requires part { IsPart heap.now.objects part }
+    requires parts { All (IsPart heap.now.objects) parts.old.items }
+    ensures { OnOk result (Writes heap.now.objects part parts.old.items parts.new.items out.old.items out.new.items) }
 {
     match part {
         Part::Text(x) => match heap.view(x) {
@@ -52,8 +52,8 @@ fn write_part(
 
 // The text of an object, by a stack of what is still to be written.
 pub(crate) fn text(heap: &Heap, alloc: Global, x: Ref) -> Result<Vec<u8>, Memory>
-    requires { IsIn heap.now x }
-    ensures { IfOk result (λ text. text.items ≡ text_of (object_at heap.now x)) }
+    requires { IsIn heap.now.objects x }
+    ensures { IfOk result (λ text. text.items ≡ text_of (object_at heap.now.objects x)) }
 {
     let mut out = Vec::new(alloc);
     let mut parts = Vec::new(alloc);

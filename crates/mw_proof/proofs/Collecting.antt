@@ -16,7 +16,7 @@ use Rattle.mw_term.specs.Marking.{AreMarks}
 use Rattle.mw_term.specs.declared.cell_mark.CellMark.{CellMark}
 use Rattle.mw_heap.specs.declared.view.View.TheVariants.{Nat, Symbol as Word, Pair as Parts}
 use Rattle.mw_proof.specs.Step.{conclusions_object}
-use Rattle.mw_proof.specs.Known.{known_object}
+use Rattle.mw_heap.specs.Lists.{list_object}
 use Rattle.mw_proof.specs.Judging.{have_conclusions, AreConclusions, IsWithin, IsOver}
 
 -- the objects of references, before a list
@@ -28,7 +28,7 @@ known_before-push : (os : List Object) (rs : List ℕ) (r : ℕ) (t : Object) �
 known_before-push os [] r t = refl
 known_before-push os (q ∷ rs) r t = ap (Pair (object_at os q)) (known_before-push os rs r t)
 
-known_before-nil : (os : List Object) (rs : List ℕ) → known_before os rs NIL ≡ known_object os rs
+known_before-nil : (os : List Object) (rs : List ℕ) → known_before os rs NIL ≡ list_object os rs
 known_before-nil os [] = refl
 known_before-nil os (q ∷ rs) = ap (Pair (object_at os q)) (known_before-nil os rs)
 

@@ -10,7 +10,7 @@ use Rattle.mw_model.specs.Judgment.{methods, method_among}
 use Rattle.mw_model.specs.Rules.{is_formula_object}
 use Rattle.mw_heap.specs.Objects.{object_at}
 use Rattle.mw_proof.specs.Step.{has_proof_shape, subproofs_of, conclusions_object, rule_holds}
-use Rattle.mw_proof.specs.Known.{known_object}
+use Rattle.mw_heap.specs.Lists.{list_object}
 use Rattle.mw_proof.specs.Members.{AreMembers}
 use Rattle.mw_proof.specs.declared.members.Members.{Members}
 use Rattle.mw_proof.specs.Judging.{Basis, is_step_on, have_conclusions, AreConclusions, IsOver}
@@ -42,7 +42,7 @@ rule_over b Instantiation c x extras l = and_left (has_members 1 (conclusions_ob
 rule_over b Induction c x extras l = absurd l
 
 module _ (b : Basis) (os : List Object) where
-  pub conclusions_formulas : (x : Object) (rs : List ℕ) → have_conclusions b.table x ≡ true → known_object os rs ≡ conclusions_object x → All (λ r. is_formula_object b.table (object_at os r) ≡ true) rs
+  pub conclusions_formulas : (x : Object) (rs : List ℕ) → have_conclusions b.table x ≡ true → list_object os rs ≡ conclusions_object x → All (λ r. is_formula_object b.table (object_at os r) ≡ true) rs
   conclusions_formulas x [] h e = λ k d l. absurd (omega arith)
   conclusions_formulas (Natural n) (r ∷ rs) h e = cc
   conclusions_formulas (Symbol s) (r ∷ rs) h e = cc
@@ -83,7 +83,7 @@ module _ (b : Basis) (os : List Object) where
         (ap (λ o. rule_holds b.axioms b.theorems b.table b.profile o (object_at os m.conclusion) (conclusions_object (object_at os m.subproofs)) (object_at os m.extras)) named
         ∙ rule_over b method (object_at os m.conclusion) (object_at os m.subproofs) (object_at os m.extras) over))
 
-    pub by_rule : (method : Method) (rs : List ℕ) → method_among methods (object_at os m.method) ≡ Some method → is_formula_object b.table (object_at os m.conclusion) ≡ true → AreConclusions b.table os m.subproofs rs → rule_holds b.axioms b.theorems b.table b.profile (Some method) (object_at os m.conclusion) (known_object os rs) (object_at os m.extras) ≡ is_step_on b (object_at os p)
+    pub by_rule : (method : Method) (rs : List ℕ) → method_among methods (object_at os m.method) ≡ Some method → is_formula_object b.table (object_at os m.conclusion) ≡ true → AreConclusions b.table os m.subproofs rs → rule_holds b.axioms b.theorems b.table b.profile (Some method) (object_at os m.conclusion) (list_object os rs) (object_at os m.extras) ≡ is_step_on b (object_at os p)
     by_rule method rs named formula a =
         let rule = λ (o : Option Method) (cs : Object). rule_holds b.axioms b.theorems b.table b.profile o (object_at os m.conclusion) cs (object_at os m.extras) in
         ap (rule (Some method)) a.list_is

@@ -11,18 +11,18 @@ use Rattle.mw_model.proofs.Names.{same_object-eq}
 use Rattle.mw_heap.specs.Objects.{object_at, Grows}
 use Rattle.mw_heap.proofs.Objects.{object_at-Grows}
 use Rattle.mw_proof.specs.Step.{has_proof_shape, subproofs_of, step_holds}
-use Rattle.mw_proof.specs.Known.{known_object}
+use Rattle.mw_heap.specs.Lists.{list_object}
 use Rattle.mw_proof.specs.Gathered.{IsAmong, HasMembers, HasSubproofs, IsMadeOf, itself, subproof}
 use Rattle.mw_proof.specs.Judging.{Basis, basis, is_proof_on, are_proofs_on, is_step_on, have_conclusions}
 use Rattle.mw_proof.proofs.StepExact.{is_proof-step}
 
 module _ (os new : List Object) (g : Grows os new) where
-  known_object-grows : (k : List ℕ) → All (λ r. r < length os) k → known_object new k ≡ known_object os k
-  known_object-grows [] h = refl
-  known_object-grows (r ∷ k) h = ap₂ Pair (object_at-Grows os new g r (All-head (λ r. r < length os) r k h)) (known_object-grows k (All-tail (λ r. r < length os) r k h))
+  list_object-grows : (k : List ℕ) → All (λ r. r < length os) k → list_object new k ≡ list_object os k
+  list_object-grows [] h = refl
+  list_object-grows (r ∷ k) h = ap₂ Pair (object_at-Grows os new g r (All-head (λ r. r < length os) r k h)) (list_object-grows k (All-tail (λ r. r < length os) r k h))
 
   pub basis-grows : (A : ArityTable) (ax th : List ℕ) (P : Profile) → All (λ r. r < length os) ax → All (λ r. r < length os) th → basis new A ax th P ≡ basis os A ax th P
-  basis-grows A ax th P h k = ap₂ (λ a t. record { axioms = a; theorems = t; table = A; profile = P }) (known_object-grows ax h) (known_object-grows th k)
+  basis-grows A ax th P h k = ap₂ (λ a t. record { axioms = a; theorems = t; table = A; profile = P }) (list_object-grows ax h) (list_object-grows th k)
 
 module _ (b : Basis) where
   abbrev shape_of : Object → Bool

@@ -7,7 +7,7 @@ use Rattle.mw_model.specs.Rules.{is_formula_object}
 use Rattle.mw_model.specs.RulesInduction.{length_object}
 use Rattle.mw_heap.specs.Objects.{object_at}
 use Rattle.mw_proof.specs.Step.{subproofs_of, conclusions_object, is_proof, are_proofs, is_step}
-use Rattle.mw_proof.specs.Known.{known_object}
+use Rattle.mw_heap.specs.Lists.{list_object}
 
 -- what a proof may rest on
 pub record Basis : Type 0 where
@@ -18,7 +18,7 @@ pub record Basis : Type 0 where
 
 -- the objects of known references, and an arity table
 abbrev pub basis : List Object → ArityTable → List ℕ → List ℕ → Profile → Basis
-basis os A axioms theorems P = record { axioms = known_object os axioms; theorems = known_object os theorems; table = A; profile = P }
+basis os A axioms theorems P = record { axioms = list_object os axioms; theorems = list_object os theorems; table = A; profile = P }
 
 abbrev pub is_proof_on : Basis → Object → Bool
 is_proof_on b p = is_proof b.axioms b.theorems b.table b.profile p
@@ -39,7 +39,7 @@ is_step_on b p = is_step b.axioms b.theorems b.table b.profile p (have_conclusio
 -- the conclusions of a list
 pub record AreConclusions (A : ArityTable) (os : List Object) (list : ℕ) (rs : List ℕ) : Type 0 where
   pub formulas : have_conclusions A (object_at os list) ≡ true
-  pub list_is : known_object os rs ≡ conclusions_object (object_at os list)
+  pub list_is : list_object os rs ≡ conclusions_object (object_at os list)
   pub before : All (λ r. r < list) rs
 
 -- n is not over the most, and is over it

@@ -5,7 +5,7 @@ use Rattle.mw_proof.specs.Gathered.{AreProofsOf, AreGathered}
 use Rattle.mw_proof.specs.declared.judging.Judged.{Judged}
 use Rattle.mw_proof.specs.declared.judging.Judged.TheVariants.{Good, Bad, Memory}
 
--- the judgment is that answer, or want of memory
+-- the judgment is that answer, or out of memory
 abbrev pub IsJudgment : Judged → Bool → Type 0
 IsJudgment Good b = b ≡ true
 IsJudgment Bad b = b ≡ false

@@ -1,14 +1,7 @@
 -- Known objects: the list of their references beside the set of these.
 use Rattle.std.specs.Prelude.{◌≡◌, ℕ, zero, suc, ◌==◌, ◌≤◌, List, [], ◌∷◌, length, map, reverse, take, get_or}
 use Rattle.std.specs.List.{list_any}
-use Rattle.mw_model.specs.Object.{Object, Pair, NIL}
-use Rattle.mw_heap.specs.Objects.{object_at}
 use Rattle.mw_proof.specs.declared.known.Entry.{Entry}
-
--- the list of these references, as an object
-abbrev pub known_object : List Object → List ℕ → Object
-known_object os [] = NIL
-known_object os (x ∷ k) = Pair (object_at os x) (known_object os k)
 
 -- the newest first
 abbrev pub references : List Entry → List ℕ

@@ -17,11 +17,11 @@ pub(crate) fn conclusions_of(
     marks: &Marks,
     most: Option<usize>,
 ) -> Result<Option<Vec<Ref>>, Memory>
-    requires marks { (A : ArityTable) × AreMarks A heap.now marks.now }
+    requires marks { (A : ArityTable) × AreMarks A heap.now.objects marks.now }
     requires within { subproofs < length marks.now }
-    requires all_within { AreIn heap.now found.old.keys }
-    ensures answer { (A : ArityTable) → AreMarks A heap.now marks.now → IfOk result (IsAnswer A heap.now subproofs most) }
-    ensures found { IfOk result (λ o. IfSome o (λ cs. AddsMembers heap.now subproofs found.old.keys found.new.keys)) }
+    requires all_within { AreIn heap.now.objects found.old.keys }
+    ensures answer { (A : ArityTable) → AreMarks A heap.now.objects marks.now → IfOk result (IsAnswer A heap.now.objects subproofs most) }
+    ensures found { IfOk result (λ o. IfSome o (λ cs. AddsMembers heap.now.objects subproofs found.old.keys found.new.keys)) }
 {
     let mut conclusions = Vec::new(heap.alloc());
     let mut rest = subproofs;

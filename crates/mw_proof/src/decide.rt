@@ -26,14 +26,14 @@ pub(crate) fn decide(
     profile: Profile,
     marks: &Marks,
 ) -> Result<bool, Memory>
-    requires marks { (A : ArityTable) × AreMarks A heap.old marks.now }
+    requires marks { (A : ArityTable) × AreMarks A heap.old.objects marks.now }
     requires within { p < length marks.now }
-    requires axioms { All (IsIn heap.old) axioms.now }
-    requires theorems { All (IsIn heap.old) theorems.now }
-    requires all_within { AreIn heap.old found.old.keys }
-    ensures grows { Grows heap.old heap.new }
-    ensures answer { IfOk result (λ b. (A : ArityTable) → AreMarks A heap.old marks.now → b ≡ is_step_on (basis heap.old A axioms.now theorems.now (profile_of profile)) (object_at heap.old p)) }
-    ensures found { IfOk result (λ b. b ≡ true → AddsSubproofs heap.old p found.old.keys found.new.keys) }
+    requires axioms { All (IsIn heap.old.objects) axioms.now }
+    requires theorems { All (IsIn heap.old.objects) theorems.now }
+    requires all_within { AreIn heap.old.objects found.old.keys }
+    ensures grows { Grows heap.old.objects heap.new.objects }
+    ensures answer { IfOk result (λ b. (A : ArityTable) → AreMarks A heap.old.objects marks.now → b ≡ is_step_on (basis heap.old.objects A axioms.now theorems.now (profile_of profile)) (object_at heap.old.objects p)) }
+    ensures found { IfOk result (λ b. b ≡ true → AddsSubproofs heap.old.objects p found.old.keys found.new.keys) }
 {
     let Some(members) = members_of(heap, p) else {
         return Ok(false);

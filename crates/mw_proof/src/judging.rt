@@ -5,7 +5,7 @@ ghost use Rattle.mw_heap.specs.Variants.{profile_of};
 ghost use Rattle.mw_term.specs.Marking.{AreMarks};
 ghost use Rattle.mw_model.specs.Term.{ArityTable};
 ghost use Rattle.mw_proof.specs.Step.{is_proof};
-ghost use Rattle.mw_proof.specs.Known.{known_object};
+ghost use Rattle.mw_heap.specs.Lists.{list_object};
 ghost use Rattle.mw_proof.specs.Judging.{basis, is_proof_on};
 ghost use Rattle.mw_proof.specs.Judgments.{IsJudgment, Reaches, DecidesEach, HasStepForEach, HasStepForSome};
 
@@ -18,7 +18,7 @@ use mw_term::{Arity, Marks};
 use std::marker::Brand;
 use std::sync::ledger::{Blank, Ledger};
 
-/// Whether an object is a proof, or want of memory.
+/// Whether an object is a proof, or out of memory.
 #[derive(Clone, Copy, Debug, PartialEq, Eq)]
 pub enum Judged {
     Good,
@@ -40,15 +40,15 @@ pub fn judge_counted<L: Ledger>(
     marks: &mut Marks,
     steps: &mut Steps<L>,
 ) -> Judged
-    requires within { IsIn heap.old proof }
-    requires axioms { All (IsIn heap.old) axioms.now }
-    requires theorems { All (IsIn heap.old) theorems.now }
-    requires marked { AreMarks arity.now heap.old marks.old }
-    ensures grows { Grows heap.old heap.new }
-    ensures marked { AreMarks arity.now heap.new marks.new }
-    ensures judged { IsJudgment result (is_proof (known_object heap.old axioms.now) (known_object heap.old theorems.now) arity.now (profile_of profile) (object_at heap.old proof)) }
-    ensures reaches { Reaches result (length marks.old) (length heap.old) (length marks.new) }
-    ensures decided { DecidesEach result heap.old proof steps.old steps.new }
+    requires within { IsIn heap.old.objects proof }
+    requires axioms { All (IsIn heap.old.objects) axioms.now }
+    requires theorems { All (IsIn heap.old.objects) theorems.now }
+    requires marked { AreMarks arity.now heap.old.objects marks.old }
+    ensures grows { Grows heap.old.objects heap.new.objects }
+    ensures marked { AreMarks arity.now heap.new.objects marks.new }
+    ensures judged { IsJudgment result (is_proof (list_object heap.old.objects axioms.now) (list_object heap.old.objects theorems.now) arity.now (profile_of profile) (object_at heap.old.objects proof)) }
+    ensures reaches { Reaches result (length marks.old) (length heap.old.objects) (length marks.new) }
+    ensures decided { DecidesEach result heap.old.objects proof steps.old steps.new }
 {
     match is_good(heap, proof, axioms, theorems, arity, profile, marks, steps) {
         Ok(true) => Judged::Good,
@@ -68,17 +68,17 @@ fn judge_uncounted<L: Ledger>(
     marks: &mut Marks,
     blank: Blank,
 ) -> Judged
-    requires within { IsIn heap.old proof }
-    requires axioms { All (IsIn heap.old) axioms.now }
-    requires theorems { All (IsIn heap.old) theorems.now }
-    requires marked { AreMarks arity.now heap.old marks.old }
+    requires within { IsIn heap.old.objects proof }
+    requires axioms { All (IsIn heap.old.objects) axioms.now }
+    requires theorems { All (IsIn heap.old.objects) theorems.now }
+    requires marked { AreMarks arity.now heap.old.objects marks.old }
     requires name { blank.name ≡ L.name }
     requires parts { blank.parts ≡ L.parts }
     requires some { 0 < blank.parts }
-    ensures grows { Grows heap.old heap.new }
-    ensures marked { AreMarks arity.now heap.new marks.new }
-    ensures judged { IsJudgment result (is_proof (known_object heap.old axioms.now) (known_object heap.old theorems.now) arity.now (profile_of profile) (object_at heap.old proof)) }
-    ensures reaches { Reaches result (length marks.old) (length heap.old) (length marks.new) }
+    ensures grows { Grows heap.old.objects heap.new.objects }
+    ensures marked { AreMarks arity.now heap.new.objects marks.new }
+    ensures judged { IsJudgment result (is_proof (list_object heap.old.objects axioms.now) (list_object heap.old.objects theorems.now) arity.now (profile_of profile) (object_at heap.old.objects proof)) }
+    ensures reaches { Reaches result (length marks.old) (length heap.old.objects) (length marks.new) }
 {
     let mut steps = Steps::<L>::new(blank);
     judge_counted(
@@ -97,14 +97,14 @@ pub fn judge(
     profile: Profile,
     marks: &mut Marks,
 ) -> Judged
-    requires within { IsIn heap.old proof }
-    requires axioms { All (IsIn heap.old) axioms.now }
-    requires theorems { All (IsIn heap.old) theorems.now }
-    requires marked { AreMarks arity.now heap.old marks.old }
-    ensures grows { Grows heap.old heap.new }
-    ensures marked { AreMarks arity.now heap.new marks.new }
-    ensures judged { IsJudgment result (is_proof (known_object heap.old axioms.now) (known_object heap.old theorems.now) arity.now (profile_of profile) (object_at heap.old proof)) }
-    ensures reaches { Reaches result (length marks.old) (length heap.old) (length marks.new) }
+    requires within { IsIn heap.old.objects proof }
+    requires axioms { All (IsIn heap.old.objects) axioms.now }
+    requires theorems { All (IsIn heap.old.objects) theorems.now }
+    requires marked { AreMarks arity.now heap.old.objects marks.old }
+    ensures grows { Grows heap.old.objects heap.new.objects }
+    ensures marked { AreMarks arity.now heap.new.objects marks.new }
+    ensures judged { IsJudgment result (is_proof (list_object heap.old.objects axioms.now) (list_object heap.old.objects theorems.now) arity.now (profile_of profile) (object_at heap.old.objects proof)) }
+    ensures reaches { Reaches result (length marks.old) (length heap.old.objects) (length marks.new) }
 {
     judge_uncounted::<Brand>(
         heap,
@@ -129,17 +129,17 @@ fn is_good<L: Ledger>(
     marks: &mut Marks,
     steps: &mut Steps<L>,
 ) -> Result<bool, Memory>
-    requires within { IsIn heap.old proof }
-    requires axioms { All (IsIn heap.old) axioms.now }
-    requires theorems { All (IsIn heap.old) theorems.now }
-    requires marked { AreMarks arity.now heap.old marks.old }
-    ensures grows { Grows heap.old heap.new }
-    ensures marked { AreMarks arity.now heap.new marks.new }
-    ensures judged { IfOk result (λ b. b ≡ is_proof (known_object heap.old axioms.now) (known_object heap.old theorems.now) arity.now (profile_of profile) (object_at heap.old proof)) }
-    ensures reaches { OnOk result (length marks.new ≡ length heap.old) }
+    requires within { IsIn heap.old.objects proof }
+    requires axioms { All (IsIn heap.old.objects) axioms.now }
+    requires theorems { All (IsIn heap.old.objects) theorems.now }
+    requires marked { AreMarks arity.now heap.old.objects marks.old }
+    ensures grows { Grows heap.old.objects heap.new.objects }
+    ensures marked { AreMarks arity.now heap.new.objects marks.new }
+    ensures judged { IfOk result (λ b. b ≡ is_proof (list_object heap.old.objects axioms.now) (list_object heap.old.objects theorems.now) arity.now (profile_of profile) (object_at heap.old.objects proof)) }
+    ensures reaches { OnOk result (length marks.new ≡ length heap.old.objects) }
     ensures kept { length marks.old ≤ length marks.new }
-    ensures each { IfOk result (λ b. b ≡ true → HasStepForEach heap.old proof steps.old steps.new) }
-    ensures most { HasStepForSome heap.old proof steps.old steps.new }
+    ensures each { IfOk result (λ b. b ≡ true → HasStepForEach heap.old.objects proof steps.old steps.new) }
+    ensures most { HasStepForSome heap.old.objects proof steps.old steps.new }
 {
     let below = heap.mark();
     marks.extend(heap, arity, below)?;
@@ -157,15 +157,15 @@ fn all_hold<L: Ledger>(
     marks: &Marks,
     steps: &mut Steps<L>,
 ) -> Result<bool, Memory>
-    requires marks { (A : ArityTable) × AreMarks A heap.old marks.now }
-    requires all { length marks.now ≡ length heap.old }
-    requires within { IsIn heap.old proof }
-    requires axioms { All (IsIn heap.old) axioms.now }
-    requires theorems { All (IsIn heap.old) theorems.now }
-    ensures grows { Grows heap.old heap.new }
-    ensures judged { IfOk result (λ b. (A : ArityTable) → AreMarks A heap.old marks.now → b ≡ is_proof_on (basis heap.old A axioms.now theorems.now (profile_of profile)) (object_at heap.old proof)) }
-    ensures each { IfOk result (λ b. b ≡ true → HasStepForEach heap.old proof steps.old steps.new) }
-    ensures most { HasStepForSome heap.old proof steps.old steps.new }
+    requires marks { (A : ArityTable) × AreMarks A heap.old.objects marks.now }
+    requires all { length marks.now ≡ length heap.old.objects }
+    requires within { IsIn heap.old.objects proof }
+    requires axioms { All (IsIn heap.old.objects) axioms.now }
+    requires theorems { All (IsIn heap.old.objects) theorems.now }
+    ensures grows { Grows heap.old.objects heap.new.objects }
+    ensures judged { IfOk result (λ b. (A : ArityTable) → AreMarks A heap.old.objects marks.now → b ≡ is_proof_on (basis heap.old.objects A axioms.now theorems.now (profile_of profile)) (object_at heap.old.objects proof)) }
+    ensures each { IfOk result (λ b. b ≡ true → HasStepForEach heap.old.objects proof steps.old steps.new) }
+    ensures most { HasStepForSome heap.old.objects proof steps.old steps.new }
 {
     let mut found = IndexSet::new(heap.alloc());
     found.insert(proof)?;

@@ -17,9 +17,9 @@ pub(crate) struct Members {
 
 /// The members, where it is a list of two to four. For one that is missing stands the NIL at the list's end.
 pub(crate) fn members_of(heap: &Heap, p: Ref) -> Option<Members>
-    requires { IsIn heap.now p }
-    ensures shape { is_some result ≡ has_proof_shape (object_at heap.now p) }
-    ensures members { IfSome result (λ m. AreMembers heap.now p m) }
+    requires { IsIn heap.now.objects p }
+    ensures shape { is_some result ≡ has_proof_shape (object_at heap.now.objects p) }
+    ensures members { IfSome result (λ m. AreMembers heap.now.objects p m) }
 {
     let View::Pair(method, rest) = heap.view(p) else {
         return None;
@@ -42,8 +42,8 @@ pub(crate) fn members_of(heap: &Heap, p: Ref) -> Option<Members>
 
 // The next member of a list and the rest; the end twice where there is none.
 fn next_member(heap: &Heap, x: Ref) -> (Ref, Ref)
-    requires { IsIn heap.now x }
-    ensures { IsNext heap.now x result.0 result.1 }
+    requires { IsIn heap.now.objects x }
+    ensures { IsNext heap.now.objects x result.0 result.1 }
 {
     match heap.view(x) {
         View::Pair(first, rest) => (first, rest),

@@ -78,8 +78,8 @@ impl Method {
 
     /// The method that a symbol names.
     pub fn of(heap: &Heap, x: Ref) -> Option<Method>
-        requires { IsIn heap.now x }
-        ensures { option_map method_of_logic result ≡ method_among methods (object_at heap.now x) }
+        requires { IsIn heap.now.objects x }
+        ensures { option_map method_of_logic result ≡ method_among methods (object_at heap.now.objects x) }
     {
         match heap.view(x) {
             View::Symbol => first_named(&METHODS, heap.name_of(x)),

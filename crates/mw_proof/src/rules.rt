@@ -7,7 +7,7 @@ ghost use Rattle.mw_model.specs.Term.{ArityTable};
 ghost use Rattle.mw_model.specs.Object.{is_member};
 ghost use Rattle.mw_model.specs.Rules.{is_formula_object};
 ghost use Rattle.mw_proof.specs.Step.{rule_holds};
-ghost use Rattle.mw_proof.specs.Known.{known_object};
+ghost use Rattle.mw_heap.specs.Lists.{list_object};
 ghost use Rattle.mw_proof.specs.Methods.{method_of_logic};
 ghost use Rattle.mw_proof.specs.Counted.{rule_of_none, rule_of_one, rule_of_two};
 
@@ -32,16 +32,16 @@ pub(crate) fn follows(
     profile: Profile,
     marks: &Marks,
 ) -> Result<bool, Memory>
-    requires marks { (A : ArityTable) × AreMarks A heap.old marks.now }
+    requires marks { (A : ArityTable) × AreMarks A heap.old.objects marks.now }
     requires conclusion { c < length marks.now }
-    requires formula { (A : ArityTable) × (is_formula_object A (object_at heap.old c) ≡ true) }
-    requires premises { All (IsIn heap.old) conclusions.now }
-    requires formulas { All (λ r. (A : ArityTable) × (is_formula_object A (object_at heap.old r) ≡ true)) conclusions.now }
+    requires formula { (A : ArityTable) × (is_formula_object A (object_at heap.old.objects c) ≡ true) }
+    requires premises { All (IsIn heap.old.objects) conclusions.now }
+    requires formulas { All (λ r. (A : ArityTable) × (is_formula_object A (object_at heap.old.objects r) ≡ true)) conclusions.now }
     requires extras { extras < length marks.now }
-    requires axioms { All (IsIn heap.old) axioms.now }
-    requires theorems { All (IsIn heap.old) theorems.now }
-    ensures grows { Grows heap.old heap.new }
-    ensures answer { IfOk result (λ b. (A : ArityTable) → AreMarks A heap.old marks.now → b ≡ rule_holds (known_object heap.old axioms.now) (known_object heap.old theorems.now) A (profile_of profile) (Some (method_of_logic method)) (object_at heap.old c) (known_object heap.old conclusions.now) (object_at heap.old extras)) }
+    requires axioms { All (IsIn heap.old.objects) axioms.now }
+    requires theorems { All (IsIn heap.old.objects) theorems.now }
+    ensures grows { Grows heap.old.objects heap.new.objects }
+    ensures answer { IfOk result (λ b. (A : ArityTable) → AreMarks A heap.old.objects marks.now → b ≡ rule_holds (list_object heap.old.objects axioms.now) (list_object heap.old.objects theorems.now) A (profile_of profile) (Some (method_of_logic method)) (object_at heap.old.objects c) (list_object heap.old.objects conclusions.now) (object_at heap.old.objects extras)) }
 {
     match method {
         Method::Instantiation => match conclusions {
@@ -68,11 +68,11 @@ fn follows_from_none(
     theorems: &Known,
     profile: Profile,
 ) -> Result<bool, Memory>
-    requires within { IsIn heap.old c }
-    requires axioms { All (IsIn heap.old) axioms.now }
-    requires theorems { All (IsIn heap.old) theorems.now }
-    ensures grows { Grows heap.old heap.new }
-    ensures answer { IfOk result (λ b. b ≡ rule_of_none (known_object heap.old axioms.now) (known_object heap.old theorems.now) (profile_of profile) (method_of_logic method) (object_at heap.old c)) }
+    requires within { IsIn heap.old.objects c }
+    requires axioms { All (IsIn heap.old.objects) axioms.now }
+    requires theorems { All (IsIn heap.old.objects) theorems.now }
+    ensures grows { Grows heap.old.objects heap.new.objects }
+    ensures answer { IfOk result (λ b. b ≡ rule_of_none (list_object heap.old.objects axioms.now) (list_object heap.old.objects theorems.now) (profile_of profile) (method_of_logic method) (object_at heap.old.objects c)) }
 {
     match method {
         Method::Axiom => Ok(is_known(heap, axioms, c)),
@@ -87,9 +87,9 @@ fn follows_from_none(
 
 // Whether the object is known.
 fn is_known(heap: &Heap, known: &Known, x: Ref) -> bool
-    requires within { IsIn heap.now x }
-    requires known { All (IsIn heap.now) known.now }
-    ensures { result ≡ is_member (object_at heap.now x) (known_object heap.now known.now) }
+    requires within { IsIn heap.now.objects x }
+    requires known { All (IsIn heap.now.objects) known.now }
+    ensures { result ≡ is_member (object_at heap.now.objects x) (list_object heap.now.objects known.now) }
 {
     let _ = heap.same(x, x);
     known.holds(x)
@@ -97,9 +97,9 @@ fn is_known(heap: &Heap, known: &Known, x: Ref) -> bool
 
 // Whether the conclusion follows from one.
 fn follows_from_one(heap: &Heap, method: Method, c: Ref, a: Ref) -> bool
-    requires within { IsIn heap.now c }
-    requires premise { IsIn heap.now a }
-    ensures { result ≡ rule_of_one (method_of_logic method) (object_at heap.now c) (object_at heap.now a) }
+    requires within { IsIn heap.now.objects c }
+    requires premise { IsIn heap.now.objects a }
+    ensures { result ≡ rule_of_one (method_of_logic method) (object_at heap.now.objects c) (object_at heap.now.objects a) }
 {
     match method {
         Method::Expansion => expansion(heap, c, a),
@@ -111,10 +111,10 @@ fn follows_from_one(heap: &Heap, method: Method, c: Ref, a: Ref) -> bool
 
 // Whether the conclusion follows from two.
 fn follows_from_two(heap: &Heap, method: Method, c: Ref, a: Ref, b: Ref) -> bool
-    requires within { IsIn heap.now c }
-    requires first { IsIn heap.now a }
-    requires second { IsIn heap.now b }
-    ensures { result ≡ rule_of_two (method_of_logic method) (object_at heap.now c) (object_at heap.now a) (object_at heap.now b) }
+    requires within { IsIn heap.now.objects c }
+    requires first { IsIn heap.now.objects a }
+    requires second { IsIn heap.now.objects b }
+    ensures { result ≡ rule_of_two (method_of_logic method) (object_at heap.now.objects c) (object_at heap.now.objects a) (object_at heap.now.objects b) }
 {
     match method {
         Method::Cut => cut(heap, c, a, b),

@@ -16,35 +16,35 @@ const OR: &[u8] = b"POR*";
 
 /// Conclude not A or A.
 pub fn schema(heap: &Heap, c: Ref) -> bool
-    requires { IsIn heap.now c }
-    ensures { result ≡ object_is_schema (object_at heap.now c) }
+    requires { IsIn heap.now.objects c }
+    ensures { result ≡ object_is_schema (object_at heap.now.objects c) }
 {
     heap.is_headed(c, OR) && heap.is_list2(heap.second_of(c), NOT, heap.third_of(c))
 }
 
 /// From A, conclude B or A.
 pub fn expansion(heap: &Heap, c: Ref, a: Ref) -> bool
-    requires c_in { IsIn heap.now c }
-    requires a_in { IsIn heap.now a }
-    ensures { result ≡ object_is_expansion (object_at heap.now c) (object_at heap.now a) }
+    requires c_in { IsIn heap.now.objects c }
+    requires a_in { IsIn heap.now.objects a }
+    ensures { result ≡ object_is_expansion (object_at heap.now.objects c) (object_at heap.now.objects a) }
 {
     heap.is_headed(c, OR) && heap.is_same(heap.third_of(c), Some(a))
 }
 
 /// From A or A, conclude A.
 pub fn contraction(heap: &Heap, c: Ref, a: Ref) -> bool
-    requires c_in { IsIn heap.now c }
-    requires a_in { IsIn heap.now a }
-    ensures { result ≡ object_is_contraction (object_at heap.now c) (object_at heap.now a) }
+    requires c_in { IsIn heap.now.objects c }
+    requires a_in { IsIn heap.now.objects a }
+    ensures { result ≡ object_is_contraction (object_at heap.now.objects c) (object_at heap.now.objects a) }
 {
     heap.is_list3(Some(a), OR, Some(c), Some(c))
 }
 
 /// From A or (B or C), conclude (A or B) or C.
 pub fn associativity(heap: &Heap, c: Ref, a: Ref) -> bool
-    requires c_in { IsIn heap.now c }
-    requires a_in { IsIn heap.now a }
-    ensures { result ≡ object_is_associativity (object_at heap.now c) (object_at heap.now a) }
+    requires c_in { IsIn heap.now.objects c }
+    requires a_in { IsIn heap.now.objects a }
+    ensures { result ≡ object_is_associativity (object_at heap.now.objects c) (object_at heap.now.objects a) }
 {
     match heap.third_of(a) {
         Some(bc) => {
@@ -65,21 +65,21 @@ pub fn associativity(heap: &Heap, c: Ref, a: Ref) -> bool
 // Whether c is (x or y) or z.
 #[tactic(auto, using(crate::proofs::ByMembers::by_members))]
 fn is_left_or(heap: &Heap, c: Ref, x: Option<Ref>, y: Option<Ref>, z: Option<Ref>) -> bool
-    requires c_in { IsIn heap.now c }
-    requires x_within { IsPart heap.now x }
-    requires y_within { IsPart heap.now y }
-    requires z_within { IsPart heap.now z }
-    ensures { result ≡ same_object (object_at heap.now c) (or_object (or_object (part_at heap.now x) (part_at heap.now y)) (part_at heap.now z)) }
+    requires c_in { IsIn heap.now.objects c }
+    requires x_within { IsPart heap.now.objects x }
+    requires y_within { IsPart heap.now.objects y }
+    requires z_within { IsPart heap.now.objects z }
+    ensures { result ≡ same_object (object_at heap.now.objects c) (or_object (or_object (part_at heap.now.objects x) (part_at heap.now.objects y)) (part_at heap.now.objects z)) }
 {
     heap.is_list3(heap.second_of(c), OR, x, y) && heap.is_list3(Some(c), OR, heap.second_of(c), z)
 }
 
 /// From A or B and not A or C, conclude B or C.
 pub fn cut(heap: &Heap, c: Ref, a: Ref, b: Ref) -> bool
-    requires c_in { IsIn heap.now c }
-    requires a_in { IsIn heap.now a }
-    requires b_in { IsIn heap.now b }
-    ensures { result ≡ object_is_cut (object_at heap.now c) (object_at heap.now a) (object_at heap.now b) }
+    requires c_in { IsIn heap.now.objects c }
+    requires a_in { IsIn heap.now.objects a }
+    requires b_in { IsIn heap.now.objects b }
+    ensures { result ≡ object_is_cut (object_at heap.now.objects c) (object_at heap.now.objects a) (object_at heap.now.objects b) }
 {
     heap.is_headed(a, OR)
         && heap.is_headed(b, OR)

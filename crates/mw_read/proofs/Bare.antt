@@ -11,7 +11,7 @@ pub empty_is : {A : Type 0} (xs : List A) (n : ℕ) → n ≡ length xs → true
 empty_is [] n h e = refl
 empty_is (x ∷ xs) n h e = let k = eqb-true n 0 (sym e) in absurd (omega (arith, k, h))
 
--- what was kept with these bytes behind it, or these bytes alone, is both
+-- what was kept with these bytes after it, or these bytes alone, is both
 pub kept_is : (old new seen bytes r : List ℕ) → (0 < length old → new ≡ old ++ bytes) → (length old ≡ 0 → new ≡ old) → seen ≡ new → (0 < length seen → r ≡ seen) → (length seen ≡ 0 → r ≡ bytes) → r ≡ old ++ bytes
 kept_is [] new seen bytes r f g e h k = k (ap length (e ∙ g refl))
 kept_is (b ∷ old) new seen bytes r f g e h k =

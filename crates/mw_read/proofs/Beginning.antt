@@ -22,7 +22,7 @@ use Rattle.mw_read.proofs.Classes as classes
 use Rattle.mw_read.proofs.Hashes.{free_parser}
 use Rattle.mw_read.proofs.Parsing.{stray_breaks, following_event}
 
--- what is left behind n bytes, as a slice says it
+-- what is left after n bytes, as a slice says it
 pub rest_is : (n : ℕ) (xs : List ℕ) → take (length xs - n) (drop n xs) ≡ drop n xs
 rest_is n xs = take_all (length xs - n) (drop n xs) (omega (arith, length-drop n xs))
 
@@ -95,7 +95,7 @@ byte_faults e t old (b ∷ rest) z some h c k =
     ∙ between_at e (rest ++ z) t old.start b lex.Other c
     ∙ ap (λ (u : Turn). following u (lexemes_from e (suc old.start) 0 (rest ++ z))) (stray_breaks t (fault BYTE old.start) k)
 
--- behind a dot's datum no text may begin
+-- after a dot's datum no text may begin
 pub begun_full : (m : Begun) (e : Ending) (t : State) (o : ℕ) (rest z : List ℕ) → Begins m rest → is_full t ≡ true → resume t (lexemes_from e o 0 (rest ++ z)) ≡ book [] (Some (fault DOT o))
 begun_full Bars e (Full xs y s ls) o (b ∷ rest) z h f = between_at e (rest ++ z) (Full xs y s ls) o b lex.Bar h
 begun_full Hash e (Full xs y s ls) o (b ∷ rest) z h f = between_at e (rest ++ z) (Full xs y s ls) o b lex.Hash h
@@ -219,7 +219,7 @@ is_token Bars rest h f g = absurd (f refl)
 is_token Hash rest h f g = absurd (g refl)
 is_token m rest h f g = absurd h
 
--- what stands directly behind
+-- what stands directly after
 behind_is : (m : Begun) (g : Bool) (e : Ending) (t : List ℕ) (o b : ℕ) (y : List ℕ) → IsBehind m g b →
     ahead e m t o (b ∷ y) ≡ (if g then Stray (fault TOKEN o) ∷ lexemes_from e o 0 (b ∷ y) else lexemes_from e o 0 (b ∷ y))
 behind_is Nothing g e t o b y h = sym (ap (λ v. if v then Stray (fault TOKEN o) ∷ lexemes_from e o 0 (b ∷ y) else lexemes_from e o 0 (b ∷ y)) h)

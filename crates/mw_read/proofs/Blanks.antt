@@ -1,4 +1,4 @@
--- White space directly behind what was read.
+-- White space directly after what was read.
 use Rattle.std.proofs.Common.{◌≡◌, ℕ, suc, eqb-true, true≢false, ◌+◌, ◌*◌, ◌<◌, ◌≤◌, Bool, true, false, ◌||◌, eqb, List, [], ◌∷◌, length, drop, inl, inr, refl, sym, ap, ◌∙◌, subst, arith}
 use Rattle.std.proofs.lemmas.List.{length-drop}
 use Rattle.mw_model.specs.Object.{Object}
@@ -36,7 +36,7 @@ no_or true v f g = absurd (f refl)
 no_or false true f g = absurd (g refl)
 no_or false false f g = refl
 
--- white space may stand behind what is complete
+-- white space may stand after what is complete
 white_glued : (b : ℕ) → class b ≡ lex.White → glued b ≡ false
 white_glued b h = no_or (eqb b 124) (eqb b 35) (white_bar b h) (white_hash b h)
 

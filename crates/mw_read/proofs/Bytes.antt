@@ -291,7 +291,7 @@ bars_keeps e x s o b n h =
     ended : Move
     ended = if eqb b 124 then close_bars n s o else wrong
 
--- behind a closing bar
+-- after a closing bar
 pub barred_lexemes : (e : Ending) (x : List ℕ) (o b c : ℕ) (n : List ℕ) → all_are is_name_byte (c ∷ n) ≡ true →
     lexemes_from e o 0 (124 ∷ (((c ∷ n) ++ 124 ∷ []) ++ b ∷ x))
     ≡ atom Goes glued_bar o (Symbol (name_of_bytes (c ∷ n))) (o + 2 + length (c ∷ n)) (b ∷ []) ++ lexemes_from e (o + 2 + length (c ∷ n)) 0 (b ∷ x)
@@ -364,7 +364,7 @@ hash_keeps e x s o b d h =
     l : List Lexeme
     l = hashed Goes o d (b ∷ [])
 
--- Behind a dot's datum no piece is open that begins a datum.
+-- After a dot's datum no piece is open that begins a datum.
 abbrev pub IsReady : State → Mode → Type 0
 IsReady (Full xs x s ls) Between = Unit {0}
 IsReady (Full xs x s ls) Comment = Unit {0}

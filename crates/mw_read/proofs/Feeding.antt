@@ -64,7 +64,7 @@ module _ (old : Reader) (g : List ℕ) (given : List Object) (os : List Object) 
     pub finishes_behind : (mid : Parser) (t : Step) → 0 < length old.unread → Finishes os mid (g ++ old.unread) given t new.parser → Continues os old g given t new
     finishes_behind mid t l v = finishes_continues mid t (omega (arith, weight_small mid.begun, l)) v
 
--- What comes behind all bytes fed, where no more come.
+-- What comes after all bytes fed, where no more come.
 module _ (old : Reader) (g : List ℕ) (given : List Object) (e : old.unread ≡ []) where
   parts_empty : (xs ys : List ℕ) → [] ≡ xs ++ ys → (xs ≡ []) × (ys ≡ [])
   parts_empty [] ys h = (refl, sym h)

@@ -172,7 +172,7 @@ reads_mark o n ls r =
 pub reads_dot : (o : ℕ) (ls : Labels) (r : List Lexeme) → reads Tail ls (Dot o ∷ r) ≡ reads Last ls r
 reads_dot o ls r = any_fuel (suc (enough r)) Last ls r (omega arith)
 
--- a member and the tail behind it
+-- a member and the tail after it
 pub reads_pair : (l : Lexeme) (ls : Labels) (r : List Lexeme) →
     and_then (read (suc (enough r)) Datum ls (l ∷ r)) (and_tail (read (suc (enough r)) Tail)) ≡ and_then (reads Datum ls (l ∷ r)) (and_tail (reads Tail))
 reads_pair l ls r =
@@ -200,7 +200,7 @@ data_fuel (suc j) (suc k) (l ∷ r) h h' =
     same_data (enough (l ∷ r)) (data_of j) (data_of k) (reads Datum Unused (l ∷ r)) (shrink (enough (l ∷ r)) Datum Unused (l ∷ r))
     (λ more a. data_fuel j k more (omega arith) (omega arith))
 
--- a datum and the data behind it
+-- a datum and the data after it
 pub rest_step : (l : Lexeme) (r : List Lexeme) → and_data (data_of (suc (enough r))) (reads Datum Unused (l ∷ r)) ≡ and_data rest (reads Datum Unused (l ∷ r))
 rest_step l r =
     same_data (enough (l ∷ r)) (data_of (suc (enough r))) rest (reads Datum Unused (l ∷ r)) (shrink (enough (l ∷ r)) Datum Unused (l ∷ r))

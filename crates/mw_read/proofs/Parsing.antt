@@ -23,14 +23,14 @@ if_front : (v : Bool) (l : Lexeme) (a b : List Lexeme) → (if v then l ∷ a el
 if_front true l a b = refl
 if_front false l a b = refl
 
--- an atom and what stands behind it
+-- an atom and what stands after it
 pub atom_behind : (e : Ending) (bad : ℕ → Bool) (o : ℕ) (y : Object) (end b : ℕ) (x : List ℕ) →
     atom Goes bad o y end (b ∷ []) ++ lexemes_from e end 0 (b ∷ x) ≡ Atom o y ∷ behind bad e end (b ∷ x)
 atom_behind e bad o y end b x =
     let r = lexemes_from e end 0 (b ∷ x) in
     if_append (bad b) (Atom o y ∷ Stray (fault TOKEN end) ∷ []) (Atom o y ∷ []) r ∙ if_front (bad b) (Atom o y) (Stray (fault TOKEN end) ∷ r) r
 
--- the token's lexeme, and whatever lexemes behind it
+-- the token's lexeme, and whatever lexemes after it
 token_first : (o : ℕ) (g : Bool) (t : List ℕ) (f : TokenForm) (b : ℕ) → glued b ≡ g → (more : List Lexeme) × (token Goes o t f (b ∷ []) ≡ token_lexeme o g f ∷ more)
 token_first o g t (Whole y) b h = ((if glued b then Stray (fault TOKEN (o + length t)) ∷ [] else []), if_front (glued b) (Atom o y) (Stray (fault TOKEN (o + length t)) ∷ []) [])
 token_first o g t Point b h = ([], ap (λ v. if v then Wrong o (Some (fault TOKEN (o + 1))) ∷ [] else Dot o ∷ []) h ∙ one g (Wrong o (Some (fault TOKEN (o + 1)))) (Dot o))
@@ -46,7 +46,7 @@ token_solid o true Point = tt
 token_solid o false Point = tt
 token_solid o g Bad = tt
 
--- a fault that the token is, whatever follows the byte behind it
+-- a fault that the token is, whatever follows the byte after it
 pub token_faults : (e : Ending) (s : State) (o b : ℕ) (g : Bool) (t x : List ℕ) (f : Fault) → 0 < length t → all_are is_constituent t ≡ true → is_constituent b ≡ false → glued b ≡ g →
     on s (token_lexeme o g (token_form t)) ≡ quiet (Broken f) → resume s (lexemes_from e o 0 (t ++ b ∷ x)) ≡ book [] (Some f)
 token_faults e s o b g [] x f l a n h q = absurd (omega arith)

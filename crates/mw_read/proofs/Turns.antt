@@ -326,7 +326,7 @@ ends_waiting os ls m t o l e p (inr q) h =
     let k = split_lies os ls e.0 (layers.Mark q.0) (e.1 ∙ ap (λ u. e.0 ++ u ∷ []) q.1) p in
     on_close os (pile_of os ls) m t o h ∙ ap (λ u. close_pile o u (labels_of t)) k.1 ∙ mark_closes os (pile_of os e.0) o q.0 (labels_of t) k.0
 
--- the datum behind a dot, and what is under it
+-- the datum after a dot, and what is under it
 pub ends_last : (os : List Object) (ls : List Layer) (l : Layer) (x : ℕ) → EndsWith ls l → IsPile os ls → l ≡ layers.Last x → IsIn os x
 ends_last os ls l x e p q = (layer_lies os e.0 (layers.Last x) (subst (λ u. IsPile os u) (e.1 ∙ ap (λ u. e.0 ++ u ∷ []) q) p)).1
 

@@ -21,7 +21,7 @@ UnreadFollows r = Follows r.parser r.unread ⊎ ((r.unread ≡ []) × (r.finishe
 abbrev pub IsReady : List Object → Reader → Type 0
 IsReady os r = (IsStanding os r.parser × UnreadFollows r) ⊎ HasEnded r.parser
 
--- These bytes may yet come behind those fed.
+-- These bytes may yet come after those fed.
 abbrev pub MayCome : Reader → List ℕ → Type 0
 MayCome r rest = r.finished ≡ true → rest ≡ []
 
@@ -34,7 +34,7 @@ pub record GivesNext (old : Reader) (g : List ℕ) (given : List Object) (y : Ob
   pub follows : UnreadFollows new
   pub less : work new.parser new.unread < work old.parser old.unread
 
--- what comes next, behind bytes g, of which these data were given
+-- what comes next, after bytes g, of which these data were given
 abbrev pub Continues : List Object → Reader → List ℕ → List Object → Step → Reader → Type 0
 Continues os old g given (steps.Datum r) new = (y : Object) × Gives os y (steps.Datum r) × GivesNext old g given y new
 Continues os old g given (steps.TooBig w l) new = (y : Object) × Gives os y (steps.TooBig w l) × GivesNext old g given y new

@@ -2,7 +2,7 @@
 use Rattle.std.specs.Prelude.{ℕ, ◌+◌, Bool, eqb, List, [], ◌∷◌, Some, if◌then◌else◌}
 use Rattle.mw_model.specs.Lexemes.{Lexeme, Atom, Dot, Mark, Ref, Wrong, fault, TOKEN, LABEL, decimal_value, TokenForm, Whole, Point, Bad}
 
--- the lexeme of a token at o, and of what stands behind it, where that may be glued to it
+-- the lexeme of a token at o, and of what stands after it, where that may be glued to it
 abbrev pub token_lexeme : ℕ → Bool → TokenForm → Lexeme
 token_lexeme o glued (Whole x) = Atom o x
 token_lexeme o glued Point = if glued then Wrong o (Some (fault TOKEN (o + 1))) else Dot o

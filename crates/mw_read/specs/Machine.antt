@@ -8,7 +8,7 @@ use Rattle.mw_model.specs.Grammar.{Labels, Unused, Label, is_begun, labelled, co
 pub data Frame : Type 0 where
   -- a list with these members so far, the last first
   Members : List Object → Frame
-  -- and a dot behind them
+  -- and a dot after them
   Tailed : List Object → Frame
   Quoting : Frame
   Marking : ℕ → Frame
@@ -16,7 +16,7 @@ pub data Frame : Type 0 where
 pub data State : Type 0 where
   Idle : State
   Within : Frame → List Frame → Labels → State
-  -- a list with a datum behind its dot
+  -- a list with a datum after its dot
   Full : List Object → Object → List Frame → Labels → State
   Broken : Fault → State
 
@@ -30,14 +30,14 @@ abbrev pub IsSound : State → Type 0
 IsSound (Broken f) = ⊥
 IsSound t = Unit {0}
 
--- behind a dot and its datum nothing may begin
+-- after a dot and its datum nothing may begin
 abbrev pub is_full : State → Bool
 is_full Idle = false
 is_full (Within f s ls) = false
 is_full (Full xs x s ls) = true
 is_full (Broken f) = false
 
--- a dot may stand behind a member of a list
+-- a dot may stand after a member of a list
 abbrev pub is_behind_member : State → Bool
 is_behind_member (Within (Members (x ∷ xs)) s ls) = true
 is_behind_member t = false
@@ -125,11 +125,11 @@ pub data Mode : Type 0 where
   Comment : Mode
   -- a token: its first byte, and the others
   InToken : ℕ → List ℕ → Mode
-  -- behind an opening bar
+  -- after an opening bar
   InBars : List ℕ → Mode
-  -- behind a closing bar
+  -- after a closing bar
   Barred : ℕ → List ℕ → Mode
-  -- behind a #
+  -- after a #
   InHash : List ℕ → Mode
 
 -- a reader: what is open, what has begun, and the offset where that begins
@@ -145,7 +145,7 @@ pub record Move : Type 0 where
 abbrev pub move : List Object → State → Mode → ℕ → Move
 move xs s m o = record { events = xs; reader = record { state = s; mode = m; start = o } }
 
--- what begins a datum begins at o; behind a dot's datum it is a fault at once
+-- what begins a datum begins at o; after a dot's datum it is a fault at once
 abbrev pub begin : State → Mode → ℕ → Move
 begin Idle m o = move [] Idle m o
 begin (Within f s ls) m o = move [] (Within f s ls) m o
@@ -172,7 +172,7 @@ fresh Other s o b = turned (on s (Stray (fault BYTE o))) Between (suc o)
 abbrev pub settle : Turn → ℕ → ℕ → Move
 settle t o b = let m = fresh (class b) t.state o b in record { events = t.events ++ m.events; reader = m.reader }
 
--- a closing bar behind these bytes
+-- a closing bar after these bytes
 abbrev pub close_bars : List ℕ → State → ℕ → Move
 close_bars [] s o = turned (on s (Wrong o (Some (fault TOKEN o)))) Between o
 close_bars (c ∷ n) s o = move [] s (Barred c n) o

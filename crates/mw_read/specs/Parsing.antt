@@ -26,12 +26,12 @@ text_of Hash t = 35 ∷ t
 text_of AfterToken t = []
 text_of AfterBar t = []
 
--- the lexemes of these bytes at o, directly behind an atom
+-- the lexemes of these bytes at o, directly after an atom
 abbrev pub behind : (ℕ → Bool) → Ending → ℕ → List ℕ → List Lexeme
 behind bad e o [] = lexemes_from e o 0 []
 behind bad e o (b ∷ x) = if bad b then Stray (fault TOKEN o) ∷ lexemes_from e o 0 (b ∷ x) else lexemes_from e o 0 (b ∷ x)
 
--- the lexemes of the text that has begun and the bytes behind it
+-- the lexemes of the text that has begun and the bytes after it
 abbrev pub ahead : Ending → Begun → List ℕ → ℕ → List ℕ → List Lexeme
 ahead e AfterToken t o x = behind glued e o x
 ahead e AfterBar t o x = behind glued_bar e o x
@@ -46,7 +46,7 @@ ahead e Hash t o x = lexemes_from e o 0 (35 ∷ (t ++ x))
 abbrev pub meaning_of : Ending → State → Parser → List ℕ → Book
 meaning_of e s p x = resume s (ahead e p.begun p.token.items p.start x)
 
--- Behind a datum that is complete something follows, or the end; a token does not go on.
+-- After a datum that is complete something follows, or the end; a token does not go on.
 abbrev pub Fits : Begun → Ending → List ℕ → Type 0
 Fits AfterToken e (b ∷ x) = is_constituent b ≡ false
 Fits AfterToken Goes [] = ⊥
@@ -127,7 +127,7 @@ abbrev pub Moves : Outcome → Parser → List ℕ → ℕ → Parser → Type 0
 Moves (outcomes.Fault f) old rest n new = Unit {0}
 Moves r old rest n new = Moved old rest n new
 
--- Does g say whether byte b may not stand behind what was read?
+-- Does g say whether byte b may not stand after what was read?
 abbrev pub IsBehind : Begun → Bool → ℕ → Type 0
 IsBehind Nothing g b = g ≡ false
 IsBehind AfterToken g b = g ≡ glued b
@@ -153,7 +153,7 @@ Begins Hash x = IsFirst lex.Hash x
 Begins Token x = IsFirst lex.Constituent x
 Begins m x = ⊥
 
--- One byte of white space behind what was read was taken, where one stands there, and else nothing.
+-- One byte of white space after what was read was taken, where one stands there, and else nothing.
 abbrev pub PassesWhite : Parser → List ℕ → ℕ → Parser → Type 0
 PassesWhite old rest n new =
     ((n ≡ 0) × (new ≡ old) × (IsBetween old.begun → IsFirst lex.White rest → ⊥)) ⊎ ((n ≡ 1) × (new ≡ record old { begun = Nothing; start = old.start + 1 }) × IsBetween old.begun × IsFirst lex.White rest)

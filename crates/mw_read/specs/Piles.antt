@@ -14,7 +14,7 @@ use Rattle.mw_read.specs.declared.step.SyntaxKind.TheVariants as kinds
 use Rattle.mw_read.specs.declared.stack.Layer.{Layer}
 use Rattle.mw_read.specs.declared.stack.Layer.TheVariants as layers
 
--- what is open: frames, or frames with a list that has the datum behind its dot
+-- what is open: frames, or frames with a list that has the datum after its dot
 pub data Pile : Type 0 where
   Frames : List Frame → Pile
   Ready : List Object → Object → List Frame → Pile
@@ -127,7 +127,7 @@ abbrev pub is_item : Layer → Bool
 is_item (layers.Item r) = true
 is_item l = false
 
--- has the innermost list the datum behind its dot?
+-- has the innermost list the datum after its dot?
 abbrev pub is_ready : Pile → Bool
 is_ready (Frames s) = false
 is_ready (Ready xs x s) = true

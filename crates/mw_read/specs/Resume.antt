@@ -8,7 +8,7 @@ use Rattle.mw_read.specs.Machine.{Frame, Members, Tailed, Quoting, Marking, Stat
 abbrev pub reads : Part → Labels → List Lexeme → Read
 reads p ls r = read (enough r) p ls r
 
--- the data behind a datum
+-- the data after a datum
 abbrev pub rest : List Lexeme → Book
 rest r = data_of (enough r) r
 

@@ -2,7 +2,7 @@
 use Rattle.std.specs.Prelude.{◌≡◌, ℕ, ◌<◌, ◌≤◌, Bool, true, false, List, [], ◌∷◌, length, take, slice_index}
 use Rattle.mw_model.specs.Lexemes.{all_are}
 
--- the first n bytes are of the kind, and the byte behind them is not
+-- the first n bytes are of the kind, and the byte after them is not
 pub record IsRun (p : ℕ → Bool) (bytes : List ℕ) (n : ℕ) : Type 0 where
   pub within : n ≤ length bytes
   pub all : all_are p (take n bytes) ≡ true

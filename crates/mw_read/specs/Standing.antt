@@ -44,13 +44,13 @@ pub record Stands (os : List Object) (p : Parser) (g : List ℕ) (given : List O
 abbrev pub IsStanding : List Object → Parser → Type 0
 IsStanding os p = (g : List ℕ) × (given : List Object) × Stands os p g given
 
--- the answers behind which no other comes
+-- the answers after which no other comes
 abbrev pub IsLast : Step → Type 0
 IsLast (steps.Syntax k o) = Unit {0}
 IsLast steps.Memory = Unit {0}
 IsLast s = ⊥
 
--- the answer, where no other comes behind it
+-- the answer, where no other comes after it
 abbrev pub lasting : Step → Option Step
 lasting (steps.Syntax k o) = Some (steps.Syntax k o)
 lasting steps.Memory = Some steps.Memory
@@ -95,14 +95,14 @@ Gives os y s = ⊥
 abbrev pub work : Parser → List ℕ → ℕ
 work p x = weight p.begun + 2 * length x
 
--- Behind g and the first n bytes of the piece datum y was given. What stands then stands in any heap.
+-- After g and the first n bytes of the piece datum y was given. What stands then stands in any heap.
 pub record GivesBehind (old : Parser) (g : List ℕ) (given : List Object) (piece : List ℕ) (y : Object) (n : ℕ) (p : Parser) : Type 0 where
   pub taken : n ≤ length piece
   pub stands : (os : List Object) → Stands os p (g ++ take n piece) (given ++ y ∷ [])
   pub left : Follows p (drop n piece)
   pub less : work p (drop n piece) < work old piece
 
--- what a step says of g, the data given of it, and a piece behind it
+-- what a step says of g, the data given of it, and a piece after it
 abbrev pub Says : List Object → Parser → List ℕ → List Object → List ℕ → Step → ℕ → Parser → Type 0
 Says os old g given piece (steps.Datum r) n p = (y : Object) × Gives os y (steps.Datum r) × GivesBehind old g given piece y n p
 Says os old g given piece (steps.TooBig w l) n p = (y : Object) × Gives os y (steps.TooBig w l) × GivesBehind old g given piece y n p
@@ -111,7 +111,7 @@ Says os old g given piece steps.End n p = ⊥
 Says os old g given piece (steps.Syntax k o) n p = (rest : List ℕ) → trees (g ++ (piece ++ rest)) ≡ book given (Some (fault (kind_of k) o))
 Says os old g given piece steps.Memory n p = Unit {0}
 
--- Where the book ends behind g, datum y was given. What stands then stands in any heap.
+-- Where the book ends after g, datum y was given. What stands then stands in any heap.
 pub record GivesLast (old : Parser) (g : List ℕ) (given : List Object) (y : Object) (p : Parser) : Type 0 where
   pub stands : (os : List Object) → Stands os p g (given ++ y ∷ [])
   pub less : work p [] < work old []

@@ -326,14 +326,14 @@ pub(crate) fn raise(b: u8) -> u8
     if b >= 97 && b <= 122 { b - 32 } else { b }
 }
 
-/// May the byte not stand directly behind a token?
+/// May the byte not stand directly after a token?
 pub(crate) fn glued_to_token(b: u8) -> bool
     ensures { result ≡ glued b }
 {
     b == 124 || b == 35
 }
 
-/// May the byte not stand directly behind a closing bar?
+/// May the byte not stand directly after a closing bar?
 pub(crate) fn glued_to_bar(b: u8) -> bool
     ensures { result ≡ glued_bar b }
 {

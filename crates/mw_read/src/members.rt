@@ -11,9 +11,9 @@ use mw_heap::{Heap, Ref, View};
 
 // The object, where it is a symbol.
 fn symbol(heap: &Heap, x: Ref) -> Option<Ref>
-    requires { IsIn heap.now x }
-    ensures within { IsShown heap.now result }
-    ensures shown { shown_text heap.now result ≡ symbol_text (object_at heap.now x) }
+    requires { IsIn heap.now.objects x }
+    ensures within { IsShown heap.now.objects result }
+    ensures shown { shown_text heap.now.objects result ≡ symbol_text (object_at heap.now.objects x) }
 {
     match heap.view(x) {
         View::Symbol => Some(x),
@@ -23,9 +23,9 @@ fn symbol(heap: &Heap, x: Ref) -> Option<Ref>
 
 // Whether the line of an event that begins with this word shows the second member.
 fn is_labelled(heap: &Heap, word: Ref) -> bool
-    requires within { IsIn heap.now word }
-    requires symbol { is_symbol (object_at heap.now word) ≡ true }
-    ensures { result ≡ is_among (name_of (object_at heap.now word)) labelled_words }
+    requires within { IsIn heap.now.objects word }
+    requires symbol { is_symbol (object_at heap.now.objects word) ≡ true }
+    ensures { result ≡ is_among (name_of (object_at heap.now.objects word)) labelled_words }
 {
     let name = heap.name_of(word);
     name == b"VERIFY".as_slice()
@@ -36,8 +36,8 @@ fn is_labelled(heap: &Heap, word: Ref) -> bool
 
 /// The word and the label of an event, each where the line shows it.
 pub fn shown(heap: &Heap, event: Ref) -> (Option<Ref>, Option<Ref>)
-    requires { IsIn heap.now event }
-    ensures { ShowsEvent heap.now result.0 result.1 (object_at heap.now event) }
+    requires { IsIn heap.now.objects event }
+    ensures { ShowsEvent heap.now.objects result.0 result.1 (object_at heap.now.objects event) }
 {
     let View::Pair(word, rest) = heap.view(event) else {
         return (None, None);

@@ -76,7 +76,7 @@ impl Names {
     // The symbol of the token, where it stands in this slot.
     fn known(&self, heap: &Heap, token: &[u8], slot: usize) -> Option<Ref>
         requires { is_name (map raised token.now) ≡ true }
-        ensures { IfSome result (λ r. IsIn heap.now r × (object_at heap.now r ≡ Symbol (name_of_bytes (map raised token.now)))) }
+        ensures { IfSome result (λ r. IsIn heap.now.objects r × (object_at heap.now.objects r ≡ Symbol (name_of_bytes (map raised token.now)))) }
     {
         let place = (*self.slots.get(slot)?)?;
         if place.index() >= heap.mark().cells() {
@@ -101,8 +101,8 @@ impl Names {
     /// The symbol whose name is the token with its letters raised.
     pub(crate) fn symbol_of(&mut self, heap: &mut Heap, token: &[u8]) -> Result<Ref, Memory>
         requires { is_name (map raised token.now) ≡ true }
-        ensures grows { Grows heap.old heap.new }
-        ensures made { IfOk result (λ r. IsIn heap.new r × (object_at heap.new r ≡ Symbol (name_of_bytes (map raised token.now)))) }
+        ensures grows { Grows heap.old.objects heap.new.objects }
+        ensures made { IfOk result (λ r. IsIn heap.new.objects r × (object_at heap.new.objects r ≡ Symbol (name_of_bytes (map raised token.now)))) }
     {
         let slot = slot_of(token);
         if let Some(known) = self.known(heap, token, slot) {
@@ -116,8 +116,8 @@ impl Names {
     // The same, by the heap's own set of names. The token is copied only where it has a letter to be raised.
     fn find(&mut self, heap: &mut Heap, token: &[u8]) -> Result<Ref, Memory>
         requires { is_name (map raised token.now) ≡ true }
-        ensures grows { Grows heap.old heap.new }
-        ensures made { IfOk result (λ r. IsIn heap.new r × (object_at heap.new r ≡ Symbol (name_of_bytes (map raised token.now)))) }
+        ensures grows { Grows heap.old.objects heap.new.objects }
+        ensures made { IfOk result (λ r. IsIn heap.new.objects r × (object_at heap.new.objects r ≡ Symbol (name_of_bytes (map raised token.now)))) }
     {
         if is_raised(token, token) {
             return heap.symbol(token);

@@ -23,15 +23,15 @@ pub(crate) enum Begun {
     Nothing,
     Comment,
     Token,
-    /// Behind an opening bar.
+    /// After an opening bar.
     Bars,
-    /// Behind a closing bar, which may yet be glued to what follows.
+    /// After a closing bar, which may yet be glued to what follows.
     Barred,
-    /// Behind a `#`.
+    /// After a `#`.
     Hash,
-    /// Behind a token whose datum is complete.
+    /// After a token whose datum is complete.
     AfterToken,
-    /// Behind a closing bar whose datum is complete.
+    /// After a closing bar whose datum is complete.
     AfterBar,
 }
 
@@ -55,14 +55,14 @@ pub(crate) struct Parser {
 impl Parser {
     // A byte where no text has begun.
     fn fresh(&mut self, heap: &mut Heap, rest: &[u8]) -> Result<(Outcome, usize), Memory>
-        requires parser { IsParser heap.old self.old }
+        requires parser { IsParser heap.old.objects self.old }
         requires begun { self.old.begun ≡ Begun.Nothing }
         requires some { 0 < length rest.now }
         requires room { self.old.start + length rest.now < 2 ^ 49 }
-        ensures grows { Grows heap.old heap.new }
+        ensures grows { Grows heap.old.objects heap.new.objects }
         ensures taken { IfOk result (λ r. r.1 ≤ length rest.now) }
         ensures moves { IfOk result (λ r. Moves r.0 self.old rest.now r.1 self.new) }
-        ensures advances { IfOk result (λ r. (t : State) → Holds heap.old self.old.stack t → Advances heap.new t self.old rest.now r.0 r.1 self.new) }
+        ensures advances { IfOk result (λ r. (t : State) → Holds heap.old.objects self.old.stack t → Advances heap.new.objects t self.old rest.now r.0 r.1 self.new) }
     {
         let at = self.start;
         match classify(rest[0]) {
@@ -100,14 +100,14 @@ impl Parser {
         begun: Begun,
         rest: &[u8],
     ) -> Result<(Outcome, usize), Memory>
-        requires parser { IsParser heap.old self.old }
+        requires parser { IsParser heap.old.objects self.old }
         requires begun { self.old.begun ≡ Begun.Nothing }
         requires begins { Begins begun rest.now }
         requires room { self.old.start + length rest.now < 2 ^ 49 }
-        ensures grows { Grows heap.old heap.new }
+        ensures grows { Grows heap.old.objects heap.new.objects }
         ensures taken { IfOk result (λ r. r.1 ≤ length rest.now) }
         ensures moves { IfOk result (λ r. Moves r.0 self.old rest.now r.1 self.new) }
-        ensures advances { IfOk result (λ r. (t : State) → Holds heap.old self.old.stack t → Advances heap.new t self.old rest.now r.0 r.1 self.new) }
+        ensures advances { IfOk result (λ r. (t : State) → Holds heap.old.objects self.old.stack t → Advances heap.new.objects t self.old rest.now r.0 r.1 self.new) }
     {
         if self.stack.is_full() {
             return Ok((fault(SyntaxKind::Dot, self.start), 0));
@@ -127,21 +127,21 @@ impl Parser {
         }
     }
 
-    // The next bytes behind what was read: `glued` says whether the first may not stand there.
+    // The next bytes after what was read: `glued` says whether the first may not stand there.
     fn behind(
         &mut self,
         heap: &mut Heap,
         rest: &[u8],
         glued: bool,
     ) -> Result<(Outcome, usize), Memory>
-        requires parser { IsParser heap.old self.old }
+        requires parser { IsParser heap.old.objects self.old }
         requires some { 0 < length rest.now }
         requires behind { IsBehind self.old.begun glued (get_or rest.now 0 0) }
         requires room { self.old.start + length rest.now < 2 ^ 49 }
-        ensures grows { Grows heap.old heap.new }
+        ensures grows { Grows heap.old.objects heap.new.objects }
         ensures taken { IfOk result (λ r. r.1 ≤ length rest.now) }
         ensures moves { IfOk result (λ r. Moves r.0 self.old rest.now r.1 self.new) }
-        ensures advances { IfOk result (λ r. (t : State) → Holds heap.old self.old.stack t → Advances heap.new t self.old rest.now r.0 r.1 self.new) }
+        ensures advances { IfOk result (λ r. (t : State) → Holds heap.old.objects self.old.stack t → Advances heap.new.objects t self.old rest.now r.0 r.1 self.new) }
     {
         if glued {
             return Ok((fault(SyntaxKind::Token, self.start), 0));
@@ -152,14 +152,14 @@ impl Parser {
 
     // What the next bytes say: at least one is taken, or what has begun ends.
     fn advance(&mut self, heap: &mut Heap, rest: &[u8]) -> Result<(Outcome, usize), Memory>
-        requires parser { IsParser heap.old self.old }
+        requires parser { IsParser heap.old.objects self.old }
         requires started { IsStarted self.old.begun self.old.token.items }
         requires some { 0 < length rest.now }
         requires room { offset_of self.old + length rest.now < 2 ^ 49 }
-        ensures grows { Grows heap.old heap.new }
+        ensures grows { Grows heap.old.objects heap.new.objects }
         ensures taken { IfOk result (λ r. r.1 ≤ length rest.now) }
         ensures moves { IfOk result (λ r. Moves r.0 self.old rest.now r.1 self.new) }
-        ensures advances { IfOk result (λ r. (t : State) → Holds heap.old self.old.stack t → Advances heap.new t self.old rest.now r.0 r.1 self.new) }
+        ensures advances { IfOk result (λ r. (t : State) → Holds heap.old.objects self.old.stack t → Advances heap.new.objects t self.old rest.now r.0 r.1 self.new) }
     {
         let glued = match self.begun {
             Begun::Comment => return Ok(self.in_comment(rest)),
@@ -174,7 +174,7 @@ impl Parser {
         self.behind(heap, rest, glued)
     }
 
-    // Passes white space directly behind what was read, and answers how many bytes that takes, none or one.
+    // Passes white space directly after what was read, and answers how many bytes that takes, none or one.
     fn pass_white(&mut self, rest: &[u8]) -> usize
         requires room { self.old.start + length rest.now < 2 ^ 50 }
         ensures { PassesWhite self.old rest.now result self.new }
@@ -212,16 +212,16 @@ impl Parser {
 
     // The piece, up to the first datum that is complete, or a fault.
     fn scan(&mut self, heap: &mut Heap, piece: &[u8]) -> Result<(Outcome, usize), Memory>
-        requires parser { IsParser heap.old self.old }
+        requires parser { IsParser heap.old.objects self.old }
         requires started { IsStarted self.old.begun self.old.token.items }
-        requires held { (t : State) × Holds heap.old self.old.stack t }
+        requires held { (t : State) × Holds heap.old.objects self.old.stack t }
         requires follows { Fits self.old.begun Goes piece.now }
         requires room { offset_of self.old + length piece.now < 2 ^ 49 }
-        ensures grows { Grows heap.old heap.new }
+        ensures grows { Grows heap.old.objects heap.new.objects }
         ensures taken { IfOk result (λ r. r.1 ≤ length piece.now) }
         ensures whole { IfOk result (λ r. r.0 ≡ Outcome.Pending → r.1 ≡ length piece.now) }
         ensures reaches { IfOk result (λ r. Reaches r.0 self.old piece.now r.1 self.new) }
-        ensures advances { IfOk result (λ r. (t : State) → Holds heap.old self.old.stack t → Advances heap.new t self.old piece.now r.0 r.1 self.new) }
+        ensures advances { IfOk result (λ r. (t : State) → Holds heap.old.objects self.old.stack t → Advances heap.new.objects t self.old piece.now r.0 r.1 self.new) }
     {
         let mut at = 0;
         while at < piece.len() {
@@ -237,11 +237,11 @@ impl Parser {
 
     // The end of the book, for the text that has begun.
     fn last(&mut self, heap: &mut Heap) -> Result<Outcome, Memory>
-        requires parser { IsParser heap.old self.old }
+        requires parser { IsParser heap.old.objects self.old }
         requires started { IsStarted self.old.begun self.old.token.items }
         requires room { offset_of self.old < 2 ^ 49 }
-        ensures grows { Grows heap.old heap.new }
-        ensures lasts { IfOk result (λ r. (t : State) → Holds heap.old self.old.stack t → Lasts heap.new t self.old r self.new) }
+        ensures grows { Grows heap.old.objects heap.new.objects }
+        ensures lasts { IfOk result (λ r. (t : State) → Holds heap.old.objects self.old.stack t → Lasts heap.new.objects t self.old r self.new) }
     {
         match self.begun {
             Begun::Token => self.end_token::<false>(heap, &[], false),
@@ -254,8 +254,8 @@ impl Parser {
 
     // The step of a datum.
     fn datum(&mut self, heap: &Heap, x: Ref) -> Step
-        requires { IsIn heap.now x }
-        ensures tells { Tells heap.now self.old.stack.big x result }
+        requires { IsIn heap.now.objects x }
+        ensures tells { Tells heap.now.objects self.old.stack.big x result }
         ensures new { self.new ≡ record self.old { stack = record self.old.stack { big = false } } }
     {
         if !self.stack.big {
@@ -288,12 +288,12 @@ impl Parser {
 
     // What comes next in a piece, where no fault was answered. A caller notes the answer.
     fn read(&mut self, heap: &mut Heap, piece: &[u8]) -> (Step, usize)
-        requires stands { IsStanding heap.old self.old }
+        requires stands { IsStanding heap.old.objects self.old }
         requires follows { Follows self.old piece.now }
-        ensures grows { Grows heap.old heap.new }
+        ensures grows { Grows heap.old.objects heap.new.objects }
         ensures taken { result.1 ≤ length piece.now }
         ensures none { IsLast result.0 → result.1 ≡ 0 }
-        ensures says { (g : List ℕ) (given : List Object) → Stands heap.old self.old g given → Says heap.new self.old g given piece.now result.0 result.1 (record self.new { ended = None }) }
+        ensures says { (g : List ℕ) (given : List Object) → Stands heap.old.objects self.old g given → Says heap.new.objects self.old g given piece.now result.0 result.1 (record self.new { ended = None }) }
     {
         let room = (LIMIT - self.offset()) as usize;
         let length = piece.len().min(room);
@@ -315,9 +315,9 @@ impl Parser {
 
     // What comes next where the book has ended and no fault was answered. A caller notes the answer.
     fn read_end(&mut self, heap: &mut Heap) -> Step
-        requires stands { IsStanding heap.old self.old }
-        ensures grows { Grows heap.old heap.new }
-        ensures finishes { (g : List ℕ) (given : List Object) → Stands heap.old self.old g given → Finishes heap.new self.old g given result (record self.new { ended = None }) }
+        requires stands { IsStanding heap.old.objects self.old }
+        ensures grows { Grows heap.old.objects heap.new.objects }
+        ensures finishes { (g : List ℕ) (given : List Object) → Stands heap.old.objects self.old g given → Finishes heap.new.objects self.old g given result (record self.new { ended = None }) }
     {
         let outcome = match self.last(heap) {
             Ok(outcome) => outcome,
@@ -335,17 +335,17 @@ impl Parser {
         }
     }
 
-    /// What comes next in a piece of the book, and how many of its bytes that takes. Behind a datum the rest of the piece comes next, and
-    /// behind `More` the next piece. Behind `Syntax` and `Memory` it answers the same again.
+    /// What comes next in a piece of the book, and how many of its bytes that takes. After a datum the rest of the piece comes next, and
+    /// after `More` the next piece. After `Syntax` and `Memory` it answers the same again.
     pub(crate) fn step(&mut self, heap: &mut Heap, piece: &[u8]) -> (Step, usize)
-        requires stands { IsStanding heap.old self.old ⊎ HasEnded self.old }
+        requires stands { IsStanding heap.old.objects self.old ⊎ HasEnded self.old }
         requires follows { Follows self.old piece.now ⊎ HasEnded self.old }
-        ensures grows { Grows heap.old heap.new }
+        ensures grows { Grows heap.old.objects heap.new.objects }
         ensures taken { result.1 ≤ length piece.now }
         ensures none { IsLast result.0 → result.1 ≡ 0 }
-        ensures says { (g : List ℕ) (given : List Object) → Stands heap.old self.old g given → Says heap.new self.old g given piece.now result.0 result.1 self.new }
+        ensures says { (g : List ℕ) (given : List Object) → Stands heap.old.objects self.old g given → Says heap.new.objects self.old g given piece.now result.0 result.1 self.new }
         ensures ended { IsLast result.0 → HasEndedWith result.0 self.new }
-        ensures again { (s : Step) → HasEndedWith s self.old → (result ≡ (s, 0)) × ((self.new ≡ self.old) × (heap.new ≡ heap.old)) }
+        ensures again { (s : Step) → HasEndedWith s self.old → (result ≡ (s, 0)) × ((self.new ≡ self.old) × (heap.new.objects ≡ heap.old.objects)) }
     {
         if let Some(step) = self.ended {
             return (step, 0);
@@ -355,13 +355,13 @@ impl Parser {
         (step, n)
     }
 
-    /// What comes next where the book has ended. Behind `Syntax` and `Memory` it answers the same again.
+    /// What comes next where the book has ended. After `Syntax` and `Memory` it answers the same again.
     pub(crate) fn finish(&mut self, heap: &mut Heap) -> Step
-        requires stands { IsStanding heap.old self.old ⊎ HasEnded self.old }
-        ensures grows { Grows heap.old heap.new }
-        ensures finishes { (g : List ℕ) (given : List Object) → Stands heap.old self.old g given → Finishes heap.new self.old g given result self.new }
+        requires stands { IsStanding heap.old.objects self.old ⊎ HasEnded self.old }
+        ensures grows { Grows heap.old.objects heap.new.objects }
+        ensures finishes { (g : List ℕ) (given : List Object) → Stands heap.old.objects self.old g given → Finishes heap.new.objects self.old g given result self.new }
         ensures ended { IsLast result → HasEndedWith result self.new }
-        ensures again { (s : Step) → HasEndedWith s self.old → (result ≡ s) × ((self.new ≡ self.old) × (heap.new ≡ heap.old)) }
+        ensures again { (s : Step) → HasEndedWith s self.old → (result ≡ s) × ((self.new ≡ self.old) × (heap.new.objects ≡ heap.old.objects)) }
     {
         if let Some(step) = self.ended {
             return step;

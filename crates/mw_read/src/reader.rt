@@ -11,7 +11,7 @@ use crate::unread::Unread;
 use mw_heap::{Heap, Memory};
 use std::alloc::Global;
 
-/// A reader of a book that comes in pieces: they are fed and read, or handed in at each step. Behind a fault, and behind want of memory,
+/// A reader of a book that comes in pieces: they are fed and read, or handed in at each step. After a fault, and after running out of memory,
 /// the same answer comes from then on.
 #[derive(Drop)]
 pub struct Reader {
@@ -37,8 +37,8 @@ impl Reader {
         }
     }
 
-    /// Feeds a piece of the book: its bytes come behind those fed before, and are kept until they are read. Where memory is refused
-    /// nothing is fed. Behind `Syntax` and `Memory` nothing more is kept.
+    /// Feeds a piece of the book: its bytes come after those fed before, and are kept until they are read. Where memory is refused
+    /// nothing is fed. After `Syntax` and `Memory` nothing more is kept.
     pub fn feed(&mut self, piece: &[u8]) -> Result<(), Memory>
         requires more { (self.old.finished ≡ false) ⊎ HasEnded self.old.parser }
         requires follows { Follows self.old.parser (self.old.unread ++ piece.now) ⊎ HasEnded self.old.parser }
@@ -65,12 +65,12 @@ impl Reader {
     /// finished `End` comes in place of `More`, and a datum that the end of the book completes before it. `Syntax` and `Memory` come
     /// again from then on.
     pub fn next(&mut self, heap: &mut Heap) -> Step
-        requires ready { IsReady heap.old self.old }
-        ensures grows { Grows heap.old heap.new }
-        ensures ready { IsReady heap.new self.new }
-        ensures continues { (g : List ℕ) (given : List Object) → Stands heap.old self.old.parser g given → Continues heap.new self.old g given result self.new }
+        requires ready { IsReady heap.old.objects self.old }
+        ensures grows { Grows heap.old.objects heap.new.objects }
+        ensures ready { IsReady heap.new.objects self.new }
+        ensures continues { (g : List ℕ) (given : List Object) → Stands heap.old.objects self.old.parser g given → Continues heap.new.objects self.old g given result self.new }
         ensures ended { IsLast result → HasEndedWith result self.new.parser }
-        ensures again { (s : Step) → HasEndedWith s self.old.parser → (result ≡ s) × ((self.new ≡ self.old) × (heap.new ≡ heap.old)) }
+        ensures again { (s : Step) → HasEndedWith s self.old.parser → (result ≡ s) × ((self.new ≡ self.old) × (heap.new.objects ≡ heap.old.objects)) }
     {
         if !self.finished {
             return self.next_unread(heap);
@@ -86,13 +86,13 @@ impl Reader {
 
     // What comes next in the unread bytes, as far as they go.
     fn next_unread(&mut self, heap: &mut Heap) -> Step
-        requires stands { IsStanding heap.old self.old.parser ⊎ HasEnded self.old.parser }
+        requires stands { IsStanding heap.old.objects self.old.parser ⊎ HasEnded self.old.parser }
         requires follows { Follows self.old.parser self.old.unread ⊎ HasEnded self.old.parser }
-        ensures grows { Grows heap.old heap.new }
+        ensures grows { Grows heap.old.objects heap.new.objects }
         ensures finished { self.new.finished ≡ self.old.finished }
-        ensures says { (g : List ℕ) (given : List Object) → Stands heap.old self.old.parser g given → (n : ℕ) × (self.new.unread ≡ drop n self.old.unread) × Says heap.new self.old.parser g given self.old.unread result n self.new.parser }
+        ensures says { (g : List ℕ) (given : List Object) → Stands heap.old.objects self.old.parser g given → (n : ℕ) × (self.new.unread ≡ drop n self.old.unread) × Says heap.new.objects self.old.parser g given self.old.unread result n self.new.parser }
         ensures ended { IsLast result → HasEndedWith result self.new.parser }
-        ensures again { (s : Step) → HasEndedWith s self.old.parser → (result ≡ s) × ((self.new ≡ self.old) × (heap.new ≡ heap.old)) }
+        ensures again { (s : Step) → HasEndedWith s self.old.parser → (result ≡ s) × ((self.new ≡ self.old) × (heap.new.objects ≡ heap.old.objects)) }
     {
         let (step, n) = self.parser.step(heap, self.unread.as_slice());
         self.unread.pass(n);
@@ -100,19 +100,19 @@ impl Reader {
     }
 
     /// What `next` would answer if the piece were fed, and how many of its bytes that takes; but only a token that the end of the piece
-    /// cuts is copied. Behind a datum the rest of the piece comes next, and behind `More` the next piece. Behind `Syntax` and `Memory`
+    /// cuts is copied. After a datum the rest of the piece comes next, and after `More` the next piece. After `Syntax` and `Memory`
     /// it answers the same again.
     pub fn step(&mut self, heap: &mut Heap, piece: &[u8]) -> (Step, usize)
-        requires stands { IsStanding heap.old self.old.parser ⊎ HasEnded self.old.parser }
+        requires stands { IsStanding heap.old.objects self.old.parser ⊎ HasEnded self.old.parser }
         requires awaits { IsAwaiting self.old ⊎ HasEnded self.old.parser }
         requires follows { Follows self.old.parser piece.now ⊎ HasEnded self.old.parser }
-        ensures grows { Grows heap.old heap.new }
+        ensures grows { Grows heap.old.objects heap.new.objects }
         ensures rest { self.new ≡ record self.old { parser = self.new.parser } }
         ensures taken { result.1 ≤ length piece.now }
         ensures none { IsLast result.0 → result.1 ≡ 0 }
-        ensures says { (g : List ℕ) (given : List Object) → Stands heap.old self.old.parser g given → Says heap.new self.old.parser g given piece.now result.0 result.1 self.new.parser }
+        ensures says { (g : List ℕ) (given : List Object) → Stands heap.old.objects self.old.parser g given → Says heap.new.objects self.old.parser g given piece.now result.0 result.1 self.new.parser }
         ensures ended { IsLast result.0 → HasEndedWith result.0 self.new.parser }
-        ensures again { (s : Step) → HasEndedWith s self.old.parser → (result ≡ (s, 0)) × ((self.new ≡ self.old) × (heap.new ≡ heap.old)) }
+        ensures again { (s : Step) → HasEndedWith s self.old.parser → (result ≡ (s, 0)) × ((self.new ≡ self.old) × (heap.new.objects ≡ heap.old.objects)) }
     {
         self.parser.step(heap, piece)
     }

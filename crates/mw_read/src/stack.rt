@@ -21,9 +21,9 @@ pub(crate) enum Layer {
     Opening,
     /// A member of the list.
     Item(Ref),
-    /// A dot behind the members, whose datum has not come.
+    /// A dot after the members, whose datum has not come.
     Dot,
-    /// In place of the dot the datum behind it.
+    /// In place of the dot the datum after it.
     Last(Ref),
     /// A quote that waits for its datum.
     Quote,
@@ -65,8 +65,8 @@ fn top(layers: &[Layer]) -> Option<Layer>
 
 // The symbol QUOTE, where it may stand looked at first. That place is noted anew where it is another.
 fn quote_word(noted: &mut Option<Ref>, heap: &mut Heap) -> Result<Ref, Memory>
-    ensures grows { Grows heap.old heap.new }
-    ensures made { IfOk result (λ r. IsIn heap.new r × (object_at heap.new r ≡ symbol "QUOTE")) }
+    ensures grows { Grows heap.old.objects heap.new.objects }
+    ensures made { IfOk result (λ r. IsIn heap.new.objects r × (object_at heap.new.objects r ≡ symbol "QUOTE")) }
 {
     if let Some(place) = *noted {
         if place.index() < heap.mark().cells() && heap.is_named(Some(place), b"QUOTE") {
@@ -80,9 +80,9 @@ fn quote_word(noted: &mut Option<Ref>, heap: &mut Heap) -> Result<Ref, Memory>
 
 // `(quote x)`.
 fn quote(noted: &mut Option<Ref>, heap: &mut Heap, x: Ref) -> Result<Ref, Memory>
-    requires { IsIn heap.old x }
-    ensures grows { Grows heap.old heap.new }
-    ensures made { IfOk result (λ r. IsIn heap.new r × (object_at heap.new r ≡ quoted (object_at heap.old x))) }
+    requires { IsIn heap.old.objects x }
+    ensures grows { Grows heap.old.objects heap.new.objects }
+    ensures made { IfOk result (λ r. IsIn heap.new.objects r × (object_at heap.new.objects r ≡ quoted (object_at heap.old.objects x))) }
 {
     let word = quote_word(noted, heap)?;
     let nil = heap.nil()?;
@@ -98,16 +98,16 @@ fn give(
     heap: &mut Heap,
     x: Ref,
 ) -> Result<Outcome, Memory>
-    requires object { IsIn heap.old x }
-    requires pile { IsPile heap.old layers.old.items }
-    requires waits { IsFrames (pile_of heap.old layers.old.items) }
-    requires listed { IsListed (length heap.old) labels.old.entries }
-    ensures grows { Grows heap.old heap.new }
-    ensures datum { IfOk result (λ r. HoldsDatum heap.new r) }
-    ensures pile { IfOk result (λ r. IsPile heap.new layers.new.items) }
-    ensures listed { IfOk result (λ r. IsListed (length heap.new) labels.new.entries) }
-    ensures turn { IfOk result (λ r. (ks : Labels) → Agree heap.old labels.old.entries ks →
-        Does heap.new layers.new.items labels.new.entries r (give_to (pile_of heap.old layers.old.items) (object_at heap.old x) ks)) }
+    requires object { IsIn heap.old.objects x }
+    requires pile { IsPile heap.old.objects layers.old.items }
+    requires waits { IsFrames (pile_of heap.old.objects layers.old.items) }
+    requires listed { IsListed (length heap.old.objects) labels.old.entries }
+    ensures grows { Grows heap.old.objects heap.new.objects }
+    ensures datum { IfOk result (λ r. HoldsDatum heap.new.objects r) }
+    ensures pile { IfOk result (λ r. IsPile heap.new.objects layers.new.items) }
+    ensures listed { IfOk result (λ r. IsListed (length heap.new.objects) labels.new.entries) }
+    ensures turn { IfOk result (λ r. (ks : Labels) → Agree heap.old.objects labels.old.entries ks →
+        Does heap.new.objects layers.new.items labels.new.entries r (give_to (pile_of heap.old.objects layers.old.items) (object_at heap.old.objects x) ks)) }
 {
     let mut x = x;
     while let Some(layer) = top(layers) {
@@ -137,13 +137,13 @@ fn give(
 
 // The innermost list ends: its members become pairs, the last first.
 fn fold(layers: &mut Vec<Layer>, heap: &mut Heap, last: Ref) -> Result<Ref, Memory>
-    requires object { IsIn heap.old last }
-    requires pile { IsPile heap.old layers.old.items }
-    requires list { IsInList (pile_of heap.old layers.old.items) }
-    ensures grows { Grows heap.old heap.new }
-    ensures pile { IfOk result (λ r. IsPile heap.new layers.new.items) }
-    ensures rest { IfOk result (λ r. pile_of heap.new layers.new.items ≡ Frames (frames_round (pile_of heap.old layers.old.items))) }
-    ensures made { IfOk result (λ r. IsIn heap.new r × (object_at heap.new r ≡ members_of (pile_of heap.old layers.old.items) (object_at heap.old last))) }
+    requires object { IsIn heap.old.objects last }
+    requires pile { IsPile heap.old.objects layers.old.items }
+    requires list { IsInList (pile_of heap.old.objects layers.old.items) }
+    ensures grows { Grows heap.old.objects heap.new.objects }
+    ensures pile { IfOk result (λ r. IsPile heap.new.objects layers.new.items) }
+    ensures rest { IfOk result (λ r. pile_of heap.new.objects layers.new.items ≡ Frames (frames_round (pile_of heap.old.objects layers.old.items))) }
+    ensures made { IfOk result (λ r. IsIn heap.new.objects r × (object_at heap.new.objects r ≡ members_of (pile_of heap.old.objects layers.old.items) (object_at heap.old.objects last))) }
 {
     let mut list = last;
     while let Some(layer) = layers.pop() {
@@ -169,7 +169,7 @@ impl Stack {
         top(&self.layers)
     }
 
-    // Has the innermost list the datum behind its dot, so that nothing may begin?
+    // Has the innermost list the datum after its dot, so that nothing may begin?
     pub(crate) fn is_full(&self) -> bool
         ensures { (os : List Object) → IsStack os self.now → result ≡ is_ready (pile_of os self.now.layers.items) }
     {
@@ -181,12 +181,12 @@ impl Stack {
 
     // A datum without parts.
     pub(crate) fn atom(&mut self, heap: &mut Heap, x: Ref, offset: u64) -> Result<Outcome, Memory>
-        requires object { IsIn heap.old x }
-        requires stack { IsStack heap.old self.old }
-        ensures grows { Grows heap.old heap.new }
-        ensures stack { IfOk result (λ r. IsStack heap.new self.new) }
-        ensures datum { IfOk result (λ r. HoldsDatum heap.new r) }
-        ensures turn { IfOk result (λ r. (t : State) → Means heap.old self.old t → Does heap.new self.new.layers.items self.new.labels.entries r (on t (Atom offset (object_at heap.old x)))) }
+        requires object { IsIn heap.old.objects x }
+        requires stack { IsStack heap.old.objects self.old }
+        ensures grows { Grows heap.old.objects heap.new.objects }
+        ensures stack { IfOk result (λ r. IsStack heap.new.objects self.new) }
+        ensures datum { IfOk result (λ r. HoldsDatum heap.new.objects r) }
+        ensures turn { IfOk result (λ r. (t : State) → Means heap.old.objects self.old t → Does heap.new.objects self.new.layers.items self.new.labels.entries r (on t (Atom offset (object_at heap.old.objects x)))) }
         ensures big { IfOk result (λ r. self.new.big ≡ self.old.big) }
     {
         if self.is_full() {
@@ -262,11 +262,11 @@ impl Stack {
 
     // A reference to a label.
     pub(crate) fn refer(&mut self, heap: &mut Heap, n: u32, offset: u64) -> Result<Outcome, Memory>
-        requires stack { IsStack heap.old self.old }
-        ensures grows { Grows heap.old heap.new }
-        ensures stack { IfOk result (λ r. IsStack heap.new self.new) }
-        ensures datum { IfOk result (λ r. HoldsDatum heap.new r) }
-        ensures turn { IfOk result (λ r. (t : State) → Means heap.old self.old t → Does heap.new self.new.layers.items self.new.labels.entries r (on t (Refers offset n))) }
+        requires stack { IsStack heap.old.objects self.old }
+        ensures grows { Grows heap.old.objects heap.new.objects }
+        ensures stack { IfOk result (λ r. IsStack heap.new.objects self.new) }
+        ensures datum { IfOk result (λ r. HoldsDatum heap.new.objects r) }
+        ensures turn { IfOk result (λ r. (t : State) → Means heap.old.objects self.old t → Does heap.new.objects self.new.layers.items self.new.labels.entries r (on t (Refers offset n))) }
         ensures big { IfOk result (λ r. self.new.big ≡ self.old.big) }
     {
         if self.is_full() {
@@ -280,11 +280,11 @@ impl Stack {
 
     // A closing parenthesis.
     pub(crate) fn close(&mut self, heap: &mut Heap, offset: u64) -> Result<Outcome, Memory>
-        requires stack { IsStack heap.old self.old }
-        ensures grows { Grows heap.old heap.new }
-        ensures stack { IfOk result (λ r. IsStack heap.new self.new) }
-        ensures datum { IfOk result (λ r. HoldsDatum heap.new r) }
-        ensures turn { IfOk result (λ r. (t : State) → Means heap.old self.old t → Does heap.new self.new.layers.items self.new.labels.entries r (on t (Close offset))) }
+        requires stack { IsStack heap.old.objects self.old }
+        ensures grows { Grows heap.old.objects heap.new.objects }
+        ensures stack { IfOk result (λ r. IsStack heap.new.objects self.new) }
+        ensures datum { IfOk result (λ r. HoldsDatum heap.new.objects r) }
+        ensures turn { IfOk result (λ r. (t : State) → Means heap.old.objects self.old t → Does heap.new.objects self.new.layers.items self.new.labels.entries r (on t (Close offset))) }
         ensures big { IfOk result (λ r. self.new.big ≡ self.old.big) }
     {
         let Some(top) = self.top() else {
@@ -306,14 +306,14 @@ impl Stack {
 
     // The innermost list ends in this object.
     fn close_with(&mut self, heap: &mut Heap, last: Ref) -> Result<Outcome, Memory>
-        requires object { IsIn heap.old last }
-        requires stack { IsStack heap.old self.old }
-        requires list { IsInList (pile_of heap.old self.old.layers.items) }
-        ensures grows { Grows heap.old heap.new }
-        ensures stack { IfOk result (λ r. IsStack heap.new self.new) }
-        ensures datum { IfOk result (λ r. HoldsDatum heap.new r) }
-        ensures turn { IfOk result (λ r. (ks : Labels) → Agree heap.old self.old.labels.entries ks → Does heap.new self.new.layers.items self.new.labels.entries r
-            (closed_with (pile_of heap.old self.old.layers.items) (object_at heap.old last) ks)) }
+        requires object { IsIn heap.old.objects last }
+        requires stack { IsStack heap.old.objects self.old }
+        requires list { IsInList (pile_of heap.old.objects self.old.layers.items) }
+        ensures grows { Grows heap.old.objects heap.new.objects }
+        ensures stack { IfOk result (λ r. IsStack heap.new.objects self.new) }
+        ensures datum { IfOk result (λ r. HoldsDatum heap.new.objects r) }
+        ensures turn { IfOk result (λ r. (ks : Labels) → Agree heap.old.objects self.old.labels.entries ks → Does heap.new.objects self.new.layers.items self.new.labels.entries r
+            (closed_with (pile_of heap.old.objects self.old.layers.items) (object_at heap.old.objects last) ks)) }
         ensures big { IfOk result (λ r. self.new.big ≡ self.old.big) }
     {
         let list = fold(&mut self.layers, heap, last)?;

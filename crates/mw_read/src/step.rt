@@ -11,9 +11,9 @@ pub enum SyntaxKind {
     End,
     /// A closing parenthesis closes nothing.
     Close,
-    /// A dot stands where none may, or lacks the one datum behind it.
+    /// A dot stands where none may, or lacks the one datum after it.
     Dot,
-    /// A token is none, or something stands directly behind it.
+    /// A token is none, or something stands directly after it.
     Token,
     /// A byte that may not stand here.
     Byte,

@@ -24,8 +24,8 @@ use mw_heap::{Heap, Memory, Ref};
 // The natural of these digits. In place of one of 2^128 or more it is 0, and `big` is set.
 fn natural_of(big: &mut bool, heap: &mut Heap, digits: &[u8]) -> Result<Ref, Memory>
     requires { all_are is_digit digits.now ≡ true }
-    ensures grows { Grows heap.old heap.new }
-    ensures made { IfOk result (λ r. IsIn heap.new r × (object_at heap.new r ≡ clamp (Natural (decimal_value digits.now)))) }
+    ensures grows { Grows heap.old.objects heap.new.objects }
+    ensures made { IfOk result (λ r. IsIn heap.new.objects r × (object_at heap.new.objects r ≡ clamp (Natural (decimal_value digits.now)))) }
     ensures big { OnOk result (big.new ≡ (big.old || is_out_of_range (Natural (decimal_value digits.now)))) }
 {
     match decimal(digits) {
@@ -37,7 +37,7 @@ fn natural_of(big: &mut bool, heap: &mut Heap, digits: &[u8]) -> Result<Ref, Mem
     }
 }
 
-// A token without bars ends: `glued` says whether what stands behind it may not stand there. `BEGINS` says whether it begins in this
+// A token without bars ends: `glued` says whether what stands after it may not stand there. `BEGINS` says whether it begins in this
 // piece, as most do: what they go through is compiled by itself, into the one loop that calls it.
 fn end_token<const BEGINS: bool>(
     stack: &mut Stack,
@@ -47,12 +47,12 @@ fn end_token<const BEGINS: bool>(
     start: u64,
     glued: bool,
 ) -> Result<Outcome, Memory>
-    requires stack { IsStack heap.old stack.old }
+    requires stack { IsStack heap.old.objects stack.old }
     requires token { all_are is_constituent token.now ≡ true }
     requires room { start < 2 ^ 50 }
-    ensures grows { Grows heap.old heap.new }
-    ensures took { IfOk result (λ r. (t : State) → Holds heap.old stack.old t → is_full t ≡ false →
-        Took heap.new stack.new r (on t (token_lexeme start glued (token_form token.now)))) }
+    ensures grows { Grows heap.old.objects heap.new.objects }
+    ensures took { IfOk result (λ r. (t : State) → Holds heap.old.objects stack.old t → is_full t ≡ false →
+        Took heap.new.objects stack.new r (on t (token_lexeme start glued (token_form token.now)))) }
 {
     match form_of(token) {
         Form::Digits => {
@@ -90,15 +90,15 @@ impl Parser {
         heap: &mut Heap,
         rest: &[u8],
     ) -> Result<(Outcome, usize), Memory>
-        requires parser { IsParser heap.old self.old }
+        requires parser { IsParser heap.old.objects self.old }
         requires begun { self.old.begun ≡ Begun.Token }
         requires some { (0 < length self.old.token.items) ⊎ StartsWith is_constituent rest.now }
         requires room { self.old.start + (length self.old.token.items + length rest.now) < 2 ^ 50 }
-        ensures grows { Grows heap.old heap.new }
+        ensures grows { Grows heap.old.objects heap.new.objects }
         ensures taken { IfOk result (λ r. r.1 ≤ length rest.now) }
         ensures starts { IfOk result (λ r. StartsWith is_constituent rest.now → 0 < r.1) }
         ensures moves { IfOk result (λ r. Moves r.0 self.old rest.now r.1 self.new) }
-        ensures advances { IfOk result (λ r. (t : State) → Holds heap.old self.old.stack t → Advances heap.new t self.old rest.now r.0 r.1 self.new) }
+        ensures advances { IfOk result (λ r. (t : State) → Holds heap.old.objects self.old.stack t → Advances heap.new.objects t self.old rest.now r.0 r.1 self.new) }
     {
         let n = constituents(rest);
         if n == rest.len() {
@@ -108,19 +108,19 @@ impl Parser {
         Ok((outcome, n))
     }
 
-    // A token ends behind these bytes.
+    // A token ends after these bytes.
     pub(crate) fn end_token<const BEGINS: bool>(
         &mut self,
         heap: &mut Heap,
         bytes: &[u8],
         glued: bool,
     ) -> Result<Outcome, Memory>
-        requires parser { IsParser heap.old self.old }
+        requires parser { IsParser heap.old.objects self.old }
         requires token { all_are is_constituent (self.old.token.items ++ bytes.now) ≡ true }
         requires room { self.old.start + (length self.old.token.items + length bytes.now) < 2 ^ 50 }
-        ensures grows { Grows heap.old heap.new }
-        ensures took { IfOk result (λ r. (t : State) → Holds heap.old self.old.stack t → is_full t ≡ false →
-            Took heap.new self.new.stack r (on t (token_lexeme self.old.start glued (token_form (self.old.token.items ++ bytes.now))))) }
+        ensures grows { Grows heap.old.objects heap.new.objects }
+        ensures took { IfOk result (λ r. (t : State) → Holds heap.old.objects self.old.stack t → is_full t ≡ false →
+            Took heap.new.objects self.new.stack r (on t (token_lexeme self.old.start glued (token_form (self.old.token.items ++ bytes.now))))) }
         ensures begun { self.new.begun ≡ Begun.AfterToken }
         ensures start { self.new.start ≡ self.old.start + length (self.old.token.items ++ bytes.now) }
     {
@@ -138,13 +138,13 @@ impl Parser {
         heap: &mut Heap,
         rest: &[u8],
     ) -> Result<(Outcome, usize), Memory>
-        requires parser { IsParser heap.old self.old }
+        requires parser { IsParser heap.old.objects self.old }
         requires begun { self.old.begun ≡ Begun.Bars }
         requires room { self.old.start + (length self.old.token.items + length rest.now) < 2 ^ 50 }
-        ensures grows { Grows heap.old heap.new }
+        ensures grows { Grows heap.old.objects heap.new.objects }
         ensures taken { IfOk result (λ r. r.1 ≤ length rest.now) }
         ensures moves { IfOk result (λ r. Moves r.0 self.old rest.now r.1 self.new) }
-        ensures advances { IfOk result (λ r. (t : State) → Holds heap.old self.old.stack t → Advances heap.new t self.old rest.now r.0 r.1 self.new) }
+        ensures advances { IfOk result (λ r. (t : State) → Holds heap.old.objects self.old.stack t → Advances heap.new.objects t self.old rest.now r.0 r.1 self.new) }
     {
         let n = name_bytes(rest);
         if n == rest.len() {
@@ -166,15 +166,15 @@ impl Parser {
         Ok((outcome, n + 1))
     }
 
-    // A name between bars ends behind these bytes.
+    // A name between bars ends after these bytes.
     pub(crate) fn end_bars(&mut self, heap: &mut Heap, bytes: &[u8]) -> Result<Outcome, Memory>
-        requires parser { IsParser heap.old self.old }
+        requires parser { IsParser heap.old.objects self.old }
         requires name { all_are is_name_byte (self.old.token.items ++ bytes.now) ≡ true }
         requires some { 0 < length (self.old.token.items ++ bytes.now) }
         requires room { self.old.start + (length self.old.token.items + length bytes.now) < 2 ^ 50 }
-        ensures grows { Grows heap.old heap.new }
-        ensures took { IfOk result (λ r. (t : State) → Holds heap.old self.old.stack t →
-            Took heap.new self.new.stack r (on t (Atom self.old.start (Symbol (name_of_bytes (self.old.token.items ++ bytes.now)))))) }
+        ensures grows { Grows heap.old.objects heap.new.objects }
+        ensures took { IfOk result (λ r. (t : State) → Holds heap.old.objects self.old.stack t →
+            Took heap.new.objects self.new.stack r (on t (Atom self.old.start (Symbol (name_of_bytes (self.old.token.items ++ bytes.now)))))) }
         ensures begun { self.new.begun ≡ Begun.AfterBar }
         ensures start { self.new.start ≡ self.old.start + 2 + length (self.old.token.items ++ bytes.now) }
     {
@@ -190,19 +190,19 @@ impl Parser {
         self.stack.atom(heap, x, start)
     }
 
-    // The digits behind a `#` go on, up to what ends them.
+    // The digits after a `#` go on, up to what ends them.
     pub(crate) fn in_hash(
         &mut self,
         heap: &mut Heap,
         rest: &[u8],
     ) -> Result<(Outcome, usize), Memory>
-        requires parser { IsParser heap.old self.old }
+        requires parser { IsParser heap.old.objects self.old }
         requires begun { self.old.begun ≡ Begun.Hash }
         requires room { self.old.start + (length self.old.token.items + length rest.now) < 2 ^ 50 }
-        ensures grows { Grows heap.old heap.new }
+        ensures grows { Grows heap.old.objects heap.new.objects }
         ensures taken { IfOk result (λ r. r.1 ≤ length rest.now) }
         ensures moves { IfOk result (λ r. Moves r.0 self.old rest.now r.1 self.new) }
-        ensures advances { IfOk result (λ r. (t : State) → Holds heap.old self.old.stack t → Advances heap.new t self.old rest.now r.0 r.1 self.new) }
+        ensures advances { IfOk result (λ r. (t : State) → Holds heap.old.objects self.old.stack t → Advances heap.new.objects t self.old rest.now r.0 r.1 self.new) }
     {
         let n = digits(rest);
         let length = self.token.len() + n;
@@ -219,13 +219,13 @@ impl Parser {
 
     // A label or a reference ends with this byte.
     fn end_hash(&mut self, heap: &mut Heap, b: u8) -> Result<Outcome, Memory>
-        requires parser { IsParser heap.old self.old }
+        requires parser { IsParser heap.old.objects self.old }
         requires digits { all_are is_digit self.old.token.items ≡ true }
         requires few { length self.old.token.items ≤ 9 }
         requires room { self.old.start < 2 ^ 50 }
-        ensures grows { Grows heap.old heap.new }
-        ensures took { IfOk result (λ r. (t : State) → Holds heap.old self.old.stack t → is_full t ≡ false →
-            Took heap.new self.new.stack r (on t (label_lexeme self.old.start self.old.token.items b))) }
+        ensures grows { Grows heap.old.objects heap.new.objects }
+        ensures took { IfOk result (λ r. (t : State) → Holds heap.old.objects self.old.stack t → is_full t ≡ false →
+            Took heap.new.objects self.new.stack r (on t (label_lexeme self.old.start self.old.token.items b))) }
         ensures ended { IfOk result (λ r. EndsHash r self.old self.new) }
     {
         let start = self.start;

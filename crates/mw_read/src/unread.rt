@@ -5,7 +5,7 @@ use mw_heap::Memory;
 use std::alloc::Global;
 use std::marker::Model;
 
-/// The unread bytes, behind at most as many that were read.
+/// The unread bytes, after at most as many that were read.
 #[derive(Drop)]
 pub(crate) struct Unread {
     bytes: Vec<u8>,
@@ -40,7 +40,7 @@ impl Unread {
         &self.bytes[self.read..]
     }
 
-    /// Puts bytes behind those that are unread.
+    /// Puts bytes after those that are unread.
     pub(crate) fn add(&mut self, bytes: &[u8]) -> Result<(), Memory>
         ensures added { OnOk result (self.new ≡ self.old ++ bytes.now) }
         ensures err { OnErr result (self.new ≡ self.old) }

@@ -330,7 +330,7 @@ const LOOK: &str =
     "(if (logic.memberp (cons 'pequal* (cons (car (cdr (car (cdr x)))) (cons (car (cdr (cdr (car axioms)))) 'nil))) axioms)
   (+ '340282366920938463463374607431768211455 '1) 'nil)";
 
-// Puts an equation or its denial behind the text, as a book has it.
+// Puts an equation or its denial after the text, as a book has it.
 fn push_literal(book: &mut String, literal: &str) -> Result<(), AllocError> {
     if let Some(equation) = literal.strip_prefix("not ") {
         book.push_str("(pnot* ")?;
@@ -347,7 +347,7 @@ fn push_equation(book: &mut String, equation: &str) -> Result<(), AllocError> {
     write!(book, "(pequal* {left} {right})")
 }
 
-// Puts a disjunction of at most six parts behind the text.
+// Puts a disjunction of at most six parts after the text.
 fn push_formula(book: &mut String, alloc: Global, formula: &str) -> Result<(), AllocError> {
     let mut closing = String::new(alloc);
     let mut rest = formula;
@@ -364,7 +364,7 @@ fn push_formula(book: &mut String, alloc: Global, formula: &str) -> Result<(), A
     book.push_str(closing.as_str())
 }
 
-// Puts events behind the text that show these axioms.
+// Puts events after the text that show these axioms.
 fn push_axioms(book: &mut String, alloc: Global, axioms: &[&str]) -> Result<(), AllocError> {
     for axiom in axioms {
         book.push_str("(verify axiom #1=")?;
@@ -374,7 +374,7 @@ fn push_axioms(book: &mut String, alloc: Global, axioms: &[&str]) -> Result<(), 
     Ok(())
 }
 
-// Puts two events behind the text: a definition under another name, and the look.
+// Puts two events after the text: a definition under another name, and the look.
 fn push_definition(book: &mut String, definition: &str) -> Result<(), AllocError> {
     let Some((call, body)) = definition.split_once(" =") else {
         return Ok(());

@@ -8,7 +8,7 @@ use mw_read::SyntaxKind;
 use std::alloc::{AllocError, Global};
 use std::test::Fail;
 
-const BOOKS: [Row; 14] = [
+const BOOKS: [Row; 15] = [
     Row {
         book: "; Equality of a thing with itself is an axiom of the logic.
 (verify refl (pequal* x x) (axiom (pequal* x x)))
@@ -83,6 +83,39 @@ events 4 accepted 4 refused 0 level 1
         report: "1 VERIFY REFL accepted
 2 VERIFY WEAKER accepted
 events 2 accepted 2 refused 0 level 1
+",
+        status: Status::Done,
+    },
+    Row {
+        book: "; A lambda call equals its body with the actuals put in.
+(verify double
+ #1=(pequal* ((lambda (x) (cons x x)) (car y)) (cons (car y) (car y)))
+ (beta-reduction #1#))
+
+; From A or A, A.
+(verify once
+ #1=(pequal* x x)
+ (contraction #1# ((expansion (por* #1# #1#) ((axiom #1#))))))
+
+; From A or (B or C), (A or B) or C.
+(verify left
+ #1=(por* (por* #2=(pequal* a b) #3=(pequal* b a)) #4=(pequal* x x))
+ (associativity #1#
+  ((expansion (por* #2# #5=(por* #3# #4#))
+    ((expansion #5# ((axiom #4#))))))))
+
+; From A or B, and not A or C, B or C. Here C is A, which turns a disjunction round.
+(verify turned
+ #1=(por* #2=(pequal* x x) #3=(pequal* a b))
+ (cut #1#
+  ((expansion (por* #3# #2#) ((axiom #2#)))
+   (propositional-schema (por* (pnot* #3#) #3#)))))
+",
+        report: "1 VERIFY DOUBLE accepted
+2 VERIFY ONCE accepted
+3 VERIFY LEFT accepted
+4 VERIFY TURNED accepted
+events 4 accepted 4 refused 0 level 1
 ",
         status: Status::Done,
     },

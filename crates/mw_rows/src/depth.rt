@@ -36,14 +36,14 @@ fn report_on_lists(alloc: Global, depth: usize) -> Result<String, AllocError>
     )
 }
 
-// The answer to the print of a variable behind so many quotes.
+// The answer to the print of a variable after so many quotes.
 fn answer_on_quotes(alloc: Global, depth: usize) -> Result<Answer, AllocError> {
     let quotes = repeated(alloc, "'", depth)?;
     let book = format!(in alloc; "(print {quotes}x)")?;
     answer_to(alloc, book.as_str(), 4096)
 }
 
-// The answer to the print of a variable behind so many labels.
+// The answer to the print of a variable after so many labels.
 fn answer_on_labels(alloc: Global, depth: usize) -> Result<Answer, AllocError> {
     let mut book = String::from_str(alloc, "(print ")?;
     for k in 0..depth {

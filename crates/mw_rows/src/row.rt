@@ -94,7 +94,7 @@ pub(crate) fn lines_from(alloc: Global, first: u64, events: &[&str]) -> Result<S
     Ok(lines)
 }
 
-/// Puts the book and the answer to it behind the text, where the answer is not the one that is due.
+/// Puts the book and the answer to it after the text, where the answer is not the one that is due.
 pub(crate) fn add_wrong(
     wrong: &mut String,
     alloc: Global,

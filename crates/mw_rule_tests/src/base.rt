@@ -1,32 +1,44 @@
 //! Each primitive function once, and the rule that computes them where it holds and where it does not.
-ghost use Rattle.std.specs.Prelude.{◌≡◌, true};
+ghost use Rattle.std.specs.Prelude.{◌≡◌, true, length, All};
+ghost use Rattle.mw_heap.specs.Objects.{IsIn};
 ghost use Rattle.mw_model.specs.Object.{is_name};
 ghost use Rattle.mw_base.specs.Answers.{arity};
 
-use mw_base::{Applied, apply, base_eval};
+use mw_base::{Applied, Truths, apply, base_eval};
 use mw_forms::{boxed, equation, form, is_in, pair, quoted};
 use mw_heap::{Heap, Memory, Primitive, Profile, Ref};
 use std::test::Fail;
+
+// The value of a primitive function at these arguments.
+fn value(heap: &mut Heap, p: Primitive, args: &[Ref]) -> Applied
+    requires count { length args.now ≡ arity p }
+    requires within { All (IsIn heap.old.objects) args.now }
+{
+    let Ok(truths) = Truths::new(heap) else {
+        return Applied::Memory;
+    };
+    apply(heap, p, args, &truths)
+}
 
 // Whether the value at one argument is v.
 fn one(heap: &mut Heap, p: Primitive, a: Ref, v: Ref) -> bool
     requires { arity p ≡ 1 }
 {
-    is_in(heap, a) && apply(heap, p, &[a]) == Applied::Value(v)
+    is_in(heap, a) && value(heap, p, &[a]) == Applied::Value(v)
 }
 
 // Whether the value at two arguments is v.
 fn two(heap: &mut Heap, p: Primitive, a: Ref, b: Ref, v: Ref) -> bool
     requires { arity p ≡ 2 }
 {
-    is_in(heap, a) && is_in(heap, b) && apply(heap, p, &[a, b]) == Applied::Value(v)
+    is_in(heap, a) && is_in(heap, b) && value(heap, p, &[a, b]) == Applied::Value(v)
 }
 
 // Whether there is no value at two arguments, since it would be too large.
 fn overflows(heap: &mut Heap, p: Primitive, a: Ref, b: Ref) -> bool
     requires { arity p ≡ 2 }
 {
-    is_in(heap, a) && is_in(heap, b) && apply(heap, p, &[a, b]) == Applied::Overflow
+    is_in(heap, a) && is_in(heap, b) && value(heap, p, &[a, b]) == Applied::Overflow
 }
 
 // Whether IF chooses v.
@@ -34,7 +46,7 @@ fn chooses(heap: &mut Heap, a: Ref, b: Ref, c: Ref, v: Ref) -> bool {
     is_in(heap, a)
         && is_in(heap, b)
         && is_in(heap, c)
-        && apply(heap, Primitive::If, &[a, b, c]) == Applied::Value(v)
+        && value(heap, Primitive::If, &[a, b, c]) == Applied::Value(v)
 }
 
 // Whether CONS, CAR, CDR and CONSP have the values that are due.

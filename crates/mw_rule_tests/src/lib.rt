@@ -17,3 +17,7 @@ mod preamble;
 mod proof;
 #[cfg(test)]
 mod prop;
+#[cfg(test)]
+mod reserved;
+#[cfg(test)]
+mod taut;

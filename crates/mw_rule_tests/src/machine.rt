@@ -31,7 +31,7 @@ fn run_named(
     units: u64,
 ) -> Option<(Outcome, u64)>
     requires name { is_name name.now ≡ true }
-    requires table { StandsFor heap.old table.now first_definitions }
+    requires table { StandsFor heap.old.objects table.now first_definitions }
 {
     if !are_in(heap, values) {
         return None;

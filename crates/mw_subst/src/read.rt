@@ -9,10 +9,10 @@ use mw_heap::{Heap, Memory, Ref, View};
 
 /// The substitution of which `s` is the list, a proper list of pairs (variable . term).
 pub fn sigma_of(heap: &Heap, s: Ref) -> Result<Sigma, Memory>
-    requires within { IsIn heap.now s }
-    requires pairs { is_list_of_pairs (object_at heap.now s) ≡ true }
-    ensures within { IfOk result (λ sigma. AreIn heap.now sigma) }
-    ensures read { IfOk result (λ sigma. sigma_object heap.now sigma ≡ object_at heap.now s) }
+    requires within { IsIn heap.now.objects s }
+    requires pairs { is_list_of_pairs (object_at heap.now.objects s) ≡ true }
+    ensures within { IfOk result (λ sigma. AreIn heap.now.objects sigma) }
+    ensures read { IfOk result (λ sigma. sigma_object heap.now.objects sigma ≡ object_at heap.now.objects s) }
 {
     let mut sigma = Sigma::new(heap.alloc());
     let mut rest = s;

@@ -31,8 +31,8 @@ fn is_same_name(name: &[u8], word: &[u8]) -> bool
 }
 
 fn is_quote(heap: &Heap, x: Ref) -> bool
-    requires { IsIn heap.now x }
-    ensures { result ≡ same_object (object_at heap.now x) (symbol "QUOTE") }
+    requires { IsIn heap.now.objects x }
+    ensures { result ≡ same_object (object_at heap.now.objects x) (symbol "QUOTE") }
 {
     match heap.view(x) {
         View::Symbol => is_same_name(heap.name_of(x), b"QUOTE"),
@@ -42,10 +42,10 @@ fn is_quote(heap: &Heap, x: Ref) -> bool
 
 // What stands for an object that is no pair.
 fn image(heap: &Heap, sigma: &Sigma, x: Ref) -> Ref
-    requires within { IsIn heap.now x }
-    requires sigma { AreIn heap.now sigma.now }
-    ensures within { IsIn heap.now result }
-    ensures image { object_at heap.now result ≡ image_object (sigma_object heap.now sigma.now) (object_at heap.now x) }
+    requires within { IsIn heap.now.objects x }
+    requires sigma { AreIn heap.now.objects sigma.now }
+    ensures within { IsIn heap.now.objects result }
+    ensures image { object_at heap.now.objects result ≡ image_object (sigma_object heap.now.objects sigma.now) (object_at heap.now.objects x) }
 {
     let _ = heap.same(x, x);
     match sigma.find(x) {
@@ -55,11 +55,11 @@ fn image(heap: &Heap, sigma: &Sigma, x: Ref) -> Ref
 }
 
 fn step_term(heap: &mut Heap, sigma: &Sigma, memo: &Memo, x: Ref) -> Result<Progress, Memory>
-    requires within { IsIn heap.old x }
-    requires sigma { AreIn heap.old sigma.now }
-    requires made { AreMade heap.old (sigma_object heap.old sigma.now) memo.now.terms.entries memo.now.lists.entries }
-    ensures grows { Grows heap.old heap.new }
-    ensures step { IfOk result (λ s. IsStep heap.old heap.new (sigma_object heap.old sigma.now) memo.now.terms.entries memo.now.lists.entries (Term x) s) }
+    requires within { IsIn heap.old.objects x }
+    requires sigma { AreIn heap.old.objects sigma.now }
+    requires made { AreMade heap.old.objects (sigma_object heap.old.objects sigma.now) memo.now.terms.entries memo.now.lists.entries }
+    ensures grows { Grows heap.old.objects heap.new.objects }
+    ensures step { IfOk result (λ s. IsStep heap.old.objects heap.new.objects (sigma_object heap.old.objects sigma.now) memo.now.terms.entries memo.now.lists.entries (Term x) s) }
 {
     let View::Pair(head, actuals) = heap.view(x) else {
         return Ok(Progress::Made(image(heap, sigma, x)));
@@ -75,10 +75,10 @@ fn step_term(heap: &mut Heap, sigma: &Sigma, memo: &Memo, x: Ref) -> Result<Prog
 }
 
 fn step_terms(heap: &mut Heap, sigma: &Sigma, memo: &Memo, x: Ref) -> Result<Progress, Memory>
-    requires within { IsIn heap.old x }
-    requires made { AreMade heap.old (sigma_object heap.old sigma.now) memo.now.terms.entries memo.now.lists.entries }
-    ensures grows { Grows heap.old heap.new }
-    ensures step { IfOk result (λ s. IsStep heap.old heap.new (sigma_object heap.old sigma.now) memo.now.terms.entries memo.now.lists.entries (Terms x) s) }
+    requires within { IsIn heap.old.objects x }
+    requires made { AreMade heap.old.objects (sigma_object heap.old.objects sigma.now) memo.now.terms.entries memo.now.lists.entries }
+    ensures grows { Grows heap.old.objects heap.new.objects }
+    ensures step { IfOk result (λ s. IsStep heap.old.objects heap.new.objects (sigma_object heap.old.objects sigma.now) memo.now.terms.entries memo.now.lists.entries (Terms x) s) }
 {
     let View::Pair(first, rest) = heap.view(x) else {
         return Ok(Progress::Made(heap.symbol(b"NIL")?));
@@ -94,11 +94,11 @@ fn step_terms(heap: &mut Heap, sigma: &Sigma, memo: &Memo, x: Ref) -> Result<Pro
 }
 
 fn take_step(heap: &mut Heap, sigma: &Sigma, memo: &Memo, part: &Part) -> Result<Progress, Memory>
-    requires within { IsPartIn heap.old part.now }
-    requires sigma { AreIn heap.old sigma.now }
-    requires made { AreMade heap.old (sigma_object heap.old sigma.now) memo.now.terms.entries memo.now.lists.entries }
-    ensures grows { Grows heap.old heap.new }
-    ensures step { IfOk result (λ s. IsStep heap.old heap.new (sigma_object heap.old sigma.now) memo.now.terms.entries memo.now.lists.entries part.now s) }
+    requires within { IsPartIn heap.old.objects part.now }
+    requires sigma { AreIn heap.old.objects sigma.now }
+    requires made { AreMade heap.old.objects (sigma_object heap.old.objects sigma.now) memo.now.terms.entries memo.now.lists.entries }
+    ensures grows { Grows heap.old.objects heap.new.objects }
+    ensures step { IfOk result (λ s. IsStep heap.old.objects heap.new.objects (sigma_object heap.old.objects sigma.now) memo.now.terms.entries memo.now.lists.entries part.now s) }
 {
     match *part {
         Part::Term(x) => step_term(heap, sigma, memo, x),
@@ -116,14 +116,14 @@ fn advance<L: Ledger>(
     part: Part,
     steps: &mut Steps<L>,
 ) -> Result<(), Memory>
-    requires within { IsPartIn heap.old part }
-    requires sigma { AreIn heap.old sigma.now }
-    requires made { AreMade heap.old (sigma_object heap.old sigma.now) memo.old.terms.entries memo.old.lists.entries }
+    requires within { IsPartIn heap.old.objects part }
+    requires sigma { AreIn heap.old.objects sigma.now }
+    requires made { AreMade heap.old.objects (sigma_object heap.old.objects sigma.now) memo.old.terms.entries memo.old.lists.entries }
     requires new { found memo.old.terms.entries memo.old.lists.entries part ≡ None }
     requires unique { AreUnique memo.old.terms.entries memo.old.lists.entries }
-    ensures grows { Grows heap.old heap.new }
+    ensures grows { Grows heap.old.objects heap.new.objects }
     ensures unique { OnOk result (AreUnique memo.new.terms.entries memo.new.lists.entries) }
-    ensures advanced { OnOk result (Advances heap.old heap.new (sigma_object heap.old sigma.now) memo.old memo.new path.old.items path.new.items part steps.old steps.new) }
+    ensures advanced { OnOk result (Advances heap.old.objects heap.new.objects (sigma_object heap.old.objects sigma.now) memo.old memo.new path.old.items path.new.items part steps.old steps.new) }
     ensures err { OnErr result (steps.new ≡ steps.old) }
 {
     heap.take_look()?;
@@ -151,13 +151,13 @@ pub fn substitute_counted<L: Ledger>(
     sigma: &Sigma,
     steps: &mut Steps<L>,
 ) -> Result<Ref, Memory>
-    requires within { IsIn heap.old x }
-    requires sigma { AreIn heap.old sigma.now }
-    ensures grows { Grows heap.old heap.new }
-    ensures within { IfOk result (λ r. IsIn heap.new r) }
-    ensures made { IfOk result (λ r. object_at heap.new r ≡ substitute_object (sigma_object heap.old sigma.now) (object_at heap.old x)) }
-    ensures all { OnOk result ((cells : List ℕ) × AreReached heap.old x cells × HasAllReached heap.old x cells × (steps.new ≡ steps.old + length cells)) }
-    ensures each { (cells : List ℕ) × AreReached heap.old x cells × (steps.new ≡ steps.old + length cells) }
+    requires within { IsIn heap.old.objects x }
+    requires sigma { AreIn heap.old.objects sigma.now }
+    ensures grows { Grows heap.old.objects heap.new.objects }
+    ensures within { IfOk result (λ r. IsIn heap.new.objects r) }
+    ensures made { IfOk result (λ r. object_at heap.new.objects r ≡ substitute_object (sigma_object heap.old.objects sigma.now) (object_at heap.old.objects x)) }
+    ensures all { OnOk result ((cells : List ℕ) × AreReached heap.old.objects x cells × HasAllReached heap.old.objects x cells × (steps.new ≡ steps.old + length cells)) }
+    ensures each { (cells : List ℕ) × AreReached heap.old.objects x cells × (steps.new ≡ steps.old + length cells) }
     ensures most { steps.new ≤ steps.old + (x + 1) }
 {
     let mut memo = Memo::new(sigma.alloc());
@@ -180,14 +180,14 @@ fn substitute_uncounted<L: Ledger>(
     sigma: &Sigma,
     blank: Blank,
 ) -> Result<Ref, Memory>
-    requires within { IsIn heap.old x }
-    requires sigma { AreIn heap.old sigma.now }
+    requires within { IsIn heap.old.objects x }
+    requires sigma { AreIn heap.old.objects sigma.now }
     requires name { blank.name ≡ L.name }
     requires parts { blank.parts ≡ L.parts }
     requires some { 0 < blank.parts }
-    ensures grows { Grows heap.old heap.new }
-    ensures within { IfOk result (λ r. IsIn heap.new r) }
-    ensures made { IfOk result (λ r. object_at heap.new r ≡ substitute_object (sigma_object heap.old sigma.now) (object_at heap.old x)) }
+    ensures grows { Grows heap.old.objects heap.new.objects }
+    ensures within { IfOk result (λ r. IsIn heap.new.objects r) }
+    ensures made { IfOk result (λ r. object_at heap.new.objects r ≡ substitute_object (sigma_object heap.old.objects sigma.now) (object_at heap.old.objects x)) }
 {
     let mut steps = Steps::<L>::new(blank);
     substitute_counted(heap, x, sigma, &mut steps)
@@ -195,11 +195,11 @@ fn substitute_uncounted<L: Ledger>(
 
 /// The term x with the terms of a substitution for its variables, at the cost of `substitute_counted`.
 pub fn substitute(heap: &mut Heap, x: Ref, sigma: &Sigma) -> Result<Ref, Memory>
-    requires within { IsIn heap.old x }
-    requires sigma { AreIn heap.old sigma.now }
-    ensures grows { Grows heap.old heap.new }
-    ensures within { IfOk result (λ r. IsIn heap.new r) }
-    ensures made { IfOk result (λ r. object_at heap.new r ≡ substitute_object (sigma_object heap.old sigma.now) (object_at heap.old x)) }
+    requires within { IsIn heap.old.objects x }
+    requires sigma { AreIn heap.old.objects sigma.now }
+    ensures grows { Grows heap.old.objects heap.new.objects }
+    ensures within { IfOk result (λ r. IsIn heap.new.objects r) }
+    ensures made { IfOk result (λ r. object_at heap.new.objects r ≡ substitute_object (sigma_object heap.old.objects sigma.now) (object_at heap.old.objects x)) }
 {
     substitute_uncounted::<Brand>(heap, x, sigma, Blank::new(1))
 }

@@ -1,5 +1,5 @@
 -- The head of a lambda call, by its parts.
-use Rattle.std.proofs.Common.{◌≡◌, Bool, true, false, ◌&&◌, cond, List, [], ◌∷◌, length, Option, Some, None, refl, sym, ap, ap₂, ◌∙◌, subst}
+use Rattle.std.proofs.Common.{◌≡◌, Bool, true, false, ◌&&◌, cond, List, [], ◌∷◌, length, Option, Some, None, is_some, refl, sym, ap, ap₂, ◌∙◌, subst}
 use Rattle.std.specs.List.{list_all}
 use Rattle.mw_model.specs.Object.{Name, Object, Symbol, Pair, named, same_name, same_object, NIL}
 use Rattle.mw_model.specs.Term.{Term, ArityTable, is_among, firsts, variables, are_formals, is_closed, is_term}
@@ -84,8 +84,9 @@ module _ (A : ArityTable) (f : Name) (x l b z : Object) (shape : x ≡ Pair l (P
         ∙ (ap₂ (λ g h. cond (g && (is_closed xs t.0 && h)) (Some (length xs)) None) p.1 t.2
         ∙ ap (λ c. cond c (Some (length xs)) None) (and_true (is_closed xs t.0) ∙ sym (closed-object xs b t.0 t.1)))
 
-    pub formal_count-free : is_closed_object xs b ≡ false → formal_count A (Pair (Symbol f) x) ≡ None
-    formal_count-free h = count_is ∙ none_when (same_name f (named "LAMBDA") && same_object z NIL) (head_count A (names_of l) (term_of b)) (head_is ∙ ap (λ c. cond c (Some (length xs)) None) h)
-
-    pub formal_count-closed : same_name f (named "LAMBDA") ≡ true → same_object z NIL ≡ true → is_closed_object xs b ≡ true → formal_count A (Pair (Symbol f) x) ≡ Some (length xs)
-    formal_count-closed n e h = count_is ∙ (ap₂ (λ s t. when (s && t) (head_count A (names_of l) (term_of b))) n e ∙ (head_is ∙ ap (λ c. cond c (Some (length xs)) None) h))
+    pub formal_count-closes : same_name f (named "LAMBDA") ≡ true → same_object z NIL ≡ true → is_some (formal_count A (Pair (Symbol f) x)) ≡ is_closed_object xs b
+    formal_count-closes n e = ap is_some (count_is ∙ (ap₂ (λ s t. when (s && t) (head_count A (names_of l) (term_of b))) n e ∙ head_is)) ∙ some_cond (is_closed_object xs b)
+      where
+        some_cond : (t : Bool) → is_some (cond t (Some (length xs)) None) ≡ t
+        some_cond true = refl
+        some_cond false = refl

@@ -2,6 +2,7 @@ pub mod NamedBytes
 pub mod Marked
 mod Entries
 mod ListMarks
+mod ListLengths
 pub mod Symbols
 mod PartSet
 pub mod FormalList

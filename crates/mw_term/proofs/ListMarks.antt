@@ -1,18 +1,17 @@
 -- What the code tests of a pair is what the pair is.
-use Rattle.std.proofs.Common.{rules, ◌≡◌, ℕ, ◌⊎◌, ◌+◌, ◌<◌, Bool, true, false, ◌&&◌, cond, List, [], ◌∷◌, ◌++◌, length, slice_get, get_or, length-append, inl, inr, arith, Option, Some, None, refl, sym, ap, ap₂, ◌∙◌}
+use Rattle.std.proofs.Common.{rules, ◌≡◌, ℕ, ◌⊎◌, ◌+◌, ◌<◌, Bool, true, false, ◌&&◌, cond, List, [], ◌∷◌, ◌++◌, length, slice_get, get_or, length-append, inl, inr, arith, Option, Some, None, is_some, refl, sym, ap, ap₂, ◌∙◌}
 use Rattle.std.proofs.lemmas.Option.{get_or_from_slice_get}
-use Rattle.mw_model.specs.Object.{Name, Object, Natural, Symbol, Pair, named, name_of_bytes, same_name, same_object, nil_name, NIL}
+use Rattle.mw_model.specs.Object.{Name, Object, Natural, Symbol, Pair, name_of_bytes, same_name, same_object, nil_name, NIL}
 use Rattle.mw_model.specs.Primitive.{is_symbol, name_of}
-use Rattle.mw_model.specs.Term.{ArityTable, arity_of}
+use Rattle.mw_model.specs.Term.{ArityTable}
 use Rattle.mw_model.proofs.Names.{same_object-eq}
 use Rattle.mw_model.specs.Rules.{is_term_object, is_formula_object}
 use Rattle.mw_heap.specs.Objects.{object_at}
 use Rattle.mw_model.proofs.Names.{name_of_bytes-bytes}
 use Rattle.mw_term.specs.declared.cell_mark.CellMark.{CellMark}
-use Rattle.mw_term.specs.Parts.{is_single, takes, allows_if}
-use Rattle.mw_term.specs.Marking.{AreMarks, mark_of_object, term_count, formal_count, one_more, is_lambda, is_negation, is_binary}
+use Rattle.mw_term.specs.Marking.{AreMarks, mark_of_object, term_count, formal_count, is_negation, is_binary}
 use Rattle.mw_heap.proofs.Lists.{slice_get-append, slice_get-seam}
-use Rattle.mw_term.proofs.Marked.{is_term-call, term_count-pair, is_lambda-marks, is_formula-unary, is_formula-binary, is_negation-marks, is_binary-marks}
+use Rattle.mw_term.proofs.Marked.{one_more, term_count-pair, term_count-symbol, is_formula-unary, is_formula-binary, is_negation-marks, is_binary-marks}
 
 earlier_or_last : (j n : ℕ) → j < n + 1 → (j < n) ⊎ (j ≡ n)
 earlier_or_last j n h = search (rules, arith)
@@ -21,24 +20,9 @@ and_false : (a : Bool) → (a && false) ≡ false
 and_false true = refl
 and_false false = refl
 
-module _ (A : ArityTable) (f : Name) (r : Object) (n : Option ℕ) (counted : n ≡ term_count A r) (no_quote : same_name f (named "QUOTE") ≡ false) where
-  -- a call whose actuals are as many as its name takes
-  pub is_term-taken : takes (arity_of A f) n ≡ true → is_term_object A (Pair (Symbol f) r) ≡ allows_if (same_name f (named "IF")) n
-  is_term-taken t =
-      is_term-call A f r
-      ∙ (ap (λ b. cond b (is_single r) (takes (arity_of A f) (term_count A r) && allows_if (same_name f (named "IF")) (term_count A r))) no_quote
-      ∙ (ap (λ m. takes (arity_of A f) m && allows_if (same_name f (named "IF")) m) (sym counted) ∙ ap (λ b. b && allows_if (same_name f (named "IF")) n) t))
-
-  -- and one whose actuals are not
-  pub is_term-refused : takes (arity_of A f) n ≡ false → is_term_object A (Pair (Symbol f) r) ≡ false
-  is_term-refused t =
-      is_term-call A f r
-      ∙ (ap (λ b. cond b (is_single r) (takes (arity_of A f) (term_count A r) && allows_if (same_name f (named "IF")) (term_count A r))) no_quote
-      ∙ (ap (λ m. takes (arity_of A f) m && allows_if (same_name f (named "IF")) m) (sym counted) ∙ ap (λ b. b && allows_if (same_name f (named "IF")) n) t))
-
 -- the default of a read
 abbrev pub no_mark : CellMark
-no_mark = record { is_term = false; terms = None; is_formula = false; formals = None }
+no_mark = record { is_term = false; is_terms = false; is_formula = false; is_head = false }
 
 -- the mark at an index
 pub mark_at : (A : ArityTable) (os : List Object) (ms : List CellMark) → AreMarks A os ms → (i a : ℕ) → i ≡ a → a < length ms → (d : CellMark) → get_or ms i d ≡ mark_of_object A (object_at os a)
@@ -57,9 +41,9 @@ module _ (A : ArityTable) (f : Name) (x : Object) where
       ap (λ y. is_formula_object A (Pair (Symbol f) y)) (e ∙ ap (Pair a) (same_object-eq z NIL ends)) ∙ is_negation-marks A f a nil_name part h
 
 -- a mark by its fields
-pub mark_is : (A : ArityTable) (x : Object) (term formula : Bool) (terms formals : Option ℕ) → term ≡ is_term_object A x → terms ≡ term_count A x → formula ≡ is_formula_object A x → formals ≡ formal_count A x
-    → record { is_term = term; terms = terms; is_formula = formula; formals = formals } ≡ mark_of_object A x
-mark_is A x term formula terms formals e f g h = cc
+pub mark_is : (A : ArityTable) (x : Object) (term terms formula head : Bool) → term ≡ is_term_object A x → terms ≡ is_some (term_count A x) → formula ≡ is_formula_object A x → head ≡ is_some (formal_count A x)
+    → record { is_term = term; is_terms = terms; is_formula = formula; is_head = head } ≡ mark_of_object A x
+mark_is A x term terms formula head e f g h = cc
 
 -- a symbol by its name's bytes
 pub symbol_named : (x : Object) (b : List ℕ) → is_symbol x ≡ true → (name_of x).bytes ≡ b → x ≡ Symbol (name_of_bytes b)
@@ -67,11 +51,24 @@ symbol_named (Natural n) b s h = cc
 symbol_named (Symbol y) b s h = ap Symbol (sym (name_of_bytes-bytes y) ∙ ap name_of_bytes h)
 symbol_named (Pair a c) b s h = cc
 
-module _ (A : ArityTable) (os : List Object) (ms : List CellMark) (marked : AreMarks A os ms) (x a r : ℕ) where
-  -- the count of a pair
-  pub count_of_pair : (i j : ℕ) (d : CellMark) → i ≡ a → j ≡ r → a < length ms → r < length ms → one_more (get_or ms i d).is_term (get_or ms j d).terms ≡ term_count A (Pair (object_at os a) (object_at os r))
-  count_of_pair i j d e f below_a below_r =
-      ap₂ (λ m n. one_more m.is_term n.terms) (mark_at A os ms marked i a e below_a d) (mark_at A os ms marked j r f below_r d) ∙ sym (term_count-pair A (object_at os a) (object_at os r))
+some_more : (b : Bool) (o : Option ℕ) → is_some (one_more b o) ≡ (b && is_some o)
+some_more true None = refl
+some_more true (Some n) = refl
+some_more false o = refl
+
+pub terms-symbol : (A : ArityTable) (s : Name) → is_some (term_count A (Symbol s)) ≡ same_name s nil_name
+terms-symbol A s = ap is_some (term_count-symbol A s) ∙ go (same_name s nil_name)
+  where
+    go : (b : Bool) → is_some {T = ℕ} (cond b (Some 0) None) ≡ b
+    go true = refl
+    go false = refl
+
+module _ (A : ArityTable) (os : List Object) (ms : List CellMark) (marked : AreMarks A os ms) (a r : ℕ) where
+  -- whether a pair is a list of terms
+  pub terms_of_pair : (i j : ℕ) (d : CellMark) → i ≡ a → j ≡ r → a < length ms → r < length ms → ((get_or ms i d).is_term && (get_or ms j d).is_terms) ≡ is_some (term_count A (Pair (object_at os a) (object_at os r)))
+  terms_of_pair i j d e f below_a below_r =
+      ap₂ (λ m n. m.is_term && n.is_terms) (mark_at A os ms marked i a e below_a d) (mark_at A os ms marked j r f below_r d)
+      ∙ (sym (some_more (is_term_object A (object_at os a)) (term_count A (object_at os r))) ∙ ap is_some (sym (term_count-pair A (object_at os a) (object_at os r))))
 
 -- a pair that begins with a pair is no formula and no head
 is_formula-pair_head : (A : ArityTable) (l y r : Object) → is_formula_object A (Pair (Pair l y) r) ≡ false
@@ -88,10 +85,10 @@ formal_count-pair_head A l y (Pair a (Natural n)) = refl
 formal_count-pair_head A l y (Pair a (Symbol s)) = refl
 formal_count-pair_head A l y (Pair a (Pair b z)) = refl
 
-pub mark_of_lambda : (A : ArityTable) (l y r : Object) (head actuals : CellMark) (terms : Option ℕ) → head ≡ mark_of_object A (Pair l y) → actuals ≡ mark_of_object A r → terms ≡ term_count A (Pair (Pair l y) r)
-    → record { is_term = is_lambda head actuals; terms = terms; is_formula = false; formals = None } ≡ mark_of_object A (Pair (Pair l y) r)
-mark_of_lambda A l y r head actuals terms h k e =
-    mark_is A (Pair (Pair l y) r) (is_lambda head actuals) false terms None (sym (is_lambda-marks A l y r head actuals h k)) e (sym (is_formula-pair_head A l y r)) (sym (formal_count-pair_head A l y r))
+pub mark_of_lambda : (A : ArityTable) (l y r : Object) (term terms : Bool) → term ≡ is_term_object A (Pair (Pair l y) r) → terms ≡ is_some (term_count A (Pair (Pair l y) r))
+    → record { is_term = term; is_terms = terms; is_formula = false; is_head = false } ≡ mark_of_object A (Pair (Pair l y) r)
+mark_of_lambda A l y r term terms e f =
+    mark_is A (Pair (Pair l y) r) term terms false false e f (sym (is_formula-pair_head A l y r)) (sym (ap is_some (formal_count-pair_head A l y r)))
 
 -- one more mark
 pub AreMarks-push : (A : ArityTable) (os : List Object) (ms : List CellMark) (m : CellMark) → AreMarks A os ms → length ms < length os → m ≡ mark_of_object A (object_at os (length ms)) → AreMarks A os (ms ++ m ∷ [])

@@ -6,9 +6,24 @@ use Rattle.mw_model.specs.Reading.{names_of, more_terms, constant_of, if_of, pla
 use Rattle.mw_model.specs.Definition.{is_present}
 use Rattle.mw_model.specs.Rules.{is_term_object, is_formula_object}
 use Rattle.mw_model.proofs.Names.{same_name-eq}
-use Rattle.mw_term.specs.Parts.{is_single, takes, allows_if}
-use Rattle.mw_term.specs.Marking.{counted, term_count, head_count, formal_count, one_more, is_lambda, is_negation, is_binary, mark_of_object}
+use Rattle.mw_term.specs.Parts.{is_single}
+use Rattle.mw_term.specs.Marking.{counted, term_count, head_count, formal_count, is_negation, is_binary, mark_of_object}
 use Rattle.mw_term.specs.declared.cell_mark.CellMark.{CellMark}
+
+-- so many actuals are right for an arity, and for IF
+abbrev pub takes : Option ℕ → Option ℕ → Bool
+takes a None = false
+takes a (Some n) = has_arity a n
+
+abbrev pub allows_if : Bool → Option ℕ → Bool
+allows_if is_if None = false
+allows_if is_if (Some n) = not is_if || eqb n 3
+
+-- how many terms there are with one more object at the front
+abbrev pub one_more : Bool → Option ℕ → Option ℕ
+one_more true (Some n) = Some (n + 1)
+one_more true None = None
+one_more false n = None
 
 takes-none : (n : Option ℕ) → takes None n ≡ false
 takes-none None = refl
@@ -175,9 +190,6 @@ is_formula-unary A h a s = when_is (is_formula A) (same_name s nil_name && same_
 
 -- by the marks of the parts
 module _ (A : ArityTable) where
-  pub is_lambda-marks : (l y r : Object) (head actuals : CellMark) → head ≡ mark_of_object A (Pair l y) → actuals ≡ mark_of_object A r → is_term_object A (Pair (Pair l y) r) ≡ is_lambda head actuals
-  is_lambda-marks l y r head actuals h k = is_term-lambda A l y r ∙ sym (ap₂ is_lambda h k)
-
   pub is_negation-marks : (f : Name) (a : Object) (s : Name) (part : CellMark) → part ≡ mark_of_object A a → is_formula_object A (Pair (Symbol f) (Pair a (Symbol s))) ≡ (same_name s nil_name && is_negation f part)
   is_negation-marks f a s part h =
       is_formula-unary A (Symbol f) a s ∙ (and_assoc (same_name s nil_name) (same_name f (named "PNOT*")) (is_formula_object A a) ∙ ap (λ m. same_name s nil_name && is_negation f m) (sym h))

@@ -1,13 +1,13 @@
 -- What an object is, a term, a formula or neither, depends on the arities of the symbols in it alone.
-use Rattle.std.proofs.Common.{◌≡◌, ◌&&◌, cond, List, length, Option, Some, None, refl, sym, ap, ap₂, ◌∙◌}
+use Rattle.std.proofs.Common.{◌≡◌, ◌&&◌, cond, List, length, Option, Some, None, is_some, refl, sym, ap, ap₂, ◌∙◌}
 use Rattle.mw_model.specs.Object.{Name, Object, Natural, Symbol, Pair, named, symbol, same_name, same_object, nil_name, NIL}
 use Rattle.mw_model.specs.Term.{Term, ArityTable, arity_of, are_formals, is_closed, is_term}
 use Rattle.mw_model.specs.Reading.{names_of, term_of, when, that}
 use Rattle.mw_model.specs.Definition.{is_present}
 use Rattle.mw_model.specs.Rules.{is_term_object, is_formula_object}
-use Rattle.mw_term.specs.Parts.{is_single, takes, allows_if}
-use Rattle.mw_term.specs.Marking.{term_count, head_count, formal_count, one_more, mark_of_object}
-use Rattle.mw_term.proofs.Marked.{is_present-when, is_term-symbol, is_term-call, is_term-lambda, term_count-pair, term_count-symbol, is_formula-binary, is_formula-unary}
+use Rattle.mw_term.specs.Parts.{is_single}
+use Rattle.mw_term.specs.Marking.{term_count, head_count, formal_count, mark_of_object}
+use Rattle.mw_term.proofs.Marked.{takes, allows_if, one_more, is_present-when, is_term-symbol, is_term-call, is_term-lambda, term_count-pair, term_count-symbol, is_formula-binary, is_formula-unary}
 use Rattle.mw_term.proofs.ListMarks.{mark_is}
 
 module _ (A B : ArityTable) where
@@ -66,4 +66,4 @@ module _ (A B : ArityTable) where
       ∙ sym (is_formula-binary B f a b z))
 
   pub same_mark : (x : Object) → HasSameArities x → mark_of_object A x ≡ mark_of_object B x
-  same_mark x h = mark_is B x (is_term_object A x) (is_formula_object A x) (term_count A x) (formal_count A x) (same_term x h) (same_count x h) (same_formula x h) (same_formals x h)
+  same_mark x h = mark_is B x (is_term_object A x) (is_some (term_count A x)) (is_formula_object A x) (is_some (formal_count A x)) (same_term x h) (ap is_some (same_count x h)) (same_formula x h) (ap is_some (same_formals x h))

@@ -1,11 +1,10 @@
 -- What the marks of objects say under an arity table.
-use Rattle.std.specs.Prelude.{◌≡◌, ℕ, ◌+◌, ◌<◌, ◌≤◌, Bool, true, false, ◌&&◌, cond, List, length, slice_get, Option, Some, None}
+use Rattle.std.specs.Prelude.{◌≡◌, ℕ, ◌<◌, ◌≤◌, Bool, ◌&&◌, cond, List, length, slice_get, Option, Some, None, is_some}
 use Rattle.mw_model.specs.Object.{Name, Object, Pair, named, symbol, same_name, same_object, NIL}
 use Rattle.mw_model.specs.Term.{Term, Terms, ArityTable, count, are_formals, is_closed, is_term, are_terms}
 use Rattle.mw_model.specs.Reading.{names_of, term_of, terms_of, when}
 use Rattle.mw_model.specs.Rules.{is_term_object, is_formula_object}
 use Rattle.mw_heap.specs.Objects.{object_at}
-use Rattle.mw_term.specs.Parts.{takes}
 use Rattle.mw_term.specs.declared.cell_mark.CellMark.{CellMark}
 
 -- how many terms x has, where it is a proper list of terms
@@ -26,18 +25,9 @@ formal_count A (Pair l (Pair xs (Pair b z))) = when (same_object l (symbol "LAMB
 formal_count A _ = None
 
 abbrev pub mark_of_object : ArityTable → Object → CellMark
-mark_of_object A x = record { is_term = is_term_object A x; terms = term_count A x; is_formula = is_formula_object A x; formals = formal_count A x }
+mark_of_object A x = record { is_term = is_term_object A x; is_terms = is_some (term_count A x); is_formula = is_formula_object A x; is_head = is_some (formal_count A x) }
 
--- how many terms there are with one more object at the front
-abbrev pub one_more : Bool → Option ℕ → Option ℕ
-one_more true (Some n) = Some (n + 1)
-one_more true None = None
-one_more false n = None
-
--- a pair by the marks of its parts: a lambda call, (pnot* f), and (pequal* a b) or (por* f g)
-abbrev pub is_lambda : CellMark → CellMark → Bool
-is_lambda head actuals = takes head.formals actuals.terms
-
+-- a pair by the marks of its parts: (pnot* f), and (pequal* a b) or (por* f g)
 abbrev pub is_negation : Name → CellMark → Bool
 is_negation f part = same_name f (named "PNOT*") && part.is_formula
 

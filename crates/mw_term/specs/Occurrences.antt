@@ -28,7 +28,7 @@ object_variables x = firsts same_name (object_occurrences x)
 abbrev pub is_closed_object : List Name → Object → Bool
 is_closed_object xs x = list_all (λ y. is_among y xs) (object_variables x)
 
--- the names found so far, and behind them those of ys that are new
+-- the names found so far, and after them those of ys that are new
 abbrev pub gather : List Name → List Name → List Name
 gather found [] = found
 gather found (y ∷ ys) = gather (cond (is_among y found) found (found ++ y ∷ [])) ys

@@ -1,7 +1,7 @@
 -- Objects by their parts, and formals as symbols.
-use Rattle.std.specs.Prelude.{◌≡◌, ℕ, Bool, true, false, ◌&&◌, ◌||◌, not, cond, eqb, List, [], ◌∷◌, Option, Some, None}
+use Rattle.std.specs.Prelude.{◌≡◌, ℕ, suc, Bool, true, false, ◌&&◌, ◌||◌, not, cond, eqb, List, [], ◌∷◌, Option, Some, None}
 use Rattle.mw_model.specs.Object.{Name, Object, Natural, Symbol, Pair, same_name, nil_name}
-use Rattle.mw_model.specs.Term.{are_formals, has_arity, is_among, is_variable}
+use Rattle.mw_model.specs.Term.{are_formals, is_among, is_variable}
 use Rattle.mw_model.specs.Reading.{names_of}
 use Rattle.mw_model.specs.Primitive.{is_symbol, name_of}
 use Rattle.mw_heap.specs.Objects.{object_at, IsIn}
@@ -11,14 +11,16 @@ abbrev pub is_single : Object → Bool
 is_single (Pair c (Symbol s)) = same_name s nil_name
 is_single _ = false
 
--- so many actuals are right for an arity, and for IF
-abbrev pub takes : Option ℕ → Option ℕ → Bool
-takes a None = false
-takes a (Some n) = has_arity a n
+-- how many members a list has, whatever it ends with
+abbrev pub length_of : Object → ℕ
+length_of (Natural n) = 0
+length_of (Symbol s) = 0
+length_of (Pair a r) = suc (length_of r)
 
-abbrev pub allows_if : Bool → Option ℕ → Bool
-allows_if is_if None = false
-allows_if is_if (Some n) = not is_if || eqb n 3
+-- how many actuals a call of a function of this arity needs, where it may be called: IF takes three
+abbrev pub wanted : Option ℕ → Bool → Option ℕ
+wanted None is_if = None
+wanted (Some m) is_if = cond (not is_if || eqb m 3) (Some m) None
 
 -- the names of a list of distinct variables
 abbrev pub if_formals : Option (List Name) → Option (List Name)

@@ -30,12 +30,32 @@ impl Model for Formals {
 impl Formals {
     /// The formals of which `x` is the list, where it is a proper list of distinct variables. The one error is that memory is refused.
     pub fn of_list(heap: &Heap, x: Ref) -> Result<Option<Formals>, Memory>
-        requires { IsIn heap.now x }
-        ensures formals { IfOk result (λ o. option_map (names_at heap.now) o ≡ formals_of (object_at heap.now x)) }
-        ensures symbols { IfOk result (λ o. IfSome o (AreSymbols heap.now)) }
+        requires { IsIn heap.now.objects x }
+        ensures formals { IfOk result (λ o. option_map (names_at heap.now.objects) o ≡ formals_of (object_at heap.now.objects x)) }
+        ensures symbols { IfOk result (λ o. IfSome o (AreSymbols heap.now.objects)) }
     {
         let mut work = Work::of_one_walk(heap.alloc());
         match formal_set(heap, x, &mut work)? {
+            Some(symbols) => Ok(Some(Formals { symbols })),
+            None => Ok(None),
+        }
+    }
+
+    /// The same, where each member that is looked at takes a look from those that are left. The errors are that memory is refused and
+    /// that no look is left.
+    pub fn of_list_counted(
+        heap: &Heap,
+        x: Ref,
+        looks_left: &mut u64,
+    ) -> Result<Option<Formals>, Memory>
+        requires { IsIn heap.now.objects x }
+        ensures formals { IfOk result (λ o. option_map (names_at heap.now.objects) o ≡ formals_of (object_at heap.now.objects x)) }
+        ensures symbols { IfOk result (λ o. IfSome o (AreSymbols heap.now.objects)) }
+    {
+        let mut work = Work::new(heap.alloc(), *looks_left);
+        let set = formal_set(heap, x, &mut work)?;
+        *looks_left = work.looks_left;
+        match set {
             Some(symbols) => Ok(Some(Formals { symbols })),
             None => Ok(None),
         }
@@ -57,21 +77,39 @@ impl Formals {
 
     /// Whether the symbol `x` is one of them.
     pub fn contains(&self, heap: &Heap, x: Ref) -> bool
-        requires within { IsIn heap.now x }
-        requires symbol { is_symbol (object_at heap.now x) ≡ true }
-        requires symbols { AreSymbols heap.now self.now }
-        ensures { result ≡ is_among (name_of (object_at heap.now x)) (names_at heap.now self.now) }
+        requires within { IsIn heap.now.objects x }
+        requires symbol { is_symbol (object_at heap.now.objects x) ≡ true }
+        requires symbols { AreSymbols heap.now.objects self.now }
+        ensures { result ≡ is_among (name_of (object_at heap.now.objects x)) (names_at heap.now.objects self.now) }
     {
         is_among_symbols(heap, &self.symbols, x)
     }
 
     /// Whether each free variable of a term is one of them. The one error is that memory is refused.
     pub fn closes(&self, heap: &Heap, term: Ref) -> Result<bool, Memory>
-        requires within { IsIn heap.now term }
-        requires symbols { AreSymbols heap.now self.now }
-        ensures { IfOk result (λ b. (t : Term) → term_of (object_at heap.now term) ≡ Some t → b ≡ is_closed (names_at heap.now self.now) t) }
+        requires within { IsIn heap.now.objects term }
+        requires symbols { AreSymbols heap.now.objects self.now }
+        ensures { IfOk result (λ b. (t : Term) → term_of (object_at heap.now.objects term) ≡ Some t → b ≡ is_closed (names_at heap.now.objects self.now) t) }
     {
         let mut work = Work::of_one_walk(heap.alloc());
         Ok(is_closed(heap, &self.symbols, term, &mut work)?)
+    }
+
+    /// The same, where each cell that is looked at takes a look from those that are left. The errors are that memory is refused and that
+    /// no look is left.
+    pub fn closes_counted(
+        &self,
+        heap: &Heap,
+        term: Ref,
+        looks_left: &mut u64,
+    ) -> Result<bool, Memory>
+        requires within { IsIn heap.now.objects term }
+        requires symbols { AreSymbols heap.now.objects self.now }
+        ensures { IfOk result (λ b. (t : Term) → term_of (object_at heap.now.objects term) ≡ Some t → b ≡ is_closed (names_at heap.now.objects self.now) t) }
+    {
+        let mut work = Work::new(heap.alloc(), *looks_left);
+        let closed = is_closed(heap, &self.symbols, term, &mut work)?;
+        *looks_left = work.looks_left;
+        Ok(closed)
     }
 }

@@ -13,10 +13,10 @@ use mw_heap::{Heap, Memory, Ref, View};
 
 // Whether the symbol x is among these.
 pub(crate) fn is_among_symbols(heap: &Heap, symbols: &IndexSet<Ref>, x: Ref) -> bool
-    requires within { IsIn heap.now x }
-    requires symbol { is_symbol (object_at heap.now x) ≡ true }
-    requires symbols { AreSymbols heap.now symbols.now.keys }
-    ensures among { result ≡ is_among (name_of (object_at heap.now x)) (names_at heap.now symbols.now.keys) }
+    requires within { IsIn heap.now.objects x }
+    requires symbol { is_symbol (object_at heap.now.objects x) ≡ true }
+    requires symbols { AreSymbols heap.now.objects symbols.now.keys }
+    ensures among { result ≡ is_among (name_of (object_at heap.now.objects x)) (names_at heap.now.objects symbols.now.keys) }
     ensures held { result ≡ list_any (nat_eq x) symbols.now.keys }
 {
     heap.same(x, x) && symbols.contains(&x)
@@ -24,9 +24,9 @@ pub(crate) fn is_among_symbols(heap: &Heap, symbols: &IndexSet<Ref>, x: Ref) -> 
 
 // Adds x where it is a variable that is not there yet, and says whether it is.
 fn add_formal(heap: &Heap, formals: &mut IndexSet<Ref>, x: Ref) -> Result<bool, Memory>
-    requires within { IsIn heap.now x }
-    requires symbols { AreSymbols heap.now formals.old.keys }
-    ensures new { IfOk result (λ b. b ≡ is_new_variable (names_at heap.now formals.old.keys) (object_at heap.now x)) }
+    requires within { IsIn heap.now.objects x }
+    requires symbols { AreSymbols heap.now.objects formals.old.keys }
+    ensures new { IfOk result (λ b. b ≡ is_new_variable (names_at heap.now.objects formals.old.keys) (object_at heap.now.objects x)) }
     ensures added { IfOk result (λ b. formals.new.keys ≡ (if b then formals.old.keys ++ x ∷ [] else formals.old.keys)) }
 {
     match heap.view(x) {
@@ -47,9 +47,9 @@ pub(crate) fn formal_set(
     x: Ref,
     work: &mut Work,
 ) -> Result<Option<IndexSet<Ref>>, Memory>
-    requires { IsIn heap.now x }
-    ensures formals { IfOk result (λ o. option_map (λ s. names_at heap.now s.keys) o ≡ formals_of (object_at heap.now x)) }
-    ensures symbols { IfOk result (λ o. IfSome o (λ s. AreSymbols heap.now s.keys)) }
+    requires { IsIn heap.now.objects x }
+    ensures formals { IfOk result (λ o. option_map (λ s. names_at heap.now.objects s.keys) o ≡ formals_of (object_at heap.now.objects x)) }
+    ensures symbols { IfOk result (λ o. IfSome o (λ s. AreSymbols heap.now.objects s.keys)) }
 {
     let mut formals = IndexSet::new(work.alloc);
     let mut rest = x;

@@ -17,9 +17,9 @@ pub(crate) fn is_closed(
     term: Ref,
     work: &mut Work,
 ) -> Result<bool, Memory>
-    requires within { IsIn heap.now term }
-    requires symbols { AreSymbols heap.now names.now.keys }
-    ensures { IfOk result (λ b. b ≡ is_closed_object (names_at heap.now names.now.keys) (object_at heap.now term)) }
+    requires within { IsIn heap.now.objects term }
+    requires symbols { AreSymbols heap.now.objects names.now.keys }
+    ensures { IfOk result (λ b. b ≡ is_closed_object (names_at heap.now.objects names.now.keys) (object_at heap.now.objects term)) }
 {
     let variables = variables_in(heap, term, work)?;
     for x in variables.as_slice() {

@@ -20,21 +20,35 @@ use mw_heap::{Heap, Memory, Ref, View};
 /// memory is refused. It takes time and memory in proportion to the distinct objects that make up the term. Of an object that is no
 /// term it gives some symbols.
 pub fn vars(heap: &Heap, t: Ref) -> Result<Vars, Memory>
-    requires { IsIn heap.now t }
-    ensures within { IfOk result (All (IsIn heap.now)) }
-    ensures symbols { IfOk result (λ vs. AreSymbols heap.now vs) }
-    ensures variables { IfOk result (λ vs. (u : Term) → term_of (object_at heap.now t) ≡ Some u → map (object_at heap.now) vs ≡ map Symbol (variables u)) }
+    requires { IsIn heap.now.objects t }
+    ensures within { IfOk result (All (IsIn heap.now.objects)) }
+    ensures symbols { IfOk result (λ vs. AreSymbols heap.now.objects vs) }
+    ensures variables { IfOk result (λ vs. (u : Term) → term_of (object_at heap.now.objects t) ≡ Some u → map (object_at heap.now.objects) vs ≡ map Symbol (variables u)) }
 {
     let mut work = Work::of_one_walk(heap.alloc());
     let symbols = variables_in(heap, t, &mut work)?;
     Ok(Vars::from_set(symbols))
 }
 
+/// The same, where each cell that is looked at takes a look from those that are left. The errors are that memory is refused and that no
+/// look is left.
+pub fn vars_counted(heap: &Heap, t: Ref, looks_left: &mut u64) -> Result<Vars, Memory>
+    requires { IsIn heap.now.objects t }
+    ensures within { IfOk result (All (IsIn heap.now.objects)) }
+    ensures symbols { IfOk result (λ vs. AreSymbols heap.now.objects vs) }
+    ensures variables { IfOk result (λ vs. (u : Term) → term_of (object_at heap.now.objects t) ≡ Some u → map (object_at heap.now.objects) vs ≡ map Symbol (variables u)) }
+{
+    let mut work = Work::new(heap.alloc(), *looks_left);
+    let symbols = variables_in(heap, t, &mut work)?;
+    *looks_left = work.looks_left;
+    Ok(Vars::from_set(symbols))
+}
+
 // The free variables of a term. Each of its parts is looked at once.
 pub(crate) fn variables_in(heap: &Heap, term: Ref, work: &mut Work) -> Result<IndexSet<Ref>, Memory>
-    requires { IsIn heap.now term }
-    ensures symbols { IfOk result (λ s. AreSymbols heap.now s.keys) }
-    ensures names { IfOk result (λ s. names_at heap.now s.keys ≡ object_variables (object_at heap.now term)) }
+    requires { IsIn heap.now.objects term }
+    ensures symbols { IfOk result (λ s. AreSymbols heap.now.objects s.keys) }
+    ensures names { IfOk result (λ s. names_at heap.now.objects s.keys ≡ object_variables (object_at heap.now.objects term)) }
 {
     let mut found = IndexSet::new(work.alloc);
     let mut looked = IndexSet::new(work.alloc);
@@ -57,9 +71,9 @@ fn look(
     waiting: &mut Vec<Part>,
     part: Part,
 ) -> Result<(), Memory>
-    requires within { IsPartIn heap.now part }
-    requires symbols { AreSymbols heap.now found.old.keys }
-    ensures { OnOk result (IsLooked heap.now part found.old.keys found.new.keys waiting.old.items waiting.new.items) }
+    requires within { IsPartIn heap.now.objects part }
+    requires symbols { AreSymbols heap.now.objects found.old.keys }
+    ensures { OnOk result (IsLooked heap.now.objects part found.old.keys found.new.keys waiting.old.items waiting.new.items) }
 {
     match part {
         Part::Term(x) => match heap.view(x) {
@@ -84,10 +98,10 @@ fn look(
 
 // Adds the symbol x where it is not there yet.
 fn add_symbol(heap: &Heap, symbols: &mut IndexSet<Ref>, x: Ref) -> Result<(), Memory>
-    requires within { IsIn heap.now x }
-    requires symbol { is_symbol (object_at heap.now x) ≡ true }
-    requires symbols { AreSymbols heap.now symbols.old.keys }
-    ensures { OnOk result (AreFound heap.now symbols.old.keys symbols.new.keys (name_of (object_at heap.now x) ∷ [])) }
+    requires within { IsIn heap.now.objects x }
+    requires symbol { is_symbol (object_at heap.now.objects x) ≡ true }
+    requires symbols { AreSymbols heap.now.objects symbols.old.keys }
+    ensures { OnOk result (AreFound heap.now.objects symbols.old.keys symbols.new.keys (name_of (object_at heap.now.objects x) ∷ [])) }
 {
     if !is_among_symbols(heap, symbols, x) {
         symbols.insert(x)?;

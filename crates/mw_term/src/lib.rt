@@ -9,6 +9,7 @@ mod free;
 mod gather;
 mod head;
 mod list;
+mod looks;
 mod marks;
 mod names;
 mod part;
@@ -18,7 +19,8 @@ mod work;
 
 pub use arity::Arity;
 pub use formal_names::Formals;
-pub use gather::vars;
+pub use gather::{vars, vars_counted};
+pub use looks::{take_looks, take_looks_since};
 pub use marks::{Marks, is_formula, is_term, mark_terms};
 pub use substitutions::is_substitution;
 pub use variables::Vars;

@@ -1,44 +1,89 @@
 //! Marks of pairs, from the marks of their parts.
-ghost use Rattle.std.specs.Prelude.{◌≡◌, ◌<◌, ◌&&◌, length, true, IfOk};
-ghost use Rattle.mw_model.specs.Object.{Symbol, Pair, is_name, name_of_bytes, named, same_name};
-ghost use Rattle.mw_model.specs.Term.{ArityTable, arity_of};
+ghost use Rattle.std.specs.Prelude.{◌≡◌, ◌<◌, ◌&&◌, length, true, eqb, is_some, IfOk};
+ghost use Rattle.mw_model.specs.Object.{Object, Symbol, Pair, is_name, name_of_bytes};
+ghost use Rattle.mw_model.specs.Term.{ArityTable};
 ghost use Rattle.mw_model.specs.Rules.{is_term_object, is_formula_object};
 ghost use Rattle.mw_heap.specs.Objects.{object_at, IsIn};
-ghost use Rattle.mw_term.specs.Marking.{AreMarks, term_count, one_more, is_lambda, is_negation, is_binary};
-ghost use Rattle.mw_term.specs.Parts.{is_single, takes, allows_if};
+ghost use Rattle.mw_term.specs.Marking.{AreMarks, term_count, formal_count, is_negation, is_binary};
+ghost use Rattle.mw_term.specs.Parts.{is_single, wanted, length_of};
 
 use crate::Arity;
 use crate::cell_mark::CellMark;
 use crate::names::{is_symbol_of, is_word};
+use crate::work::Work;
 use mw_heap::{Heap, Memory, Ref, View};
 
-// The count of a list that has one more at its front.
-pub(crate) fn count_more(is_term: bool, terms: Option<u32>) -> Result<Option<u32>, Memory>
-    ensures { IfOk result (λ n. n ≡ one_more is_term terms) }
+// Whether a pair is a list of terms, by the marks of its parts.
+pub(crate) fn are_more_terms(first: CellMark, rest: CellMark) -> bool
+    ensures { result ≡ (first.is_term && rest.is_terms) }
 {
-    match terms {
-        Some(n) if is_term => match n.checked_add(1) {
-            Some(more) => Ok(Some(more)),
-            None => Err(Memory),
-        },
-        _ => Ok(None),
-    }
+    first.is_term && rest.is_terms
 }
 
-// Whether a pair is a lambda call, by the marks of its head and its actuals.
-pub(crate) fn is_lambda_call(head: CellMark, actuals: CellMark) -> bool
-    ensures { result ≡ is_lambda head actuals }
+// Whether a list has so many members. It takes a look at each.
+fn has_length(heap: &Heap, list: Ref, length: u64, work: &mut Work) -> Result<bool, Memory>
+    requires { IsIn heap.now.objects list }
+    ensures { IfOk result (λ b. b ≡ eqb length (length_of (object_at heap.now.objects list))) }
 {
-    match (head.formals, actuals.terms) {
-        (Some(formals), Some(terms)) => formals == terms,
-        _ => false,
+    let mut rest = list;
+    for _ in 0..length {
+        work.take_look()?;
+        match heap.view(rest) {
+            View::Pair(_, more) => rest = more,
+            _ => return Ok(false),
+        }
+    }
+    Ok(!heap.is_pair(Some(rest)))
+}
+
+// Whether two lists have as many members. It takes a look at each pair of them.
+fn are_as_long(heap: &Heap, first: Ref, second: Ref, work: &mut Work) -> Result<bool, Memory>
+    requires first { IsIn heap.now.objects first }
+    requires second { IsIn heap.now.objects second }
+    ensures { IfOk result (λ b. b ≡ eqb (length_of (object_at heap.now.objects first)) (length_of (object_at heap.now.objects second))) }
+{
+    let mut others = second;
+    let mut rest = first;
+    while let View::Pair(_, more) = heap.view(rest) {
+        work.take_look()?;
+        let View::Pair(_, more_others) = heap.view(others) else {
+            return Ok(false);
+        };
+        rest = more;
+        others = more_others;
+    }
+    Ok(!heap.is_pair(Some(others)))
+}
+
+// Whether a pair is a lambda call: its head begins with a symbol, `tail` is the head's rest, and `rest` are the actuals.
+pub(crate) fn is_lambda_call(
+    heap: &Heap,
+    is_head: bool,
+    tail: Ref,
+    are_terms: bool,
+    rest: Ref,
+    work: &mut Work,
+) -> Result<bool, Memory>
+    requires tail { IsIn heap.now.objects tail }
+    requires rest { IsIn heap.now.objects rest }
+    ensures { (A : ArityTable) (l : Object) → is_head ≡ is_some (formal_count A (Pair l (object_at heap.now.objects tail))) → are_terms ≡ is_some (term_count A (object_at heap.now.objects rest)) → IfOk result (λ b. b ≡ is_term_object A (Pair (Pair l (object_at heap.now.objects tail)) (object_at heap.now.objects rest))) }
+{
+    if !is_head {
+        return Ok(false);
+    }
+    if !are_terms {
+        return Ok(false);
+    }
+    match heap.view(tail) {
+        View::Pair(formals, _) => are_as_long(heap, formals, rest, work),
+        _ => Ok(false),
     }
 }
 
 // A proper list of one member.
 fn is_single_list(heap: &Heap, x: Ref) -> bool
-    requires { IsIn heap.now x }
-    ensures { result ≡ is_single (object_at heap.now x) }
+    requires { IsIn heap.now.objects x }
+    ensures { result ≡ is_single (object_at heap.now.objects x) }
 {
     match heap.view(x) {
         View::Pair(_, end) => is_symbol_of(heap, end, b"NIL"),
@@ -46,43 +91,42 @@ fn is_single_list(heap: &Heap, x: Ref) -> bool
     }
 }
 
-// Whether so many actuals are right for an arity.
-fn takes_count(arity: Option<u64>, count: Option<u32>) -> bool
-    ensures { result ≡ takes arity count }
+// How many actuals a call of a function of this arity needs, where it may be called.
+fn wanted_count(arity: Option<u64>, is_if: bool) -> Option<u64>
+    ensures { result ≡ wanted arity is_if }
 {
-    match (arity, count) {
-        (Some(m), Some(n)) => m == n as u64,
-        _ => false,
+    let count = arity?;
+    if !is_if || count == 3 {
+        Some(count)
+    } else {
+        None
     }
 }
 
-// Whether so many actuals are right, where the function is IF.
-fn allows_count(is_if: bool, count: Option<u32>) -> bool
-    ensures { result ≡ allows_if is_if count }
-{
-    match count {
-        Some(n) => !is_if || n == 3,
-        None => false,
-    }
-}
-
-// Whether (name . rest) is a term, where rest has so many terms.
+// Whether (name . rest) is a term.
 pub(crate) fn is_call(
     heap: &Heap,
     arity: &Arity,
     name: &[u8],
     rest: Ref,
-    count: Option<u32>,
-) -> bool
+    are_terms: bool,
+    work: &mut Work,
+) -> Result<bool, Memory>
     requires name { is_name name.now ≡ true }
-    requires within { IsIn heap.now rest }
-    requires count { count ≡ term_count arity.now (object_at heap.now rest) }
-    ensures { result ≡ is_term_object arity.now (Pair (Symbol (name_of_bytes name.now)) (object_at heap.now rest)) }
+    requires within { IsIn heap.now.objects rest }
+    requires terms { are_terms ≡ is_some (term_count arity.now (object_at heap.now.objects rest)) }
+    ensures { IfOk result (λ b. b ≡ is_term_object arity.now (Pair (Symbol (name_of_bytes name.now)) (object_at heap.now.objects rest))) }
 {
     if is_word(name, b"QUOTE") {
-        return is_single_list(heap, rest);
+        return Ok(is_single_list(heap, rest));
     }
-    takes_count(arity.lookup(name), count) && allows_count(is_word(name, b"IF"), count)
+    if !are_terms {
+        return Ok(false);
+    }
+    match wanted_count(arity.lookup(name), is_word(name, b"IF")) {
+        Some(count) => has_length(heap, rest, count, work),
+        None => Ok(false),
+    }
 }
 
 // Whether a list of a symbol of this name and one object is a formula.
@@ -107,9 +151,9 @@ fn is_binary_of(name: &[u8], first: CellMark, second: CellMark) -> bool
 // Whether (name . rest) is a formula.
 pub(crate) fn is_formula_list(heap: &Heap, marks: &[CellMark], name: &[u8], rest: Ref) -> bool
     requires name { is_name name.now ≡ true }
-    requires within { IsIn heap.now rest }
+    requires within { IsIn heap.now.objects rest }
     requires marked { rest < length marks.now }
-    ensures { (A : ArityTable) → AreMarks A heap.now marks.now → result ≡ is_formula_object A (Pair (Symbol (name_of_bytes name.now)) (object_at heap.now rest)) }
+    ensures { (A : ArityTable) → AreMarks A heap.now.objects marks.now → result ≡ is_formula_object A (Pair (Symbol (name_of_bytes name.now)) (object_at heap.now.objects rest)) }
 {
     let View::Pair(a, more) = heap.view(rest) else {
         return false;

@@ -8,8 +8,8 @@ ghost use Rattle.mw_term.specs.Marking.{AreMarks, mark_of_object};
 
 use crate::Arity;
 use crate::cell_mark::CellMark;
-use crate::head::count_formals;
-use crate::list::{count_more, is_call, is_formula_list, is_lambda_call};
+use crate::head::is_lambda_head;
+use crate::list::{are_more_terms, is_call, is_formula_list, is_lambda_call};
 use crate::names::{is_variable_name, is_word};
 use crate::work::Work;
 use mw_heap::{Heap, Mark, Memory, Ref, View, looks_for};
@@ -23,9 +23,9 @@ fn mark_symbol(name: &[u8]) -> CellMark
 {
     CellMark {
         is_term: is_variable_name(name),
-        terms: if is_word(name, b"NIL") { Some(0) } else { None },
+        is_terms: is_word(name, b"NIL"),
         is_formula: false,
-        formals: None,
+        is_head: false,
     }
 }
 
@@ -38,35 +38,35 @@ fn mark_pair(
     rest: Ref,
     work: &mut Work,
 ) -> Result<CellMark, Memory>
-    requires marked { AreMarks arity.now heap.now marks.now }
+    requires marked { AreMarks arity.now heap.now.objects marks.now }
     requires first { first < length marks.now }
     requires rest { rest < length marks.now }
-    ensures { IfOk result (λ m. m ≡ mark_of_object arity.now (Pair (object_at heap.now first) (object_at heap.now rest))) }
+    ensures { IfOk result (λ m. m ≡ mark_of_object arity.now (Pair (object_at heap.now.objects first) (object_at heap.now.objects rest))) }
 {
     let head = marks[first.index()];
     let actuals = marks[rest.index()];
-    let terms = count_more(head.is_term, actuals.terms)?;
+    let is_terms = are_more_terms(head, actuals);
     match heap.view(first) {
         View::Nat(_) => Ok(CellMark {
             is_term: false,
-            terms,
+            is_terms,
             is_formula: false,
-            formals: None,
+            is_head: false,
         }),
         View::Symbol => {
             let name = heap.name_of(first);
             Ok(CellMark {
-                is_term: is_call(heap, arity, name, rest, actuals.terms),
-                terms,
+                is_term: is_call(heap, arity, name, rest, actuals.is_terms, work)?,
+                is_terms,
                 is_formula: is_formula_list(heap, marks, name, rest),
-                formals: count_formals(heap, marks, name, rest, work)?,
+                is_head: is_lambda_head(heap, marks, name, rest, work)?,
             })
         }
-        View::Pair(_, _) => Ok(CellMark {
-            is_term: is_lambda_call(head, actuals),
-            terms,
+        View::Pair(_, tail) => Ok(CellMark {
+            is_term: is_lambda_call(heap, head.is_head, tail, actuals.is_terms, rest, work)?,
+            is_terms,
             is_formula: false,
-            formals: None,
+            is_head: false,
         }),
     }
 }
@@ -79,17 +79,17 @@ fn mark_cell(
     x: Ref,
     work: &mut Work,
 ) -> Result<CellMark, Memory>
-    requires within { IsIn heap.now x }
-    requires marked { AreMarks arity.now heap.now marks.now }
+    requires within { IsIn heap.now.objects x }
+    requires marked { AreMarks arity.now heap.now.objects marks.now }
     requires before { x ≤ length marks.now }
-    ensures { IfOk result (λ m. m ≡ mark_of_object arity.now (object_at heap.now x)) }
+    ensures { IfOk result (λ m. m ≡ mark_of_object arity.now (object_at heap.now.objects x)) }
 {
     match heap.view(x) {
         View::Nat(_) => Ok(CellMark {
             is_term: false,
-            terms: None,
+            is_terms: false,
             is_formula: false,
-            formals: None,
+            is_head: false,
         }),
         View::Symbol => Ok(mark_symbol(heap.name_of(x))),
         View::Pair(first, rest) => mark_pair(heap, arity, marks, first, rest, work),
@@ -104,10 +104,10 @@ fn mark_up_to(
     end: usize,
     work: &mut Work,
 ) -> Result<(), Memory>
-    requires marked { AreMarks arity.now heap.now cells.old.items }
+    requires marked { AreMarks arity.now heap.now.objects cells.old.items }
     requires from { length cells.old.items ≤ end }
-    requires to { end ≤ length heap.now }
-    ensures marked { OnOk result (AreMarks arity.now heap.now cells.new.items) }
+    requires to { end ≤ length heap.now.objects }
+    ensures marked { OnOk result (AreMarks arity.now heap.now.objects cells.new.items) }
     ensures length { OnOk result (length cells.new.items ≡ end) }
     ensures kept { take (length cells.old.items) cells.new.items ≡ cells.old.items }
 {
@@ -138,8 +138,8 @@ impl Model for Marks {
 /// The marks of the objects of the heap below a mark. It takes time in proportion to them, and to the size of each distinct head of
 /// a lambda call; where these share so much that it would be more than an allowance, it is answered as out of memory.
 pub fn mark_terms(alloc: Global, heap: &Heap, arity: &Arity, below: Mark) -> Result<Marks, Memory>
-    requires { below ≤ length heap.now }
-    ensures marked { IfOk result (AreMarks arity.now heap.now) }
+    requires { below ≤ length heap.now.objects }
+    ensures marked { IfOk result (AreMarks arity.now heap.now.objects) }
     ensures length { IfOk result (λ m. length m ≡ below) }
 {
     let mut marks = Marks::new(alloc);
@@ -168,10 +168,10 @@ impl Marks {
     /// Adds the marks of the objects of the heap below a mark, at the cost of `mark_terms` for these. Where memory is refused nothing
     /// changes.
     pub fn extend(&mut self, heap: &Heap, arity: &Arity, below: Mark) -> Result<(), Memory>
-        requires marked { AreMarks arity.now heap.now self.old }
+        requires marked { AreMarks arity.now heap.now.objects self.old }
         requires from { length self.old ≤ below }
-        requires to { below ≤ length heap.now }
-        ensures marked { OnOk result (AreMarks arity.now heap.now self.new) }
+        requires to { below ≤ length heap.now.objects }
+        ensures marked { OnOk result (AreMarks arity.now heap.now.objects self.new) }
         ensures length { OnOk result (length self.new ≡ below) }
         ensures err { OnErr result (self.new ≡ self.old) }
     {

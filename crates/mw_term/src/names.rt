@@ -22,9 +22,9 @@ pub(crate) fn is_variable_name(name: &[u8]) -> bool
 }
 
 pub(crate) fn is_symbol_of(heap: &Heap, x: Ref, word: &[u8]) -> bool
-    requires within { IsIn heap.now x }
+    requires within { IsIn heap.now.objects x }
     requires word { is_name word.now ≡ true }
-    ensures { result ≡ same_object (object_at heap.now x) (Symbol (name_of_bytes word.now)) }
+    ensures { result ≡ same_object (object_at heap.now.objects x) (Symbol (name_of_bytes word.now)) }
 {
     match heap.view(x) {
         View::Symbol => is_word(heap.name_of(x), word),

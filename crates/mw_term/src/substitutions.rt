@@ -13,9 +13,9 @@ use mw_heap::{Heap, Ref, View};
 
 /// Whether an object is a substitution: a proper list of pairs (variable . term).
 pub fn is_substitution(heap: &Heap, marks: &Marks, s: Ref) -> bool
-    requires within { IsIn heap.now s }
+    requires within { IsIn heap.now.objects s }
     requires marked { s < length marks.now }
-    ensures { (A : ArityTable) → AreMarks A heap.now marks.now → result ≡ is_substitution_object A (object_at heap.now s) }
+    ensures { (A : ArityTable) → AreMarks A heap.now.objects marks.now → result ≡ is_substitution_object A (object_at heap.now.objects s) }
 {
     let mut rest = s;
     while let View::Pair(pair, more) = heap.view(rest) {
@@ -29,9 +29,9 @@ pub fn is_substitution(heap: &Heap, marks: &Marks, s: Ref) -> bool
 
 // Whether it is a pair (variable . term).
 fn is_pair_of_substitution(heap: &Heap, marks: &Marks, pair: Ref) -> bool
-    requires within { IsIn heap.now pair }
+    requires within { IsIn heap.now.objects pair }
     requires marked { pair < length marks.now }
-    ensures { (A : ArityTable) → AreMarks A heap.now marks.now → result ≡ (is_pair (object_at heap.now pair) && (is_variable_object (car (object_at heap.now pair)) && is_term_object A (cdr (object_at heap.now pair)))) }
+    ensures { (A : ArityTable) → AreMarks A heap.now.objects marks.now → result ≡ (is_pair (object_at heap.now.objects pair) && (is_variable_object (car (object_at heap.now.objects pair)) && is_term_object A (cdr (object_at heap.now.objects pair)))) }
 {
     match heap.view(pair) {
         View::Pair(variable, term) => is_variable(heap, variable) && is_term(marks, term),
@@ -41,8 +41,8 @@ fn is_pair_of_substitution(heap: &Heap, marks: &Marks, pair: Ref) -> bool
 
 // Whether it is a variable.
 fn is_variable(heap: &Heap, x: Ref) -> bool
-    requires { IsIn heap.now x }
-    ensures { result ≡ is_variable_object (object_at heap.now x) }
+    requires { IsIn heap.now.objects x }
+    ensures { result ≡ is_variable_object (object_at heap.now.objects x) }
 {
     match heap.view(x) {
         View::Symbol => is_variable_name(heap.name_of(x)),

@@ -22,7 +22,7 @@ fn has_one_nil(heap: &mut Heap) -> Result<[bool; 4], Memory> {
     let nil = heap.nil()?;
     let is_nil = heap.is_nil(Some(nil));
     let is_named = heap.symbol(b"NIL")? == nil;
-    heap.cut_back(heap.mark_behind(before));
+    heap.cut_back(heap.mark_after(before));
     let other = heap.symbol(b"OTHER")?;
     let again = heap.nil()?;
     Ok([
@@ -43,8 +43,8 @@ fn orders_names(heap: &mut Heap) -> Result<[bool; 7], Memory> {
         !heap.symbol_less(car, car),
         heap.nth(0) == car,
         heap.lengths(car) == (3, 6),
-        heap.mark_behind(cdr) == heap.mark(),
-        Mark::before(cdr) == heap.mark_behind(car),
+        heap.mark_after(cdr) == heap.mark(),
+        Mark::before(cdr) == heap.mark_after(car),
     ])
 }
 

@@ -7,7 +7,7 @@ use mw_heap::{Heap, Memory, Ref};
 use mw_print::{Bytes, Printed, print, text_len};
 use std::test::Fail;
 
-// Whether an object is printed as this text, behind what was written before, and the text's length is told.
+// Whether an object is printed as this text, after what was written before, and the text's length is told.
 fn shows(heap: &Heap, x: Ref, text: &[u8]) -> Result<bool, Memory> {
     if !is_in(heap, x) {
         return Err(Memory);

@@ -9,13 +9,13 @@ use mw_heap::{Heap, Memory, Ref};
 use mw_read::{Reader, Step, SyntaxKind, shown};
 use std::test::Fail;
 
-const BOOK: &[u8] = b"(a . 1)'b |c d|; behind this a label\n12 (#10=(x)#10#) last";
+const BOOK: &[u8] = b"(a . 1)'b |c d|; after this a label\n12 (#10=(x)#10#) last";
 
 // The data that come next, up to the answer that is none.
 fn next_data(heap: &mut Heap, reader: &mut Reader, data: &mut Vec<Ref>) -> Result<Step, Memory>
-    requires stands { IsStanding heap.old reader.old.parser }
+    requires stands { IsStanding heap.old.objects reader.old.parser }
     requires follows { UnreadFollows reader.old }
-    ensures more { IfOk result (λ s. s ≡ steps.More → IsStanding heap.new reader.new.parser × IsAwaiting reader.new × IsFree reader.new.parser) }
+    ensures more { IfOk result (λ s. s ≡ steps.More → IsStanding heap.new.objects reader.new.parser × IsAwaiting reader.new × IsFree reader.new.parser) }
 {
     loop {
         match reader.next(heap) {
@@ -25,7 +25,7 @@ fn next_data(heap: &mut Heap, reader: &mut Reader, data: &mut Vec<Ref>) -> Resul
     }
 }
 
-// The data of a book that is fed in pieces of this size, and the answer behind them.
+// The data of a book that is fed in pieces of this size, and the answer after them.
 fn read_book(heap: &mut Heap, book: &[u8], size: usize) -> Result<(Vec<Ref>, Step), Memory>
     requires { 0 < size }
 {
@@ -43,7 +43,7 @@ fn read_book(heap: &mut Heap, book: &[u8], size: usize) -> Result<(Vec<Ref>, Ste
     Ok((data, step))
 }
 
-// How many data the book has, the answer behind them, and in pieces of how many sizes from 1 to 8 it gives other data or another answer.
+// How many data the book has, the answer after them, and in pieces of how many sizes from 1 to 8 it gives other data or another answer.
 fn reads_in_pieces(heap: &mut Heap) -> Result<(usize, Step, usize), Memory> {
     let (whole, end) = read_book(heap, BOOK, BOOK.len())?;
     let mut others = 0usize;
@@ -63,7 +63,7 @@ fn pieces_of_each_size_give_the_same_data(rt: HostRuntime) -> Result<(), Fail> {
     Ok(())
 }
 
-// The answers to a book that has a fault behind its first datum, the last where no more bytes come.
+// The answers to a book that has a fault after its first datum, the last where no more bytes come.
 fn answers_a_fault(heap: &mut Heap) -> Result<[Step; 3], Memory> {
     let mut reader = Reader::new(heap.alloc());
     reader.feed(b"1 ) 2")?;

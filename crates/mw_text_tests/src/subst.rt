@@ -22,8 +22,8 @@ fn finds_the_first(heap: &mut Heap) -> Result<(bool, bool), Memory> {
 
 // The first term for the variable x in the substitution ((x . y) (x . x)).
 fn first_term(heap: &mut Heap, x: Ref, y: Ref) -> Result<Option<Ref>, Memory>
-    requires x_in { IsIn heap.old x }
-    requires y_in { IsIn heap.old y }
+    requires x_in { IsIn heap.old.objects x }
+    requires y_in { IsIn heap.old.objects y }
 {
     let nil = heap.nil()?;
     let later = heap.cons(x, x)?;

@@ -120,10 +120,10 @@ fn extends_and_cuts(heap: &Heap, arity: &Arity, to: Mark) -> Result<[usize; 3], 
     Ok([first, all, marks.len()])
 }
 
-// The same, where the mark is behind the first of three objects.
-fn extends_behind_the_first(heap: &mut Heap, arity: &Arity) -> Result<[usize; 3], Memory> {
+// The same, where the mark is after the first of three objects.
+fn extends_after_the_first(heap: &mut Heap, arity: &Arity) -> Result<[usize; 3], Memory> {
     let first = heap.symbol(b"X")?;
-    let to = heap.mark_behind(first);
+    let to = heap.mark_after(first);
     heap.symbol(b"Y")?;
     heap.symbol(b"Z")?;
     extends_and_cuts(heap, arity, to)
@@ -133,7 +133,7 @@ fn extends_behind_the_first(heap: &mut Heap, arity: &Arity) -> Result<[usize; 3]
 fn marks_are_extended_and_cut(rt: HostRuntime) -> Result<(), Fail> {
     let mut heap = boxed(rt.alloc())?;
     let arity = boxed_arity(rt.alloc())?;
-    assert_eq!(rt; extends_behind_the_first(&mut heap, &arity)?, [1, 3, 1]);
+    assert_eq!(rt; extends_after_the_first(&mut heap, &arity)?, [1, 3, 1]);
     Ok(())
 }
 

@@ -151,7 +151,7 @@ kept-without z (y ∷ ys) xs h e = go (same_name z y) (is_among y xs) refl refl 
     go false true f g k r = r k
     go false false f g k r = ap (λ b. b || is_among z (without ys xs)) f ∙ r k
 
--- with other names behind
+-- with other names after
 distinct-append : (xs ys : List Name) → ((z : Name) → is_among z xs ≡ true → is_among z ys ≡ false) → are_distinct ys ≡ true → are_distinct (xs ++ ys) ≡ are_distinct xs
 distinct-append [] ys h d = d
 distinct-append (x ∷ xs) ys h d =

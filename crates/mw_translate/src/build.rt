@@ -7,9 +7,9 @@ use mw_heap::{Heap, Memory, Ref};
 
 /// Makes the list (a). The one error is that memory is refused.
 pub fn list_of_one(heap: &mut Heap, a: Ref) -> Result<Ref, Memory>
-    requires { IsIn heap.old a }
-    ensures grows { Grows heap.old heap.new }
-    ensures made { IfOk result (λ r. IsIn heap.new r × (object_at heap.new r ≡ list1 (object_at heap.old a))) }
+    requires { IsIn heap.old.objects a }
+    ensures grows { Grows heap.old.objects heap.new.objects }
+    ensures made { IfOk result (λ r. IsIn heap.new.objects r × (object_at heap.new.objects r ≡ list1 (object_at heap.old.objects a))) }
 {
     let nil = heap.nil()?;
     Ok(heap.cons(a, nil)?)
@@ -17,10 +17,10 @@ pub fn list_of_one(heap: &mut Heap, a: Ref) -> Result<Ref, Memory>
 
 /// Makes the list (a b). The one error is that memory is refused.
 pub fn list_of_two(heap: &mut Heap, a: Ref, b: Ref) -> Result<Ref, Memory>
-    requires first_in { IsIn heap.old a }
-    requires second_in { IsIn heap.old b }
-    ensures grows { Grows heap.old heap.new }
-    ensures made { IfOk result (λ r. IsIn heap.new r × (object_at heap.new r ≡ list2 (object_at heap.old a) (object_at heap.old b))) }
+    requires first_in { IsIn heap.old.objects a }
+    requires second_in { IsIn heap.old.objects b }
+    ensures grows { Grows heap.old.objects heap.new.objects }
+    ensures made { IfOk result (λ r. IsIn heap.new.objects r × (object_at heap.new.objects r ≡ list2 (object_at heap.old.objects a) (object_at heap.old.objects b))) }
 {
     let rest = list_of_one(heap, b)?;
     Ok(heap.cons(a, rest)?)
@@ -28,11 +28,11 @@ pub fn list_of_two(heap: &mut Heap, a: Ref, b: Ref) -> Result<Ref, Memory>
 
 // Makes the list (a b c).
 pub(crate) fn list_of_three(heap: &mut Heap, a: Ref, b: Ref, c: Ref) -> Result<Ref, Memory>
-    requires first_in { IsIn heap.old a }
-    requires second_in { IsIn heap.old b }
-    requires third_in { IsIn heap.old c }
-    ensures grows { Grows heap.old heap.new }
-    ensures made { IfOk result (λ r. IsIn heap.new r × (object_at heap.new r ≡ list3 (object_at heap.old a) (object_at heap.old b) (object_at heap.old c))) }
+    requires first_in { IsIn heap.old.objects a }
+    requires second_in { IsIn heap.old.objects b }
+    requires third_in { IsIn heap.old.objects c }
+    ensures grows { Grows heap.old.objects heap.new.objects }
+    ensures made { IfOk result (λ r. IsIn heap.new.objects r × (object_at heap.new.objects r ≡ list3 (object_at heap.old.objects a) (object_at heap.old.objects b) (object_at heap.old.objects c))) }
 {
     let rest = list_of_two(heap, b, c)?;
     Ok(heap.cons(a, rest)?)
@@ -41,9 +41,9 @@ pub(crate) fn list_of_three(heap: &mut Heap, a: Ref, b: Ref, c: Ref) -> Result<R
 // Makes the list with the symbol of this name in front.
 fn named(heap: &mut Heap, name: &[u8], members: Ref) -> Result<Ref, Memory>
     requires name { is_name name.now ≡ true }
-    requires within { IsIn heap.old members }
-    ensures grows { Grows heap.old heap.new }
-    ensures made { IfOk result (λ r. IsIn heap.new r × (object_at heap.new r ≡ Pair (Symbol (name_of_bytes name.now)) (object_at heap.old members))) }
+    requires within { IsIn heap.old.objects members }
+    ensures grows { Grows heap.old.objects heap.new.objects }
+    ensures made { IfOk result (λ r. IsIn heap.new.objects r × (object_at heap.new.objects r ≡ Pair (Symbol (name_of_bytes name.now)) (object_at heap.old.objects members))) }
 {
     let head = heap.symbol(name)?;
     Ok(heap.cons(head, members)?)
@@ -52,9 +52,9 @@ fn named(heap: &mut Heap, name: &[u8], members: Ref) -> Result<Ref, Memory>
 /// Makes (NAME a), where NAME is the symbol of this name. The one error is that memory is refused.
 pub fn call_of_one(heap: &mut Heap, name: &[u8], a: Ref) -> Result<Ref, Memory>
     requires name { is_name name.now ≡ true }
-    requires within { IsIn heap.old a }
-    ensures grows { Grows heap.old heap.new }
-    ensures made { IfOk result (λ r. IsIn heap.new r × (object_at heap.new r ≡ list2 (Symbol (name_of_bytes name.now)) (object_at heap.old a))) }
+    requires within { IsIn heap.old.objects a }
+    ensures grows { Grows heap.old.objects heap.new.objects }
+    ensures made { IfOk result (λ r. IsIn heap.new.objects r × (object_at heap.new.objects r ≡ list2 (Symbol (name_of_bytes name.now)) (object_at heap.old.objects a))) }
 {
     let members = list_of_one(heap, a)?;
     Ok(named(heap, name, members)?)
@@ -63,10 +63,10 @@ pub fn call_of_one(heap: &mut Heap, name: &[u8], a: Ref) -> Result<Ref, Memory>
 /// Makes (NAME a b), where NAME is the symbol of this name. The one error is that memory is refused.
 pub fn call_of_two(heap: &mut Heap, name: &[u8], a: Ref, b: Ref) -> Result<Ref, Memory>
     requires name { is_name name.now ≡ true }
-    requires first_in { IsIn heap.old a }
-    requires second_in { IsIn heap.old b }
-    ensures grows { Grows heap.old heap.new }
-    ensures made { IfOk result (λ r. IsIn heap.new r × (object_at heap.new r ≡ list3 (Symbol (name_of_bytes name.now)) (object_at heap.old a) (object_at heap.old b))) }
+    requires first_in { IsIn heap.old.objects a }
+    requires second_in { IsIn heap.old.objects b }
+    ensures grows { Grows heap.old.objects heap.new.objects }
+    ensures made { IfOk result (λ r. IsIn heap.new.objects r × (object_at heap.new.objects r ≡ list3 (Symbol (name_of_bytes name.now)) (object_at heap.old.objects a) (object_at heap.old.objects b))) }
 {
     let members = list_of_two(heap, a, b)?;
     Ok(named(heap, name, members)?)
@@ -74,11 +74,11 @@ pub fn call_of_two(heap: &mut Heap, name: &[u8], a: Ref, b: Ref) -> Result<Ref, 
 
 // Makes (IF a b c).
 pub(crate) fn if_of(heap: &mut Heap, a: Ref, b: Ref, c: Ref) -> Result<Ref, Memory>
-    requires first_in { IsIn heap.old a }
-    requires second_in { IsIn heap.old b }
-    requires third_in { IsIn heap.old c }
-    ensures grows { Grows heap.old heap.new }
-    ensures made { IfOk result (λ r. IsIn heap.new r × (object_at heap.new r ≡ Pair (symbol "IF") (list3 (object_at heap.old a) (object_at heap.old b) (object_at heap.old c)))) }
+    requires first_in { IsIn heap.old.objects a }
+    requires second_in { IsIn heap.old.objects b }
+    requires third_in { IsIn heap.old.objects c }
+    ensures grows { Grows heap.old.objects heap.new.objects }
+    ensures made { IfOk result (λ r. IsIn heap.new.objects r × (object_at heap.new.objects r ≡ Pair (symbol "IF") (list3 (object_at heap.old.objects a) (object_at heap.old.objects b) (object_at heap.old.objects c)))) }
 {
     let members = list_of_three(heap, a, b, c)?;
     Ok(named(heap, b"IF", members)?)
@@ -87,8 +87,8 @@ pub(crate) fn if_of(heap: &mut Heap, a: Ref, b: Ref, c: Ref) -> Result<Ref, Memo
 /// Makes (QUOTE NAME), where NAME is the symbol of this name. The one error is that memory is refused.
 pub fn quoted_symbol(heap: &mut Heap, name: &[u8]) -> Result<Ref, Memory>
     requires { is_name name.now ≡ true }
-    ensures grows { Grows heap.old heap.new }
-    ensures made { IfOk result (λ r. IsIn heap.new r × (object_at heap.new r ≡ list2 (symbol "QUOTE") (Symbol (name_of_bytes name.now)))) }
+    ensures grows { Grows heap.old.objects heap.new.objects }
+    ensures made { IfOk result (λ r. IsIn heap.new.objects r × (object_at heap.new.objects r ≡ list2 (symbol "QUOTE") (Symbol (name_of_bytes name.now)))) }
 {
     let constant = heap.symbol(name)?;
     Ok(call_of_one(heap, b"QUOTE", constant)?)

@@ -20,7 +20,7 @@ use crate::shape::two_members;
 use crate::table::takes;
 use crate::word::is_same_name;
 use mw_heap::{Heap, Memory, Ref, View};
-use mw_term::{Arity, Formals};
+use mw_term::{Arity, Formals, take_looks};
 
 // Whether the function of this name may be called with so many actuals. IF takes three, whatever else a table says of it.
 fn is_call(newer: &Arity, older: &Arity, name: &[u8], count: u64) -> bool
@@ -38,11 +38,11 @@ fn checked_call(
     head: Ref,
     actuals: Made,
 ) -> Result<Progress, Memory>
-    requires head_in { IsIn heap.old head }
-    requires symbol { is_symbol (object_at heap.old head) ≡ true }
-    requires actuals_in { IsIn heap.old actuals.object }
-    ensures grows { Grows heap.old heap.new }
-    ensures made { IfOk result (IsMade heap.new (call_made (newer.now ++ older.now) (name_of (object_at heap.old head)) (object_at heap.old actuals.object) actuals.count)) }
+    requires head_in { IsIn heap.old.objects head }
+    requires symbol { is_symbol (object_at heap.old.objects head) ≡ true }
+    requires actuals_in { IsIn heap.old.objects actuals.object }
+    ensures grows { Grows heap.old.objects heap.new.objects }
+    ensures made { IfOk result (IsMade heap.new.objects (call_made (newer.now ++ older.now) (name_of (object_at heap.old.objects head)) (object_at heap.old.objects actuals.object) actuals.count)) }
 {
     if !is_call(newer, older, heap.name_of(head), actuals.count) {
         return Ok(Progress::Fails);
@@ -62,13 +62,13 @@ pub(crate) fn step_call(
     head: Ref,
     rest: Ref,
 ) -> Result<Progress, Memory>
-    requires head_in { IsIn heap.old head }
-    requires symbol { is_symbol (object_at heap.old head) ≡ true }
-    requires rest_in { IsIn heap.old rest }
-    requires no_quote { same_name (name_of (object_at heap.old head)) (named "QUOTE") ≡ false }
-    requires made { AreMade (newer.now ++ older.now) heap.old memo.now.made.entries }
-    ensures grows { Grows heap.old heap.new }
-    ensures step { IfOk result (IsStep (newer.now ++ older.now) heap.old heap.new memo.now.made.entries (of_term (newer.now ++ older.now) (form_with Other (name_of (object_at heap.old head)) (expanded_each (object_at heap.old rest)))) (rest + 1)) }
+    requires head_in { IsIn heap.old.objects head }
+    requires symbol { is_symbol (object_at heap.old.objects head) ≡ true }
+    requires rest_in { IsIn heap.old.objects rest }
+    requires no_quote { same_name (name_of (object_at heap.old.objects head)) (named "QUOTE") ≡ false }
+    requires made { AreMade (newer.now ++ older.now) heap.old.objects memo.now.made.entries }
+    ensures grows { Grows heap.old.objects heap.new.objects }
+    ensures step { IfOk result (IsStep (newer.now ++ older.now) heap.old.objects heap.new.objects memo.now.made.entries (of_term (newer.now ++ older.now) (form_with Other (name_of (object_at heap.old.objects head)) (expanded_each (object_at heap.old.objects rest)))) (rest + 1)) }
 {
     let terms = Part {
         kind: Kind::Terms,
@@ -88,16 +88,16 @@ pub(crate) fn step_lambda(
     rest: Ref,
     x: Ref,
 ) -> Result<Progress, Memory>
-    requires within { IsIn heap.old x }
-    requires head_in { IsIn heap.old head }
-    requires rest_in { IsIn heap.old rest }
+    requires within { IsIn heap.old.objects x }
+    requires head_in { IsIn heap.old.objects head }
+    requires rest_in { IsIn heap.old.objects rest }
     requires head_before { head < x }
     requires rest_before { rest < x }
-    requires call { object_at heap.old x ≡ Pair (object_at heap.old head) (object_at heap.old rest) }
-    requires pair { is_pair (object_at heap.old head) ≡ true }
-    requires made { (A : ArityTable) × AreMade A heap.old memo.now.made.entries }
-    ensures grows { Grows heap.old heap.new }
-    ensures step { (A : ArityTable) → AreMade A heap.old memo.now.made.entries → IfOk result (IsStepOf A heap.old heap.new memo.now.made.entries kind.Term x) }
+    requires call { object_at heap.old.objects x ≡ Pair (object_at heap.old.objects head) (object_at heap.old.objects rest) }
+    requires pair { is_pair (object_at heap.old.objects head) ≡ true }
+    requires made { (A : ArityTable) × AreMade A heap.old.objects memo.now.made.entries }
+    ensures grows { Grows heap.old.objects heap.new.objects }
+    ensures step { (A : ArityTable) → AreMade A heap.old.objects memo.now.made.entries → IfOk result (IsStepOf A heap.old.objects heap.new.objects memo.now.made.entries kind.Term x) }
 {
     let lambda = Part {
         kind: Kind::Head,
@@ -121,20 +121,23 @@ pub(crate) fn step_lambda(
     }
 }
 
-// The head (lambda xs body), where xs is a list of formals, and the body has no other variables.
+// The head (lambda xs body), where xs is a list of formals, and the body has no other variables. Many heads may share their formals or
+// their body, which are walked for each.
 fn closed_head(heap: &mut Heap, lambda: Ref, list: Ref, body: Ref) -> Result<Progress, Memory>
-    requires lambda_in { IsIn heap.old lambda }
-    requires list_in { IsIn heap.old list }
-    requires body_in { IsIn heap.old body }
-    ensures grows { Grows heap.old heap.new }
-    ensures head { (t : Term) → term_of (object_at heap.old body) ≡ Some t → IfOk result (IsMade heap.new (head_made (object_at heap.old lambda) (object_at heap.old list) (object_at heap.old body) t)) }
+    requires lambda_in { IsIn heap.old.objects lambda }
+    requires list_in { IsIn heap.old.objects list }
+    requires body_in { IsIn heap.old.objects body }
+    ensures grows { Grows heap.old.objects heap.new.objects }
+    ensures head { (t : Term) → term_of (object_at heap.old.objects body) ≡ Some t → IfOk result (IsMade heap.new.objects (head_made (object_at heap.old.objects lambda) (object_at heap.old.objects list) (object_at heap.old.objects body) t)) }
 {
-    let Some(formals) = Formals::of_list(heap, list)? else {
+    let mut looks_left = u64::MAX;
+    let Some(formals) = Formals::of_list_counted(heap, list, &mut looks_left)? else {
         return Ok(Progress::Fails);
     };
-    if !formals.closes(heap, body)? {
+    if !formals.closes_counted(heap, body, &mut looks_left)? {
         return Ok(Progress::Fails);
     }
+    take_looks(heap, u64::MAX.saturating_sub(looks_left))?;
     Ok(Progress::Made(Made {
         object: list_of_three(heap, lambda, list, body)?,
         count: formals.len() as u64,
@@ -143,10 +146,10 @@ fn closed_head(heap: &mut Heap, lambda: Ref, list: Ref, body: Ref) -> Result<Pro
 
 // The head of a lambda call.
 pub(crate) fn step_head(heap: &mut Heap, memo: &Memo, x: Ref) -> Result<Progress, Memory>
-    requires within { IsIn heap.old x }
-    requires made { (A : ArityTable) × AreMade A heap.old memo.now.made.entries }
-    ensures grows { Grows heap.old heap.new }
-    ensures step { (A : ArityTable) → AreMade A heap.old memo.now.made.entries → IfOk result (IsStepOf A heap.old heap.new memo.now.made.entries kind.Head x) }
+    requires within { IsIn heap.old.objects x }
+    requires made { (A : ArityTable) × AreMade A heap.old.objects memo.now.made.entries }
+    ensures grows { Grows heap.old.objects heap.new.objects }
+    ensures step { (A : ArityTable) → AreMade A heap.old.objects memo.now.made.entries → IfOk result (IsStepOf A heap.old.objects heap.new.objects memo.now.made.entries kind.Head x) }
 {
     let View::Pair(lambda, members) = heap.view(x) else {
         return Ok(Progress::Fails);

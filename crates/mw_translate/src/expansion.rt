@@ -18,11 +18,12 @@ pub enum Expanded {
 
 /// Expands a raw term under two arity tables, the newer one in front. It takes time and memory in proportion to the distinct objects
 /// that make up the raw term and its expansion, but that each LET copies its names and values and looks for the variables of its
-/// expanded body anew: what several of them share counts once for each.
+/// expanded body anew, and each head of a lambda call for those of its body: what several of them share counts once for each. What is
+/// looked at takes looks from those that the heap allows, and what is made eight; where none is left memory is refused.
 pub fn expand_under(heap: &mut Heap, raw: Ref, newer: &Arity, older: &Arity) -> Expanded
-    requires { IsIn heap.old raw }
-    ensures grows { Grows heap.old heap.new }
-    ensures expanded { IsExpanded (newer.now ++ older.now) heap.new (object_at heap.old raw) result }
+    requires { IsIn heap.old.objects raw }
+    ensures grows { Grows heap.old.objects heap.new.objects }
+    ensures expanded { IsExpanded (newer.now ++ older.now) heap.new.objects (object_at heap.old.objects raw) result }
 {
     match walk(heap, raw, newer, older) {
         Ok(Some(term)) => Expanded::Term(term),
@@ -34,9 +35,9 @@ pub fn expand_under(heap: &mut Heap, raw: Ref, newer: &Arity, older: &Arity) -> 
 /// Makes the arity table of these functions, the last one newest. Each is given by its name, a symbol, and by how many arguments it
 /// takes. The one error is that memory is refused.
 pub fn arities_of(heap: &Heap, new: &[(Ref, u64)]) -> Result<Arity, Memory>
-    requires symbols { ArePairsOfSymbols heap.now new.now }
-    requires distinct { are_distinct (pair_names heap.now new.now) ≡ true }
-    ensures { IfOk result (λ t. t ≡ with_pairs heap.now new.now []) }
+    requires symbols { ArePairsOfSymbols heap.now.objects new.now }
+    requires distinct { are_distinct (pair_names heap.now.objects new.now) ≡ true }
+    ensures { IfOk result (λ t. t ≡ with_pairs heap.now.objects new.now []) }
 {
     let mut table = Arity::new(heap.alloc());
     for pair in new {
@@ -48,11 +49,11 @@ pub fn arities_of(heap: &Heap, new: &[(Ref, u64)]) -> Result<Arity, Memory>
 /// Expands a raw term, as `expand_under` does, under the arity table with new functions in front, the last one newest. Each is given by
 /// its name, a symbol, and by how many arguments it takes.
 pub fn expand(heap: &mut Heap, raw: Ref, arity: &Arity, new: &[(Ref, u64)]) -> Expanded
-    requires within { IsIn heap.old raw }
-    requires symbols { ArePairsOfSymbols heap.old new.now }
-    requires distinct { are_distinct (pair_names heap.old new.now) ≡ true }
-    ensures grows { Grows heap.old heap.new }
-    ensures expanded { IsExpanded (with_pairs heap.old new.now arity.now) heap.new (object_at heap.old raw) result }
+    requires within { IsIn heap.old.objects raw }
+    requires symbols { ArePairsOfSymbols heap.old.objects new.now }
+    requires distinct { are_distinct (pair_names heap.old.objects new.now) ≡ true }
+    ensures grows { Grows heap.old.objects heap.new.objects }
+    ensures expanded { IsExpanded (with_pairs heap.old.objects new.now arity.now) heap.new.objects (object_at heap.old.objects raw) result }
 {
     match arities_of(heap, new) {
         Ok(newer) => expand_under(heap, raw, &newer, arity),

@@ -11,15 +11,15 @@ ghost use Rattle.mw_translate.specs.Lets.{append_object, prepend, extended_objec
 
 use crate::build::{call_of_two, list_of_one};
 use mw_heap::{Heap, Memory, Ref, View};
-use mw_term::{Formals, vars};
+use mw_term::{Formals, take_looks, vars_counted};
 
 // Adds the variable x where it is no formal.
 fn add_other(heap: &Heap, formals: &Formals, others: &mut Vec<Ref>, x: Ref) -> Result<(), Memory>
-    requires within { IsIn heap.now x }
-    requires symbol { is_symbol (object_at heap.now x) ≡ true }
-    requires symbols { AreSymbols heap.now formals.now }
-    requires others { AreSymbols heap.now others.old.items }
-    ensures { OnOk result (AddsOther heap.now (names_at heap.now formals.now) others.old.items others.new.items x) }
+    requires within { IsIn heap.now.objects x }
+    requires symbol { is_symbol (object_at heap.now.objects x) ≡ true }
+    requires symbols { AreSymbols heap.now.objects formals.now }
+    requires others { AreSymbols heap.now.objects others.old.items }
+    ensures { OnOk result (AddsOther heap.now.objects (names_at heap.now.objects formals.now) others.old.items others.new.items x) }
 {
     if formals.contains(heap, x) {
         return Ok(());
@@ -28,15 +28,20 @@ fn add_other(heap: &Heap, formals: &Formals, others: &mut Vec<Ref>, x: Ref) -> R
     Ok(())
 }
 
-// The free variables of a term that are no formals.
-fn other_variables(heap: &Heap, formals: &Formals, term: Ref) -> Result<Vec<Ref>, Memory>
-    requires within { IsIn heap.now term }
-    requires symbols { AreSymbols heap.now formals.now }
-    ensures symbols { IfOk result (λ v. AreSymbols heap.now v.items) }
-    ensures others { IfOk result (λ v. (t : Term) → term_of (object_at heap.now term) ≡ Some t → names_at heap.now v.items ≡ without (variables t) (names_at heap.now formals.now)) }
+// The free variables of a term that are no formals. Each cell that is looked at takes a look.
+fn other_variables(
+    heap: &Heap,
+    formals: &Formals,
+    term: Ref,
+    looks_left: &mut u64,
+) -> Result<Vec<Ref>, Memory>
+    requires within { IsIn heap.now.objects term }
+    requires symbols { AreSymbols heap.now.objects formals.now }
+    ensures symbols { IfOk result (λ v. AreSymbols heap.now.objects v.items) }
+    ensures others { IfOk result (λ v. (t : Term) → term_of (object_at heap.now.objects term) ≡ Some t → names_at heap.now.objects v.items ≡ without (variables t) (names_at heap.now.objects formals.now)) }
 {
     let mut others = Vec::new(heap.alloc());
-    let variables = vars(heap, term)?;
+    let variables = vars_counted(heap, term, looks_left)?;
     for x in variables.as_slice() {
         add_other(heap, formals, &mut others, *x)?;
     }
@@ -45,9 +50,9 @@ fn other_variables(heap: &Heap, formals: &Formals, term: Ref) -> Result<Vec<Ref>
 
 // The members of a list.
 fn members_of(heap: &Heap, list: Ref) -> Result<Vec<Ref>, Memory>
-    requires { IsIn heap.now list }
-    ensures within { IfOk result (λ v. AreAllIn heap.now v.items) }
-    ensures members { IfOk result (λ v. AreMembers heap.now (object_at heap.now list) v.items) }
+    requires { IsIn heap.now.objects list }
+    ensures within { IfOk result (λ v. AreAllIn heap.now.objects v.items) }
+    ensures members { IfOk result (λ v. AreMembers heap.now.objects (object_at heap.now.objects list) v.items) }
 {
     let mut members = Vec::new(heap.alloc());
     let mut rest = list;
@@ -60,10 +65,10 @@ fn members_of(heap: &Heap, list: Ref) -> Result<Vec<Ref>, Memory>
 
 /// Makes the list that begins with these, in order, and goes on as another. The one error is that memory is refused.
 pub fn put_before(heap: &mut Heap, front: Vec<Ref>, back: Ref) -> Result<Ref, Memory>
-    requires front_in { AreAllIn heap.old front.items }
-    requires back_in { IsIn heap.old back }
-    ensures grows { Grows heap.old heap.new }
-    ensures made { IfOk result (λ r. IsIn heap.new r × (object_at heap.new r ≡ prepend heap.old front.items (object_at heap.old back))) }
+    requires front_in { AreAllIn heap.old.objects front.items }
+    requires back_in { IsIn heap.old.objects back }
+    ensures grows { Grows heap.old.objects heap.new.objects }
+    ensures made { IfOk result (λ r. IsIn heap.new.objects r × (object_at heap.new.objects r ≡ prepend heap.old.objects front.items (object_at heap.old.objects back))) }
 {
     let mut front = front;
     let mut list = back;
@@ -75,10 +80,10 @@ pub fn put_before(heap: &mut Heap, front: Vec<Ref>, back: Ref) -> Result<Ref, Me
 
 // The members of one list, and then another list.
 fn append(heap: &mut Heap, front: Ref, back: Ref) -> Result<Ref, Memory>
-    requires front_in { IsIn heap.old front }
-    requires back_in { IsIn heap.old back }
-    ensures grows { Grows heap.old heap.new }
-    ensures made { IfOk result (λ r. IsIn heap.new r × (object_at heap.new r ≡ append_object (object_at heap.old front) (object_at heap.old back))) }
+    requires front_in { IsIn heap.old.objects front }
+    requires back_in { IsIn heap.old.objects back }
+    ensures grows { Grows heap.old.objects heap.new.objects }
+    ensures made { IfOk result (λ r. IsIn heap.new.objects r × (object_at heap.new.objects r ≡ append_object (object_at heap.old.objects front) (object_at heap.old.objects back))) }
 {
     let members = members_of(heap, front)?;
     Ok(put_before(heap, members, back)?)
@@ -92,12 +97,12 @@ fn joined_call(
     others: Ref,
     body: Ref,
 ) -> Result<Ref, Memory>
-    requires names_in { IsIn heap.old names }
-    requires values_in { IsIn heap.old values }
-    requires others_in { IsIn heap.old others }
-    requires body_in { IsIn heap.old body }
-    ensures grows { Grows heap.old heap.new }
-    ensures made { IfOk result (λ r. IsIn heap.new r × (object_at heap.new r ≡ extended_object (object_at heap.old names) (object_at heap.old values) (object_at heap.old others) (object_at heap.old body))) }
+    requires names_in { IsIn heap.old.objects names }
+    requires values_in { IsIn heap.old.objects values }
+    requires others_in { IsIn heap.old.objects others }
+    requires body_in { IsIn heap.old.objects body }
+    ensures grows { Grows heap.old.objects heap.new.objects }
+    ensures made { IfOk result (λ r. IsIn heap.new.objects r × (object_at heap.new.objects r ≡ extended_object (object_at heap.old.objects names) (object_at heap.old.objects values) (object_at heap.old.objects others) (object_at heap.old.objects body))) }
 {
     let formals = append(heap, names, others)?;
     let actuals = append(heap, values, others)?;
@@ -113,35 +118,47 @@ fn extended_call(
     others: Vec<Ref>,
     body: Ref,
 ) -> Result<Ref, Memory>
-    requires names_in { IsIn heap.old names }
-    requires values_in { IsIn heap.old values }
-    requires others_in { AreAllIn heap.old others.items }
-    requires body_in { IsIn heap.old body }
-    ensures grows { Grows heap.old heap.new }
-    ensures made { IfOk result (λ r. IsIn heap.new r × (object_at heap.new r ≡ extended_object (object_at heap.old names) (object_at heap.old values) (prepend heap.old others.items NIL) (object_at heap.old body))) }
+    requires names_in { IsIn heap.old.objects names }
+    requires values_in { IsIn heap.old.objects values }
+    requires others_in { AreAllIn heap.old.objects others.items }
+    requires body_in { IsIn heap.old.objects body }
+    ensures grows { Grows heap.old.objects heap.new.objects }
+    ensures made { IfOk result (λ r. IsIn heap.new.objects r × (object_at heap.new.objects r ≡ extended_object (object_at heap.old.objects names) (object_at heap.old.objects values) (prepend heap.old.objects others.items NIL) (object_at heap.old.objects body))) }
 {
     let nil = heap.nil()?;
     let list = put_before(heap, others, nil)?;
     Ok(joined_call(heap, names, values, list, body)?)
 }
 
-// The call of a lambda whose formals are the names, and the other variables of the body, where the names are formals.
+// The looks that a binding takes, and the LET itself, besides what is walked: the name and the value are copied.
+const LOOKS_FOR_A_BINDING: u64 = 8;
+
+// The call of a lambda whose formals are the names, and the other variables of the body, where the names are formals. Many calls may
+// share their names or their body, which are walked for each.
 pub(crate) fn let_call(
     heap: &mut Heap,
     names: Ref,
     values: Ref,
     body: Ref,
 ) -> Result<Option<Ref>, Memory>
-    requires names_in { IsIn heap.old names }
-    requires values_in { IsIn heap.old values }
-    requires body_in { IsIn heap.old body }
-    ensures grows { Grows heap.old heap.new }
-    ensures within { IfOk result (λ o. IfSome o (IsIn heap.new)) }
-    ensures made { (A : ArityTable) (xs : List Name) (ts : Terms) (b : Term) → object_at heap.old names ≡ names_object xs → object_at heap.old values ≡ terms_object ts → object_at heap.old body ≡ term_object b → is_term A b ≡ true → IfOk result (IsLet heap.new xs ts b) }
+    requires names_in { IsIn heap.old.objects names }
+    requires values_in { IsIn heap.old.objects values }
+    requires body_in { IsIn heap.old.objects body }
+    ensures grows { Grows heap.old.objects heap.new.objects }
+    ensures within { IfOk result (λ o. IfSome o (IsIn heap.new.objects)) }
+    ensures made { (A : ArityTable) (xs : List Name) (ts : Terms) (b : Term) → object_at heap.old.objects names ≡ names_object xs → object_at heap.old.objects values ≡ terms_object ts → object_at heap.old.objects body ≡ term_object b → is_term A b ≡ true → IfOk result (IsLet heap.new.objects xs ts b) }
 {
-    let Some(formals) = Formals::of_list(heap, names)? else {
+    let mut looks_left = u64::MAX;
+    let Some(formals) = Formals::of_list_counted(heap, names, &mut looks_left)? else {
         return Ok(None);
     };
-    let others = other_variables(heap, &formals, body)?;
+    let others = other_variables(heap, &formals, body, &mut looks_left)?;
+    let copies = (formals.len() as u64)
+        .saturating_add(1)
+        .saturating_mul(LOOKS_FOR_A_BINDING);
+    take_looks(
+        heap,
+        u64::MAX.saturating_sub(looks_left).saturating_add(copies),
+    )?;
     Ok(Some(extended_call(heap, names, values, others, body)?))
 }

@@ -6,7 +6,7 @@ use Rattle.mw_heap.specs.Objects.{IsIn}
 use Rattle.mw_forms.proofs.are_in.Goals as goal
 
 pub loop-x-preserved : goal.loop-x-preserved
-loop-x-preserved c = All-more (IsIn c.args.heap.now) c.args.xs.now c.loop-x.x-index c.x-item.result c.loop-x-test.true c.loop-x.invariant (subst (IsIn c.args.heap.now) c.x-item.is (c.if-not-is_in.ensures.0 refl))
+loop-x-preserved c = All-more (IsIn c.args.heap.now.objects) c.args.xs.now c.loop-x.x-index c.x-item.result c.loop-x-test.true c.loop-x.invariant (subst (IsIn c.args.heap.now.objects) c.x-item.is (c.if-not-is_in.ensures.0 refl))
 
 pub returns : goal.returns
-returns c = λ _. subst (All (IsIn c.args.heap.now)) (take_all c.loop-x.x-index c.args.xs.now c.loop-x-test.false) c.loop-x.invariant
+returns c = λ _. subst (All (IsIn c.args.heap.now.objects)) (take_all c.loop-x.x-index c.args.xs.now c.loop-x-test.false) c.loop-x.invariant

@@ -15,14 +15,14 @@ use Rattle.mw_axioms.proofs.axioms.build.Goals.{in-One, in-Two+in_ok-run-in-Two}
 
 pub returns-clause-axioms : goal.returns-clause-axioms
 returns-clause-axioms c =
-    let heap = c.match-profile.heap in
+    let heap = c.match-profile.heap.objects in
     let axioms = λ (p : Profile). map formula_object (primitive_axioms (profile_of p)) in
-    let empty = ap (stack_of c.args.heap.now) c.new-formulas.ensures.items in
+    let empty = ap (stack_of c.args.heap.now.objects) c.new-formulas.ensures.items in
     let shared = c.in_ok-run.ensures.made ∙ ap (λ s. run s SHARED) empty in
     map-stack_of heap c.match-profile.formulas.items
     ∙ elim c.match-profile.branch [
       | in-One w ↦
-          ap reverse (ap₂ (λ os v. stack_of os v.items) w.heap-is w.formulas-is ∙ shared) ∙ (run-shared ∙ ap axioms (sym w.in-One.is))
+          ap reverse (ap₂ (λ h v. stack_of h.objects v.items) w.heap-is w.formulas-is ∙ shared) ∙ (run-shared ∙ ap axioms (sym w.in-One.is))
       | in-Two+in_ok-run-in-Two w ↦
-          ap reverse (ap₂ (λ os v. stack_of os v.items) w.heap-is w.formulas-is ∙ (w.in_ok-run-in-Two.ensures.made ∙ ap (λ s. run s OF_TIMES) shared)) ∙ (run-both ∙ ap axioms (sym w.in-Two.is))
+          ap reverse (ap₂ (λ h v. stack_of h.objects v.items) w.heap-is w.formulas-is ∙ (w.in_ok-run-in-Two.ensures.made ∙ ap (λ s. run s OF_TIMES) shared)) ∙ (run-both ∙ ap axioms (sym w.in-Two.is))
     ]

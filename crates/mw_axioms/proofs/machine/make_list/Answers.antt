@@ -15,19 +15,19 @@ loop-init c =
 
 pub loop-preserved : goal.loop-preserved
 loop-preserved c =
-    let g = Gathers c.args.word c.args.count c.args.heap.now c.args.stack.now.items in
+    let g = Gathers c.args.word c.args.count c.args.heap.now.objects c.args.stack.now.items in
     let rest = c.pop.new.self.items in
     elim c.match-pop.branch [
       | in-Some+in_ok-members-2 w ↦
-          let before = subst (λ items. g c.loop.heap items c.loop.members c.loop.counter) w.in-Some.ensures.items c.loop.invariant in
+          let before = subst (λ items. g c.loop.heap.objects items c.loop.members c.loop.counter) w.in-Some.ensures.items c.loop.invariant in
           let made = w.in_ok-members-2.ensures.made in
           let after = Gathers-taken _ _ _ _ _ _ _ _ _ _ _ before c.loop-test.true w.in_ok-members-2.ensures.grows made.0 made.1 in
-          subst (λ os. g os rest c.match-pop.members (c.loop.counter + 1)) (sym w.heap-is) (subst (λ m. g w.cons.new.self rest m (c.loop.counter + 1)) (sym w.members-is) after)
+          subst (λ h. g h.objects rest c.match-pop.members (c.loop.counter + 1)) (sym w.heap-is) (subst (λ m. g w.cons.new.self.objects rest m (c.loop.counter + 1)) (sym w.members-is) after)
       | in_default w ↦
-          let before = subst (λ items. g c.loop.heap items c.loop.members c.loop.counter) (w.in_default.ensures.items ∙ append-nil rest) c.loop.invariant in
+          let before = subst (λ items. g c.loop.heap.objects items c.loop.members c.loop.counter) (w.in_default.ensures.items ∙ append-nil rest) c.loop.invariant in
           let none : length rest ≡ 0 = omega (arith, w.in_default.ensures.cases.1, c.pop.new.self.ok.0) in
           let after = Gathers-none _ _ _ _ _ _ _ _ none before in
-          subst (λ os. g os rest c.match-pop.members (c.loop.counter + 1)) (sym w.heap-is) (subst (λ m. g c.loop.heap rest m (c.loop.counter + 1)) (sym w.members-is) after)
+          subst (λ h. g h.objects rest c.match-pop.members (c.loop.counter + 1)) (sym w.heap-is) (subst (λ m. g c.loop.heap.objects rest m (c.loop.counter + 1)) (sym w.members-is) after)
     ]
 
 pub returns-in_err-list-clause-grows : goal.returns-in_err-list-clause-grows
@@ -38,7 +38,7 @@ pub returns-clause-within : goal.returns-clause-within
 returns-clause-within c =
     let grows = Grows-trans _ _ _ c.in_ok-head.ensures.grows c.in_ok-list.ensures.grows in
     let all = AreIn-push _ _ _ (AreIn-grows _ _ _ grows c.loop.invariant.within) c.in_ok-list.ensures.made.0 in
-    subst (AreIn c.cons-2.new.self) (sym c.in_ok-push.ensures.items) all
+    subst (AreIn c.cons-2.new.self.objects) (sym c.in_ok-push.ensures.items) all
 
 pub returns-clause-made : goal.returns-clause-made
 returns-clause-made c =
@@ -47,5 +47,5 @@ returns-clause-made c =
     let list = c.in_ok-list.ensures.made in
     let name = ap (λ b. Symbol (name_of_bytes b)) c.name.ensures.name in
     let parts = list.1 ∙ ap₂ Pair (head.1 ∙ name) (object_at-Grows _ _ first _ c.loop.invariant.members_in) in
-    ap (stack_of c.cons-2.new.self) c.in_ok-push.ensures.items
+    ap (stack_of c.cons-2.new.self.objects) c.in_ok-push.ensures.items
     ∙ Gathers-list _ _ _ _ _ _ _ _ _ _ c.loop.invariant c.loop-test.false (Grows-trans _ _ _ first c.in_ok-list.ensures.grows) parts

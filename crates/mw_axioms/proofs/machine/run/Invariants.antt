@@ -7,7 +7,7 @@ use Rattle.mw_axioms.proofs.machine.run.Given as goal
 
 abbrev pub invariant-loop-piece : goal.invariant-loop-piece
 invariant-loop-piece l = record {
-  within : AreIn l.heap l.stack.items;
-  grows : Grows l.fn.heap l.heap;
-  made : run (stack_of l.heap l.stack.items) (drop l.piece-index l.pieces) ≡ run (stack_of l.fn.heap l.fn.stack.items) l.pieces;
+  within : AreIn l.heap.objects l.stack.items;
+  grows : Grows l.fn.heap.objects l.heap.objects;
+  made : run (stack_of l.heap.objects l.stack.items) (drop l.piece-index l.pieces) ≡ run (stack_of l.fn.heap.objects l.fn.stack.items) l.pieces;
 }

@@ -7,5 +7,5 @@ use Rattle.mw_base.proofs.compare.is_truth.Goals as goal
 
 pub returns-else-holds : goal.returns-else-holds
 returns-else-holds c =
-    let v = part_at c.args.heap.now c.args.v in
+    let v = part_at c.args.heap.now.objects c.args.v in
     c.is_nil.ensures ∙ (same_object-swap v NIL ∙ ap (λ h. same_object (truth_of h) v) (sym c.if-holds.false))

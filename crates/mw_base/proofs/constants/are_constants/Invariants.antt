@@ -6,8 +6,8 @@ use Rattle.mw_base.proofs.constants.are_constants.Given as goal
 
 abbrev pub invariant-loop-first : goal.invariant-loop-first
 invariant-loop-first l = record {
-  within : IsIn l.heap l.rest;
-  tells : are_constant_objects (object_at l.heap l.rest) ≡ are_constant_objects (object_at l.heap l.fn.x);
+  within : IsIn l.heap.objects l.rest;
+  tells : are_constant_objects (object_at l.heap.objects l.rest) ≡ are_constant_objects (object_at l.heap.objects l.fn.x);
 }
 
 abbrev pub decreases-loop-first : goal.decreases-loop-first

@@ -10,7 +10,7 @@ use Rattle.mw_base.proofs.rule.has_value.Goals as goal
 
 pub returns-in-Some : goal.returns-in-Some
 returns-in-Some c =
-    let os = c.args.heap.now in
+    let os = c.args.heap.now.objects in
     let v = part_at os c.args.v in
     let f = name_of (object_at os c.args.f) in
     let word = sym c.in-Some.is ∙ c.named.ensures f c.name_of.ensures in
@@ -22,6 +22,6 @@ returns-in-Some c =
 
 pub returns-in-None : goal.returns-in-None
 returns-in-None c =
-    let os = c.args.heap.now in
+    let os = c.args.heap.now.objects in
     let f = name_of (object_at os c.args.f) in
     is_that_value-none _ f (object_at os c.args.args) (part_at os c.args.v) (sym c.in-None.is ∙ c.named.ensures f c.name_of.ensures)

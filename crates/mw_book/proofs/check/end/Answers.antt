@@ -1,4 +1,4 @@
--- A write that stopped took leading bytes.
+-- A write that stopped took a prefix.
 use Rattle.std.proofs.Common.{◌≡◌, ℕ, List, ◌++◌, sym, ◌∙◌, subst}
 use Rattle.mw_model.specs.Object.{Object}
 use Rattle.mw_model.specs.Grammar.{book}

@@ -4,7 +4,7 @@ use Rattle.mw_code.proofs.scope.learn_places.Goals as goal
 
 pub loop-first-preserved : goal.loop-first-preserved
 loop-first-preserved c =
-    let os = c.args.heap.now in
+    let os = c.args.heap.now.objects in
     let i = c.loop-first.invariant in
     let pair = c.in-Pair.ensures.shows in
     record {

@@ -8,9 +8,9 @@ use Rattle.mw_code.proofs.scope.learn_places.Given as goal
 
 abbrev pub invariant-loop-first : goal.invariant-loop-first
 invariant-loop-first l = record {
-  within : IsIn l.heap l.rest;
-  places : ArePlaces l.heap l.places.entries;
-  names : (xs : List Name) → names_of (object_at l.heap l.formals) ≡ Some xs → names_of (object_at l.heap l.rest) ≡ Some (drop l.place xs);
+  within : IsIn l.heap.objects l.rest;
+  places : ArePlaces l.heap.objects l.places.entries;
+  names : (xs : List Name) → names_of (object_at l.heap.objects l.formals) ≡ Some xs → names_of (object_at l.heap.objects l.rest) ≡ Some (drop l.place xs);
 }
 
 abbrev pub decreases-loop-first : goal.decreases-loop-first

@@ -13,7 +13,7 @@ use Rattle.mw_code.proofs.scope.variable_place.Goals as goal
 
 pub overflow_add-result : goal.overflow_add-result
 overflow_add-result c =
-    let os = c.args.heap.now in
+    let os = c.args.heap.now.objects in
     let (xs, scope, among) = c.requires.among in
     let found : lookup (same_variable (c.in-Some.formals, c.args.task.now.term)) c.args.places.now.entries ≡ Some c.in-Some-copied.place = sym c.get.ensures.value ∙ (sym c.copied.ensures ∙ c.in-Some-copied.is) in
     let names = subst (λ o. names_of (part_at os o) ≡ Some xs) c.in-Some.is scope.names in
@@ -23,7 +23,7 @@ overflow_add-result c =
 
 pub returns-in-Some-copied-clause-place : goal.returns-in-Some-copied-clause-place
 returns-in-Some-copied-clause-place c xs names =
-    let os = c.args.heap.now in
+    let os = c.args.heap.now.objects in
     let (ys, scope, among) = c.requires.among in
     let same = some_one (sym scope.names ∙ names) in
     let found : lookup (same_variable (c.in-Some.formals, c.args.task.now.term)) c.args.places.now.entries ≡ Some c.in-Some-copied.place = sym c.get.ensures.value ∙ (sym c.copied.ensures ∙ c.in-Some-copied.is) in

@@ -9,4 +9,4 @@ use Rattle.mw_define.proofs.admission.admit_drafts.Goals as goal
 
 pub returns-in-None-clause-admitted : goal.returns-in-None-clause-admitted
 returns-in-None-clause-admitted c =
-    no_names (ap (that are_distinct) (of-drafts (new_name c.args.arity.now) (λ d. d.name) c.args.heap.now c.args.drafts.now) ∙ (rw c.in-None.is at c.in_ok-names.ensures))
+    no_names (ap (that are_distinct) (of-drafts (new_name c.args.arity.now) (λ d. d.name) c.args.heap.now.objects c.args.drafts.now) ∙ (rw c.in-None.is at c.in_ok-names.ensures))

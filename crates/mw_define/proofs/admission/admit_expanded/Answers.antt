@@ -9,16 +9,16 @@ use Rattle.mw_define.proofs.admission.admit_expanded.Goals as goal
 
 pub returns-in_default-2-clause-admitted : goal.returns-in_default-2-clause-admitted
 returns-in_default-2-clause-admitted c =
-    inr (refl, closed-all c.args.heap.now c.args.block.now c.in-Some.entries.items (rw c.in-Some.is at c.in_ok-entries.ensures), rw c.in_default-2.is at c.in_ok-obligations.ensures.listed)
+    inr (refl, closed-all c.args.heap.now.objects c.args.block.now c.in-Some.entries.items (rw c.in-Some.is at c.in_ok-entries.ensures), rw c.in_default-2.is at c.in_ok-obligations.ensures.listed)
 
 pub list_axioms-requires : goal.list_axioms-requires
-list_axioms-requires c = each-expanded-Grows c.args.heap.now c.list_obligations.new.heap c.in_ok-obligations.ensures.grows c.args.block.now c.requires.expanded
+list_axioms-requires c = each-expanded-Grows c.args.heap.now.objects c.list_obligations.new.heap.objects c.in_ok-obligations.ensures.grows c.args.block.now c.requires.expanded
 
 pub returns-clause-admitted : goal.returns-clause-admitted
 returns-clause-admitted c =
-    let os = c.args.heap.now in
-    let mid = c.list_obligations.new.heap in
-    let new = c.list_axioms.new.heap in
+    let os = c.args.heap.now.objects in
+    let mid = c.list_obligations.new.heap.objects in
+    let new = c.list_axioms.new.heap.objects in
     let r = c.in-Some-2.obligations in
     let g = c.in_ok-axioms.ensures.grows in
     let q = rw c.in-Some-2.is at c.in_ok-obligations.ensures.listed in

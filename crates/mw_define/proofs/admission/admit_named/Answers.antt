@@ -11,24 +11,24 @@ use Rattle.mw_define.proofs.BlockTested.{fails-formals, fails-terms, is-block, b
 use Rattle.mw_define.proofs.admission.admit_named.Goals as goal
 
 pub returns-in_default-clause-admitted : goal.returns-in_default-clause-admitted
-returns-in_default-clause-admitted c = fails-formals c.args.arity.now c.args.heap.now c.args.drafts.now c.args.names.now.keys c.requires.within c.requires.names (rw c.in_default.is at c.in_ok-pairs.ensures)
+returns-in_default-clause-admitted c = fails-formals c.args.arity.now c.args.heap.now.objects c.args.drafts.now c.args.names.now.keys c.requires.within c.requires.names (rw c.in_default.is at c.in_ok-pairs.ensures)
 
 pub expand_all-requires-clause-symbols : goal.expand_all-requires-clause-symbols
 expand_all-requires-clause-symbols c =
-    let os = c.args.heap.now in
+    let os = c.args.heap.now.objects in
     let n = c.requires.names in
     subst (ArePairsOfSymbols os) (sym c.as_slice.ensures.value) (pairs-symbols os c.args.drafts.now c.in-Some.pairs.items (rw c.in-Some.is at c.in_ok-pairs.ensures) (subst (AreSymbols os) n.refs n.symbols))
 
 pub expand_all-requires-clause-distinct : goal.expand_all-requires-clause-distinct
 expand_all-requires-clause-distinct c =
-    let os = c.args.heap.now in
+    let os = c.args.heap.now.objects in
     let n = c.requires.names in
     ap (λ l. are_distinct (pair_names os l)) c.as_slice.ensures.value
     ∙ (ap are_distinct ((counted os c.args.drafts.now c.in-Some.pairs.items (rw c.in-Some.is at c.in_ok-pairs.ensures)).names ∙ ap (names_at os) (sym n.refs)) ∙ n.distinct)
 
 pub returns-in_default-2-clause-admitted : goal.returns-in_default-2-clause-admitted
 returns-in_default-2-clause-admitted c =
-    let os = c.args.heap.now in
+    let os = c.args.heap.now.objects in
     let A = c.args.arity.now in
     let ds = c.args.drafts.now in
     fails-terms A os ds c.args.names.now.keys c.requires.within c.requires.names c.in-Some.pairs.items (rw c.in-Some.is at c.in_ok-pairs.ensures)
@@ -36,8 +36,8 @@ returns-in_default-2-clause-admitted c =
 
 pub admit_expanded-requires : goal.admit_expanded-requires
 admit_expanded-requires c =
-    let os = c.args.heap.now in
-    let mid = c.expand_all.new.heap in
+    let os = c.args.heap.now.objects in
+    let mid = c.expand_all.new.heap.objects in
     let A = c.args.arity.now in
     let ds = c.args.drafts.now in
     let es = c.in-Some-2.block.items in
@@ -47,9 +47,9 @@ admit_expanded-requires c =
 
 pub returns-clause-admitted : goal.returns-clause-admitted
 returns-clause-admitted c =
-    let os = c.args.heap.now in
-    let mid = c.expand_all.new.heap in
-    let new = c.admit_expanded.new.heap in
+    let os = c.args.heap.now.objects in
+    let mid = c.expand_all.new.heap.objects in
+    let new = c.admit_expanded.new.heap.objects in
     let A = c.args.arity.now in
     let ds = c.args.drafts.now in
     let es = c.in-Some-2.block.items in

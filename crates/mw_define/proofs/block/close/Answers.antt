@@ -8,7 +8,7 @@ use Rattle.mw_define.proofs.block.close.Goals as goal
 
 pub returns : goal.returns
 returns c =
-    let os = c.args.heap.now in
+    let os = c.args.heap.now.objects in
     let list = object_at os c.args.expanded.formals in
     let h = function_at os c.args.expanded in (
       sym c.in_ok-closes_both.ensures ∙ c.if-not-branch.false,

@@ -7,4 +7,4 @@ use Rattle.mw_define.proofs.block.expanded_body.Goals as goal
 pub returns-in-Term-clause-expanded : goal.returns-in-Term-clause-expanded
 returns-in-Term-clause-expanded c =
     let m = c.in-Term.ensures.expanded in
-    expansion-from (c.args.newer.now ++ c.args.older.now) c.expand_under.new.heap (object_at c.args.heap.now c.args.raw) c.in-Term.term m.0 m.1 m.2 m.3
+    expansion-from (c.args.newer.now ++ c.args.older.now) c.expand_under.new.heap.objects (object_at c.args.heap.now.objects c.args.raw) c.in-Term.term m.0 m.1 m.2 m.3

@@ -8,14 +8,14 @@ use Rattle.mw_define.proofs.listing.list_axioms.Goals as goal
 
 pub put_before-requires-clause-front_in : goal.put_before-requires-clause-front_in
 put_before-requires-clause-front_in c =
-    all_in-Grows c.axioms_of.new.heap c.nil.new.self c.in_ok-axioms.axioms.items c.in_ok-nil.ensures.grows
-    (axioms-in c.args.heap.now c.axioms_of.new.heap c.args.block.now c.in_ok-axioms.axioms.items c.in_ok-axioms.ensures.made)
+    all_in-Grows c.axioms_of.new.heap.objects c.nil.new.self.objects c.in_ok-axioms.axioms.items c.in_ok-nil.ensures.grows
+    (axioms-in c.args.heap.now.objects c.axioms_of.new.heap.objects c.args.block.now c.in_ok-axioms.axioms.items c.in_ok-axioms.ensures.made)
 
 pub returns-clause-made : goal.returns-clause-made
 returns-clause-made c =
-    let os = c.args.heap.now in
-    let mid = c.axioms_of.new.heap in
-    let new = c.nil.new.self in
+    let os = c.args.heap.now.objects in
+    let mid = c.axioms_of.new.heap.objects in
+    let new = c.nil.new.self.objects in
     let rs = c.in_ok-axioms.axioms.items in
     let k = c.in_ok-put_before.ensures.made in (
       k.0,

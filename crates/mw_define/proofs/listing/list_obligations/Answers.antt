@@ -7,10 +7,10 @@ use Rattle.mw_define.proofs.listing.list_obligations.Goals as goal
 
 pub list_owed-requires : goal.list_owed-requires
 list_owed-requires c = λ e.
-    subst (AreAllIn c.owe_each.new.heap) (sym c.as_slice.ensures.keys)
-    (owed-in c.args.heap.now c.owe_each.new.heap c.args.block.now c.new-owed.result.keys c.owe_each.new.owed.keys c.new-owed.ensures.empty c.in_ok-recursion.recursion c.in_ok-recursion.ensures.owed e)
+    subst (AreAllIn c.owe_each.new.heap.objects) (sym c.as_slice.ensures.keys)
+    (owed-in c.args.heap.now.objects c.owe_each.new.heap.objects c.args.block.now c.new-owed.result.keys c.owe_each.new.owed.keys c.new-owed.ensures.empty c.in_ok-recursion.recursion c.in_ok-recursion.ensures.owed e)
 
 pub returns-clause-listed : goal.returns-clause-listed
 returns-clause-listed c =
-    owed-listed c.args.heap.now c.owe_each.new.heap c.args.block.now c.new-owed.result.keys c.owe_each.new.owed.keys c.new-owed.ensures.empty c.list_owed.new.heap c.in_ok-recursion.recursion c.in_ok-list_owed.field-0 c.in_ok-recursion.ensures.owed
-    (subst (λ l. IsListed c.owe_each.new.heap c.list_owed.new.heap c.in_ok-recursion.recursion l c.in_ok-list_owed.field-0) c.as_slice.ensures.keys c.in_ok-list_owed.ensures.listed)
+    owed-listed c.args.heap.now.objects c.owe_each.new.heap.objects c.args.block.now c.new-owed.result.keys c.owe_each.new.owed.keys c.new-owed.ensures.empty c.list_owed.new.heap.objects c.in_ok-recursion.recursion c.in_ok-list_owed.field-0 c.in_ok-recursion.ensures.owed
+    (subst (λ l. IsListed c.owe_each.new.heap.objects c.list_owed.new.heap.objects c.in_ok-recursion.recursion l c.in_ok-list_owed.field-0) c.as_slice.ensures.keys c.in_ok-list_owed.ensures.listed)

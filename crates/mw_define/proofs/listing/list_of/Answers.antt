@@ -6,11 +6,11 @@ use Rattle.mw_translate.proofs.Appended.{all_in-Grows, prepend-Grows}
 use Rattle.mw_define.proofs.listing.list_of.Goals as goal
 
 pub put_before-requires-clause-front_in : goal.put_before-requires-clause-front_in
-put_before-requires-clause-front_in c = subst (AreAllIn c.nil.new.self) (sym c.in_ok-copy.ensures.items) (all_in-Grows c.args.heap.now c.nil.new.self c.args.formulas.now c.in_ok-nil.ensures.grows c.requires)
+put_before-requires-clause-front_in c = subst (AreAllIn c.nil.new.self.objects) (sym c.in_ok-copy.ensures.items) (all_in-Grows c.args.heap.now.objects c.nil.new.self.objects c.args.formulas.now c.in_ok-nil.ensures.grows c.requires)
 
 pub returns-clause-made : goal.returns-clause-made
 returns-clause-made c =
-    let os = c.args.heap.now in
-    let mid = c.nil.new.self in
+    let os = c.args.heap.now.objects in
+    let mid = c.nil.new.self.objects in
     let k = c.in_ok-put_before.ensures.made in
     (k.0, k.1 ∙ (ap₂ (prepend mid) c.in_ok-copy.ensures.items c.in_ok-nil.ensures.made.1 ∙ prepend-Grows os mid c.args.formulas.now NIL c.in_ok-nil.ensures.grows c.requires))

@@ -1,15 +1,18 @@
 -- The obligation of one call.
-use Rattle.std.proofs.Common.{◌∷◌, [], sym, subst}
+use Rattle.std.proofs.Common.{List, ◌∷◌, [], sym, subst}
+use Rattle.mw_model.specs.Object.{Object}
 use Rattle.mw_heap.specs.Objects.{object_at}
-use Rattle.mw_define.specs.Owed.{Adds}
+use Rattle.mw_define.specs.Blocks.{functions_at}
+use Rattle.mw_define.specs.Collecting.{found_calls}
+use Rattle.mw_define.specs.Owed.{Adds, owed_at}
 use Rattle.mw_define.proofs.OwedSoFar.{adds-later}
 use Rattle.mw_define.proofs.OwedCalls.{the_formula, one-formula, formula-is, formula-read}
 use Rattle.mw_define.proofs.owing.owe_call.Goals as goal
 
 pub returns-clause-owed : goal.returns-clause-owed
 returns-clause-owed c =
-    let os = c.args.heap.now in
-    let new = c.obligation.new.heap in
+    let os = c.args.heap.now.objects in
+    let new = c.obligation.new.heap.objects in
     let es = c.args.block.now in
     let rs = c.args.names.now.keys in
     let function = c.args.function.now in
@@ -21,6 +24,8 @@ returns-clause-owed c =
     let h = c.requires.call.0 in
     let t = c.requires.call.1 in
     let F = the_formula os es rs b function called f n k h t in
-    subst (Adds os new c.args.owed.now.keys c.add_formula.new.owed.keys) (sym (one-formula os es rs b function called f n k h t))
+    let Fs = owed_at os es function (found_calls (functions_at os es) os (f ∷ [])) in
+    subst (λ (h : List Object). Adds os h c.args.owed.now.keys c.add_formula.new.owed.keys Fs) (sym c.in_ok-take_looks_since.ensures)
+    (subst (Adds os new c.args.owed.now.keys c.add_formula.new.owed.keys) (sym (one-formula os es rs b function called f n k h t))
     (adds-later os new new c.args.owed.now.keys c.add_formula.new.owed.keys (F ∷ []) c.in_ok-formula.ensures.grows
-    (c.in_ok-add_formula.ensures F (formula-is os es rs b function called f n k h t (object_at new c.in_ok-formula.formula) c.in_ok-formula.ensures.made.1) (formula-read os es rs b function called f n k h t)))
+    (c.in_ok-add_formula.ensures F (formula-is os es rs b function called f n k h t (object_at new c.in_ok-formula.formula) c.in_ok-formula.ensures.made.1) (formula-read os es rs b function called f n k h t))))

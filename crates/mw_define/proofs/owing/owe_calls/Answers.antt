@@ -10,18 +10,18 @@ use Rattle.mw_define.proofs.OwedBlock.{block-Grows, named-Grows, found-at, calls
 use Rattle.mw_define.proofs.owing.owe_calls.Goals as goal
 
 pub loop-call-init : goal.loop-call-init
-loop-call-init c = record { grows = Grows-refl c.args.heap.now; adds = adds-none c.args.heap.now c.args.heap.now c.args.owed.now.keys c.args.owed.now.keys (Grows-refl c.args.heap.now) refl }
+loop-call-init c = record { grows = Grows-refl c.args.heap.now.objects; adds = adds-none c.args.heap.now.objects c.args.heap.now.objects c.args.owed.now.keys c.args.owed.now.keys (Grows-refl c.args.heap.now.objects) refl }
 
 pub owe_call-requires-clause-block : goal.owe_call-requires-clause-block
-owe_call-requires-clause-block c = block-Grows c.args.heap.now c.loop-call.heap c.loop-call.invariant.grows c.args.names.now.keys c.args.block.now c.requires.block
+owe_call-requires-clause-block c = block-Grows c.args.heap.now.objects c.loop-call.heap.objects c.loop-call.invariant.grows c.args.names.now.keys c.args.block.now c.requires.block
 
 pub owe_call-requires-clause-named : goal.owe_call-requires-clause-named
-owe_call-requires-clause-named c = named-Grows c.args.heap.now c.loop-call.heap c.loop-call.invariant.grows c.args.block.now c.args.function.now.name c.args.function.now c.requires.block.expanded c.requires.named.expanded.within.0 c.requires.named
+owe_call-requires-clause-named c = named-Grows c.args.heap.now.objects c.loop-call.heap.objects c.loop-call.invariant.grows c.args.block.now c.args.function.now.name c.args.function.now c.requires.block.expanded c.requires.named.expanded.within.0 c.requires.named
 
 pub owe_call-requires-clause-call : goal.owe_call-requires-clause-call
 owe_call-requires-clause-call c =
-    let os = c.args.heap.now in
-    let cur = c.loop-call.heap in
+    let os = c.args.heap.now.objects in
+    let cur = c.loop-call.heap.objects in
     let rs = c.args.names.now.keys in
     let g = c.loop-call.invariant.grows in
     let h = founds-Grows os cur (names_at os rs) g (c.call-item.result ∷ []) (found-at os (names_at os rs) c.args.calls.now c.loop-call.call-index c.call-item.result c.requires.calls c.loop-call-test.true c.call-item.is) in
@@ -30,11 +30,11 @@ owe_call-requires-clause-call c =
 
 pub loop-call-preserved : goal.loop-call-preserved
 loop-call-preserved c =
-    calls-next c.args.heap.now c.loop-call.heap c.owe_call.new.heap c.args.block.now c.args.function.now (names_at c.args.heap.now c.args.names.now.keys) c.args.owed.now.keys c.loop-call.owed.keys c.owe_call.new.owed.keys c.args.calls.now c.loop-call.call-index c.call-item.result c.requires.block.expanded c.requires.named.expanded.within c.requires.calls c.loop-call-test.true c.call-item.is
+    calls-next c.args.heap.now.objects c.loop-call.heap.objects c.owe_call.new.heap.objects c.args.block.now c.args.function.now (names_at c.args.heap.now.objects c.args.names.now.keys) c.args.owed.now.keys c.loop-call.owed.keys c.owe_call.new.owed.keys c.args.calls.now c.loop-call.call-index c.call-item.result c.requires.block.expanded c.requires.named.expanded.within c.requires.calls c.loop-call-test.true c.call-item.is
     c.loop-call.invariant c.in_ok-owe_call.ensures.grows c.in_ok-owe_call.ensures.owed
 
 pub returns-clause-grows : goal.returns-clause-grows
 returns-clause-grows c = c.loop-call.invariant.grows
 
 pub returns-clause-owed : goal.returns-clause-owed
-returns-clause-owed c = calls-end c.args.heap.now c.loop-call.heap c.args.block.now c.args.function.now c.args.owed.now.keys c.loop-call.owed.keys c.args.calls.now c.loop-call.call-index c.loop-call-test.false c.loop-call.invariant
+returns-clause-owed c = calls-end c.args.heap.now.objects c.loop-call.heap.objects c.args.block.now c.args.function.now c.args.owed.now.keys c.loop-call.owed.keys c.args.calls.now c.loop-call.call-index c.loop-call-test.false c.loop-call.invariant

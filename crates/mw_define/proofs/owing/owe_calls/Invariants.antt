@@ -3,4 +3,4 @@ use Rattle.mw_define.proofs.OwedBlock.{CallsSoFar}
 use Rattle.mw_define.proofs.owing.owe_calls.Given as goal
 
 abbrev pub invariant-loop-call : goal.invariant-loop-call
-invariant-loop-call l = CallsSoFar l.fn.heap l.heap l.fn.block l.fn.function l.fn.owed.keys l.owed.keys l.fn.calls l.call-index
+invariant-loop-call l = CallsSoFar l.fn.heap.objects l.heap.objects l.fn.block l.fn.function l.fn.owed.keys l.owed.keys l.fn.calls l.call-index

@@ -14,24 +14,24 @@ use Rattle.mw_define.proofs.OwedBlock.{block-Grows, named-Grows, owed_found-Grow
 use Rattle.mw_define.proofs.owing.owe_flat.Goals as goal
 
 pub owe_calls-requires-clause-block : goal.owe_calls-requires-clause-block
-owe_calls-requires-clause-block c = block-Grows c.args.heap.now c.owe_ordinal.new.heap c.in_ok-owe_ordinal.ensures.grows c.args.names.now.keys c.args.block.now c.requires.block
+owe_calls-requires-clause-block c = block-Grows c.args.heap.now.objects c.owe_ordinal.new.heap.objects c.in_ok-owe_ordinal.ensures.grows c.args.names.now.keys c.args.block.now c.requires.block
 
 pub owe_calls-requires-clause-named : goal.owe_calls-requires-clause-named
-owe_calls-requires-clause-named c = named-Grows c.args.heap.now c.owe_ordinal.new.heap c.in_ok-owe_ordinal.ensures.grows c.args.block.now c.args.function.now.name c.args.function.now c.requires.block.expanded c.requires.named.expanded.within.0 c.requires.named
+owe_calls-requires-clause-named c = named-Grows c.args.heap.now.objects c.owe_ordinal.new.heap.objects c.in_ok-owe_ordinal.ensures.grows c.args.block.now c.args.function.now.name c.args.function.now c.requires.block.expanded c.requires.named.expanded.within.0 c.requires.named
 
 pub owe_calls-requires-clause-calls : goal.owe_calls-requires-clause-calls
 owe_calls-requires-clause-calls c =
-    let os = c.args.heap.now in
-    let new = c.owe_ordinal.new.heap in
+    let os = c.args.heap.now.objects in
+    let new = c.owe_ordinal.new.heap.objects in
     let rs = c.args.names.now.keys in
     let g = c.in_ok-owe_ordinal.ensures.grows in
     subst (λ ns. AreFoundCalls new ns c.args.calls.now) (sym (names-Grows os new rs g c.requires.block.symbols)) (founds-Grows os new (names_at os rs) g c.args.calls.now c.requires.calls)
 
 pub returns-clause-owed : goal.returns-clause-owed
 returns-clause-owed c =
-    let os = c.args.heap.now in
-    let mid = c.owe_ordinal.new.heap in
-    let new = c.owe_calls.new.heap in
+    let os = c.args.heap.now.objects in
+    let mid = c.owe_ordinal.new.heap.objects in
+    let new = c.owe_calls.new.heap.objects in
     let es = c.args.block.now in
     let e = c.args.function.now in
     let owed = owed_at os es e (found_calls (functions_at os es) os c.args.calls.now) in

@@ -12,13 +12,13 @@ use Rattle.mw_define.proofs.owing.owe_found.Goals as goal
 
 pub returns-then-branch-clause-owed : goal.returns-then-branch-clause-owed
 returns-then-branch-clause-owed c =
-    let os = c.args.heap.now in
+    let os = c.args.heap.now.objects in
     let B = functions_at os c.args.block.now in
     ap (some_nested B) (sym c.requires.all) ∙ (sym (c.in_ok-are_nested.ensures B (has-names os c.args.block.now c.args.names.now.keys c.requires.block.refs)) ∙ c.if-branch.true)
 
 pub returns-else-is_empty-clause-owed : goal.returns-else-is_empty-clause-owed
 returns-else-is_empty-clause-owed c =
-    let os = c.args.heap.now in
+    let os = c.args.heap.now.objects in
     let es = c.args.block.now in
     let e = c.args.function.now in
     let rs = c.args.names.now.keys in
@@ -27,5 +27,5 @@ returns-else-is_empty-clause-owed c =
     record {
       flat = ap (some_nested B) (sym c.requires.all) ∙ (sym (c.in_ok-are_nested.ensures B n) ∙ c.if-branch.false);
       empty = ap is_empty (sym c.requires.all) ∙ found-empty B os (names_at os rs) c.args.calls.now n c.requires.calls (sym c.is_empty.ensures ∙ c.if-is_empty.false);
-      adds = subst (λ cs. Adds os c.owe_flat.new.heap c.args.owed.now.keys c.owe_flat.new.owed.keys (ordinal_formula (measure_of (measures_at os es) (name_of (object_at os e.name))) ∷ owed_at os es e cs)) c.requires.all c.in_ok-owe_flat.ensures.owed;
+      adds = subst (λ cs. Adds os c.owe_flat.new.heap.objects c.args.owed.now.keys c.owe_flat.new.owed.keys (ordinal_formula (measure_of (measures_at os es) (name_of (object_at os e.name))) ∷ owed_at os es e cs)) c.requires.all c.in_ok-owe_flat.ensures.owed;
     }

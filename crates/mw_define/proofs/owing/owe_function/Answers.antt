@@ -1,8 +1,10 @@
 -- The calls that were found are all.
-use Rattle.std.proofs.Common.{sym, ap, ◌∙◌, subst}
+use Rattle.std.proofs.Common.{List, sym, ap, ◌∙◌, subst}
+use Rattle.mw_model.specs.Object.{Object}
 use Rattle.mw_term.specs.Parts.{names_at}
 use Rattle.mw_define.specs.Collecting.{AreFoundCalls, found_calls}
 use Rattle.mw_define.specs.Blocks.{functions_at, function_at}
+use Rattle.mw_define.specs.Owed.{OwesOne}
 use Rattle.mw_define.proofs.Witnessed.{names-Grows}
 use Rattle.mw_define.proofs.Expanding.{functions-Grows}
 use Rattle.mw_define.proofs.OwedCalls.{has-names}
@@ -16,26 +18,26 @@ pub find_calls-requires-clause-symbols : goal.find_calls-requires-clause-symbols
 find_calls-requires-clause-symbols c = c.requires.block.symbols
 
 pub find_calls-requires-clause-read : goal.find_calls-requires-clause-read
-find_calls-requires-clause-read c = ((function_at c.args.heap.now c.args.function.now).body, c.requires.named.expanded.body)
+find_calls-requires-clause-read c = ((function_at c.args.heap.now.objects c.args.function.now).body, c.requires.named.expanded.body)
 
 pub owe_found-requires-clause-block : goal.owe_found-requires-clause-block
-owe_found-requires-clause-block c = block-Grows c.args.heap.now c.find_calls.new.heap c.in_ok-calls.ensures.grows c.args.names.now.keys c.args.block.now c.requires.block
+owe_found-requires-clause-block c = block-Grows c.args.heap.now.objects c.find_calls.new.heap.objects c.in_ok-calls.ensures.grows c.args.names.now.keys c.args.block.now c.requires.block
 
 pub owe_found-requires-clause-named : goal.owe_found-requires-clause-named
-owe_found-requires-clause-named c = named-Grows c.args.heap.now c.find_calls.new.heap c.in_ok-calls.ensures.grows c.args.block.now c.args.function.now.name c.args.function.now c.requires.block.expanded c.requires.named.expanded.within.0 c.requires.named
+owe_found-requires-clause-named c = named-Grows c.args.heap.now.objects c.find_calls.new.heap.objects c.in_ok-calls.ensures.grows c.args.block.now c.args.function.now.name c.args.function.now c.requires.block.expanded c.requires.named.expanded.within.0 c.requires.named
 
 pub owe_found-requires-clause-calls : goal.owe_found-requires-clause-calls
 owe_found-requires-clause-calls c =
-    let os = c.args.heap.now in
-    let new = c.find_calls.new.heap in
+    let os = c.args.heap.now.objects in
+    let new = c.find_calls.new.heap.objects in
     let rs = c.args.names.now.keys in
     subst (λ l. AreFoundCalls new (names_at new rs) l) (sym c.as_slice.ensures.value)
     (subst (λ ns. AreFoundCalls new ns c.in_ok-calls.calls.items) (sym (names-Grows os new rs c.in_ok-calls.ensures.grows c.requires.block.symbols)) c.in_ok-calls.ensures.found)
 
 pub owe_found-requires-clause-all : goal.owe_found-requires-clause-all
 owe_found-requires-clause-all c =
-    let os = c.args.heap.now in
-    let new = c.find_calls.new.heap in
+    let os = c.args.heap.now.objects in
+    let new = c.find_calls.new.heap.objects in
     let es = c.args.block.now in
     let e = c.args.function.now in
     let g = c.in_ok-calls.ensures.grows in
@@ -46,4 +48,4 @@ owe_found-requires-clause-all c =
     ∙ sym (kept-calls os new new g es e c.args.names.now.keys c.args.names.now.keys b.expanded c.requires.named.expanded.within)))
 
 pub returns-clause-owed : goal.returns-clause-owed
-returns-clause-owed c = one-later c.args.heap.now c.find_calls.new.heap c.owe_found.new.heap c.in_ok-calls.ensures.grows c.args.block.now c.args.function.now c.args.owed.now.keys c.owe_found.new.owed.keys c.requires.block.expanded c.requires.named.expanded.within c.in_ok-owe_found.field-0 c.in_ok-owe_found.ensures.owed
+returns-clause-owed c = subst (λ (h : List Object). OwesOne c.args.heap.now.objects h c.args.block.now c.args.function.now c.args.owed.now.keys c.owe_found.new.owed.keys c.in_ok-recursion.recursion) (sym c.in_ok-take_looks.ensures) (one-later c.args.heap.now.objects c.find_calls.new.heap.objects c.owe_found.new.heap.objects c.in_ok-calls.ensures.grows c.args.block.now c.args.function.now c.args.owed.now.keys c.owe_found.new.owed.keys c.requires.block.expanded c.requires.named.expanded.within c.in_ok-recursion.recursion c.in_ok-recursion.ensures.owed)

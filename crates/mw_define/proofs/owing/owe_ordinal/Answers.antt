@@ -11,8 +11,8 @@ use Rattle.mw_define.proofs.owing.owe_ordinal.Goals as goal
 
 pub returns-clause-owed : goal.returns-clause-owed
 returns-clause-owed c =
-    let os = c.args.heap.now in
-    let new = c.is_ordinal.new.heap in
+    let os = c.args.heap.now.objects in
+    let new = c.is_ordinal.new.heap.objects in
     let m = measure_of (measures_at os c.args.block.now) (name_of (object_at os c.args.function.now.name)) in
     let read : term_of (object_at os c.args.function.now.measure) ≡ Some m = c.requires.expanded.measure ∙ ap Some (sym c.requires.measure) in
     adds-later os new new c.args.owed.now.keys c.add_formula.new.owed.keys (ordinal_formula m ∷ []) c.in_ok-formula.ensures.grows

@@ -15,23 +15,23 @@ use Rattle.mw_define.proofs.Witnessed.{formals-same, new_name-some, new_name-non
 use Rattle.mw_define.proofs.witness.tested_witness.Goals as goal
 
 pub returns-then-not-is_new_name-clause-admitted : goal.returns-then-not-is_new_name-clause-admitted
-returns-then-not-is_new_name-clause-admitted c = by_name (new_name-none c.args.arity.now (object_at c.args.heap.now c.args.name) (sym c.is_new_name.ensures ∙ c.if-not-is_new_name.true))
+returns-then-not-is_new_name-clause-admitted c = by_name (new_name-none c.args.arity.now (object_at c.args.heap.now.objects c.args.name) (sym c.is_new_name.ensures ∙ c.if-not-is_new_name.true))
 
 pub returns-in_default-clause-admitted : goal.returns-in_default-clause-admitted
 returns-in_default-clause-admitted c =
-    let os = c.args.heap.now in
+    let os = c.args.heap.now.objects in
     let name = new_name-some c.args.arity.now (object_at os c.args.name) (sym c.is_new_name.ensures ∙ c.if-not-is_new_name.false) in
     by_formals (name_of (object_at os c.args.name)) name.0
     (formals-same (Pair (object_at os c.args.bound) (object_at os c.args.free))
-    ∙ (ap parts.formals_of (sym c.in_ok-list.ensures.made.1) ∙ (sym c.in_ok-formals.ensures.formals ∙ ap (option_map (names_at c.cons.new.self)) c.in_default.is)))
+    ∙ (ap parts.formals_of (sym c.in_ok-list.ensures.made.1) ∙ (sym c.in_ok-formals.ensures.formals ∙ ap (option_map (names_at c.cons.new.self.objects)) c.in_default.is)))
 
 pub closed_witness-requires-clause-formals : goal.closed_witness-requires-clause-formals
-closed_witness-requires-clause-formals c = symbols-Grows c.cons.new.self c.expand.new.heap c.in-Some.formals c.in-Term.ensures.grows (subst (λ o. IfSome o (AreSymbols c.cons.new.self)) c.in-Some.is c.in_ok-formals.ensures.symbols)
+closed_witness-requires-clause-formals c = symbols-Grows c.cons.new.self.objects c.expand.new.heap.objects c.in-Some.formals c.in-Term.ensures.grows (subst (λ o. IfSome o (AreSymbols c.cons.new.self.objects)) c.in-Some.is c.in_ok-formals.ensures.symbols)
 
 pub returns-in-NotTerm-clause-admitted : goal.returns-in-NotTerm-clause-admitted
 returns-in-NotTerm-clause-admitted c =
-    let os = c.args.heap.now in
-    let h1 = c.cons.new.self in
+    let os = c.args.heap.now.objects in
+    let h1 = c.cons.new.self.objects in
     let A = c.args.arity.now in
     let name = new_name-some A (object_at os c.args.name) (sym c.is_new_name.ensures ∙ c.if-not-is_new_name.false) in
     by_term (name_of (object_at os c.args.name)) (names_at h1 c.in-Some.formals) name.0
@@ -41,10 +41,10 @@ returns-in-NotTerm-clause-admitted c =
 
 pub returns-in-Term-clause-admitted : goal.returns-in-Term-clause-admitted
 returns-in-Term-clause-admitted c =
-    let os = c.args.heap.now in
-    let h1 = c.cons.new.self in
-    let h2 = c.expand.new.heap in
-    let h3 = c.closed_witness.new.heap in
+    let os = c.args.heap.now.objects in
+    let h1 = c.cons.new.self.objects in
+    let h2 = c.expand.new.heap.objects in
+    let h3 = c.closed_witness.new.heap.objects in
     let A = c.args.arity.now in
     let g1 = c.in_ok-list.ensures.grows in
     let g2 = c.in-Term.ensures.grows in

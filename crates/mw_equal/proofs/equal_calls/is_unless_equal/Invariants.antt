@@ -7,8 +7,8 @@ use Rattle.mw_equal.proofs.equal_calls.is_unless_equal.Given as goal
 
 abbrev pub invariant-loop-a : goal.invariant-loop-a
 invariant-loop-a l =
-    let o = object_at l.heap in
-    IsIn l.heap l.rest × IsIn l.heap l.firsts × IsIn l.heap l.seconds × (same_object (o l.rest) (unless_equal_object (o l.firsts) (o l.seconds) (o l.end)) ≡ same_object (o l.fn.c) (unless_equal_object (o l.fn.firsts) (o l.fn.seconds) (o l.fn.end)))
+    let o = object_at l.heap.objects in
+    IsIn l.heap.objects l.rest × IsIn l.heap.objects l.firsts × IsIn l.heap.objects l.seconds × (same_object (o l.rest) (unless_equal_object (o l.firsts) (o l.seconds) (o l.end)) ≡ same_object (o l.fn.c) (unless_equal_object (o l.fn.firsts) (o l.fn.seconds) (o l.fn.end)))
 
 abbrev pub decreases-loop-a : goal.decreases-loop-a
 decreases-loop-a l = l.firsts

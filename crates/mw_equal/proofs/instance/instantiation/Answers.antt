@@ -11,12 +11,12 @@ use Rattle.mw_equal.proofs.instance.instantiation.Goals as goal
 pub sigma_of-requires-clause-pairs : goal.sigma_of-requires-clause-pairs
 sigma_of-requires-clause-pairs c =
     let marks = c.requires.marks in
-    substitution_pairs marks.0 (object_at c.args.heap.now c.args.s) (sym (c.is_substitution.ensures marks.0 marks.1) ∙ c.if-not-is_substitution.false)
+    substitution_pairs marks.0 (object_at c.args.heap.now.objects c.args.s) (sym (c.is_substitution.ensures marks.0 marks.1) ∙ c.if-not-is_substitution.false)
 
 pub returns-clause-answer : goal.returns-clause-answer
 returns-clause-answer c =
-    let old = c.args.heap.now in
-    let new = c.substitute.new.heap in
+    let old = c.args.heap.now.objects in
+    let new = c.substitute.new.heap.objects in
     let o = object_at old in
     let formula = c.requires.formula in
     let conclusion = object_at-Grows old new c.in_ok-instance.ensures.grows c.args.c c.requires.conclusion in

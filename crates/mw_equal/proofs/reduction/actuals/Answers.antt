@@ -7,7 +7,7 @@ use Rattle.mw_equal.proofs.reduction.actuals.Goals as goal
 
 pub loop-x-preserved : goal.loop-x-preserved
 loop-x-preserved c =
-    let os = c.args.heap.now in
+    let os = c.args.heap.now.objects in
     let i = c.loop-x.invariant in
     let within = c.in-Some-members.ensures.within in
     let members = c.in-Some-members.ensures.members in
@@ -15,6 +15,6 @@ loop-x-preserved c =
 
 pub returns-clause-actuals : goal.returns-clause-actuals
 returns-clause-actuals c =
-    let os = c.args.heap.now in
+    let os = c.args.heap.now.objects in
     let end = actuals_end (object_at os c.loop-x.formals) (object_at os c.loop-x.arguments) (sym c.in_default-members.ensures.both) in
     sym (sigma_object-before os c.loop-x.sigma) ∙ (ap (pairs_before os c.loop-x.sigma) (sym end) ∙ c.loop-x.invariant.3)

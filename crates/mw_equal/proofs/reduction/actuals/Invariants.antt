@@ -9,8 +9,8 @@ use Rattle.mw_equal.proofs.reduction.actuals.Given as goal
 
 abbrev pub invariant-loop-x : goal.invariant-loop-x
 invariant-loop-x l =
-    let o = object_at l.heap in
-    IsIn l.heap l.formals × IsIn l.heap l.arguments × AreIn l.heap l.sigma × (pairs_before l.heap l.sigma (actuals_object (o l.formals) (o l.arguments)) ≡ actuals_object (part_at l.heap l.fn.formals) (o l.fn.arguments))
+    let o = object_at l.heap.objects in
+    IsIn l.heap.objects l.formals × IsIn l.heap.objects l.arguments × AreIn l.heap.objects l.sigma × (pairs_before l.heap.objects l.sigma (actuals_object (o l.formals) (o l.arguments)) ≡ actuals_object (part_at l.heap.objects l.fn.formals) (o l.fn.arguments))
 
 abbrev pub decreases-loop-x : goal.decreases-loop-x
 decreases-loop-x l = l.formals

@@ -7,7 +7,7 @@ use Rattle.mw_term.specs.Marking.{AreMarks}
 use Rattle.mw_induct.proofs.cases.are_substitutions.Given as goal
 
 abbrev pub invariant-loop-s : goal.invariant-loop-s
-invariant-loop-s l = IsIn l.heap l.rest × (l.rest < length l.marks) × ((A : ArityTable) → AreMarks A l.heap l.marks → are_substitution_objects A (object_at l.heap l.fn.x) ≡ are_substitution_objects A (object_at l.heap l.rest))
+invariant-loop-s l = IsIn l.heap.objects l.rest × (l.rest < length l.marks) × ((A : ArityTable) → AreMarks A l.heap.objects l.marks → are_substitution_objects A (object_at l.heap.objects l.fn.x) ≡ are_substitution_objects A (object_at l.heap.objects l.rest))
 
 abbrev pub decreases-loop-s : goal.decreases-loop-s
 decreases-loop-s l = l.rest

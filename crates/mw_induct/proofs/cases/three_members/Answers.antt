@@ -7,7 +7,7 @@ use Rattle.mw_induct.proofs.cases.three_members.Goals as goal
 
 pub returns-then-is_nil-clause-members : goal.returns-then-is_nil-clause-members
 returns-then-is_nil-clause-members c =
-    let os = c.args.heap.now in
+    let os = c.args.heap.now.objects in
     let end = same_object-eq (object_at os c.in-Pair-view-2.end) NIL (sym c.is_nil.ensures ∙ c.if-is_nil.true) in
     let third = c.in-Pair-view-2.ensures.shows.2 ∙ ap (Pair (object_at os c.in-Pair-view-2.third)) end in
     let second = c.in-Pair-view.ensures.shows.2 ∙ ap (Pair (object_at os c.in-Pair-view.second)) third in

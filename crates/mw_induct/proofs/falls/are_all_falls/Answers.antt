@@ -15,9 +15,9 @@ use Rattle.mw_induct.proofs.falls.are_all_falls.Goals as goal
 
 pub returns-in-None-clause-falls : goal.returns-in-None-clause-falls
 returns-in-None-clause-falls c =
-    let os = c.args.heap.now in
+    let os = c.args.heap.now.objects in
     let o = object_at os in
-    let cur = c.loop-condition.heap in
+    let cur = c.loop-condition.heap.objects in
     let i = c.loop-condition.invariant in
     let ps = drop c.loop-condition.taken c.args.conclusions.now in
     let m = c.args.measure in
@@ -33,9 +33,9 @@ returns-in-None-clause-falls c =
 
 pub loop-condition-preserved : goal.loop-condition-preserved
 loop-condition-preserved c =
-    let os = c.args.heap.now in
+    let os = c.args.heap.now.objects in
     let o = object_at os in
-    let cur = c.loop-condition.heap in
+    let cur = c.loop-condition.heap.objects in
     let i = c.loop-condition.invariant in
     let taken = c.loop-condition.taken in
     let ps = drop taken c.args.conclusions.now in
@@ -50,7 +50,7 @@ loop-condition-preserved c =
     let lengths = ap length_object (sym condition.2) ∙ (i.3 ∙ ap length_object group.2) in
     let pairs = and_parts (are_lists_of_pairs (o s)) (are_cases_of_pairs (o c.in-Pair-view.others)) (ap are_cases_of_pairs (sym group.2) ∙ i.4) in
     let left = conclusions_object-Grows os cur i.0 (drop c.in-Some.count ps) (All-drop (IsIn os) c.in-Some.count ps within) ∙ ap (conclusions_object os) (drop_after taken c.in-Some.count c.args.conclusions.now) in (
-      Grows-trans os cur c.take_falls.new.heap i.0 c.in_ok-count.ensures.grows,
+      Grows-trans os cur c.take_falls.new.heap.objects i.0 c.in_ok-count.ensures.grows,
       condition.1,
       group.1,
       omega (arith, lengths),
@@ -63,10 +63,10 @@ loop-condition-preserved c =
 
 pub returns : goal.returns
 returns c =
-    let os = c.args.heap.now in
+    let os = c.args.heap.now.objects in
     let o = object_at os in
     let i = c.loop-condition.invariant in
     let taken = c.loop-condition.taken in
     let ps = c.args.conclusions.now in
-    let end = ap is_pair (sym (object_at-Grows os c.loop-condition.heap i.0 c.loop-condition.conditions i.1)) ∙ shown_no_pair c.loop-condition.heap c.view.result _ c.view.ensures.shows c.in_default.not-Pair in
+    let end = ap is_pair (sym (object_at-Grows os c.loop-condition.heap.objects i.0 c.loop-condition.conditions i.1)) ∙ shown_no_pair c.loop-condition.heap.objects c.view.result _ c.view.ensures.shows c.in_default.not-Pair in
     record { grows = i.0; falls = all_taken os ps taken i.5 ∙ (ap (same_object (conclusions_object os (drop taken ps))) (sym (all_falls_end (o c.args.measure) (o c.loop-condition.conditions) (o c.loop-condition.cases) end)) ∙ sym i.6) }

@@ -9,9 +9,9 @@ use Rattle.mw_induct.proofs.falls.are_all_falls.Given as goal
 
 abbrev pub invariant-loop-condition : goal.invariant-loop-condition
 invariant-loop-condition l =
-    let os = l.fn.heap in
+    let os = l.fn.heap.objects in
     let o = object_at os in
-    Grows os l.heap × IsIn os l.conditions × IsIn os l.cases × (length_object (o l.conditions) ≡ length_object (o l.cases)) × (are_cases_of_pairs (o l.cases) ≡ true) × (l.taken ≤ length l.conclusions)
+    Grows os l.heap.objects × IsIn os l.conditions × IsIn os l.cases × (length_object (o l.conditions) ≡ length_object (o l.cases)) × (are_cases_of_pairs (o l.cases) ≡ true) × (l.taken ≤ length l.conclusions)
     × (same_object (conclusions_object os l.conclusions) (all_falls_object (o l.measure) (o l.fn.conditions) (o l.fn.cases)) ≡ same_object (conclusions_object os (drop l.taken l.conclusions)) (all_falls_object (o l.measure) (o l.conditions) (o l.cases)))
 
 abbrev pub decreases-loop-condition : goal.decreases-loop-condition

@@ -12,9 +12,9 @@ returns-in_default-clause-fall c = sym (c.in_default.ensures.members _ _)
 
 pub returns-clause-fall : goal.returns-clause-fall
 returns-clause-fall c =
-    let os = c.args.heap.now in
+    let os = c.args.heap.now.objects in
     let o = object_at os in
-    let new = c.instance_of.new.heap in
+    let new = c.instance_of.new.heap.objects in
     let grows = c.in_ok-before.ensures.grows in
     let term = object_at-Grows os new grows c.in-Some-true_term.term c.in-Some-true_term.ensures.within in
     let measure = object_at-Grows os new grows c.args.measure c.requires.measure_within in

@@ -9,9 +9,9 @@ use Rattle.mw_induct.proofs.falls.take_falls.Given as goal
 
 abbrev pub invariant-loop-s : goal.invariant-loop-s
 invariant-loop-s l =
-    let os = l.fn.heap in
+    let os = l.fn.heap.objects in
     let o = object_at os in
-    Grows os l.heap × IsIn os l.substitutions × (are_lists_of_pairs (o l.substitutions) ≡ true) × (l.taken ≤ length l.conclusions)
+    Grows os l.heap.objects × IsIn os l.substitutions × (are_lists_of_pairs (o l.substitutions) ≡ true) × (l.taken ≤ length l.conclusions)
     × ((rest : Object) → same_object (conclusions_object os l.conclusions) (falls_object (o l.measure) (o l.condition) (o l.fn.substitutions) rest) ≡ same_object (conclusions_object os (drop l.taken l.conclusions)) (falls_object (o l.measure) (o l.condition) (o l.substitutions) rest))
 
 abbrev pub decreases-loop-s : goal.decreases-loop-s

@@ -10,7 +10,7 @@ use Rattle.mw_induct.proofs.premises.are_premises.Goals as goal
 
 pub returns-in-Some-clause-premises : goal.returns-in-Some-clause-premises
 returns-in-Some-clause-premises c =
-    let os = c.args.heap.now in
+    let os = c.args.heap.now.objects in
     let o = object_at os in
     let ps = c.args.conclusions.now in
     let a = o c.args.a in
@@ -26,6 +26,6 @@ returns-in-Some-clause-premises c =
     let first = ap (λ b. b && same_object (conclusions_object os others) (steps_object a q s measured)) c.if-not-is_disjunction.ensures in
     let whole = ap (λ y. same_object y (premises_object a (o c.args.measure) q s)) (ap (λ l. Pair (o x) (conclusions_object os l)) (slice_from 1 ps) ∙ sym (next_conclusion os ps 0 x (some_conclusion ps (sym c.if-is_empty.ensures)) c.index-conclusions-0.is)) in
     subst (λ z. IfOk c.are_measured.result (λ b. b ≡ z))
-    (same_measured-Grows os c.take_steps.new.heap c.in_ok-count.ensures.grows later c.args.measure c.args.conditions c.args.cases later_in c.requires.measure_within c.requires.conditions_within c.requires.cases_within
+    (same_measured-Grows os c.take_steps.new.heap.objects c.in_ok-count.ensures.grows later c.args.measure c.args.conditions c.args.cases later_in c.requires.measure_within c.requires.conditions_within c.requires.cases_within
     ∙ (ap (λ l. same_object (conclusions_object os l) measured) (slice_from c.in-Some.count others) ∙ (sym (taken.1 measured) ∙ (first ∙ whole))))
     c.are_measured.ensures.premises

@@ -12,7 +12,7 @@ use Rattle.mw_induct.proofs.premises.premises_hold.Goals.{then-conclusions-lt2-v
 
 pub returns-then-conclusions-lt2-clause-answer : goal.returns-then-conclusions-lt2-clause-answer
 returns-then-conclusions-lt2-clause-answer c = λ A k.
-    let os = c.args.heap.now in
+    let os = c.args.heap.now.objects in
     let ps = c.args.conclusions.now in
     let f = object_at os c.args.f in
     no_induction-premises A f (conclusions_object os ps) (object_at os c.args.extras) (λ m q s. elim c.then-conclusions-lt2.branch [
@@ -22,7 +22,7 @@ returns-then-conclusions-lt2-clause-answer c = λ A k.
 
 pub returns-then-not-are_cases-clause-answer : goal.returns-then-not-are_cases-clause-answer
 returns-then-not-are_cases-clause-answer c = λ A k.
-    let os = c.args.heap.now in
+    let os = c.args.heap.now.objects in
     no_induction-data A (object_at os c.args.f) (conclusions_object os c.args.conclusions.now) (object_at os c.args.extras) _ _ _ c.in-Some.ensures.members (sym (c.are_cases.ensures A k) ∙ c.if-not-are_cases.true)
 
 -- the tests of the data under the table of the marks
@@ -39,11 +39,11 @@ are_premises-requires-clause-pairs c =
 pub are_premises-requires-clause-formula : goal.are_premises-requires-clause-formula
 are_premises-requires-clause-formula c =
     let formula = c.requires.formula in
-    λ s. substitute_object-formula formula.0 s (object_at c.args.heap.now c.args.f) formula.1
+    λ s. substitute_object-formula formula.0 s (object_at c.args.heap.now.objects c.args.f) formula.1
 
 pub returns-clause-answer : goal.returns-clause-answer
 returns-clause-answer c =
-    let os = c.args.heap.now in
+    let os = c.args.heap.now.objects in
     IfOk-weaker c.are_premises.result _ _
     (λ b e. λ A marks.
     e ∙ object_is_induction-from A (object_at os c.args.f) (conclusions_object os c.args.conclusions.now) (object_at os c.args.extras) _ _ _ c.in-Some.ensures.members (sym (c.are_cases.ensures A marks) ∙ c.if-not-are_cases.false))

@@ -7,5 +7,5 @@ use Rattle.mw_induct.proofs.shapes.is_disjunction.Goals as goal
 
 pub returns-in_default-members_after : goal.returns-in_default-members_after
 returns-in_default-members_after c =
-    let o = object_at c.args.heap.now in
+    let o = object_at c.args.heap.now.objects in
     sym (c.in_default-members_after.ensures.members (o c.loop-next.first) (disjunction_object (Pair (o c.in-Pair.next) (o c.in-Pair.more)))) ∙ (ap (λ y. same_object (o c.loop-next.rest) (disjunction_object (Pair (o c.loop-next.first) y))) (sym c.in-Pair.ensures.shows.2) ∙ c.loop-next.invariant.3)

@@ -8,12 +8,12 @@ use Rattle.mw_induct.proofs.shapes.is_disjunction_from.Goals.{in-Some+else-same,
 
 pub returns-then-same-clause-yes : goal.returns-then-same-clause-yes
 returns-then-same-clause-yes c = λ h.
-    let o = object_at c.args.heap.now in
+    let o = object_at c.args.heap.now.objects in
     (Pair _ NIL, or_from (o c.args.x) _ _ (o c.args.a) c.in-Some.ensures.members (sym c.same.ensures.same ∙ c.if-same.true))
 
 pub returns-clause-no : goal.returns-clause-no
 returns-clause-no c = λ h.
-    let o = object_at c.args.heap.now in
+    let o = object_at c.args.heap.now.objects in
     not_from (o c.args.x) (o c.args.a) (sym c.same-2.ensures.same ∙ h) (λ b. elim c.match-members_after.branch [
       | in-Some+else-same w ↦ other_first (o c.args.x) (symbol "POR*") _ _ (o c.args.a) b w.in-Some.ensures.members (sym w.same.ensures.same ∙ w.if-same.false)
       | in_default w ↦ w.in_default.ensures.members (o c.args.a) b

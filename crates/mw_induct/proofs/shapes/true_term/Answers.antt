@@ -15,5 +15,5 @@ returns-in_default-member_after-clause-term c =
 
 pub returns-then-is_named-clause-term : goal.returns-then-is_named-clause-term
 returns-then-is_named-clause-term c =
-    let value = same_object-eq (object_at c.args.heap.now c.in-Some-member_after.value) T (sym c.if-is_named.ensures) in
+    let value = same_object-eq (object_at c.args.heap.now.objects c.in-Some-member_after.value) T (sym c.if-is_named.ensures) in
     true_from _ _ _ _ c.in-Some.ensures.members c.in-Some-member_after.ensures.member value

@@ -14,7 +14,7 @@ use Rattle.mw_induct.proofs.steps.are_hypotheses.Goals as goal
 pub returns-in_default-members_after-clause-hypotheses :
     goal.returns-in_default-members_after-clause-hypotheses
 returns-in_default-members_after-clause-hypotheses c =
-    let o = object_at c.loop-s.heap in
+    let o = object_at c.loop-s.heap.objects in
     let b = not_object (o c.loop-s.negated) in
     let a = o c.args.a in
     sym (c.in_default-members_after.ensures.members b (disjunction_object (hypotheses_object a (Pair (o c.in-Pair.s) (o c.in-Pair.more)))))
@@ -22,9 +22,9 @@ returns-in_default-members_after-clause-hypotheses c =
 
 pub loop-s-preserved : goal.loop-s-preserved
 loop-s-preserved c =
-    let os = c.args.heap.now in
-    let cur = c.loop-s.heap in
-    let new = c.instance_of.new.heap in
+    let os = c.args.heap.now.objects in
+    let cur = c.loop-s.heap.objects in
+    let new = c.instance_of.new.heap.objects in
     let o = object_at cur in
     let i = c.loop-s.invariant in
     let grows = c.in_ok-negated.ensures.grows in

@@ -9,9 +9,9 @@ use Rattle.mw_induct.proofs.steps.are_hypotheses.Given as goal
 
 abbrev pub invariant-loop-s : goal.invariant-loop-s
 invariant-loop-s l =
-    let o = object_at l.heap in
-    let old = object_at l.fn.heap in
-    Grows l.fn.heap l.heap × IsIn l.heap l.rest × IsIn l.heap l.negated × IsIn l.heap l.a × IsIn l.heap l.substitutions × (are_lists_of_pairs (o l.substitutions) ≡ true) × IsLikeFormula (o l.a)
+    let o = object_at l.heap.objects in
+    let old = object_at l.fn.heap.objects in
+    Grows l.fn.heap.objects l.heap.objects × IsIn l.heap.objects l.rest × IsIn l.heap.objects l.negated × IsIn l.heap.objects l.a × IsIn l.heap.objects l.substitutions × (are_lists_of_pairs (o l.substitutions) ≡ true) × IsLikeFormula (o l.a)
     × (same_object (o l.rest) (disjunction_object (Pair (not_object (o l.negated)) (hypotheses_object (o l.a) (o l.substitutions)))) ≡ same_object (old l.fn.x) (disjunction_object (Pair (not_object (old l.fn.b)) (hypotheses_object (old l.a) (old l.fn.substitutions)))))
 
 abbrev pub decreases-loop-s : goal.decreases-loop-s

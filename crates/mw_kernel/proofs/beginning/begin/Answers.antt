@@ -17,22 +17,22 @@ use Rattle.mw_kernel.proofs.beginning.begin.Goals as goal
 
 pub add_axioms-requires-clause-axioms : goal.add_axioms-requires-clause-axioms
 add_axioms-requires-clause-axioms c =
-    let n = c.symbol.new.self in
+    let n = c.symbol.new.self.objects in
     let grows = Grows-trans _ _ _ c.admit_all.ensures.grows (Grows-trans _ _ _ c.list_arities.ensures.grows c.symbol.ensures.grows) in
-    subst (All (IsIn n)) (sym c.as_slice.ensures) (all-grow c.build.new.heap n grows c.in_ok-primitives.primitives c.in_ok-primitives.ensures.within)
+    subst (All (IsIn n)) (sym c.as_slice.ensures) (all-grow c.build.new.heap.objects n grows c.in_ok-primitives.primitives c.in_ok-primitives.ensures.within)
 
 pub add_axioms-requires-2-clause-axioms : goal.add_axioms-requires-2-clause-axioms
 add_axioms-requires-2-clause-axioms c =
-    let p = c.add_axioms.new.heap in
+    let p = c.add_axioms.new.heap.objects in
     let grows = Grows-trans _ _ _ c.list_arities.ensures.grows (Grows-trans _ _ _ c.symbol.ensures.grows c.add_axioms.ensures.grows) in
-    subst (All (IsIn p)) (sym c.as_slice-2.ensures) (all-grow c.admit_all.new.heap p grows c.in_ok-preamble.preamble.axioms c.in_ok-preamble.ensures.within)
+    subst (All (IsIn p)) (sym c.as_slice-2.ensures) (all-grow c.admit_all.new.heap.objects p grows c.in_ok-preamble.preamble.axioms c.in_ok-preamble.ensures.within)
 
-start : (c : goal.After-drop-primitives-inside-2) → Begins (profile_of c.args.profile) c.build.new.heap c.admit_all.new.heap c.symbol.new.self c.add_axioms.new.heap c.add_axioms-2.new.heap c.in_ok-primitives.primitives c.in_ok-preamble.preamble.axioms c.in_ok-nil.nil c.in_ok-axioms.axioms c.in_ok-axioms-2.axioms c.add_axioms-2.new.known
+start : (c : goal.After-drop-primitives-inside-2) → Begins (profile_of c.args.profile) c.build.new.heap.objects c.admit_all.new.heap.objects c.symbol.new.self.objects c.add_axioms.new.heap.objects c.add_axioms-2.new.heap.objects c.in_ok-primitives.primitives c.in_ok-preamble.preamble.axioms c.in_ok-nil.nil c.in_ok-axioms.axioms c.in_ok-axioms-2.axioms c.add_axioms-2.new.known
 start c =
     let primitives = c.in_ok-primitives.primitives in
     let definitions = c.in_ok-preamble.preamble.axioms in
-    let n = c.symbol.new.self in
-    let p = c.add_axioms.new.heap in
+    let n = c.symbol.new.self.objects in
+    let p = c.add_axioms.new.heap.objects in
     let first = c.in_ok-axioms.ensures in
     let second = c.in_ok-axioms-2.ensures in
     record {
@@ -53,15 +53,15 @@ start c =
       known_is = second.known ∙ ap₂ (λ xs k. reverse xs ++ k) c.as_slice-2.ensures (first.known ∙ ap₂ (λ xs k. reverse xs ++ k) c.as_slice.ensures c.new-known.ensures);
     }
 
-listed_grows : (c : goal.After-drop-primitives-inside-2) → Grows c.list_arities.new.heap c.add_axioms-2.new.heap
+listed_grows : (c : goal.After-drop-primitives-inside-2) → Grows c.list_arities.new.heap.objects c.add_axioms-2.new.heap.objects
 listed_grows c = Grows-trans _ _ _ c.symbol.ensures.grows (Grows-trans _ _ _ c.add_axioms.ensures.grows c.add_axioms-2.ensures.grows)
 
-admitted_grows : (c : goal.After-drop-primitives-inside-2) → Grows c.admit_all.new.heap c.add_axioms-2.new.heap
+admitted_grows : (c : goal.After-drop-primitives-inside-2) → Grows c.admit_all.new.heap.objects c.add_axioms-2.new.heap.objects
 admitted_grows c = Grows-trans _ _ _ c.list_arities.ensures.grows (listed_grows c)
 
-entered : (c : goal.After-drop-primitives-inside-2) → AreEntries c.add_axioms-2.new.heap c.in_ok-preamble.preamble.definitions (definitions_of (profile_of c.args.profile)).blocks
+entered : (c : goal.After-drop-primitives-inside-2) → AreEntries c.add_axioms-2.new.heap.objects c.in_ok-preamble.preamble.definitions (definitions_of (profile_of c.args.profile)).blocks
 entered c =
-    AreEntries-grows c.admit_all.new.heap c.add_axioms-2.new.heap (admitted_grows c) c.in_ok-preamble.preamble.definitions (definitions_of (profile_of c.args.profile)).blocks c.in_ok-preamble.ensures.definitions
+    AreEntries-grows c.admit_all.new.heap.objects c.add_axioms-2.new.heap.objects (admitted_grows c) c.in_ok-preamble.preamble.definitions (definitions_of (profile_of c.args.profile)).blocks c.in_ok-preamble.ensures.definitions
 
 made : goal.After-drop-primitives-inside-2 → Kept
 made c = record {
@@ -94,13 +94,13 @@ pub returns-clause-theory : goal.returns-clause-theory
 unfolding made
 returns-clause-theory c =
     let P = profile_of c.args.profile in
-    begun_initial c.add_axioms-2.new.heap (made c) P refl refl refl (entered c) (begun_theory _ _ _ _ _ _ _ _ _ _ _ _ (start c)) (c.initial_sound.ensures P)
+    begun_initial c.add_axioms-2.new.heap.objects (made c) P refl refl refl (entered c) (begun_theory _ _ _ _ _ _ _ _ _ _ _ _ (start c)) (c.initial_sound.ensures P)
 
 pub returns-clause-held : goal.returns-clause-held
 unfolding made
 returns-clause-held c =
     let P = profile_of c.args.profile in
-    let q = c.add_axioms-2.new.heap in
+    let q = c.add_axioms-2.new.heap.objects in
     let listed = c.in_ok-arity_list.ensures.list in
     let code = c.in_ok-preamble.preamble.table.value in
     let D = definitions_of P in
@@ -113,5 +113,5 @@ returns-clause-held c =
     (known_last _ _ _ _ _ _ _ _ _ _ _ _ (start c))
     (object_at-Grows _ _ (listed_grows c) c.in_ok-arity_list.arity_list listed.0 ∙ (listed.1 ∙ ap table_object c.in_ok-preamble.ensures.arity))
     c.in_ok-preamble.ensures.arity
-    (stands-grows c.admit_all.new.heap q (admitted_grows c) code.signature code.profile code.functions.items code.code.items code.kept D c.in_ok-preamble.ensures.table)
+    (stands-grows c.admit_all.new.heap.objects q (admitted_grows c) code.signature code.profile code.functions.items code.code.items code.kept D c.in_ok-preamble.ensures.table)
     c.is_first.ensures

@@ -6,6 +6,6 @@ use Rattle.mw_kernel.proofs.beginning.list_arities.Given as goal
 
 abbrev pub invariant-loop-index : goal.invariant-loop-index
 invariant-loop-index l =
-    Grows l.initial.heap l.heap
-    × IsIn l.heap l.list
-    × (object_at l.heap l.list ≡ table_object (drop (length l.arity - l.index) l.arity))
+    Grows l.initial.heap.objects l.heap.objects
+    × IsIn l.heap.objects l.list
+    × (object_at l.heap.objects l.list ≡ table_object (drop (length l.arity - l.index) l.arity))

@@ -11,7 +11,7 @@ returns-clause-formula c =
     let nil = c.in_ok-nil.ensures in
     let constant = c.in_ok-constant.ensures in
     let later = Grows-trans _ _ _ nil.grows constant.grows in
-    IfOk-map c.headed_list-2.result _ _ (λ r made f t function_is argument_is.
+    IfOk-map c.form_of-2.result _ _ (λ r made f t function_is argument_is.
     made.1
     ∙ ap₂ (list3 (symbol "PEQUAL*")) (object_at-Grows _ _ later c.in_ok-call.call call.within ∙ call.term f t function_is argument_is)
-    (constant.made.1 ∙ ap (list2 (symbol "QUOTE")) nil.made.1)) c.headed_list-2.ensures.made
+    (constant.made.1 ∙ ap (list2 (symbol "QUOTE")) nil.made.1)) c.form_of-2.ensures.made

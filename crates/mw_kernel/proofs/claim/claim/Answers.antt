@@ -11,7 +11,7 @@ use Rattle.mw_kernel.proofs.claim.claim.Goals as goal
 
 pub returns-clause-claim : goal.returns-clause-claim
 returns-clause-claim c =
-    let os = c.args.heap.now in
+    let os = c.args.heap.now.objects in
     let f = name_of (object_at os c.args.name) in
     let x = c.in_ok-x.ensures in
     let conclusion = c.in_ok-conclusion.ensures in
@@ -29,10 +29,10 @@ returns-clause-claim c =
     unproved.formula (named "LOGIC.PROVABLEP") (call "LOGIC.CONCLUSION" (var "X" ∷ []))
     (object_at-Grows _ _ refuses.grows c.in_ok-provable.provable provable.made.0 ∙ provable.made.1)
     (object_at-Grows _ _ from_conclusion c.in_ok-conclusion.conclusion conclusion.made.0 ∙ (conclusion.made.1 ∙ ap (list2 (symbol "LOGIC.CONCLUSION")) x.made.1)) in
-    IfOk-map c.headed_list-3.result _ _ (λ r made. (
+    IfOk-map c.form_of-3.result _ _ (λ r made. (
       made.0,
       made.1
           ∙ ap₂ (list3 (symbol "POR*"))
           (object_at-Grows _ _ (Grows-trans _ _ _ unproved.grows proved.grows) c.in_ok-refuses.refuses refuses.within ∙ first)
           (proved.made.1 ∙ ap (list2 (symbol "PNOT*")) second),
-    )) c.headed_list-3.ensures.made
+    )) c.form_of-3.ensures.made

@@ -20,16 +20,16 @@ refusal_of_proofs-requires-clause-held c = held-grows _ _ c.admit.ensures.grows 
 
 pub returns-in-Refused-clause-defined : goal.returns-in-Refused-clause-defined
 returns-in-Refused-clause-defined c =
-    let os = c.args.heap.now in
+    let os = c.args.heap.now.objects in
     let given = drafts_given os c.args.drafts.now in
     let reason = c.in-Refused.reason in
-    refused-given (meant os (parts_of c.args.theory.now)) c.args.steps (object_at os c.args.proofs) c.admit.new.heap given reason
-    (subst (λ B. IsBlockOf B given c.admit.new.heap (admitted.Refused reason)) c.requires.held.arities c.in-Refused.ensures.admitted)
+    refused-given (meant os (parts_of c.args.theory.now)) c.args.steps (object_at os c.args.proofs) c.admit.new.heap.objects given reason
+    (subst (λ B. IsBlockOf B given c.admit.new.heap.objects (admitted.Refused reason)) c.requires.held.arities c.in-Refused.ensures.admitted)
 
 pub returns-in-Obligations-clause-defined : goal.returns-in-Obligations-clause-defined
 returns-in-Obligations-clause-defined c =
-    let os = c.args.heap.now in
-    let new = c.admit.new.heap in
+    let os = c.args.heap.now.objects in
+    let new = c.admit.new.heap.objects in
     let given = drafts_given os c.args.drafts.now in
     let t = meant os (parts_of c.args.theory.now) in
     let owed = c.in-Obligations.owed in

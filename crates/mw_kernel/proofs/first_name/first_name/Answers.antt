@@ -7,7 +7,7 @@ use Rattle.mw_kernel.proofs.first_name.first_name.Goals as goal
 
 pub loop-definition-preserved : goal.loop-definition-preserved
 loop-definition-preserved c =
-    let n = length c.args.heap.now in
+    let n = length c.args.heap.now.objects in
     let ds = c.args.block.now in
     let i = c.loop-definition.definition-index in
     let d = c.definition-item.result in
@@ -18,7 +18,7 @@ loop-definition-preserved c =
 
 pub returns-clause-marks : goal.returns-clause-marks
 returns-clause-marks c = λ A B ms means few marked.
-    let os = c.args.heap.now in
+    let os = c.args.heap.now.objects in
     let ds = c.args.block.now in
     let all = take_all c.loop-definition.definition-index ds (omega (arith, c.loop-definition-test.false)) in
     let first = c.loop-definition.invariant ∙ ap (first_place (length os)) all in

@@ -10,7 +10,7 @@ use Rattle.mw_kernel.proofs.front.with_all.Goals as goal
 
 pub loop-member-preserved : goal.loop-member-preserved
 loop-member-preserved c =
-    let os = c.args.heap.now in
+    let os = c.args.heap.now.objects in
     let l = c.loop-member in
     let i = l.member-index in
     let xs = c.args.members.now in
@@ -19,7 +19,7 @@ loop-member-preserved c =
     let next = take_next xs i x c.loop-member-test.true c.member-item.is in
     let x_in : IsIn os x = subst (IsIn os) (sym c.member-item.is) (c.requires.members i x c.loop-member-test.true) in
     let made = c.in_ok-list.ensures.made in (
-      Grows-trans os l.heap c.with_front.new.heap g c.with_front.ensures.grows,
+      Grows-trans os l.heap.objects c.with_front.new.heap.objects g c.with_front.ensures.grows,
       made.0,
-      made.1 ∙ (ap₂ Pair (object_at-Grows os l.heap g x x_in) l.invariant.2 ∙ (sym (put_one (map (object_at os) (take i xs)) (object_at os x) (object_at os c.args.list)) ∙ ap (λ zs. put_all zs (object_at os c.args.list)) (sym (ap (map (object_at os)) next ∙ map-append (object_at os) (take i xs) (x ∷ []))))),
+      made.1 ∙ (ap₂ Pair (object_at-Grows os l.heap.objects g x x_in) l.invariant.2 ∙ (sym (put_one (map (object_at os) (take i xs)) (object_at os x) (object_at os c.args.list)) ∙ ap (λ zs. put_all zs (object_at os c.args.list)) (sym (ap (map (object_at os)) next ∙ map-append (object_at os) (take i xs) (x ∷ []))))),
     )

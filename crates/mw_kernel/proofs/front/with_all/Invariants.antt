@@ -6,6 +6,6 @@ use Rattle.mw_kernel.proofs.front.with_all.Given as goal
 
 abbrev pub invariant-loop-member : goal.invariant-loop-member
 invariant-loop-member l =
-    Grows l.initial.heap l.heap
-    × IsIn l.heap l.list
-    × (object_at l.heap l.list ≡ put_all (map (object_at l.initial.heap) (take l.member-index l.members)) (object_at l.initial.heap l.initial.list))
+    Grows l.initial.heap.objects l.heap.objects
+    × IsIn l.heap.objects l.list
+    × (object_at l.heap.objects l.list ≡ put_all (map (object_at l.initial.heap.objects) (take l.member-index l.members)) (object_at l.initial.heap.objects l.initial.list))

@@ -7,6 +7,6 @@ use Rattle.mw_kernel.proofs.members.one_member.Goals as goal
 
 pub returns-in-Pair : goal.returns-in-Pair
 returns-in-Pair c =
-    let os = c.args.heap.now in
+    let os = c.args.heap.now.objects in
     let rest_is = same_object-eq (object_at os c.in-Pair.rest) NIL (sym c.is_nil.ensures ∙ c.if-is_nil.true) in
     (c.in-Pair.ensures.shows.2 ∙ ap (Pair (object_at os c.in-Pair.first)) rest_is, c.in-Pair.ensures.below.0)

@@ -14,24 +14,24 @@ use Rattle.mw_kernel.proofs.pairs.add_pairs.Goals as goal
 
 pub name_of-requires-clause-within : goal.name_of-requires-clause-within
 name_of-requires-clause-within c =
-    let os = c.args.heap.now in
+    let os = c.args.heap.now.objects in
     subst (λ p. IsIn os p.0) (sym c.pair-item.is) (pair-at os c.args.pairs.now c.loop-pair.pair-index c.pair-item.result c.requires.symbols c.loop-pair-test.true).0
 
 pub name_of-requires-clause-symbol : goal.name_of-requires-clause-symbol
 name_of-requires-clause-symbol c =
-    let os = c.args.heap.now in
+    let os = c.args.heap.now.objects in
     subst (λ p. is_symbol (object_at os p.0) ≡ true) (sym c.pair-item.is) (pair-at os c.args.pairs.now c.loop-pair.pair-index c.pair-item.result c.requires.symbols c.loop-pair-test.true).1
 
 pub add-requires-clause-absent : goal.add-requires-clause-absent
 add-requires-clause-absent c =
-    let os = c.args.heap.now in
+    let os = c.args.heap.now.objects in
     let name = ap name_of_bytes (sym c.name_of.ensures) ∙ name_of_bytes-bytes (name_of (object_at os c.pair-item.result.0)) in
     ap₂ arity_of c.loop-pair.invariant (name ∙ ap (λ p. name_of (object_at os p.0)) c.pair-item.is)
     ∙ new-at os c.args.pairs.now c.loop-pair.pair-index c.pair-item.result c.args.arity.now c.requires.new c.loop-pair-test.true
 
 pub loop-pair-preserved : goal.loop-pair-preserved
 loop-pair-preserved c =
-    let os = c.args.heap.now in
+    let os = c.args.heap.now.objects in
     let i = c.loop-pair.pair-index in
     let p = c.pair-item.result in
     let A = c.args.arity.now in
@@ -44,9 +44,9 @@ loop-pair-preserved c =
 pub returns-in_err-add-clause-kept : goal.returns-in_err-add-clause-kept
 returns-in_err-add-clause-kept c =
     let A = c.args.arity.now in
-    subst (λ new. EndsWith new A) (sym (c.in_err-add.ensures.err ∙ c.loop-pair.invariant)) (pairs-behind c.args.heap.now (take c.loop-pair.pair-index c.args.pairs.now) A)
+    subst (λ new. EndsWith new A) (sym (c.in_err-add.ensures.err ∙ c.loop-pair.invariant)) (pairs-behind c.args.heap.now.objects (take c.loop-pair.pair-index c.args.pairs.now) A)
 
 pub returns-clause-kept : goal.returns-clause-kept
 returns-clause-kept c =
     let A = c.args.arity.now in
-    subst (λ new. EndsWith new A) (sym c.loop-pair.invariant) (pairs-behind c.args.heap.now (take c.loop-pair.pair-index c.args.pairs.now) A)
+    subst (λ new. EndsWith new A) (sym c.loop-pair.invariant) (pairs-behind c.args.heap.now.objects (take c.loop-pair.pair-index c.args.pairs.now) A)

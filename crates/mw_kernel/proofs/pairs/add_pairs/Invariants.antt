@@ -4,4 +4,4 @@ use Rattle.mw_translate.specs.Expands.{with_pairs}
 use Rattle.mw_kernel.proofs.pairs.add_pairs.Given as goal
 
 abbrev pub invariant-loop-pair : goal.invariant-loop-pair
-invariant-loop-pair l = l.arity ≡ with_pairs l.heap (take l.pair-index l.pairs) l.initial.arity
+invariant-loop-pair l = l.arity ≡ with_pairs l.heap.objects (take l.pair-index l.pairs) l.initial.arity

@@ -13,14 +13,14 @@ use Rattle.mw_kernel.proofs.pairs.list_pairs.Goals as goal
 
 pub with_pair-requires-clause-name : goal.with_pair-requires-clause-name
 with_pair-requires-clause-name c =
-    let os = c.args.heap.now in
+    let os = c.args.heap.now.objects in
     let l = c.loop-pair in
-    IsIn-Grows os l.heap l.invariant.0 c.pair-item.result.0
+    IsIn-Grows os l.heap.objects l.invariant.0 c.pair-item.result.0
     (subst (λ p. IsIn os p.0) (sym c.pair-item.is) (pair-at os c.args.pairs.now l.pair-index c.pair-item.result c.requires.symbols c.loop-pair-test.true).0)
 
 pub loop-pair-preserved : goal.loop-pair-preserved
 loop-pair-preserved c =
-    let os = c.args.heap.now in
+    let os = c.args.heap.now.objects in
     let l = c.loop-pair in
     let i = l.pair-index in
     let ps = c.args.pairs.now in
@@ -30,11 +30,11 @@ loop-pair-preserved c =
     let name_in : IsIn os p.0 = subst (λ q. IsIn os q.0) (sym c.pair-item.is) symbol.0 in
     let is_name : is_symbol (object_at os p.0) ≡ true = subst (λ q. is_symbol (object_at os q.0) ≡ true) (sym c.pair-item.is) symbol.1 in
     let made = c.in_ok-list.ensures.made in (
-      Grows-trans os l.heap c.with_pair.new.heap g c.with_pair.ensures.grows,
+      Grows-trans os l.heap.objects c.with_pair.new.heap.objects g c.with_pair.ensures.grows,
       made.0,
       λ A e.
           made.1
-          ∙ (ap₂ (λ x y. Pair (Pair x (Natural p.1)) y) (object_at-Grows os l.heap g p.0 name_in ∙ symbol_is (object_at os p.0) is_name) (l.invariant.2 A e)
+          ∙ (ap₂ (λ x y. Pair (Pair x (Natural p.1)) y) (object_at-Grows os l.heap.objects g p.0 name_in ∙ symbol_is (object_at os p.0) is_name) (l.invariant.2 A e)
           ∙ ap table_object (sym (pairs-push os (take i ps) p A)
           ∙ ap (λ qs. with_pairs os qs A) (sym (take_more ps i p c.loop-pair-test.true ∙ ap (λ q. take i ps ++ q ∷ []) (sym c.pair-item.is))))),
     )

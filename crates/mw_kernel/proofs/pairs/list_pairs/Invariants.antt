@@ -7,6 +7,6 @@ use Rattle.mw_kernel.proofs.pairs.list_pairs.Given as goal
 
 abbrev pub invariant-loop-pair : goal.invariant-loop-pair
 invariant-loop-pair l =
-    Grows l.initial.heap l.heap
-    × IsIn l.heap l.list
-    × ((A : ArityTable) → object_at l.initial.heap l.initial.list ≡ table_object A → object_at l.heap l.list ≡ table_object (with_pairs l.initial.heap (take l.pair-index l.pairs) A))
+    Grows l.initial.heap.objects l.heap.objects
+    × IsIn l.heap.objects l.list
+    × ((A : ArityTable) → object_at l.initial.heap.objects l.initial.list ≡ table_object A → object_at l.heap.objects l.list ≡ table_object (with_pairs l.initial.heap.objects (take l.pair-index l.pairs) A))

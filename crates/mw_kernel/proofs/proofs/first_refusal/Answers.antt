@@ -8,7 +8,7 @@ use Rattle.mw_kernel.proofs.proofs.first_refusal.Goals as goal
 
 pub unreachable-requires : goal.unreachable-requires
 unreachable-requires c =
-    let now = c.loop-formula.heap in
+    let now = c.loop-formula.heap.objects in
     let no_proof = shown_no_pair now c.view-in-Pair.result (object_at now c.loop-formula.rest) c.view-in-Pair.ensures.shows c.in_default-view.not-Pair in
     never_too_few _ _ _ c.args.obligations c.args.proofs _ _ _ _ _ _ c.loop-formula.invariant c.in-Pair.ensures.below.0 c.in-Pair.ensures.below.1 c.in-Pair.ensures.shows.2 no_proof
 
@@ -31,7 +31,7 @@ loop-formula-preserved c =
 
 pub returns : goal.returns
 returns c =
-    let now = c.loop-formula.heap in
+    let now = c.loop-formula.heap.objects in
     let formulas = object_at now c.loop-formula.formulas in
     let w = c.loop-formula.invariant in
     record {

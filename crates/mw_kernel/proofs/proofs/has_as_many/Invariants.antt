@@ -7,9 +7,9 @@ use Rattle.mw_kernel.proofs.proofs.has_as_many.Given as goal
 
 abbrev pub invariant-loop-more : goal.invariant-loop-more
 invariant-loop-more l =
-    IsIn l.heap l.others
-    × IsIn l.heap l.rest
-    × (has_members (length_object (object_at l.heap l.fn.other)) (object_at l.heap l.fn.list) ≡ has_members (length_object (object_at l.heap l.others)) (object_at l.heap l.rest))
+    IsIn l.heap.objects l.others
+    × IsIn l.heap.objects l.rest
+    × (has_members (length_object (object_at l.heap.objects l.fn.other)) (object_at l.heap.objects l.fn.list) ≡ has_members (length_object (object_at l.heap.objects l.others)) (object_at l.heap.objects l.rest))
 
 abbrev pub decreases-loop-more : goal.decreases-loop-more
 decreases-loop-more l = l.others

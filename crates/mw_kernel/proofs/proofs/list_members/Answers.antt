@@ -7,11 +7,11 @@ use Rattle.mw_kernel.proofs.proofs.list_members.Goals as goal
 pub loop-first-preserved : goal.loop-first-preserved
 loop-first-preserved c =
     let shows = c.in-Pair.ensures.shows in
-    AreMembers-next c.args.heap.now c.args.list _ _ _ _ _ c.loop-first.invariant shows.0 shows.1 shows.2 c.in_ok-push.ensures.items
+    AreMembers-next c.args.heap.now.objects c.args.list _ _ _ _ _ c.loop-first.invariant shows.0 shows.1 shows.2 c.in_ok-push.ensures.items
 
 pub returns : goal.returns
 returns c =
-    let os = c.args.heap.now in
+    let os = c.args.heap.now.objects in
     let rest = object_at os c.loop-first.rest in
     record {
       within = c.loop-first.invariant.within;

@@ -3,7 +3,7 @@ use Rattle.mw_kernel.proofs.ProofLists.{AreMembers}
 use Rattle.mw_kernel.proofs.proofs.list_members.Given as goal
 
 abbrev pub invariant-loop-first : goal.invariant-loop-first
-invariant-loop-first l = AreMembers l.heap l.fn.list l.members.items l.rest
+invariant-loop-first l = AreMembers l.heap.objects l.fn.list l.members.items l.rest
 
 abbrev pub decreases-loop-first : goal.decreases-loop-first
 decreases-loop-first l = l.rest

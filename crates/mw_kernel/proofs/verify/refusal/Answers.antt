@@ -8,14 +8,14 @@ use Rattle.mw_kernel.proofs.verify.refusal.Goals as goal
 
 pub returns-then-not-is_formula-clause-refusal : goal.returns-then-not-is_formula-clause-refusal
 returns-then-not-is_formula-clause-refusal c =
-    let os = c.args.heap.now in
+    let os = c.args.heap.now.objects in
     let A = c.args.theory.now.arity in
     refused_formula _ _ _ (sym c.is_symbol.ensures ∙ c.if-not-is_symbol.false)
     (ap (λ B. is_formula_object B (object_at os c.args.formula)) (sym c.requires.held.arities) ∙ (sym (c.is_formula.ensures A os c.in_ok-extend.ensures.marked) ∙ c.if-not-is_formula.true))
 
 pub returns-clause-refusal : goal.returns-clause-refusal
 returns-clause-refusal c =
-    let os = c.args.heap.now in
+    let os = c.args.heap.now.objects in
     let A = c.args.theory.now.arity in
     IfOk-weaker c.refusal_of_proof.result _ _ (λ r is. is
     ∙ proof_refused _ _ _ (sym c.is_symbol.ensures ∙ c.if-not-is_symbol.false)

@@ -6,4 +6,4 @@ use Rattle.mw_machine_tests.proofs.bench.nested_in.Goals as goal
 pub answer_of-requires-clause-table : goal.answer_of-requires-clause-table
 answer_of-requires-clause-table c =
     let t = c.args.table.now in
-    stands-grows c.args.heap.now c.nested.new.heap c.in_ok-term.ensures.grows t.signature t.profile t.functions.items t.code.items t.kept no_functions c.requires
+    stands-grows c.args.heap.now.objects c.nested.new.heap.objects c.in_ok-term.ensures.grows t.signature t.profile t.functions.items t.code.items t.kept no_functions c.requires

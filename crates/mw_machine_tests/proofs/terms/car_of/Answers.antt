@@ -8,10 +8,10 @@ use Rattle.mw_machine_tests.proofs.terms.car_of.Goals as goal
 
 pub returns-clause-term : goal.returns-clause-term
 returns-clause-term c =
-    let first = c.nil.new.self in
-    let end = c.cons-2.new.self in
-    let grows = Grows-trans first c.cons.new.self end c.in_ok-actuals.ensures.grows (Grows-trans c.cons.new.self c.symbol.new.self end c.in_ok-car.ensures.grows c.cons-2.ensures.grows) in
-    let x = term-grows c.args.heap.now first c.in_ok-nil.ensures.grows c.args.x c.requires in
+    let first = c.nil.new.self.objects in
+    let end = c.cons-2.new.self.objects in
+    let grows = Grows-trans first c.cons.new.self.objects end c.in_ok-actuals.ensures.grows (Grows-trans c.cons.new.self.objects c.symbol.new.self.objects end c.in_ok-car.ensures.grows c.cons-2.ensures.grows) in
+    let x = term-grows c.args.heap.now.objects first c.in_ok-nil.ensures.grows c.args.x c.requires in
     let part = sym (object_at-Grows first end grows c.args.x x.1.within) in
-    let actuals = object_at-Grows c.cons.new.self c.symbol.new.self c.in_ok-car.ensures.grows c.in_ok-actuals.actuals c.in_ok-actuals.ensures.made.0 ∙ (c.in_ok-actuals.ensures.made.1 ∙ ap₂ Pair part c.in_ok-nil.ensures.made.1) in
+    let actuals = object_at-Grows c.cons.new.self.objects c.symbol.new.self.objects c.in_ok-car.ensures.grows c.in_ok-actuals.actuals c.in_ok-actuals.ensures.made.0 ∙ (c.in_ok-actuals.ensures.made.1 ∙ ap₂ Pair part c.in_ok-nil.ensures.made.1) in
     if_ok-along c.cons-2.result (λ r h. car-term end r c.args.x h.0 (term-grows first end grows c.args.x x) (h.1 ∙ ap₂ Pair c.in_ok-car.ensures.made.1 actuals)) c.cons-2.ensures.made

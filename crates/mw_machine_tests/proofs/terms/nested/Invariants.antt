@@ -4,4 +4,4 @@ use Rattle.mw_machine_tests.specs.Tested.{IsSomeTerm}
 use Rattle.mw_machine_tests.proofs.terms.nested.Given as goal
 
 abbrev pub invariant-loop : goal.invariant-loop
-invariant-loop l = Grows l.fn.heap l.heap × IsSomeTerm l.heap l.term
+invariant-loop l = Grows l.fn.heap.objects l.heap.objects × IsSomeTerm l.heap.objects l.term

@@ -8,15 +8,15 @@ use Rattle.mw_machine_tests.proofs.terms.sum_of.Goals as goal
 
 pub returns-clause-term : goal.returns-clause-term
 returns-clause-term c =
-    let first = c.nil.new.self in
-    let second = c.cons.new.self in
-    let third = c.cons-2.new.self in
-    let end = c.cons-3.new.self in
-    let later = Grows-trans second third end c.in_ok-actuals.ensures.grows (Grows-trans third c.symbol.new.self end c.in_ok-plus.ensures.grows c.cons-3.ensures.grows) in
+    let first = c.nil.new.self.objects in
+    let second = c.cons.new.self.objects in
+    let third = c.cons-2.new.self.objects in
+    let end = c.cons-3.new.self.objects in
+    let later = Grows-trans second third end c.in_ok-actuals.ensures.grows (Grows-trans third c.symbol.new.self.objects end c.in_ok-plus.ensures.grows c.cons-3.ensures.grows) in
     let grows = Grows-trans first second end c.in_ok-last.ensures.grows later in
-    let x = term-grows first second c.in_ok-last.ensures.grows c.args.x (term-grows c.args.heap.now first c.in_ok-nil.ensures.grows c.args.x c.requires.first) in
-    let y = term-grows c.args.heap.now first c.in_ok-nil.ensures.grows c.args.y c.requires.second in
+    let x = term-grows first second c.in_ok-last.ensures.grows c.args.x (term-grows c.args.heap.now.objects first c.in_ok-nil.ensures.grows c.args.x c.requires.first) in
+    let y = term-grows c.args.heap.now.objects first c.in_ok-nil.ensures.grows c.args.y c.requires.second in
     let last = c.in_ok-last.ensures.made.1 ∙ ap₂ Pair (sym (object_at-Grows first end grows c.args.y y.1.within)) c.in_ok-nil.ensures.made.1 in
-    let actuals = object_at-Grows third c.symbol.new.self c.in_ok-plus.ensures.grows c.in_ok-actuals.actuals c.in_ok-actuals.ensures.made.0
+    let actuals = object_at-Grows third c.symbol.new.self.objects c.in_ok-plus.ensures.grows c.in_ok-actuals.actuals c.in_ok-actuals.ensures.made.0
     ∙ (c.in_ok-actuals.ensures.made.1 ∙ ap₂ Pair (sym (object_at-Grows second end later c.args.x x.1.within)) last) in
     if_ok-along c.cons-3.result (λ r h. sum-term end r c.args.x c.args.y h.0 (term-grows second end later c.args.x x) (term-grows first end grows c.args.y y) (h.1 ∙ ap₂ Pair c.in_ok-plus.ensures.made.1 actuals)) c.cons-3.ensures.made

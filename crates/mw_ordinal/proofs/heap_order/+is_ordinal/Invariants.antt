@@ -9,9 +9,9 @@ decreases-is_ordinal l = l.x
 
 abbrev pub invariant-loop-term : goal.invariant-loop-term
 invariant-loop-term l = record {
-  within : IsIn l.heap l.rest;
+  within : IsIn l.heap.objects l.rest;
   older : l.rest ≤ l.fn.x;
-  tells : is_ordinal (object_at l.heap l.rest) ≡ is_ordinal (object_at l.heap l.fn.x);
+  tells : is_ordinal (object_at l.heap.objects l.rest) ≡ is_ordinal (object_at l.heap.objects l.fn.x);
 }
 
 abbrev pub decreases-loop-term : goal.decreases-loop-term

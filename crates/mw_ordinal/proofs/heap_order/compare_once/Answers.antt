@@ -8,17 +8,17 @@ use Rattle.mw_ordinal.proofs.heap_order.compare_once.Goals as goal
 
 pub returns-then-not-is_same : goal.returns-then-not-is_same
 returns-then-not-is_same c =
-    let p = object_at c.args.heap.now c.in-Pair.p in
-    let q = object_at c.args.heap.now c.in-Pair-view.q in
+    let p = object_at c.args.heap.now.objects c.in-Pair.p in
+    let q = object_at c.args.heap.now.objects c.in-Pair-view.q in
     let differ : same_object (car p) (car q) ≡ false = ap₂ same_object (sym c.car.ensures.value) (sym c.car-2.ensures.value) ∙ (sym c.is_same.ensures ∙ c.if-not-is_same.true) in
     let tells = by_exponents _ _ _ _ _ _ c.in-Pair.ensures.shows.2 c.in-Pair-view.ensures.shows.2 differ in
-    let os = c.args.heap.now in
+    let os = c.args.heap.now.objects in
     Turns-along os c.in-Pair.p c.args.x (car p) (car q) (object_at os c.args.x) (object_at os c.args.y) c.compare_exponents.result c.in-Pair.ensures.below.0 tells c.compare_exponents.ensures
 
 pub returns-then-not-is_same-2 : goal.returns-then-not-is_same-2
 returns-then-not-is_same-2 c =
-    let p = object_at c.args.heap.now c.in-Pair.p in
-    let q = object_at c.args.heap.now c.in-Pair-view.q in
+    let p = object_at c.args.heap.now.objects c.in-Pair.p in
+    let q = object_at c.args.heap.now.objects c.in-Pair-view.q in
     let same : same_object (car p) (car q) ≡ true = ap₂ same_object (sym c.car.ensures.value) (sym c.car-2.ensures.value) ∙ (sym c.is_same.ensures ∙ c.if-not-is_same.false) in
     let differ : same_object (cdr p) (cdr q) ≡ false = ap₂ same_object (sym c.cdr.ensures.value) (sym c.cdr-2.ensures.value) ∙ (sym c.is_same-2.ensures ∙ c.if-not-is_same-2.true) in
     let left = c.number.ensures ∙ ap number c.cdr-then-not-is_same-2.ensures.value in
@@ -27,8 +27,8 @@ returns-then-not-is_same-2 c =
 
 pub returns : goal.returns
 returns c =
-    let p = object_at c.args.heap.now c.in-Pair.p in
-    let q = object_at c.args.heap.now c.in-Pair-view.q in
+    let p = object_at c.args.heap.now.objects c.in-Pair.p in
+    let q = object_at c.args.heap.now.objects c.in-Pair-view.q in
     let same : same_object (car p) (car q) ≡ true = ap₂ same_object (sym c.car.ensures.value) (sym c.car-2.ensures.value) ∙ (sym c.is_same.ensures ∙ c.if-not-is_same.false) in
     let alike : same_object (cdr p) (cdr q) ≡ true = ap₂ same_object (sym c.cdr.ensures.value) (sym c.cdr-2.ensures.value) ∙ (sym c.is_same-2.ensures ∙ c.if-not-is_same-2.false) in
     let x = c.in-Pair.ensures.shows in

@@ -6,9 +6,9 @@ use Rattle.mw_ordinal.proofs.heap_order.ordinal_less.Given as goal
 
 abbrev pub invariant-loop-below : goal.invariant-loop-below
 invariant-loop-below l = record {
-  x_in : IsIn l.heap l.x;
-  y_in : IsIn l.heap l.y;
-  tells : is_below (object_at l.heap l.x) (object_at l.heap l.y) ≡ is_below (object_at l.heap l.fn.x) (object_at l.heap l.fn.y);
+  x_in : IsIn l.heap.objects l.x;
+  y_in : IsIn l.heap.objects l.y;
+  tells : is_below (object_at l.heap.objects l.x) (object_at l.heap.objects l.y) ≡ is_below (object_at l.heap.objects l.fn.x) (object_at l.heap.objects l.fn.y);
 }
 
 abbrev pub decreases-loop-below : goal.decreases-loop-below

@@ -7,7 +7,7 @@ use Rattle.mw_preamble.proofs.define.add_code.Goals as goal
 
 pub add-requires : goal.add-requires
 add-requires c =
-    let os = c.args.heap.now in
+    let os = c.args.heap.now.objects in
     let P = c.requires.0 in
     let D = c.requires.1 in
     let B = c.requires.2 in
@@ -22,6 +22,6 @@ add-requires c =
 
 pub returns : goal.returns
 returns c P D B next stands =
-    let os = c.args.heap.now in
+    let os = c.args.heap.now.objects in
     c.add.ensures.added (definitions P D) B stands
     (subst (λ m. IsBlockOf os (definitions P D) (m ∷ []) B) (sym c.spelling.ensures) (block-spelled os P D (c.args.definition.now ∷ []) B next.means next.made))

@@ -7,7 +7,7 @@ use Rattle.mw_preamble.specs.Entries.{IsBlock}
 use Rattle.mw_preamble.specs.Defining.{IsNext, IsNextRow}
 use Rattle.mw_preamble.proofs.define.define_row.Goals as goal
 
-next : (c : goal.After-definition-1) (P : Profile) (D : List Block) (B : Block) → IsNextRow c.args.heap.now P D B c.args.row → IsNext c.args.heap.now P D B c.definition_of-definition.result
+next : (c : goal.After-definition-1) (P : Profile) (D : List Block) (B : Block) → IsNextRow c.args.heap.now.objects P D B c.args.row → IsNext c.args.heap.now.objects P D B c.definition_of-definition.result
 next c P D B n = record { means = c.definition_of-definition.ensures B n.row_is; made = n.made }
 
 always : {T E P : Type 0} (r : Result T E) → P → OnOk r P
@@ -21,7 +21,7 @@ pub returns-clause-entries : goal.returns-clause-entries
 returns-clause-entries c D B row_is are =
     let made = c.in_ok-block.ensures.items in
     always c.add_code.result
-    (c.args.entries.now, c.in_ok-block.block.items, c.in_ok-add.ensures.added, subst (λ ds. IsBlock c.args.heap.now ds B) (sym made) (c.definition_of-definition.ensures B row_is), are)
+    (c.args.entries.now, c.in_ok-block.block.items, c.in_ok-add.ensures.added, subst (λ ds. IsBlock c.args.heap.now.objects ds B) (sym made) (c.definition_of-definition.ensures B row_is), are)
 
 pub returns-clause-table : goal.returns-clause-table
 returns-clause-table c P D B n stands =

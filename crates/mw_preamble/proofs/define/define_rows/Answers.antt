@@ -10,7 +10,7 @@ use Rattle.mw_preamble.proofs.define.define_rows.Goals as goal
 
 pub loop-row-init : goal.loop-row-init
 loop-row-init c =
-    let os = c.args.heap.now in
+    let os = c.args.heap.now.objects in
     let P = profile_of c.args.table.now.profile in
     subst (λ es. Defines os P (definitions_of P).blocks c.args.rows es c.args.table.now) (sym c.new-entries.ensures)
     (Defines-begin P os c.args.rows c.args.table.now c.requires.within c.requires.rows c.requires.empty)
@@ -31,6 +31,6 @@ loop-row-preserved c =
 
 pub returns : goal.returns
 returns c =
-    let os = c.args.heap.now in
+    let os = c.args.heap.now.objects in
     let end = Defines-end _ _ _ _ _ _ c.loop-row.invariant (shown_no_pair os c.view.result (object_at os c.loop-row.rest) c.view.ensures.shows c.in_default.not-Pair) in
     record { entries = end.0; table = subst (StandsFor os c.loop-row.table) (definitions-same (profile_of c.args.table.now.profile)) end.1 }

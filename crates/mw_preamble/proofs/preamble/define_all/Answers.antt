@@ -17,11 +17,11 @@ profile-same os t u P e h = ap (λ v. profile_of v.profile) e ∙ h.profile
 pub define_rows-requires-clause-rows : goal.define_rows-requires-clause-rows
 define_rows-requires-clause-rows c =
     let e = c.deref_mut-table.ensures.value ∙ c.in_ok-boxed.ensures.ok in
-    c.requires.rows ∙ ap built_in_rows (sym (profile-same c.args.heap.now _ _ c.args.profile e (c.new.ensures c.args.heap.now)))
+    c.requires.rows ∙ ap built_in_rows (sym (profile-same c.args.heap.now.objects _ _ c.args.profile e (c.new.ensures c.args.heap.now.objects)))
 
 pub define_rows-requires-clause-empty : goal.define_rows-requires-clause-empty
 define_rows-requires-clause-empty c =
-    let os = c.args.heap.now in
+    let os = c.args.heap.now.objects in
     let e = c.deref_mut-table.ensures.value ∙ c.in_ok-boxed.ensures.ok in
     let empty = c.new.ensures os in
     subst (λ P. StandsFor os c.deref_mut-table.result.now (definitions P [])) (sym (profile-same os _ _ c.args.profile e empty))
@@ -29,7 +29,7 @@ define_rows-requires-clause-empty c =
 
 pub returns : goal.returns
 returns c =
-    let os = c.args.heap.now in
+    let os = c.args.heap.now.objects in
     let e = c.deref_mut-table.ensures.value ∙ c.in_ok-boxed.ensures.ok in
     let same = profile-same os _ _ c.args.profile e (c.new.ensures os) in
     record {

@@ -10,11 +10,11 @@ use Rattle.mw_preamble.proofs.ReadAlone.{gives_object}
 use Rattle.mw_preamble.proofs.rows.read_rows.Goals as goal
 
 pub step-step-requires-clause-stands : goal.step-step-requires-clause-stands
-step-step-requires-clause-stands c = inl ([], [], c.new-reader.ensures.stands c.args.heap.now)
+step-step-requires-clause-stands c = inl ([], [], c.new-reader.ensures.stands c.args.heap.now.objects)
 
-given : (c : goal.After-drop-text) → IsIn c.step-step.new.heap c.in-Datum.rows × (object_at c.step-step.new.heap c.in-Datum.rows ≡ built_in_rows (profile_of c.args.profile))
+given : (c : goal.After-drop-text) → IsIn c.step-step.new.heap.objects c.in-Datum.rows × (object_at c.step-step.new.heap.objects c.in-Datum.rows ≡ built_in_rows (profile_of c.args.profile))
 given c =
-    let says = c.step-step.ensures.says [] [] (c.new-reader.ensures.stands c.args.heap.now) in
+    let says = c.step-step.ensures.says [] [] (c.new-reader.ensures.stands c.args.heap.now.objects) in
     let text : c.as_slice.result.now ≡ text_of (built_in_rows (profile_of c.args.profile)) = c.as_slice.ensures.value ∙ c.in_ok-text.ensures in
     let short = subst (λ (t : List ℕ). length t ≤ limit) (sym text) (rows_short c.args.profile) in
     gives_object _ _ _ c.as_slice.result.now (built_in_rows (profile_of c.args.profile)) _ _ _ text short c.in-Datum.is says

@@ -5,12 +5,12 @@ use Rattle.mw_print.proofs.text.text.Goals as goal
 
 pub loop-part-smaller : goal.loop-part-smaller
 loop-part-smaller c =
-    let os = c.args.heap.now in
+    let os = c.args.heap.now.objects in
     rw (c.in-Some.ensures.items, parts_weight-push os c.pop.new.self.items c.in-Some.part) c.in_ok-write_part.ensures.lighter
 
 pub loop-part-preserved : goal.loop-part-preserved
 loop-part-preserved c =
-    let os = c.args.heap.now in (
+    let os = c.args.heap.now.objects in (
       c.in_ok-write_part.ensures.text
           ∙ ap (λ t. c.loop-part.out.items ++ t) (sym (ap (parts_text os) c.in-Some.ensures.items ∙ parts_text-push os c.pop.new.self.items c.in-Some.part))
           ∙ c.loop-part.invariant.0,

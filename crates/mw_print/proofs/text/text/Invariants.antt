@@ -7,7 +7,7 @@ use Rattle.mw_print.proofs.text.text.Given as goal
 -- what is written and what is left make the text
 abbrev pub invariant-loop-part : goal.invariant-loop-part
 invariant-loop-part l =
-    (l.out.items ++ parts_text l.heap l.parts.items ≡ text_of (object_at l.heap l.fn.x)) × All (IsPart l.heap) l.parts.items
+    (l.out.items ++ parts_text l.heap.objects l.parts.items ≡ text_of (object_at l.heap.objects l.fn.x)) × All (IsPart l.heap.objects) l.parts.items
 
 abbrev pub decreases-loop-part : goal.decreases-loop-part
-decreases-loop-part l = parts_weight l.heap l.parts.items
+decreases-loop-part l = parts_weight l.heap.objects l.parts.items

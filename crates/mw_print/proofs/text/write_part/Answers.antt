@@ -7,7 +7,7 @@ use Rattle.mw_print.proofs.text.write_part.Goals as goal
 
 pub returns-in-Pair : goal.returns-in-Pair
 returns-in-Pair c =
-    let os = c.args.heap.now in
+    let os = c.args.heap.now.objects in
     let shown = c.in-Pair.ensures.shows in
     OnOk-both c.write_open.result c.write_open.ensures.parts c.write_open.ensures.byte (λ e f.
     opens os c.in-Pair.first c.in-Pair.rest shown.0 shown.1 c.args.part 40 c.args.parts.now.items c.write_open.new.parts.items c.args.out.now.items c.write_open.new.out.items
@@ -15,7 +15,7 @@ returns-in-Pair c =
 
 pub returns-in-Pair-view : goal.returns-in-Pair-view
 returns-in-Pair-view c =
-    let os = c.args.heap.now in
+    let os = c.args.heap.now.objects in
     let shown = c.in-Pair-view.ensures.shows in
     let w = c.write_open-in-Pair-view in
     OnOk-both w.result w.ensures.parts w.ensures.byte (λ e f.

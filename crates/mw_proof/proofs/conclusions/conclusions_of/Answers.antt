@@ -10,7 +10,7 @@ use Rattle.mw_proof.proofs.conclusions.conclusions_of.Goals as goal
 
 pub loop-p-preserved : goal.loop-p-preserved
 loop-p-preserved c =
-    let os = c.args.heap.now in
+    let os = c.args.heap.now.objects in
     let ms = c.args.marks.now in
     let list = c.args.subproofs in
     let cs = c.loop-p.conclusions.items in
@@ -24,13 +24,13 @@ loop-p-preserved c =
 
 pub returns-then-not-is_formula-clause-answer : goal.returns-then-not-is_formula-clause-answer
 returns-then-not-is_formula-clause-answer c = λ A k.
-    let os = c.args.heap.now in
+    let os = c.args.heap.now.objects in
     let no : is_formula_object A (second_of (object_at os c.in-Pair.p)) ≡ false = ap (is_formula_object A) (sym c.in-Some.ensures.value) ∙ (sym (c.is_formula.ensures A os k) ∙ c.if-not-is_formula.true) in
     inl (stops_at_no_formula os c.args.marks.now c.args.most c.args.subproofs c.loop-p.rest c.loop-p.conclusions.items c.loop-p.invariant.0 c.in-Pair.p c.in-Pair.more c.in-Pair.ensures.shows A k no)
 
 pub returns-then-is_nil : goal.returns-then-is_nil
 returns-then-is_nil c =
-    let os = c.args.heap.now in
+    let os = c.args.heap.now.objects in
     let nil = sym c.is_nil.ensures ∙ c.if-is_nil.true in
     record {
       answer = collects_all os c.args.marks.now c.args.most c.args.subproofs c.loop-p.rest c.loop-p.conclusions.items c.loop-p.invariant.0 nil;

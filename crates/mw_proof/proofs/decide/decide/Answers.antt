@@ -9,7 +9,7 @@ use Rattle.mw_heap.specs.Objects.{object_at, IsIn}
 use Rattle.mw_heap.specs.Variants.{profile_of}
 use Rattle.mw_heap.proofs.Objects.{Grows-refl}
 use Rattle.mw_proof.specs.Step.{rule_holds}
-use Rattle.mw_proof.specs.Known.{known_object}
+use Rattle.mw_heap.specs.Lists.{list_object}
 use Rattle.mw_proof.specs.Methods.{method_of_logic}
 use Rattle.mw_proof.specs.Gathered.{AddsMembers}
 use Rattle.mw_proof.proofs.Gathering.{adds}
@@ -19,32 +19,32 @@ use Rattle.mw_proof.proofs.decide.decide.Goals as goal
 
 pub returns-in_default-of-clause-answer : goal.returns-in_default-of-clause-answer
 returns-in_default-of-clause-answer c = λ A k.
-    let os = c.args.heap.now in
+    let os = c.args.heap.now.objects in
     let b = basis os A c.args.axioms.now c.args.theorems.now (profile_of c.args.profile) in
     let m = c.in-Some.members in
     let am = c.in-Some.ensures.members in
     sym (no_method b os c.args.p m c.in-Some.ensures.shape am (sym c.of.ensures ∙ ap (option_map method_of_logic) c.in_default-of.is))
 
 pub returns-then-not-is_formula-clause-grows : goal.returns-then-not-is_formula-clause-grows
-returns-then-not-is_formula-clause-grows c = Grows-refl c.args.heap.now
+returns-then-not-is_formula-clause-grows c = Grows-refl c.args.heap.now.objects
 
 pub returns-then-not-is_formula-clause-answer : goal.returns-then-not-is_formula-clause-answer
 returns-then-not-is_formula-clause-answer c = λ A k.
-    let os = c.args.heap.now in
+    let os = c.args.heap.now.objects in
     let b = basis os A c.args.axioms.now c.args.theorems.now (profile_of c.args.profile) in
     let m = c.in-Some.members in
     let am = c.in-Some.ensures.members in
     sym (no_formula b os c.args.p m c.in-Some.ensures.shape am (sym (c.is_formula.ensures A os k) ∙ c.if-not-is_formula.true))
 
 pub returns-in_err-conclusions-clause-grows : goal.returns-in_err-conclusions-clause-grows
-returns-in_err-conclusions-clause-grows c = Grows-refl c.args.heap.now
+returns-in_err-conclusions-clause-grows c = Grows-refl c.args.heap.now.objects
 
 pub returns-in_default-2-clause-grows : goal.returns-in_default-2-clause-grows
-returns-in_default-2-clause-grows c = Grows-refl c.args.heap.now
+returns-in_default-2-clause-grows c = Grows-refl c.args.heap.now.objects
 
 pub returns-in_default-2-clause-answer : goal.returns-in_default-2-clause-answer
 returns-in_default-2-clause-answer c = λ A k.
-    let os = c.args.heap.now in
+    let os = c.args.heap.now.objects in
     let b = basis os A c.args.axioms.now c.args.theorems.now (profile_of c.args.profile) in
     let m = c.in-Some.members in
     let am = c.in-Some.ensures.members in
@@ -59,13 +59,13 @@ pub follows-requires-clause-formula : goal.follows-requires-clause-formula
 follows-requires-clause-formula c =
     let A = c.requires.marks.0 in
     let k = c.requires.marks.1 in
-    (A, sym (c.is_formula.ensures A c.args.heap.now k) ∙ c.if-not-is_formula.false)
+    (A, sym (c.is_formula.ensures A c.args.heap.now.objects k) ∙ c.if-not-is_formula.false)
 
 pub follows-requires-clause-premises : goal.follows-requires-clause-premises
 follows-requires-clause-premises c =
     let A = c.requires.marks.0 in
     let k = c.requires.marks.1 in
-    let os = c.args.heap.now in
+    let os = c.args.heap.now.objects in
     let m = c.in-Some.members in
     let am = c.in-Some.ensures.members in
     let collected : AreConclusions A os m.subproofs c.in-Some-2.conclusions.items = (subst (IsAnswer A os m.subproofs c.most_subproofs-most.result) c.in-Some-2.is (c.in_ok-conclusions.ensures.answer A k)).0 in
@@ -75,7 +75,7 @@ pub follows-requires-clause-formulas : goal.follows-requires-clause-formulas
 follows-requires-clause-formulas c =
     let A = c.requires.marks.0 in
     let k = c.requires.marks.1 in
-    let os = c.args.heap.now in
+    let os = c.args.heap.now.objects in
     let b = basis os A c.args.axioms.now c.args.theorems.now (profile_of c.args.profile) in
     let m = c.in-Some.members in
     let collected : AreConclusions A os m.subproofs c.in-Some-2.conclusions.items = (subst (IsAnswer A os m.subproofs c.most_subproofs-most.result) c.in-Some-2.is (c.in_ok-conclusions.ensures.answer A k)).0 in
@@ -85,7 +85,7 @@ follows-requires-clause-formulas c =
 
 pub returns-clause-answer : goal.returns-clause-answer
 returns-clause-answer c = IfOk-map c.follows.result _ _ (λ t h A k.
-    let os = c.args.heap.now in
+    let os = c.args.heap.now.objects in
     let b = basis os A c.args.axioms.now c.args.theorems.now (profile_of c.args.profile) in
     let m = c.in-Some.members in
     let am = c.in-Some.ensures.members in
@@ -93,12 +93,12 @@ returns-clause-answer c = IfOk-map c.follows.result _ _ (λ t h A k.
     let named : method_among methods (object_at os m.method) ≡ Some (method_of_logic c.in-Some-of.method) = sym c.in-Some-of.ensures in
     let formula : is_formula_object A (object_at os m.conclusion) ≡ true = sym (c.is_formula.ensures A os k) ∙ c.if-not-is_formula.false in
     h A k
-    ∙ (ap (λ rs. rule_holds b.axioms b.theorems A b.profile (Some (method_of_logic c.in-Some-of.method)) (object_at os m.conclusion) (known_object os rs) (object_at os m.extras)) c.deref.ensures.value
+    ∙ (ap (λ rs. rule_holds b.axioms b.theorems A b.profile (Some (method_of_logic c.in-Some-of.method)) (object_at os m.conclusion) (list_object os rs) (object_at os m.extras)) c.deref.ensures.value
     ∙ by_rule b os c.args.p m c.in-Some.ensures.shape am (method_of_logic c.in-Some-of.method) c.in-Some-2.conclusions.items named formula collected)) c.follows.ensures.answer
 
 pub returns-clause-found : goal.returns-clause-found
 returns-clause-found c = IfOk-any c.follows.result (
-    let os = c.args.heap.now in
+    let os = c.args.heap.now.objects in
     let m = c.in-Some.members in
     let am = c.in-Some.ensures.members in
     let before = am.subproofs_before in

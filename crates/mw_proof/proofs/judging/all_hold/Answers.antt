@@ -13,21 +13,21 @@ use Rattle.mw_proof.proofs.judging.all_hold.Goals as goal
 
 pub loop-next-init : goal.loop-next-init
 loop-next-init g c = record {
-  grows = Grows-refl c.args.heap.now;
-  gathers = gathers_starts c.args.heap.now c.insert.new.self.keys c.new-found.result.keys c.args.proof c.requires.within c.new-found.ensures.empty c.in_ok-insert.ensures.updates.1 c.in_ok-insert.ensures.updates.0;
+  grows = Grows-refl c.args.heap.now.objects;
+  gathers = gathers_starts c.args.heap.now.objects c.insert.new.self.keys c.new-found.result.keys c.args.proof c.requires.within c.new-found.ensures.empty c.in_ok-insert.ensures.updates.1 c.in_ok-insert.ensures.updates.0;
   holds = λ A k i l. absurd (omega (arith, l));
   steps = omega arith;
 }
 
 pub returns-in_err-insert-clause-most : goal.returns-in_err-insert-clause-most
-returns-in_err-insert-clause-most g c = none_decided c.args.heap.now c.args.proof c.args.steps.now
+returns-in_err-insert-clause-most g c = none_decided c.args.heap.now.objects c.args.proof c.args.steps.now
 
 pub decide-requires-clause-marks : goal.decide-requires-clause-marks
-decide-requires-clause-marks g c = (c.requires.marks.0, AreMarks-grows c.requires.marks.0 c.args.heap.now c.loop-next.heap c.args.marks.now c.loop-next.invariant.grows c.requires.marks.1)
+decide-requires-clause-marks g c = (c.requires.marks.0, AreMarks-grows c.requires.marks.0 c.args.heap.now.objects c.loop-next.heap.objects c.args.marks.now c.loop-next.invariant.grows c.requires.marks.1)
 
 pub decide-requires-clause-within : goal.decide-requires-clause-within
 decide-requires-clause-within g c =
-    let os = c.args.heap.now in
+    let os = c.args.heap.now.objects in
     let keys = c.loop-next.found.keys in
     let next = c.loop-next.next in
     let l : next < length keys = omega (arith, c.loop-next-test.true, c.len.ensures.len) in
@@ -36,34 +36,34 @@ decide-requires-clause-within g c =
     subst (λ n. c.index-as_slice-next.result < n) (sym c.requires.all) (subst (IsIn os) (sym p_is) p_in)
 
 pub decide-requires-clause-axioms : goal.decide-requires-clause-axioms
-decide-requires-clause-axioms g c = All-map (IsIn c.args.heap.now) (IsIn c.loop-next.heap) c.args.axioms.now (λ r. IsIn-Grows c.args.heap.now c.loop-next.heap c.loop-next.invariant.grows r) c.requires.axioms
+decide-requires-clause-axioms g c = All-map (IsIn c.args.heap.now.objects) (IsIn c.loop-next.heap.objects) c.args.axioms.now (λ r. IsIn-Grows c.args.heap.now.objects c.loop-next.heap.objects c.loop-next.invariant.grows r) c.requires.axioms
 
 pub decide-requires-clause-theorems : goal.decide-requires-clause-theorems
-decide-requires-clause-theorems g c = All-map (IsIn c.args.heap.now) (IsIn c.loop-next.heap) c.args.theorems.now (λ r. IsIn-Grows c.args.heap.now c.loop-next.heap c.loop-next.invariant.grows r) c.requires.theorems
+decide-requires-clause-theorems g c = All-map (IsIn c.args.heap.now.objects) (IsIn c.loop-next.heap.objects) c.args.theorems.now (λ r. IsIn-Grows c.args.heap.now.objects c.loop-next.heap.objects c.loop-next.invariant.grows r) c.requires.theorems
 
 pub decide-requires-clause-all_within : goal.decide-requires-clause-all_within
-decide-requires-clause-all_within g c = λ q k. IsIn-Grows c.args.heap.now c.loop-next.heap c.loop-next.invariant.grows q (c.loop-next.invariant.gathers.within q k)
+decide-requires-clause-all_within g c = λ q k. IsIn-Grows c.args.heap.now.objects c.loop-next.heap.objects c.loop-next.invariant.grows q (c.loop-next.invariant.gathers.within q k)
 
 pub returns-in_err-decide-clause-grows : goal.returns-in_err-decide-clause-grows
-returns-in_err-decide-clause-grows g c = Grows-trans c.args.heap.now c.loop-next.heap c.decide.new.heap c.loop-next.invariant.grows c.decide.ensures.grows
+returns-in_err-decide-clause-grows g c = Grows-trans c.args.heap.now.objects c.loop-next.heap.objects c.decide.new.heap.objects c.loop-next.invariant.grows c.decide.ensures.grows
 
 pub returns-in_err-decide-clause-most : goal.returns-in_err-decide-clause-most
 returns-in_err-decide-clause-most g c =
     let l = c.loop-next-test.true in
-    some_decided c.args.heap.now c.loop-next.found.keys c.args.proof c.loop-next.next c.args.steps.now _ c.loop-next.invariant.gathers c.len.ensures.unique (omega (arith, l, c.len.ensures.len, c.loop-next.invariant.steps, c.tick.ensures))
+    some_decided c.args.heap.now.objects c.loop-next.found.keys c.args.proof c.loop-next.next c.args.steps.now _ c.loop-next.invariant.gathers c.len.ensures.unique (omega (arith, l, c.len.ensures.len, c.loop-next.invariant.steps, c.tick.ensures))
 
 pub returns-then-not-branch-clause-grows : goal.returns-then-not-branch-clause-grows
-returns-then-not-branch-clause-grows g c = Grows-trans c.args.heap.now c.loop-next.heap c.decide.new.heap c.loop-next.invariant.grows c.decide.ensures.grows
+returns-then-not-branch-clause-grows g c = Grows-trans c.args.heap.now.objects c.loop-next.heap.objects c.decide.new.heap.objects c.loop-next.invariant.grows c.decide.ensures.grows
 
 pub returns-then-not-branch-clause-most : goal.returns-then-not-branch-clause-most
 returns-then-not-branch-clause-most g c =
     let l = c.loop-next-test.true in
-    some_decided c.args.heap.now c.loop-next.found.keys c.args.proof c.loop-next.next c.args.steps.now _ c.loop-next.invariant.gathers c.len.ensures.unique (omega (arith, l, c.len.ensures.len, c.loop-next.invariant.steps, c.tick.ensures))
+    some_decided c.args.heap.now.objects c.loop-next.found.keys c.args.proof c.loop-next.next c.args.steps.now _ c.loop-next.invariant.gathers c.len.ensures.unique (omega (arith, l, c.len.ensures.len, c.loop-next.invariant.steps, c.tick.ensures))
 
 pub returns-then-not-branch-clause-judged : goal.returns-then-not-branch-clause-judged
 returns-then-not-branch-clause-judged g c = λ A k.
-    let os = c.args.heap.now in
-    let new = c.loop-next.heap in
+    let os = c.args.heap.now.objects in
+    let new = c.loop-next.heap.objects in
     let ax = c.args.axioms.now in
     let th = c.args.theorems.now in
     let P = profile_of c.args.profile in
@@ -82,13 +82,13 @@ returns-then-not-branch-clause-judged g c = λ A k.
 pub loop-next-smaller : goal.loop-next-smaller
 loop-next-smaller g c =
     let l = c.loop-next-test.true in
-    let f = few c.args.heap.now c.loop-next.found.keys c.args.proof c.loop-next.next c.loop-next.invariant.gathers c.len.ensures.unique in
+    let f = few c.args.heap.now.objects c.loop-next.found.keys c.args.proof c.loop-next.next c.loop-next.invariant.gathers c.len.ensures.unique in
     omega (arith, l, c.len.ensures.len, f)
 
 pub loop-next-preserved : goal.loop-next-preserved
 loop-next-preserved g c =
-    let os = c.args.heap.now in
-    let new = c.loop-next.heap in
+    let os = c.args.heap.now.objects in
+    let new = c.loop-next.heap.objects in
     let ax = c.args.axioms.now in
     let th = c.args.theorems.now in
     let P = profile_of c.args.profile in
@@ -103,7 +103,7 @@ loop-next-preserved g c =
     let adds = adds-older os new p keys more inv.grows p_in inv.gathers.within (c.in_ok-decide.ensures.found c.if-not-branch.false) in
     let gathers = gathers_more os keys c.args.proof next inv.gathers more l (subst (λ q. AddsSubproofs os q keys more) p_is adds) in
     record {
-      grows = Grows-trans os new c.decide.new.heap inv.grows c.decide.ensures.grows;
+      grows = Grows-trans os new c.decide.new.heap.objects inv.grows c.decide.ensures.grows;
       gathers = gathers;
       holds = λ A k.
           let b = basis os A ax th P in
@@ -117,7 +117,7 @@ returns-clause-grows g c = c.loop-next.invariant.grows
 
 pub returns-clause-judged : goal.returns-clause-judged
 returns-clause-judged g c = λ A k.
-    let os = c.args.heap.now in
+    let os = c.args.heap.now.objects in
     let keys = c.loop-next.found.keys in
     let inv = c.loop-next.invariant in
     let b = basis os A c.args.axioms.now c.args.theorems.now (profile_of c.args.profile) in
@@ -131,10 +131,10 @@ returns-clause-each g c = λ e.
     let inv = c.loop-next.invariant in
     let end : length keys ≤ c.loop-next.next = omega (arith, c.loop-next-test.false, c.len.ensures.len) in
     let n = inv.gathers.next_within in
-    (keys, gathered c.args.heap.now keys c.args.proof c.loop-next.next inv.gathers end c.len.ensures.unique, omega (arith, n, end, inv.steps))
+    (keys, gathered c.args.heap.now.objects keys c.args.proof c.loop-next.next inv.gathers end c.len.ensures.unique, omega (arith, n, end, inv.steps))
 
 pub returns-clause-most : goal.returns-clause-most
 returns-clause-most g c =
     let inv = c.loop-next.invariant in
     let n = inv.gathers.next_within in
-    some_decided c.args.heap.now c.loop-next.found.keys c.args.proof c.loop-next.next c.args.steps.now _ inv.gathers c.len.ensures.unique (omega (arith, n, inv.steps))
+    some_decided c.args.heap.now.objects c.loop-next.found.keys c.args.proof c.loop-next.next c.args.steps.now _ inv.gathers c.len.ensures.unique (omega (arith, n, inv.steps))

@@ -10,11 +10,11 @@ use Rattle.mw_proof.proofs.judging.all_hold.Given as goal
 
 abbrev pub invariant-loop-next : goal.invariant-loop-next
 invariant-loop-next g l = record {
-  grows : Grows l.fn.heap l.heap;
-  gathers : Gathers l.fn.heap l.found.keys l.fn.proof l.next;
-  holds : (A : ArityTable) → AreMarks A l.fn.heap l.marks → (i : ℕ) → i < l.next → is_step_on (basis l.fn.heap A l.axioms l.theorems (profile_of l.profile)) (object_at l.fn.heap (get_or l.found.keys i 0)) ≡ true;
+  grows : Grows l.fn.heap.objects l.heap.objects;
+  gathers : Gathers l.fn.heap.objects l.found.keys l.fn.proof l.next;
+  holds : (A : ArityTable) → AreMarks A l.fn.heap.objects l.marks → (i : ℕ) → i < l.next → is_step_on (basis l.fn.heap.objects A l.axioms l.theorems (profile_of l.profile)) (object_at l.fn.heap.objects (get_or l.found.keys i 0)) ≡ true;
   steps : l.steps ≡ l.fn.steps + l.next;
 }
 
 abbrev pub decreases-loop-next : goal.decreases-loop-next
-decreases-loop-next g l = length l.fn.heap - l.next
+decreases-loop-next g l = length l.fn.heap.objects - l.next

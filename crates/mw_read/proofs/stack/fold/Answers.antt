@@ -6,21 +6,21 @@ use Rattle.mw_read.proofs.Folding.{fold_start, fold_item, fold_end}
 use Rattle.mw_read.proofs.stack.fold.Goals as goal
 
 pub loop-layer-init : goal.loop-layer-init
-loop-layer-init c = fold_start c.args.heap.now c.args.layers.now.items c.args.last c.requires.object c.requires.pile c.requires.list
+loop-layer-init c = fold_start c.args.heap.now.objects c.args.layers.now.items c.args.last c.requires.object c.requires.pile c.requires.list
 
 pub cons-requires-clause-first_in : goal.cons-requires-clause-first_in
 cons-requires-clause-first_in c =
-    (layer_lies c.loop-layer.heap c.pop.new.self.items (layers.Item c.in-Item.x)
-    (subst (λ u. IsPile c.loop-layer.heap u) (c.in-Some.ensures.items ∙ ap (λ u. c.pop.new.self.items ++ u ∷ []) c.in-Item.is) c.loop-layer.invariant.pile)).1
+    (layer_lies c.loop-layer.heap.objects c.pop.new.self.items (layers.Item c.in-Item.x)
+    (subst (λ u. IsPile c.loop-layer.heap.objects u) (c.in-Some.ensures.items ∙ ap (λ u. c.pop.new.self.items ++ u ∷ []) c.in-Item.is) c.loop-layer.invariant.pile)).1
 
 pub loop-layer-preserved : goal.loop-layer-preserved
 loop-layer-preserved c =
-    fold_item c.args.heap.now c.args.layers.now.items c.args.last c.loop-layer.heap c.cons.new.self c.loop-layer.layers.items c.pop.new.self.items c.loop-layer.list c.in-Item.x c.in_ok-list-in-Item.list
+    fold_item c.args.heap.now.objects c.args.layers.now.items c.args.last c.loop-layer.heap.objects c.cons.new.self.objects c.loop-layer.layers.items c.pop.new.self.items c.loop-layer.list c.in-Item.x c.in_ok-list-in-Item.list
     c.loop-layer.invariant (c.in-Some.ensures.items ∙ ap (λ u. c.pop.new.self.items ++ u ∷ []) c.in-Item.is)
     c.cons.ensures.grows c.in_ok-list-in-Item.ensures.made.0 c.in_ok-list-in-Item.ensures.made.1
 
 pub returns-in_default-layer : goal.returns-in_default-layer
 returns-in_default-layer c =
-    let e = fold_end c.args.heap.now c.args.layers.now.items c.args.last c.loop-layer.heap c.loop-layer.layers.items c.pop.new.self.items c.loop-layer.list c.in-Some.layer
+    let e = fold_end c.args.heap.now.objects c.args.layers.now.items c.args.last c.loop-layer.heap.objects c.loop-layer.layers.items c.pop.new.self.items c.loop-layer.list c.in-Some.layer
     c.loop-layer.invariant c.in-Some.ensures.items c.in_default-layer.not-Item in
     record { grows = c.loop-layer.invariant.kept; pile = e.0; rest = e.1; made = (c.loop-layer.invariant.listed, e.2) }

@@ -10,7 +10,7 @@ use Rattle.mw_rule_tests.proofs.machine.run_named.Goals as goal
 
 pub run-outcome-requires-clause-entry : goal.run-outcome-requires-clause-entry
 run-outcome-requires-clause-entry c =
-    let os = c.args.heap.now in
+    let os = c.args.heap.now.objects in
     let vs = map (object_at os) c.args.values.now in
-    let found = c.in_ok-entry.ensures os first_definitions c.requires.table in
+    let found = c.in_ok-entry.ensures.code os first_definitions c.requires.table in
     (first_definitions, Call (name_of_bytes c.args.name.now) (constants vs), c.requires.table, found.3 vs (length-map c.args.values.now (object_at os) ∙ sym c.if-entry-values.false))

@@ -3,4 +3,4 @@ use Rattle.std.proofs.Common.{[], inl}
 use Rattle.mw_run_tests.proofs.shared.read.Goals as goal
 
 pub step-step-requires-clause-stands : goal.step-step-requires-clause-stands
-step-step-requires-clause-stands c = inl ([], [], c.new-reader.ensures.stands c.args.heap.now)
+step-step-requires-clause-stands c = inl ([], [], c.new-reader.ensures.stands c.args.heap.now.objects)

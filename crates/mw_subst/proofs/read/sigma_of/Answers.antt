@@ -9,7 +9,7 @@ use Rattle.mw_subst.proofs.read.sigma_of.Goals as goal
 
 pub loop-pair-preserved : goal.loop-pair-preserved
 loop-pair-preserved c =
-    let os = c.args.heap.now in
+    let os = c.args.heap.now.objects in
     let outer = c.in-Pair.ensures.shows in
     let inner = c.in-Pair-view.ensures.shows in
     let i = c.loop-pair.invariant in
@@ -20,7 +20,7 @@ loop-pair-preserved c =
 
 pub returns : goal.returns
 returns c =
-    let os = c.args.heap.now in
+    let os = c.args.heap.now.objects in
     let i = c.loop-pair.invariant in
     let end = pairs_end (object_at os c.loop-pair.rest) i.2 (shown_no_pair os c.view.result _ c.view.ensures.shows c.in_default.not-Pair) in
     record { within = i.1; read = sym (sigma_object-before os c.loop-pair.sigma) ∙ (ap (pairs_before os c.loop-pair.sigma) (sym end) ∙ i.3) }

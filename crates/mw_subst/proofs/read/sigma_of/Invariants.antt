@@ -7,7 +7,7 @@ use Rattle.mw_subst.proofs.PairLists.{pairs_before}
 use Rattle.mw_subst.proofs.read.sigma_of.Given as goal
 
 abbrev pub invariant-loop-pair : goal.invariant-loop-pair
-invariant-loop-pair l = IsIn l.heap l.rest × AreIn l.heap l.sigma × (is_list_of_pairs (object_at l.heap l.rest) ≡ true) × (pairs_before l.heap l.sigma (object_at l.heap l.rest) ≡ object_at l.heap l.fn.s)
+invariant-loop-pair l = IsIn l.heap.objects l.rest × AreIn l.heap.objects l.sigma × (is_list_of_pairs (object_at l.heap.objects l.rest) ≡ true) × (pairs_before l.heap.objects l.sigma (object_at l.heap.objects l.rest) ≡ object_at l.heap.objects l.fn.s)
 
 abbrev pub decreases-loop-pair : goal.decreases-loop-pair
 decreases-loop-pair l = l.rest

@@ -10,13 +10,13 @@ use Rattle.mw_subst.proofs.walk.step_term.Goals as goal
 
 pub cons-requires-clause-second_in : goal.cons-requires-clause-second_in
 cons-requires-clause-second_in c =
-    let os = c.args.heap.now in
+    let os = c.args.heap.now.objects in
     let s = sigma_object os c.args.sigma.now in
     (result_found os (substitute_each_object s) c.in-Pair.actuals c.in-Some.rest c.args.memo.now.lists.entries c.requires.made.1 (sym c.find.ensures ∙ c.in-Some.is)).0
 
 pub returns-in_ok-cons-in-Some-clause-step : goal.returns-in_ok-cons-in-Some-clause-step
 returns-in_ok-cons-in-Some-clause-step c =
-    let os = c.args.heap.now in
+    let os = c.args.heap.now.objects in
     let s = sigma_object os c.args.sigma.now in
     let h = object_at os c.in-Pair.head in
     let rest = result_found os (substitute_each_object s) c.in-Pair.actuals c.in-Some.rest c.args.memo.now.lists.entries c.requires.made.1 (sym c.find.ensures ∙ c.in-Some.is) in (
@@ -29,5 +29,5 @@ returns-in_ok-cons-in-Some-clause-step c =
 
 pub returns-in-None-clause-step : goal.returns-in-None-clause-step
 returns-in-None-clause-step c =
-    let os = c.args.heap.now in
+    let os = c.args.heap.now.objects in
     (c.in-Pair.ensures.below.1, sym c.find.ensures ∙ c.in-None.is, (c.in-Pair.ensures.shows.1, object_at os c.in-Pair.head, c.in-Pair.ensures.shows.2, sym c.is_quote.ensures ∙ c.if-is_quote.false))

@@ -17,14 +17,14 @@ use Rattle.mw_subst.proofs.walk.substitute_counted.Goals as goal
 pub loop-part-init : goal.loop-part-init
 loop-part-init g c = (
   search rules,
-  counted-starts c.args.heap.now c.args.x c.args.steps.now c.tick.new.self c.new-memo.result.terms.entries c.new-memo.result.lists.entries c.push.new.self.items c.new-memo.ensures.terms c.new-memo.ensures.lists
+  counted-starts c.args.heap.now.objects c.args.x c.args.steps.now c.tick.new.self c.new-memo.result.terms.entries c.new-memo.result.lists.entries c.push.new.self.items c.new-memo.ensures.terms c.new-memo.ensures.lists
       (c.in_ok-push.ensures.items ∙ ap (λ ps. ps ++ Term c.args.x ∷ []) c.new-path.ensures.items) c.tick.ensures,
-  closed-starts c.args.heap.now c.new-memo.result.terms.entries c.new-memo.result.lists.entries c.new-memo.ensures.terms c.new-memo.ensures.lists,
+  closed-starts c.args.heap.now.objects c.new-memo.result.terms.entries c.new-memo.result.lists.entries c.new-memo.ensures.terms c.new-memo.ensures.lists,
 )
 
 pub advance-requires-clause-within : goal.advance-requires-clause-within
 advance-requires-clause-within g c =
-    let h0 = c.args.heap.now in
+    let h0 = c.args.heap.now.objects in
     let x = c.args.x in
     let terms = c.loop-part.memo.terms.entries in
     let lists = c.loop-part.memo.lists.entries in
@@ -32,33 +32,33 @@ advance-requires-clause-within g c =
     let steps = c.loop-part.steps in
     let counted = subst (λ p. IsCounted h0 x terms lists p before steps) c.in-Some.ensures.items c.loop-part.invariant.1 in
     let small = last_part h0 x terms lists c.pop.new.self.items c.in-Some.part before steps counted in
-    omega (arith, small.0, c.requires.within, length-Grows h0 c.loop-part.heap c.loop-part.invariant.0.grows)
+    omega (arith, small.0, c.requires.within, length-Grows h0 c.loop-part.heap.objects c.loop-part.invariant.0.grows)
 
 pub returns-in_err-advance-clause-grows : goal.returns-in_err-advance-clause-grows
-returns-in_err-advance-clause-grows g c = Grows-trans c.args.heap.now c.loop-part.heap c.advance.new.heap c.loop-part.invariant.0.grows c.advance.ensures.grows
+returns-in_err-advance-clause-grows g c = Grows-trans c.args.heap.now.objects c.loop-part.heap.objects c.advance.new.heap.objects c.loop-part.invariant.0.grows c.advance.ensures.grows
 
 pub returns-in_err-advance-clause-most : goal.returns-in_err-advance-clause-most
 returns-in_err-advance-clause-most g c =
-    let most = counted-most c.args.heap.now c.args.x c.loop-part.memo.terms.entries c.loop-part.memo.lists.entries c.loop-part.path.items c.args.steps.now c.loop-part.steps c.loop-part.invariant.1 in
+    let most = counted-most c.args.heap.now.objects c.args.x c.loop-part.memo.terms.entries c.loop-part.memo.lists.entries c.loop-part.path.items c.args.steps.now c.loop-part.steps c.loop-part.invariant.1 in
     omega (arith, most, c.in_err-advance.ensures.err)
 
 pub returns-clause-most : goal.returns-clause-most
-returns-clause-most g c = counted-most c.args.heap.now c.args.x c.loop-part.memo.terms.entries c.loop-part.memo.lists.entries c.loop-part.path.items c.args.steps.now c.loop-part.steps c.loop-part.invariant.1
+returns-clause-most g c = counted-most c.args.heap.now.objects c.args.x c.loop-part.memo.terms.entries c.loop-part.memo.lists.entries c.loop-part.path.items c.args.steps.now c.loop-part.steps c.loop-part.invariant.1
 
 pub advance-requires-clause-sigma : goal.advance-requires-clause-sigma
-advance-requires-clause-sigma g c = AreIn-Grows c.args.heap.now c.loop-part.heap c.args.sigma.now c.loop-part.invariant.0.grows c.requires.sigma
+advance-requires-clause-sigma g c = AreIn-Grows c.args.heap.now.objects c.loop-part.heap.objects c.args.sigma.now c.loop-part.invariant.0.grows c.requires.sigma
 
 pub advance-requires-clause-new : goal.advance-requires-clause-new
 advance-requires-clause-new g c =
-    let P = IsPath c.args.heap.now c.loop-part.heap c.args.sigma.now c.args.x c.loop-part.memo.terms.entries c.loop-part.memo.lists.entries in
-    last_wanted c.args.heap.now c.loop-part.heap c.loop-part.heap c.args.sigma.now c.args.x c.loop-part.memo.terms.entries c.loop-part.memo.lists.entries c.pop.new.self.items c.in-Some.part
+    let P = IsPath c.args.heap.now.objects c.loop-part.heap.objects c.args.sigma.now c.args.x c.loop-part.memo.terms.entries c.loop-part.memo.lists.entries in
+    last_wanted c.args.heap.now.objects c.loop-part.heap.objects c.loop-part.heap.objects c.args.sigma.now c.args.x c.loop-part.memo.terms.entries c.loop-part.memo.lists.entries c.pop.new.self.items c.in-Some.part
     (subst P c.in-Some.ensures.items c.loop-part.invariant.0)
-    (AreIn-Grows c.args.heap.now c.loop-part.heap c.args.sigma.now c.loop-part.invariant.0.grows c.requires.sigma)
+    (AreIn-Grows c.args.heap.now.objects c.loop-part.heap.objects c.args.sigma.now c.loop-part.invariant.0.grows c.requires.sigma)
 
 pub loop-part-smaller : goal.loop-part-smaller
 loop-part-smaller g c =
-    let h0 = c.args.heap.now in
-    let h = c.loop-part.heap in
+    let h0 = c.args.heap.now.objects in
+    let h = c.loop-part.heap.objects in
     let pairs = c.args.sigma.now in
     let x = c.args.x in
     let terms = c.loop-part.memo.terms.entries in
@@ -84,9 +84,9 @@ loop-part-smaller g c =
 
 pub loop-part-preserved : goal.loop-part-preserved
 loop-part-preserved g c =
-    let h0 = c.args.heap.now in
-    let h = c.loop-part.heap in
-    let new = c.advance.new.heap in
+    let h0 = c.args.heap.now.objects in
+    let h = c.loop-part.heap.objects in
+    let new = c.advance.new.heap.objects in
     let pairs = c.args.sigma.now in
     let x = c.args.x in
     let terms = c.loop-part.memo.terms.entries in
@@ -129,17 +129,17 @@ loop-part-preserved g c =
 
 pub returns-clause-all : goal.returns-clause-all
 returns-clause-all g c =
-    counted-all c.args.heap.now c.args.x c.loop-part.memo.terms.entries c.loop-part.memo.lists.entries c.loop-part.path.items c.args.steps.now c.loop-part.steps c.loop-part.invariant.1 c.loop-part.invariant.2
+    counted-all c.args.heap.now.objects c.args.x c.loop-part.memo.terms.entries c.loop-part.memo.lists.entries c.loop-part.path.items c.args.steps.now c.loop-part.steps c.loop-part.invariant.1 c.loop-part.invariant.2
     (c.in-Some-find.made, sym c.find.ensures ∙ c.in-Some-find.is)
 
 pub returns-clause-within : goal.returns-clause-within
 returns-clause-within g c =
-    let os = c.loop-part.heap in
+    let os = c.loop-part.heap.objects in
     (result_found os (substitute_object (sigma_object os c.args.sigma.now)) c.args.x c.in-Some-find.made c.loop-part.memo.terms.entries c.loop-part.invariant.0.made.0 (sym c.find.ensures ∙ c.in-Some-find.is)).0
 
 pub returns-clause-made : goal.returns-clause-made
 returns-clause-made g c =
-    let os = c.loop-part.heap in
+    let os = c.loop-part.heap.objects in
     let g = c.loop-part.invariant.0.grows in
     (result_found os (substitute_object (sigma_object os c.args.sigma.now)) c.args.x c.in-Some-find.made c.loop-part.memo.terms.entries c.loop-part.invariant.0.made.0 (sym c.find.ensures ∙ c.in-Some-find.is)).1
-    ∙ ap₂ substitute_object (sigma_object-Grows c.args.heap.now os c.args.sigma.now g c.requires.sigma) (object_at-Grows c.args.heap.now os g c.args.x c.requires.within)
+    ∙ ap₂ substitute_object (sigma_object-Grows c.args.heap.now.objects os c.args.sigma.now g c.requires.sigma) (object_at-Grows c.args.heap.now.objects os g c.args.x c.requires.within)

@@ -3,7 +3,7 @@ use Rattle.mw_term.proofs.FormalList.{AreBefore}
 use Rattle.mw_term.proofs.formals.formal_set.Given as goal
 
 abbrev pub invariant-loop-first : goal.invariant-loop-first
-invariant-loop-first l = AreBefore l.heap l.fn.x l.formals.keys l.rest
+invariant-loop-first l = AreBefore l.heap.objects l.fn.x l.formals.keys l.rest
 
 abbrev pub decreases-loop-first : goal.decreases-loop-first
 decreases-loop-first l = l.rest

@@ -6,10 +6,10 @@ use Rattle.mw_term.proofs.Symbols.{is_among-symbols}
 use Rattle.mw_term.proofs.formals.is_among_symbols.Goals as goal
 
 pub returns-then-same-clause-among : goal.returns-then-same-clause-among
-returns-then-same-clause-among c = c.contains.ensures ∙ is_among-symbols c.args.heap.now c.same.ensures.distinct c.args.x c.requires.within c.requires.symbol c.args.symbols.now.keys c.requires.symbols
+returns-then-same-clause-among c = c.contains.ensures ∙ is_among-symbols c.args.heap.now.objects c.same.ensures.distinct c.args.x c.requires.within c.requires.symbol c.args.symbols.now.keys c.requires.symbols
 
 never : (c : goal.Else-same) → ⊥
-never c = true≢false (sym (same_object-refl (object_at c.args.heap.now c.args.x)) ∙ (sym c.same.ensures.same ∙ c.if-same.false))
+never c = true≢false (sym (same_object-refl (object_at c.args.heap.now.objects c.args.x)) ∙ (sym c.same.ensures.same ∙ c.if-same.false))
 
 pub returns-else-same-clause-among : goal.returns-else-same-clause-among
 returns-else-same-clause-among c = absurd (never c)

@@ -14,7 +14,7 @@ use Rattle.mw_term.proofs.free.is_closed.Goals as goal
 
 pub is_among_symbols-requires : goal.is_among_symbols-requires
 is_among_symbols-requires c =
-    let os = c.args.heap.now in
+    let os = c.args.heap.now.objects in
     let rs = c.as_slice-x-items.result.now in
     let symbols = subst (AreSymbols os) (sym c.as_slice-x-items.ensures.keys) c.in_ok-variables.ensures.symbols in
     let here = subst (IsSymbolIn os) (sym c.x-item.is) (All-get_or (IsSymbolIn os) rs c.loop-x.x-index c.x-item.result c.loop-x-test.true (symbols_each os rs symbols)) in
@@ -22,7 +22,7 @@ is_among_symbols-requires c =
 
 pub loop-x-preserved : goal.loop-x-preserved
 loop-x-preserved c =
-    let os = c.args.heap.now in
+    let os = c.args.heap.now.objects in
     let xs = names_at os c.args.names.now.keys in
     let rs = c.as_slice-x-items.result.now in
     let i = c.loop-x.x-index in
@@ -32,7 +32,7 @@ loop-x-preserved c =
 
 pub returns-then-not-is_among_symbols : goal.returns-then-not-is_among_symbols
 returns-then-not-is_among_symbols c =
-    let os = c.args.heap.now in
+    let os = c.args.heap.now.objects in
     let xs = names_at os c.args.names.now.keys in
     let rs = c.as_slice-x-items.result.now in
     let test = λ (r : ℕ). is_among (name_of (object_at os r)) xs in
@@ -44,7 +44,7 @@ returns-then-not-is_among_symbols c =
 
 pub returns : goal.returns
 returns c =
-    let os = c.args.heap.now in
+    let os = c.args.heap.now.objects in
     let xs = names_at os c.args.names.now.keys in
     let rs = c.as_slice-x-items.result.now in
     let test = λ (r : ℕ). is_among (name_of (object_at os r)) xs in

@@ -8,4 +8,4 @@ use Rattle.mw_term.specs.Parts.{names_at}
 use Rattle.mw_term.proofs.free.is_closed.Given as goal
 
 abbrev pub invariant-loop-x : goal.invariant-loop-x
-invariant-loop-x l = list_all (λ r. is_among (name_of (object_at l.heap r)) (names_at l.heap l.names.keys)) (take l.x-index l.x-items) ≡ true
+invariant-loop-x l = list_all (λ r. is_among (name_of (object_at l.heap.objects r)) (names_at l.heap.objects l.names.keys)) (take l.x-index l.x-items) ≡ true

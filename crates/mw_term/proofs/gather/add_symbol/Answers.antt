@@ -8,7 +8,7 @@ use Rattle.mw_term.proofs.gather.add_symbol.Goals as goal
 
 pub returns-in_ok-insert : goal.returns-in_ok-insert
 returns-in_ok-insert c =
-    let os = c.args.heap.now in
+    let os = c.args.heap.now.objects in
     let old = c.args.symbols.now.keys in
     let x = c.args.x in
     let pushed = c.in_ok-insert.ensures.keys ∙ ap (λ b. if b then old else old ++ x ∷ []) (sym c.is_among_symbols.ensures.held ∙ c.if-not-is_among_symbols.true) in

@@ -8,18 +8,18 @@ use Rattle.mw_term.proofs.gather.look.Goals as goal
 
 pub returns-in-Nat : goal.returns-in-Nat
 returns-in-Nat c =
-    let os = c.args.heap.now in
+    let os = c.args.heap.now.objects in
     looked-none os c.args.part c.args.found.now.keys c.args.waiting.now.items c.requires.symbols
     (ap (part_occurrences os) c.in-Term.is ∙ ap object_occurrences c.in-Nat.ensures.shows)
 
 pub returns-in_ok-push-in-Pair : goal.returns-in_ok-push-in-Pair
 returns-in_ok-push-in-Pair c =
     let shows = c.in-Pair.ensures.shows in
-    looked-call c.args.heap.now c.args.part c.args.found.now.keys c.args.waiting.now.items c.push.new.self.items c.in-Term.x c.in-Pair.head c.in-Pair.actuals c.requires.symbols c.in-Term.is shows.2 (sym c.is_symbol_of.ensures ∙ c.if-not-is_symbol_of.true) shows.1 c.in-Pair.ensures.below.1 c.in_ok-push-in-Pair.ensures.items
+    looked-call c.args.heap.now.objects c.args.part c.args.found.now.keys c.args.waiting.now.items c.push.new.self.items c.in-Term.x c.in-Pair.head c.in-Pair.actuals c.requires.symbols c.in-Term.is shows.2 (sym c.is_symbol_of.ensures ∙ c.if-not-is_symbol_of.true) shows.1 c.in-Pair.ensures.below.1 c.in_ok-push-in-Pair.ensures.items
 
 pub returns-else-not-is_symbol_of : goal.returns-else-not-is_symbol_of
 returns-else-not-is_symbol_of c =
-    let os = c.args.heap.now in
+    let os = c.args.heap.now.objects in
     looked-none os c.args.part c.args.found.now.keys c.args.waiting.now.items c.requires.symbols
     (ap (part_occurrences os) c.in-Term.is
     ∙ (ap object_occurrences c.in-Pair.ensures.shows.2
@@ -28,11 +28,11 @@ returns-else-not-is_symbol_of c =
 pub returns-in_ok-push-in-Terms-2 : goal.returns-in_ok-push-in-Terms-2
 returns-in_ok-push-in-Terms-2 c =
     let pair = c.in-Pair-view.ensures in
-    looked-list c.args.heap.now c.args.part c.args.found.now.keys c.args.waiting.now.items c.push-in-Pair-view.new.self.items c.push-in-Pair-view-2.new.self.items c.in-Terms.x c.in-Pair-view.first c.in-Pair-view.rest c.requires.symbols c.in-Terms.is pair.shows.2 pair.shows.0 pair.shows.1 pair.below.0 pair.below.1 c.in_ok-push-in-Terms.ensures.items c.in_ok-push-in-Terms-2.ensures.items
+    looked-list c.args.heap.now.objects c.args.part c.args.found.now.keys c.args.waiting.now.items c.push-in-Pair-view.new.self.items c.push-in-Pair-view-2.new.self.items c.in-Terms.x c.in-Pair-view.first c.in-Pair-view.rest c.requires.symbols c.in-Terms.is pair.shows.2 pair.shows.0 pair.shows.1 pair.below.0 pair.below.1 c.in_ok-push-in-Terms.ensures.items c.in_ok-push-in-Terms-2.ensures.items
 
 pub returns-in_default : goal.returns-in_default
 returns-in_default c =
-    let os = c.args.heap.now in
+    let os = c.args.heap.now.objects in
     let x = c.in-Terms.x in
     looked-none os c.args.part c.args.found.now.keys c.args.waiting.now.items c.requires.symbols
     (no_list-none os c.args.part x c.in-Terms.is (shown_no_pair os c.view-in-Terms.result (object_at os x) c.view-in-Terms.ensures.shows c.in_default.not-Pair))

@@ -10,11 +10,11 @@ use Rattle.mw_term.proofs.Gathering.{IsGathering, gathering-start, gathering-ste
 use Rattle.mw_term.proofs.gather.variables_in.Goals as goal
 
 pub loop-part-init : goal.loop-part-init
-loop-part-init c = gathering-start c.args.heap.now c.args.term _ _ _ c.requires c.new-found.ensures.empty c.new-looked.ensures.empty (c.in_ok-push.ensures.items ∙ ap (λ l. l ++ Term c.args.term ∷ []) c.new-waiting.ensures.items)
+loop-part-init c = gathering-start c.args.heap.now.objects c.args.term _ _ _ c.requires c.new-found.ensures.empty c.new-looked.ensures.empty (c.in_ok-push.ensures.items ∙ ap (λ l. l ++ Term c.args.term ∷ []) c.new-waiting.ensures.items)
 
 pub loop-part-preserved-then-not-branch : goal.loop-part-preserved-then-not-branch
 loop-part-preserved-then-not-branch c =
-    let os = c.args.heap.now in
+    let os = c.args.heap.now.objects in
     let t = c.args.term in
     let found = c.loop-part.found.keys in
     let looked = c.loop-part.looked.keys in
@@ -26,7 +26,7 @@ loop-part-preserved-then-not-branch c =
 
 pub loop-part-preserved : goal.loop-part-preserved
 loop-part-preserved c =
-    let os = c.args.heap.now in
+    let os = c.args.heap.now.objects in
     let t = c.args.term in
     let looked = c.loop-part.looked.keys in
     let rest = c.pop.new.self.items in
@@ -36,7 +36,7 @@ loop-part-preserved c =
 
 pub loop-part-smaller : goal.loop-part-smaller
 loop-part-smaller c =
-    let os = c.args.heap.now in
+    let os = c.args.heap.now.objects in
     let looked = c.loop-part.looked.keys in
     let new = c.insert.new.self.keys in
     let rest = c.pop.new.self.items in

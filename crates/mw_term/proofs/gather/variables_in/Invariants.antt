@@ -4,8 +4,8 @@ use Rattle.mw_term.proofs.Gathering.{IsGathering}
 use Rattle.mw_term.proofs.gather.variables_in.Given as goal
 
 abbrev pub invariant-loop-part : goal.invariant-loop-part
-invariant-loop-part l = IsGathering l.heap l.fn.term l.found.keys l.looked.keys l.waiting.items
+invariant-loop-part l = IsGathering l.heap.objects l.fn.term l.found.keys l.looked.keys l.waiting.items
 
 -- a part that is looked at has at most two parts
 abbrev pub decreases-loop-part : goal.decreases-loop-part
-decreases-loop-part l = 2 * (2 * length l.heap - length l.looked.keys) + length l.waiting.items
+decreases-loop-part l = 2 * (2 * length l.heap.objects - length l.looked.keys) + length l.waiting.items

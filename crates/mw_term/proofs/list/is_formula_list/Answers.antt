@@ -7,7 +7,7 @@ use Rattle.mw_term.proofs.list.is_formula_list.Goals as goal
 
 pub returns-then-is_symbol_of : goal.returns-then-is_symbol_of
 returns-then-is_symbol_of c = λ A marked.
-    let os = c.args.heap.now in
+    let os = c.args.heap.now.objects in
     let a = c.in-Pair.a in
     let b = c.in-Pair-view.b in
     let shape = c.in-Pair.ensures.shows.2 ∙ ap (Pair (object_at os a)) c.in-Pair-view.ensures.shows.2 in
@@ -20,7 +20,7 @@ returns-then-is_symbol_of c = λ A marked.
 
 pub returns-then-is_symbol_of-2 : goal.returns-then-is_symbol_of-2
 returns-then-is_symbol_of-2 c = λ A marked.
-    let os = c.args.heap.now in
+    let os = c.args.heap.now.objects in
     let a = c.in-Pair.a in
     c.is_negation_of.ensures
     ∙ sym

@@ -8,7 +8,7 @@ use Rattle.mw_term.proofs.marks.mark_up_to.Goals as goal
 
 pub loop-i-preserved : goal.loop-i-preserved
 loop-i-preserved c =
-    let os = c.args.heap.now in
+    let os = c.args.heap.now.objects in
     let A = c.args.arity.now in
     let ms = c.loop-i.cells.items in
     let m = c.in_ok-mark.mark in

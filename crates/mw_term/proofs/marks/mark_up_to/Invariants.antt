@@ -5,7 +5,7 @@ use Rattle.mw_term.proofs.marks.mark_up_to.Given as goal
 
 abbrev pub invariant-loop-i : goal.invariant-loop-i
 invariant-loop-i l = record {
-  marked : AreMarks l.arity l.heap l.cells.items;
+  marked : AreMarks l.arity l.heap.objects l.cells.items;
   reached : length l.cells.items ≡ l.i;
   kept : take (length l.initial.cells.items) l.cells.items ≡ l.initial.cells.items;
 }

@@ -4,7 +4,7 @@ use Rattle.mw_text_tests.proofs.read.next_data.Given as goal
 
 abbrev pub invariant-loop-x : goal.invariant-loop-x
 invariant-loop-x l = record {
-  stands : IsStanding l.heap l.reader.parser;
+  stands : IsStanding l.heap.objects l.reader.parser;
   follows : UnreadFollows l.reader;
 }
 

@@ -4,7 +4,7 @@ use Rattle.mw_read.specs.Feeding.{UnreadFollows}
 use Rattle.mw_text_tests.proofs.read.read_book.Goals as goal
 
 pub loop-piece-init : goal.loop-piece-init
-loop-piece-init c = record { stands = ([], [], c.new-reader.ensures.stands c.args.heap.now); awaits = c.new-reader.ensures.awaits; free = c.new-reader.ensures.free }
+loop-piece-init c = record { stands = ([], [], c.new-reader.ensures.stands c.args.heap.now.objects); awaits = c.new-reader.ensures.awaits; free = c.new-reader.ensures.free }
 
 pub feed-requires-clause-follows : goal.feed-requires-clause-follows
 feed-requires-clause-follows c = inl (c.loop-piece.invariant.free _)

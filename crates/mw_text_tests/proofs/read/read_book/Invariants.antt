@@ -4,7 +4,7 @@ use Rattle.mw_text_tests.proofs.read.read_book.Given as goal
 
 abbrev pub invariant-loop-piece : goal.invariant-loop-piece
 invariant-loop-piece l = record {
-  stands : IsStanding l.heap l.reader.parser;
+  stands : IsStanding l.heap.objects l.reader.parser;
   awaits : IsAwaiting l.reader;
   free : IsFree l.reader.parser;
 }

@@ -11,8 +11,8 @@ use Rattle.mw_translate.proofs.calls.checked_call.Goals as goal
 pub returns-then-not-is_call-clause-made : goal.returns-then-not-is_call-clause-made
 returns-then-not-is_call-clause-made c =
     let A = c.args.newer.now ++ c.args.older.now in
-    let f = name_of (object_at c.args.heap.now c.args.head) in
-    let o = object_at c.args.heap.now c.args.actuals.object in
+    let f = name_of (object_at c.args.heap.now.objects c.args.head) in
+    let o = object_at c.args.heap.now.objects c.args.actuals.object in
     let n = c.args.actuals.count in
     let name : name_of_bytes c.name_of.result.now ≡ f = ap name_of_bytes (sym c.name_of.ensures) ∙ name_of_bytes-bytes f in
     ap (λ b. given b (Pair (Symbol f) o)) (ap (λ g. takes A g n && (not (same_name g (named "IF")) || eqb n 3)) (sym name) ∙ (sym c.is_call.ensures ∙ c.if-not-is_call.true))
@@ -20,11 +20,11 @@ returns-then-not-is_call-clause-made c =
 pub returns-clause-made : goal.returns-clause-made
 returns-clause-made c =
     let A = c.args.newer.now ++ c.args.older.now in
-    let f = name_of (object_at c.args.heap.now c.args.head) in
-    let o = object_at c.args.heap.now c.args.actuals.object in
+    let f = name_of (object_at c.args.heap.now.objects c.args.head) in
+    let o = object_at c.args.heap.now.objects c.args.actuals.object in
     let n = c.args.actuals.count in
     let name : name_of_bytes c.name_of.result.now ≡ f = ap name_of_bytes (sym c.name_of.ensures) ∙ name_of_bytes-bytes f in (
       c.in_ok-cons.ensures.made.0,
       ap (λ b. given b (Pair (Symbol f) o)) (ap (λ g. takes A g n && (not (same_name g (named "IF")) || eqb n 3)) (sym name) ∙ (sym c.is_call.ensures ∙ c.if-not-is_call.false))
-          ∙ ap (λ z. Some (z, 0)) (ap₂ Pair (sym (symbol_is (object_at c.args.heap.now c.args.head) c.requires.symbol)) refl ∙ sym c.in_ok-cons.ensures.made.1),
+          ∙ ap (λ z. Some (z, 0)) (ap₂ Pair (sym (symbol_is (object_at c.args.heap.now.objects c.args.head) c.requires.symbol)) refl ∙ sym c.in_ok-cons.ensures.made.1),
     )

@@ -12,17 +12,17 @@ use Rattle.mw_translate.proofs.expansion.arities_of.Goals as goal
 
 pub name_of-requires-clause-within : goal.name_of-requires-clause-within
 name_of-requires-clause-within c =
-    let os = c.args.heap.now in
+    let os = c.args.heap.now.objects in
     subst (λ p. IsIn os p.0) (sym c.pair-item.is) (pair-at os c.args.new.now c.loop-pair.pair-index c.pair-item.result c.requires.symbols c.loop-pair-test.true).0
 
 pub name_of-requires-clause-symbol : goal.name_of-requires-clause-symbol
 name_of-requires-clause-symbol c =
-    let os = c.args.heap.now in
+    let os = c.args.heap.now.objects in
     subst (λ p. is_symbol (object_at os p.0) ≡ true) (sym c.pair-item.is) (pair-at os c.args.new.now c.loop-pair.pair-index c.pair-item.result c.requires.symbols c.loop-pair-test.true).1
 
 pub add-requires-clause-absent : goal.add-requires-clause-absent
 add-requires-clause-absent c =
-    let os = c.args.heap.now in
+    let os = c.args.heap.now.objects in
     let i = c.loop-pair.pair-index in
     let name = ap name_of_bytes (sym c.name_of.ensures) ∙ name_of_bytes-bytes (name_of (object_at os c.pair-item.result.0)) in
     ap₂ arity_of c.loop-pair.invariant (name ∙ ap (λ p. name_of (object_at os p.0)) c.pair-item.is)
@@ -30,7 +30,7 @@ add-requires-clause-absent c =
 
 pub loop-pair-preserved : goal.loop-pair-preserved
 loop-pair-preserved c =
-    let os = c.args.heap.now in
+    let os = c.args.heap.now.objects in
     let i = c.loop-pair.pair-index in
     let p = c.pair-item.result in
     let name = ap name_of_bytes (sym c.name_of.ensures) ∙ name_of_bytes-bytes (name_of (object_at os p.0)) in

@@ -8,23 +8,23 @@ use Rattle.mw_translate.proofs.Folded.{list_both, list-pair}
 use Rattle.mw_translate.proofs.folds.step_list.Goals as goal
 
 pub checked_cons-requires-clause-first_in : goal.checked_cons-requires-clause-first_in
-checked_cons-requires-clause-first_in c = (made_found (c.args.newer.now ++ c.args.older.now) c.args.heap.now c.args.memo.now.made.entries (at kind.Term c.in-Pair.first) c.in-Ok.a c.requires.made c.in-Ok.ensures.both.0).object_in
+checked_cons-requires-clause-first_in c = (made_found (c.args.newer.now ++ c.args.older.now) c.args.heap.now.objects c.args.memo.now.made.entries (at kind.Term c.in-Pair.first) c.in-Ok.a c.requires.made c.in-Ok.ensures.both.0).object_in
 
 pub checked_cons-requires-clause-second_in : goal.checked_cons-requires-clause-second_in
-checked_cons-requires-clause-second_in c = (made_found (c.args.newer.now ++ c.args.older.now) c.args.heap.now c.args.memo.now.made.entries (at kind.List c.in-Pair.rest) c.in-Ok.b c.requires.made c.in-Ok.ensures.both.1).object_in
+checked_cons-requires-clause-second_in c = (made_found (c.args.newer.now ++ c.args.older.now) c.args.heap.now.objects c.args.memo.now.made.entries (at kind.List c.in-Pair.rest) c.in-Ok.b c.requires.made c.in-Ok.ensures.both.1).object_in
 
 pub returns-in_ok-checked_cons-in-Ok-clause-step : goal.returns-in_ok-checked_cons-in-Ok-clause-step
 returns-in_ok-checked_cons-in-Ok-clause-step c =
-    let os = c.args.heap.now in
+    let os = c.args.heap.now.objects in
     let A = c.args.newer.now ++ c.args.older.now in
     let e = ap (meaning A kind.List) c.in-Pair.ensures.shows.2 ∙ list-pair A (object_at os c.in-Pair.first) (object_at os c.in-Pair.rest) in
-    step_made A os c.checked_cons.new.heap c.args.memo.now.made.entries (meaning A kind.List (object_at os c.args.x)) _ c.args.x c.in_ok-checked_cons-in-Ok.field-0
+    step_made A os c.checked_cons.new.heap.objects c.args.memo.now.made.entries (meaning A kind.List (object_at os c.args.x)) _ c.args.x c.in_ok-checked_cons-in-Ok.field-0
     (both-made A os c.args.memo.now.made.entries (meaning A kind.List (object_at os c.args.x)) c.args.x c.requires.made (list_both A) (at kind.Term c.in-Pair.first) (at kind.List c.in-Pair.rest) c.in-Ok.a c.in-Ok.b e c.in-Ok.ensures.both.0 c.in-Ok.ensures.both.1)
     c.in_ok-checked_cons-in-Ok.ensures.made
 
 pub returns-in-Err-clause-step : goal.returns-in-Err-clause-step
 returns-in-Err-clause-step c =
-    let os = c.args.heap.now in
+    let os = c.args.heap.now.objects in
     let A = c.args.newer.now ++ c.args.older.now in
     let e = ap (meaning A kind.List) c.in-Pair.ensures.shows.2 ∙ list-pair A (object_at os c.in-Pair.first) (object_at os c.in-Pair.rest) in
     both-wanted A os c.args.memo.now.made.entries (meaning A kind.List (object_at os c.args.x)) c.args.x (list_both A) (at kind.Term c.in-Pair.first) (at kind.List c.in-Pair.rest) c.in-Err.wanted e

@@ -8,26 +8,26 @@ use Rattle.mw_translate.proofs.Folded.{or_both, or-more, or-one}
 use Rattle.mw_translate.proofs.folds.step_or.Goals as goal
 
 pub checked_if-requires-clause-first_in : goal.checked_if-requires-clause-first_in
-checked_if-requires-clause-first_in c = (made_found (c.args.newer.now ++ c.args.older.now) c.args.heap.now c.args.memo.now.made.entries (at kind.Term c.in-Pair.first) c.in-Ok.a c.requires.made c.in-Ok.ensures.both.0).object_in
+checked_if-requires-clause-first_in c = (made_found (c.args.newer.now ++ c.args.older.now) c.args.heap.now.objects c.args.memo.now.made.entries (at kind.Term c.in-Pair.first) c.in-Ok.a c.requires.made c.in-Ok.ensures.both.0).object_in
 
 pub checked_if-requires-clause-second_in : goal.checked_if-requires-clause-second_in
-checked_if-requires-clause-second_in c = (made_found (c.args.newer.now ++ c.args.older.now) c.args.heap.now c.args.memo.now.made.entries (at kind.Term c.in-Pair.first) c.in-Ok.a c.requires.made c.in-Ok.ensures.both.0).object_in
+checked_if-requires-clause-second_in c = (made_found (c.args.newer.now ++ c.args.older.now) c.args.heap.now.objects c.args.memo.now.made.entries (at kind.Term c.in-Pair.first) c.in-Ok.a c.requires.made c.in-Ok.ensures.both.0).object_in
 
 pub checked_if-requires-clause-third_in : goal.checked_if-requires-clause-third_in
-checked_if-requires-clause-third_in c = (made_found (c.args.newer.now ++ c.args.older.now) c.args.heap.now c.args.memo.now.made.entries (at kind.Or c.in-Pair.rest) c.in-Ok.b c.requires.made c.in-Ok.ensures.both.1).object_in
+checked_if-requires-clause-third_in c = (made_found (c.args.newer.now ++ c.args.older.now) c.args.heap.now.objects c.args.memo.now.made.entries (at kind.Or c.in-Pair.rest) c.in-Ok.b c.requires.made c.in-Ok.ensures.both.1).object_in
 
 pub returns-in_ok-checked_if-in-Ok-clause-step : goal.returns-in_ok-checked_if-in-Ok-clause-step
 returns-in_ok-checked_if-in-Ok-clause-step c =
-    let os = c.args.heap.now in
+    let os = c.args.heap.now.objects in
     let A = c.args.newer.now ++ c.args.older.now in
     let e = ap (meaning A kind.Or) c.in-Pair.ensures.shows.2 ∙ or-more A (object_at os c.in-Pair.first) (object_at os c.in-Pair.rest) (sym c.is_nil.ensures ∙ c.if-is_nil.false) in
-    step_made A os c.checked_if.new.heap c.args.memo.now.made.entries (meaning A kind.Or (object_at os c.args.x)) _ c.args.x c.in_ok-checked_if-in-Ok.field-0
+    step_made A os c.checked_if.new.heap.objects c.args.memo.now.made.entries (meaning A kind.Or (object_at os c.args.x)) _ c.args.x c.in_ok-checked_if-in-Ok.field-0
     (both-made A os c.args.memo.now.made.entries (meaning A kind.Or (object_at os c.args.x)) c.args.x c.requires.made (or_both A) (at kind.Term c.in-Pair.first) (at kind.Or c.in-Pair.rest) c.in-Ok.a c.in-Ok.b e c.in-Ok.ensures.both.0 c.in-Ok.ensures.both.1)
     c.in_ok-checked_if-in-Ok.ensures.made
 
 pub returns-in-Err-clause-step : goal.returns-in-Err-clause-step
 returns-in-Err-clause-step c =
-    let os = c.args.heap.now in
+    let os = c.args.heap.now.objects in
     let A = c.args.newer.now ++ c.args.older.now in
     let e = ap (meaning A kind.Or) c.in-Pair.ensures.shows.2 ∙ or-more A (object_at os c.in-Pair.first) (object_at os c.in-Pair.rest) (sym c.is_nil.ensures ∙ c.if-is_nil.false) in
     both-wanted A os c.args.memo.now.made.entries (meaning A kind.Or (object_at os c.args.x)) c.args.x (or_both A) (at kind.Term c.in-Pair.first) (at kind.Or c.in-Pair.rest) c.in-Err.wanted e
@@ -35,7 +35,7 @@ returns-in-Err-clause-step c =
 
 pub returns-then-is_nil-clause-step : goal.returns-then-is_nil-clause-step
 returns-then-is_nil-clause-step c =
-    let os = c.args.heap.now in
+    let os = c.args.heap.now.objects in
     let A = c.args.newer.now ++ c.args.older.now in
     forward-step A os c.args.memo.now.made.entries (meaning A kind.Or (object_at os c.args.x)) c.args.x (at kind.Term c.in-Pair.first) c.forward.result c.requires.made
     (ap (meaning A kind.Or) c.in-Pair.ensures.shows.2 ∙ or-one A (object_at os c.in-Pair.first) (object_at os c.in-Pair.rest) (sym c.is_nil.ensures ∙ c.if-is_nil.true))

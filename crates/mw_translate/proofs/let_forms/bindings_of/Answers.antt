@@ -10,7 +10,7 @@ use Rattle.mw_translate.proofs.let_forms.bindings_of.Goals as goal
 
 pub loop-first-preserved : goal.loop-first-preserved
 loop-first-preserved c =
-    let os = c.args.heap.now in
+    let os = c.args.heap.now.objects in
     let h = c.loop-first.invariant in
     let read = c.loop-first.bindings.items in
     record {
@@ -26,7 +26,7 @@ loop-first-preserved c =
 
 pub returns-in_default-view : goal.returns-in_default-view
 returns-in_default-view c =
-    let os = c.args.heap.now in
+    let os = c.args.heap.now.objects in
     let h = c.loop-first.invariant in
     record {
       within = h.within;
@@ -35,7 +35,7 @@ returns-in_default-view c =
 
 pub returns : goal.returns
 returns c =
-    let os = c.args.heap.now in
+    let os = c.args.heap.now.objects in
     let h = c.loop-first.invariant in
     record {
       within = h.within;

@@ -11,10 +11,10 @@ use Rattle.mw_translate.proofs.let_forms.bindings_of.Given as goal
 
 abbrev pub invariant-loop-first : goal.invariant-loop-first
 invariant-loop-first l = record {
-  names_in : IsIn l.heap l.names;
-  values_in : IsIn l.heap l.values;
-  within : ArePairsIn l.heap l.bindings.items;
-  split : (ps : List (Name × Term)) → object_at l.heap l.fn.names ≡ names_object (bound_names ps) → object_at l.heap l.fn.values ≡ terms_object (values_of ps) → AreSplit l.heap l.bindings.items (object_at l.heap l.names) (object_at l.heap l.values) ps;
+  names_in : IsIn l.heap.objects l.names;
+  values_in : IsIn l.heap.objects l.values;
+  within : ArePairsIn l.heap.objects l.bindings.items;
+  split : (ps : List (Name × Term)) → object_at l.heap.objects l.fn.names ≡ names_object (bound_names ps) → object_at l.heap.objects l.fn.values ≡ terms_object (values_of ps) → AreSplit l.heap.objects l.bindings.items (object_at l.heap.objects l.names) (object_at l.heap.objects l.values) ps;
 }
 
 abbrev pub decreases-loop-first : goal.decreases-loop-first

@@ -12,26 +12,26 @@ loop-binding-init c = record {
   grows = search rules;
   left_in = c.requires.bindings_in;
   within = c.requires.body_in;
-  inside = λ A ps b are o t v. inside-start A c.args.heap.now ps b c.args.bindings.items c.args.body are o t v;
+  inside = λ A ps b are o t v. inside-start A c.args.heap.now.objects ps b c.args.bindings.items c.args.body are o t v;
 }
 
 pub let_one-requires-clause-name_in : goal.let_one-requires-clause-name_in
 let_one-requires-clause-name_in c =
     let h = c.loop-binding.invariant in
-    let p = pairs-front c.args.heap.now c.pop.new.self.items c.in-Some.binding (subst (ArePairsIn c.args.heap.now) c.in-Some.ensures.items h.left_in) in
-    IsIn-Grows c.args.heap.now c.loop-binding.heap h.grows c.in-Some.binding.first p.1.0
+    let p = pairs-front c.args.heap.now.objects c.pop.new.self.items c.in-Some.binding (subst (ArePairsIn c.args.heap.now.objects) c.in-Some.ensures.items h.left_in) in
+    IsIn-Grows c.args.heap.now.objects c.loop-binding.heap.objects h.grows c.in-Some.binding.first p.1.0
 
 pub let_one-requires-clause-value_in : goal.let_one-requires-clause-value_in
 let_one-requires-clause-value_in c =
     let h = c.loop-binding.invariant in
-    let p = pairs-front c.args.heap.now c.pop.new.self.items c.in-Some.binding (subst (ArePairsIn c.args.heap.now) c.in-Some.ensures.items h.left_in) in
-    IsIn-Grows c.args.heap.now c.loop-binding.heap h.grows c.in-Some.binding.second p.1.1
+    let p = pairs-front c.args.heap.now.objects c.pop.new.self.items c.in-Some.binding (subst (ArePairsIn c.args.heap.now.objects) c.in-Some.ensures.items h.left_in) in
+    IsIn-Grows c.args.heap.now.objects c.loop-binding.heap.objects h.grows c.in-Some.binding.second p.1.1
 
 pub loop-binding-preserved : goal.loop-binding-preserved
 loop-binding-preserved c =
-    let h0 = c.args.heap.now in
-    let h = c.loop-binding.heap in
-    let new = c.let_one.new.heap in
+    let h0 = c.args.heap.now.objects in
+    let h = c.loop-binding.heap.objects in
+    let new = c.let_one.new.heap.objects in
     let i = c.loop-binding.invariant in
     let rest = c.pop.new.self.items in
     let binding = c.in-Some.binding in
@@ -50,9 +50,9 @@ loop-binding-preserved c =
 
 pub returns-in_default-2-clause-made : goal.returns-in_default-2-clause-made
 returns-in_default-2-clause-made c = λ A ps b are o t v.
-    let h0 = c.args.heap.now in
-    let h = c.loop-binding.heap in
-    let new = c.let_one.new.heap in
+    let h0 = c.args.heap.now.objects in
+    let h = c.loop-binding.heap.objects in
+    let new = c.let_one.new.heap.objects in
     let i = c.loop-binding.invariant in
     let rest = c.pop.new.self.items in
     let binding = c.in-Some.binding in
@@ -66,4 +66,4 @@ returns-in_default-2-clause-made c = λ A ps b are o t v.
 pub returns-clause-made : goal.returns-clause-made
 returns-clause-made c = λ A ps b are o t v.
     let i = c.loop-binding.invariant in
-    inside-end A c.args.heap.now ps b c.loop-binding.heap c.loop-binding.bindings.items c.loop-binding.made (omega (arith, c.in_default.ensures.cases)) i.within (i.inside A ps b are o t v)
+    inside-end A c.args.heap.now.objects ps b c.loop-binding.heap.objects c.loop-binding.bindings.items c.loop-binding.made (omega (arith, c.in_default.ensures.cases)) i.within (i.inside A ps b are o t v)

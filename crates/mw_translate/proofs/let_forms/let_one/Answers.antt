@@ -7,9 +7,9 @@ use Rattle.mw_translate.proofs.let_forms.let_one.Goals as goal
 
 pub returns-clause-made : goal.returns-clause-made
 returns-clause-made c = λ A x t b n v e h.
-    let h0 = c.args.heap.now in
-    let h1 = c.list_of_one.new.heap in
-    let h2 = c.list_of_one-2.new.heap in
+    let h0 = c.args.heap.now.objects in
+    let h1 = c.list_of_one.new.heap.objects in
+    let h2 = c.list_of_one-2.new.heap.objects in
     let g1 = c.in_ok-names.ensures.grows in
     let g2 = c.in_ok-values.ensures.grows in
     c.in_ok-let_call.ensures.made A (x ∷ []) (More t NoTerms) b

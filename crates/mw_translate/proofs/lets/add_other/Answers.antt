@@ -8,7 +8,7 @@ use Rattle.mw_translate.proofs.lets.add_other.Goals as goal
 
 pub returns : goal.returns
 returns c =
-    let os = c.args.heap.now in
+    let os = c.args.heap.now.objects in
     let old = c.args.others.now.items in
     let x = name_of (object_at os c.args.x) in
     record {

@@ -8,13 +8,13 @@ use Rattle.mw_translate.proofs.Appended.{all_in-Grows, prepend-Grows}
 use Rattle.mw_translate.proofs.lets.extended_call.Goals as goal
 
 pub put_before-requires-clause-front_in : goal.put_before-requires-clause-front_in
-put_before-requires-clause-front_in c = all_in-Grows c.args.heap.now c.nil.new.self c.args.others.items c.in_ok-nil.ensures.grows c.requires.others_in
+put_before-requires-clause-front_in c = all_in-Grows c.args.heap.now.objects c.nil.new.self.objects c.args.others.items c.in_ok-nil.ensures.grows c.requires.others_in
 
 pub returns-clause-made : goal.returns-clause-made
 returns-clause-made c =
-    let h0 = c.args.heap.now in
-    let h1 = c.nil.new.self in
-    let h2 = c.put_before.new.heap in
+    let h0 = c.args.heap.now.objects in
+    let h1 = c.nil.new.self.objects in
+    let h2 = c.put_before.new.heap.objects in
     let g = Grows-trans h0 h1 h2 c.in_ok-nil.ensures.grows c.in_ok-list.ensures.grows in
     let list : object_at h2 c.in_ok-list.list ≡ prepend h0 c.args.others.items NIL =
     c.in_ok-list.ensures.made.1 ∙ (ap (prepend h1 c.args.others.items) c.in_ok-nil.ensures.made.1 ∙ prepend-Grows h0 h1 c.args.others.items NIL c.in_ok-nil.ensures.grows c.requires.others_in) in (

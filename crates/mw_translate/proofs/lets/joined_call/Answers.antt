@@ -7,10 +7,10 @@ use Rattle.mw_translate.proofs.lets.joined_call.Goals as goal
 
 pub returns-clause-made : goal.returns-clause-made
 returns-clause-made c =
-    let h0 = c.args.heap.now in
-    let h1 = c.append.new.heap in
-    let h2 = c.append-2.new.heap in
-    let h3 = c.call_of_two.new.heap in
+    let h0 = c.args.heap.now.objects in
+    let h1 = c.append.new.heap.objects in
+    let h2 = c.append-2.new.heap.objects in
+    let h3 = c.call_of_two.new.heap.objects in
     let g1 = c.in_ok-formals.ensures.grows in
     let g2 = c.in_ok-actuals.ensures.grows in
     let g3 = c.in_ok-head.ensures.grows in

@@ -7,7 +7,7 @@ use Rattle.mw_translate.proofs.lets.members_of.Goals as goal
 
 pub loop-first-preserved : goal.loop-first-preserved
 loop-first-preserved c =
-    let os = c.args.heap.now in
+    let os = c.args.heap.now.objects in
     let h = c.loop-first.invariant in
     let rs = c.loop-first.members.items in
     record {

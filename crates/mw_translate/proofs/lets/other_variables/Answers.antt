@@ -14,14 +14,14 @@ use Rattle.mw_translate.proofs.lets.other_variables.Goals as goal
 
 pub add_other-requires-clause-symbol : goal.add_other-requires-clause-symbol
 add_other-requires-clause-symbol c =
-    let os = c.args.heap.now in
+    let os = c.args.heap.now.objects in
     let rs = c.as_slice-x-items.result.now in
     let symbols = subst (AreSymbols os) (sym c.as_slice-x-items.ensures) c.in_ok-variables.ensures.symbols in
     (subst (IsSymbolIn os) (sym c.x-item.is) (All-get_or (IsSymbolIn os) rs c.loop-x.x-index c.x-item.result c.loop-x-test.true (symbols_each os rs symbols))).1
 
 pub loop-x-preserved : goal.loop-x-preserved
 loop-x-preserved c =
-    let os = c.args.heap.now in
+    let os = c.args.heap.now.objects in
     let xs = names_at os c.args.formals.now in
     let rs = c.as_slice-x-items.result.now in
     let i = c.loop-x.x-index in
@@ -40,7 +40,7 @@ loop-x-preserved c =
 
 pub returns-clause-others : goal.returns-clause-others
 returns-clause-others c = λ t h.
-    let os = c.args.heap.now in
+    let os = c.args.heap.now.objects in
     let xs = names_at os c.args.formals.now in
     let rs = c.as_slice-x-items.result.now in
     c.loop-x.invariant.so_far

@@ -11,11 +11,11 @@ use Rattle.mw_translate.proofs.Listed.{put_name, names-pair}
 use Rattle.mw_translate.proofs.lists.step_names.Goals as goal
 
 pub cons-requires-clause-second_in : goal.cons-requires-clause-second_in
-cons-requires-clause-second_in c = (made_found c.requires.made.0 c.args.heap.now c.args.memo.now.made.entries (at kind.Names c.in-Pair.rest) c.in-Some-find.made c.requires.made.1 (sym c.find.ensures ∙ c.in-Some-find.is)).object_in
+cons-requires-clause-second_in c = (made_found c.requires.made.0 c.args.heap.now.objects c.args.memo.now.made.entries (at kind.Names c.in-Pair.rest) c.in-Some-find.made c.requires.made.1 (sym c.find.ensures ∙ c.in-Some-find.is)).object_in
 
 pub returns-in_ok-cons-in-Some-find-clause-step : goal.returns-in_ok-cons-in-Some-find-clause-step
 returns-in_ok-cons-in-Some-find-clause-step c = λ A made.
-    let os = c.args.heap.now in
+    let os = c.args.heap.now.objects in
     let x = name_of (object_at os c.in-Some.named.first) in
     let named = symbol_is (object_at os c.in-Some.named.first) c.in-Some.ensures.4 in
     let e =

@@ -12,21 +12,21 @@ use Rattle.mw_translate.proofs.lists.step_values.Goals as goal
 
 pub returns-in_default-one_member-clause-step : goal.returns-in_default-one_member-clause-step
 returns-in_default-one_member-clause-step c = λ A made.
-    let os = c.args.heap.now in
+    let os = c.args.heap.now.objects in
     let x = name_of (object_at os c.in-Some.named.first) in
     let named = symbol_is (object_at os c.in-Some.named.first) c.in-Some.ensures.4 in
     ap (meaning A kind.Values) (c.in-Pair.ensures.shows.2 ∙ ap₂ Pair (c.in-Some.ensures.5 ∙ ap₂ Pair named refl) refl)
     ∙ values-long A x (object_at os c.in-Some.named.second) (object_at os c.in-Pair.rest) c.in_default-one_member.ensures
 
 pub put_first-requires-clause-first_in : goal.put_first-requires-clause-first_in
-put_first-requires-clause-first_in c = (made_found c.requires.made.0 c.args.heap.now c.args.memo.now.made.entries (at kind.Term c.in-Some-one_member.value) c.in-Ok.a c.requires.made.1 c.in-Ok.ensures.both.0).object_in
+put_first-requires-clause-first_in c = (made_found c.requires.made.0 c.args.heap.now.objects c.args.memo.now.made.entries (at kind.Term c.in-Some-one_member.value) c.in-Ok.a c.requires.made.1 c.in-Ok.ensures.both.0).object_in
 
 pub put_first-requires-clause-rest_in : goal.put_first-requires-clause-rest_in
-put_first-requires-clause-rest_in c = (made_found c.requires.made.0 c.args.heap.now c.args.memo.now.made.entries (at kind.Values c.in-Pair.rest) c.in-Ok.b c.requires.made.1 c.in-Ok.ensures.both.1).object_in
+put_first-requires-clause-rest_in c = (made_found c.requires.made.0 c.args.heap.now.objects c.args.memo.now.made.entries (at kind.Values c.in-Pair.rest) c.in-Ok.b c.requires.made.1 c.in-Ok.ensures.both.1).object_in
 
 pub returns-in_ok-put_first-in-Ok-clause-step : goal.returns-in_ok-put_first-in-Ok-clause-step
 returns-in_ok-put_first-in-Ok-clause-step c = λ A made.
-    let os = c.args.heap.now in
+    let os = c.args.heap.now.objects in
     let x = name_of (object_at os c.in-Some.named.first) in
     let e =
     ap (meaning A kind.Values) (c.in-Pair.ensures.shows.2 ∙ ap₂ Pair (c.in-Some.ensures.5 ∙ ap₂ Pair (symbol_is (object_at os c.in-Some.named.first) c.in-Some.ensures.4) c.in-Some-one_member.ensures.2) refl)
@@ -39,7 +39,7 @@ returns-in_ok-put_first-in-Ok-clause-step c = λ A made.
 
 pub returns-in-Err-clause-step : goal.returns-in-Err-clause-step
 returns-in-Err-clause-step c = λ A made.
-    let os = c.args.heap.now in
+    let os = c.args.heap.now.objects in
     let x = name_of (object_at os c.in-Some.named.first) in
     let e =
     ap (meaning A kind.Values) (c.in-Pair.ensures.shows.2 ∙ ap₂ Pair (c.in-Some.ensures.5 ∙ ap₂ Pair (symbol_is (object_at os c.in-Some.named.first) c.in-Some.ensures.4) c.in-Some-one_member.ensures.2) refl)

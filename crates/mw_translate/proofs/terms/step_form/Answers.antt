@@ -16,7 +16,7 @@ use Rattle.mw_translate.proofs.terms.step_form.Goals as goal
 
 pub step_call-requires-clause-no_quote : goal.step_call-requires-clause-no_quote
 step_call-requires-clause-no_quote c =
-    let os = c.args.heap.now in
+    let os = c.args.heap.now.objects in
     let A = c.args.newer.now ++ c.args.older.now in
     let es = c.args.memo.now.made.entries in
     let f = object_at os c.args.head in
@@ -27,7 +27,7 @@ step_call-requires-clause-no_quote c =
 
 pub returns-in-Quote-clause-step : goal.returns-in-Quote-clause-step
 returns-in-Quote-clause-step c =
-    let os = c.args.heap.now in
+    let os = c.args.heap.now.objects in
     let A = c.args.newer.now ++ c.args.older.now in
     let es = c.args.memo.now.made.entries in
     let f = object_at os c.args.head in
@@ -40,7 +40,7 @@ returns-in-Quote-clause-step c =
 
 pub returns-in-And-clause-step : goal.returns-in-And-clause-step
 returns-in-And-clause-step c =
-    let os = c.args.heap.now in
+    let os = c.args.heap.now.objects in
     let A = c.args.newer.now ++ c.args.older.now in
     let es = c.args.memo.now.made.entries in
     let f = object_at os c.args.head in
@@ -53,7 +53,7 @@ returns-in-And-clause-step c =
 
 pub returns-in-Or-clause-step : goal.returns-in-Or-clause-step
 returns-in-Or-clause-step c =
-    let os = c.args.heap.now in
+    let os = c.args.heap.now.objects in
     let A = c.args.newer.now ++ c.args.older.now in
     let es = c.args.memo.now.made.entries in
     let f = object_at os c.args.head in
@@ -66,7 +66,7 @@ returns-in-Or-clause-step c =
 
 pub returns-in-List-clause-step : goal.returns-in-List-clause-step
 returns-in-List-clause-step c =
-    let os = c.args.heap.now in
+    let os = c.args.heap.now.objects in
     let A = c.args.newer.now ++ c.args.older.now in
     let es = c.args.memo.now.made.entries in
     let f = object_at os c.args.head in
@@ -79,7 +79,7 @@ returns-in-List-clause-step c =
 
 pub returns-in-Cond-clause-step : goal.returns-in-Cond-clause-step
 returns-in-Cond-clause-step c =
-    let os = c.args.heap.now in
+    let os = c.args.heap.now.objects in
     let A = c.args.newer.now ++ c.args.older.now in
     let es = c.args.memo.now.made.entries in
     let f = object_at os c.args.head in
@@ -92,7 +92,7 @@ returns-in-Cond-clause-step c =
 
 pub returns-in_ok-step_let-in-Let-clause-step : goal.returns-in_ok-step_let-in-Let-clause-step
 returns-in_ok-step_let-in-Let-clause-step c =
-    let os = c.args.heap.now in
+    let os = c.args.heap.now.objects in
     let A = c.args.newer.now ++ c.args.older.now in
     let es = c.args.memo.now.made.entries in
     let f = object_at os c.args.head in
@@ -101,11 +101,11 @@ returns-in_ok-step_let-in-Let-clause-step c =
     let nm : name_of_bytes c.name_of.result.now ≡ name = ap name_of_bytes (sym c.name_of.ensures) ∙ name_of_bytes-bytes name in
     let w : abbreviation_of name ≡ LET = ap abbreviation_of (sym nm) ∙ (sym c.word_of.ensures ∙ ap abbreviation c.in-Let.is) in
     let e = form_meaning A (object_at os c.args.x) f r name (symbol_is f c.requires.symbol) c.requires.form LET w in
-    step_same A os c.step_let.new.heap es (meaning A kind.Term (object_at os c.args.x)) (of_term A (let_form r)) (c.args.rest + 1) c.args.x c.in_ok-step_let-in-Let.field-0 e (omega (arith, c.requires.rest_before)) (c.in_ok-step_let-in-Let.ensures.step A c.requires.made)
+    step_same A os c.step_let.new.heap.objects es (meaning A kind.Term (object_at os c.args.x)) (of_term A (let_form r)) (c.args.rest + 1) c.args.x c.in_ok-step_let-in-Let.field-0 e (omega (arith, c.requires.rest_before)) (c.in_ok-step_let-in-Let.ensures.step A c.requires.made)
 
 pub returns-in_ok-step_let_star-in-LetStar-clause-step : goal.returns-in_ok-step_let_star-in-LetStar-clause-step
 returns-in_ok-step_let_star-in-LetStar-clause-step c =
-    let os = c.args.heap.now in
+    let os = c.args.heap.now.objects in
     let A = c.args.newer.now ++ c.args.older.now in
     let es = c.args.memo.now.made.entries in
     let f = object_at os c.args.head in
@@ -114,11 +114,11 @@ returns-in_ok-step_let_star-in-LetStar-clause-step c =
     let nm : name_of_bytes c.name_of.result.now ≡ name = ap name_of_bytes (sym c.name_of.ensures) ∙ name_of_bytes-bytes name in
     let w : abbreviation_of name ≡ LETSTAR = ap abbreviation_of (sym nm) ∙ (sym c.word_of.ensures ∙ ap abbreviation c.in-LetStar.is) in
     let e = form_meaning A (object_at os c.args.x) f r name (symbol_is f c.requires.symbol) c.requires.form LETSTAR w in
-    step_same A os c.step_let_star.new.heap es (meaning A kind.Term (object_at os c.args.x)) (of_term A (let_star_form r)) (c.args.rest + 1) c.args.x c.in_ok-step_let_star-in-LetStar.field-0 e (omega (arith, c.requires.rest_before)) (c.in_ok-step_let_star-in-LetStar.ensures.step A c.requires.made)
+    step_same A os c.step_let_star.new.heap.objects es (meaning A kind.Term (object_at os c.args.x)) (of_term A (let_star_form r)) (c.args.rest + 1) c.args.x c.in_ok-step_let_star-in-LetStar.field-0 e (omega (arith, c.requires.rest_before)) (c.in_ok-step_let_star-in-LetStar.ensures.step A c.requires.made)
 
 pub returns-in_ok-step_place-in-First-clause-step : goal.returns-in_ok-step_place-in-First-clause-step
 returns-in_ok-step_place-in-First-clause-step c =
-    let os = c.args.heap.now in
+    let os = c.args.heap.now.objects in
     let A = c.args.newer.now ++ c.args.older.now in
     let es = c.args.memo.now.made.entries in
     let f = object_at os c.args.head in
@@ -127,11 +127,11 @@ returns-in_ok-step_place-in-First-clause-step c =
     let nm : name_of_bytes c.name_of.result.now ≡ name = ap name_of_bytes (sym c.name_of.ensures) ∙ name_of_bytes-bytes name in
     let w : abbreviation_of name ≡ FIRST = ap abbreviation_of (sym nm) ∙ (sym c.word_of.ensures ∙ ap abbreviation c.in-First.is) in
     let e = form_meaning A (object_at os c.args.x) f r name (symbol_is f c.requires.symbol) c.requires.form FIRST w in
-    step_same A os c.step_place.new.heap es (meaning A kind.Term (object_at os c.args.x)) (of_term A (with_terms (place_of 0) (expanded_each r))) (c.args.rest + 1) c.args.x c.in_ok-step_place-in-First.field-0 (e ∙ first_part A name r) (omega (arith, c.requires.rest_before)) c.in_ok-step_place-in-First.ensures.step
+    step_same A os c.step_place.new.heap.objects es (meaning A kind.Term (object_at os c.args.x)) (of_term A (with_terms (place_of 0) (expanded_each r))) (c.args.rest + 1) c.args.x c.in_ok-step_place-in-First.field-0 (e ∙ first_part A name r) (omega (arith, c.requires.rest_before)) c.in_ok-step_place-in-First.ensures.step
 
 pub returns-in_ok-step_place-in-Second-clause-step : goal.returns-in_ok-step_place-in-Second-clause-step
 returns-in_ok-step_place-in-Second-clause-step c =
-    let os = c.args.heap.now in
+    let os = c.args.heap.now.objects in
     let A = c.args.newer.now ++ c.args.older.now in
     let es = c.args.memo.now.made.entries in
     let f = object_at os c.args.head in
@@ -140,11 +140,11 @@ returns-in_ok-step_place-in-Second-clause-step c =
     let nm : name_of_bytes c.name_of.result.now ≡ name = ap name_of_bytes (sym c.name_of.ensures) ∙ name_of_bytes-bytes name in
     let w : abbreviation_of name ≡ SECOND = ap abbreviation_of (sym nm) ∙ (sym c.word_of.ensures ∙ ap abbreviation c.in-Second.is) in
     let e = form_meaning A (object_at os c.args.x) f r name (symbol_is f c.requires.symbol) c.requires.form SECOND w in
-    step_same A os c.step_place-in-Second.new.heap es (meaning A kind.Term (object_at os c.args.x)) (of_term A (with_terms (place_of 1) (expanded_each r))) (c.args.rest + 1) c.args.x c.in_ok-step_place-in-Second.field-0 (e ∙ second_part A name r) (omega (arith, c.requires.rest_before)) c.in_ok-step_place-in-Second.ensures.step
+    step_same A os c.step_place-in-Second.new.heap.objects es (meaning A kind.Term (object_at os c.args.x)) (of_term A (with_terms (place_of 1) (expanded_each r))) (c.args.rest + 1) c.args.x c.in_ok-step_place-in-Second.field-0 (e ∙ second_part A name r) (omega (arith, c.requires.rest_before)) c.in_ok-step_place-in-Second.ensures.step
 
 pub returns-in_ok-step_place-in-Third-clause-step : goal.returns-in_ok-step_place-in-Third-clause-step
 returns-in_ok-step_place-in-Third-clause-step c =
-    let os = c.args.heap.now in
+    let os = c.args.heap.now.objects in
     let A = c.args.newer.now ++ c.args.older.now in
     let es = c.args.memo.now.made.entries in
     let f = object_at os c.args.head in
@@ -153,11 +153,11 @@ returns-in_ok-step_place-in-Third-clause-step c =
     let nm : name_of_bytes c.name_of.result.now ≡ name = ap name_of_bytes (sym c.name_of.ensures) ∙ name_of_bytes-bytes name in
     let w : abbreviation_of name ≡ THIRD = ap abbreviation_of (sym nm) ∙ (sym c.word_of.ensures ∙ ap abbreviation c.in-Third.is) in
     let e = form_meaning A (object_at os c.args.x) f r name (symbol_is f c.requires.symbol) c.requires.form THIRD w in
-    step_same A os c.step_place-in-Third.new.heap es (meaning A kind.Term (object_at os c.args.x)) (of_term A (with_terms (place_of 2) (expanded_each r))) (c.args.rest + 1) c.args.x c.in_ok-step_place-in-Third.field-0 (e ∙ third_part A name r) (omega (arith, c.requires.rest_before)) c.in_ok-step_place-in-Third.ensures.step
+    step_same A os c.step_place-in-Third.new.heap.objects es (meaning A kind.Term (object_at os c.args.x)) (of_term A (with_terms (place_of 2) (expanded_each r))) (c.args.rest + 1) c.args.x c.in_ok-step_place-in-Third.field-0 (e ∙ third_part A name r) (omega (arith, c.requires.rest_before)) c.in_ok-step_place-in-Third.ensures.step
 
 pub returns-in_ok-step_place-in-Fourth-clause-step : goal.returns-in_ok-step_place-in-Fourth-clause-step
 returns-in_ok-step_place-in-Fourth-clause-step c =
-    let os = c.args.heap.now in
+    let os = c.args.heap.now.objects in
     let A = c.args.newer.now ++ c.args.older.now in
     let es = c.args.memo.now.made.entries in
     let f = object_at os c.args.head in
@@ -166,11 +166,11 @@ returns-in_ok-step_place-in-Fourth-clause-step c =
     let nm : name_of_bytes c.name_of.result.now ≡ name = ap name_of_bytes (sym c.name_of.ensures) ∙ name_of_bytes-bytes name in
     let w : abbreviation_of name ≡ FOURTH = ap abbreviation_of (sym nm) ∙ (sym c.word_of.ensures ∙ ap abbreviation c.in-Fourth.is) in
     let e = form_meaning A (object_at os c.args.x) f r name (symbol_is f c.requires.symbol) c.requires.form FOURTH w in
-    step_same A os c.step_place-in-Fourth.new.heap es (meaning A kind.Term (object_at os c.args.x)) (of_term A (with_terms (place_of 3) (expanded_each r))) (c.args.rest + 1) c.args.x c.in_ok-step_place-in-Fourth.field-0 (e ∙ fourth_part A name r) (omega (arith, c.requires.rest_before)) c.in_ok-step_place-in-Fourth.ensures.step
+    step_same A os c.step_place-in-Fourth.new.heap.objects es (meaning A kind.Term (object_at os c.args.x)) (of_term A (with_terms (place_of 3) (expanded_each r))) (c.args.rest + 1) c.args.x c.in_ok-step_place-in-Fourth.field-0 (e ∙ fourth_part A name r) (omega (arith, c.requires.rest_before)) c.in_ok-step_place-in-Fourth.ensures.step
 
 pub returns-in_ok-step_place-in-Fifth-clause-step : goal.returns-in_ok-step_place-in-Fifth-clause-step
 returns-in_ok-step_place-in-Fifth-clause-step c =
-    let os = c.args.heap.now in
+    let os = c.args.heap.now.objects in
     let A = c.args.newer.now ++ c.args.older.now in
     let es = c.args.memo.now.made.entries in
     let f = object_at os c.args.head in
@@ -179,11 +179,11 @@ returns-in_ok-step_place-in-Fifth-clause-step c =
     let nm : name_of_bytes c.name_of.result.now ≡ name = ap name_of_bytes (sym c.name_of.ensures) ∙ name_of_bytes-bytes name in
     let w : abbreviation_of name ≡ FIFTH = ap abbreviation_of (sym nm) ∙ (sym c.word_of.ensures ∙ ap abbreviation c.in-Fifth.is) in
     let e = form_meaning A (object_at os c.args.x) f r name (symbol_is f c.requires.symbol) c.requires.form FIFTH w in
-    step_same A os c.step_place-in-Fifth.new.heap es (meaning A kind.Term (object_at os c.args.x)) (of_term A (with_terms (place_of 4) (expanded_each r))) (c.args.rest + 1) c.args.x c.in_ok-step_place-in-Fifth.field-0 (e ∙ fifth_part A name r) (omega (arith, c.requires.rest_before)) c.in_ok-step_place-in-Fifth.ensures.step
+    step_same A os c.step_place-in-Fifth.new.heap.objects es (meaning A kind.Term (object_at os c.args.x)) (of_term A (with_terms (place_of 4) (expanded_each r))) (c.args.rest + 1) c.args.x c.in_ok-step_place-in-Fifth.field-0 (e ∙ fifth_part A name r) (omega (arith, c.requires.rest_before)) c.in_ok-step_place-in-Fifth.ensures.step
 
 pub returns-in_ok-step_call-in-Other-clause-step : goal.returns-in_ok-step_call-in-Other-clause-step
 returns-in_ok-step_call-in-Other-clause-step c =
-    let os = c.args.heap.now in
+    let os = c.args.heap.now.objects in
     let A = c.args.newer.now ++ c.args.older.now in
     let es = c.args.memo.now.made.entries in
     let f = object_at os c.args.head in
@@ -192,4 +192,4 @@ returns-in_ok-step_call-in-Other-clause-step c =
     let nm : name_of_bytes c.name_of.result.now ≡ name = ap name_of_bytes (sym c.name_of.ensures) ∙ name_of_bytes-bytes name in
     let w : abbreviation_of name ≡ Other = ap abbreviation_of (sym nm) ∙ (sym c.word_of.ensures ∙ ap abbreviation c.in-Other.is) in
     let e = form_meaning A (object_at os c.args.x) f r name (symbol_is f c.requires.symbol) c.requires.form Other w in
-    step_same A os c.step_call.new.heap es (meaning A kind.Term (object_at os c.args.x)) (of_term A (form_with Other name (expanded_each r))) (c.args.rest + 1) c.args.x c.in_ok-step_call-in-Other.field-0 e (omega (arith, c.requires.rest_before)) c.in_ok-step_call-in-Other.ensures.step
+    step_same A os c.step_call.new.heap.objects es (meaning A kind.Term (object_at os c.args.x)) (of_term A (form_with Other name (expanded_each r))) (c.args.rest + 1) c.args.x c.in_ok-step_call-in-Other.field-0 e (omega (arith, c.requires.rest_before)) c.in_ok-step_call-in-Other.ensures.step

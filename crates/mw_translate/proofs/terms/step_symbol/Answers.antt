@@ -12,18 +12,18 @@ use Rattle.mw_translate.proofs.terms.step_symbol.Goals as goal
 
 pub returns-then-is_constant-clause-step : goal.returns-then-is_constant-clause-step
 returns-then-is_constant-clause-step c = λ A.
-    let os = c.args.heap.now in
+    let os = c.args.heap.now.objects in
     let f = name_of (object_at os c.args.x) in
     let nm : name_of_bytes c.name_of.result.now ≡ f = ap name_of_bytes (sym c.name_of.ensures) ∙ name_of_bytes-bytes f in
     let t = ap (λ g. same_name g (named "T") || same_name g nil_name) (sym nm) ∙ (sym c.is_constant.ensures ∙ c.if-is_constant.true) in
     let is = symbol_is (object_at os c.args.x) c.requires.symbol in
-    atom-step A os c.call_of_one.new.heap c.args.memo.now.made.entries (meaning A kind.Term (object_at os c.args.x)) c.args.x c.in_ok-call_of_one.field-0 c.atom.result c.in_ok-call_of_one.ensures.made.0
+    atom-step A os c.call_of_one.new.heap.objects c.args.memo.now.made.entries (meaning A kind.Term (object_at os c.args.x)) c.args.x c.in_ok-call_of_one.field-0 c.atom.result c.in_ok-call_of_one.ensures.made.0
     (ap (meaning A kind.Term) is ∙ (constant_symbol A f t ∙ ap (λ o. Some (o, 0)) (ap (list2 (symbol "QUOTE")) (sym is) ∙ sym c.in_ok-call_of_one.ensures.made.1)))
     c.atom.ensures
 
 pub returns-clause-step : goal.returns-clause-step
 returns-clause-step c = λ A.
-    let os = c.args.heap.now in
+    let os = c.args.heap.now.objects in
     let f = name_of (object_at os c.args.x) in
     let nm : name_of_bytes c.name_of.result.now ≡ f = ap name_of_bytes (sym c.name_of.ensures) ∙ name_of_bytes-bytes f in
     let t = ap (λ g. same_name g (named "T") || same_name g nil_name) (sym nm) ∙ (sym c.is_constant.ensures ∙ c.if-is_constant.false) in

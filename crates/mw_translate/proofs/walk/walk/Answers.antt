@@ -14,9 +14,9 @@ use Rattle.mw_translate.proofs.walk.walk.Goals as goal
 
 pub loop-part-preserved : goal.loop-part-preserved
 loop-part-preserved c =
-    let h0 = c.args.heap.now in
-    let h = c.loop-part.heap in
-    let new = c.advance.new.heap in
+    let h0 = c.args.heap.now.objects in
+    let h = c.loop-part.heap.objects in
+    let new = c.advance.new.heap.objects in
     let A = c.args.newer.now ++ c.args.older.now in
     let x = c.args.raw in
     let es = c.loop-part.memo.made.entries in
@@ -46,9 +46,9 @@ loop-part-preserved c =
 
 pub loop-part-smaller : goal.loop-part-smaller
 loop-part-smaller c =
-    let h0 = c.args.heap.now in
-    let h = c.loop-part.heap in
-    let new = c.advance.new.heap in
+    let h0 = c.args.heap.now.objects in
+    let h = c.loop-part.heap.objects in
+    let new = c.advance.new.heap.objects in
     let A = c.args.newer.now ++ c.args.older.now in
     let x = c.args.raw in
     let es = c.loop-part.memo.made.entries in
@@ -72,9 +72,9 @@ loop-part-smaller c =
 
 pub returns-then-not-branch-clause-answer : goal.returns-then-not-branch-clause-answer
 returns-then-not-branch-clause-answer c =
-    let h0 = c.args.heap.now in
-    let h = c.loop-part.heap in
-    let new = c.advance.new.heap in
+    let h0 = c.args.heap.now.objects in
+    let h = c.loop-part.heap.objects in
+    let new = c.advance.new.heap.objects in
     let A = c.args.newer.now ++ c.args.older.now in
     let x = c.args.raw in
     let es = c.loop-part.memo.made.entries in
@@ -88,8 +88,8 @@ returns-then-not-branch-clause-answer c =
 
 pub returns-clause-answer : goal.returns-clause-answer
 returns-clause-answer c =
-    let h0 = c.args.heap.now in
-    let h = c.loop-part.heap in
+    let h0 = c.args.heap.now.objects in
+    let h = c.loop-part.heap.objects in
     let A = c.args.newer.now ++ c.args.older.now in
     let x = c.args.raw in
     let es = c.loop-part.memo.made.entries in

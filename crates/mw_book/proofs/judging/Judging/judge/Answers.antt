@@ -16,7 +16,7 @@ returns-clause-judges c =
     let word = c.shown-word.result.0 in
     let label = c.shown-word.result.1 in
     let here : ShowsEvent old.kernel.objects word label y = subst (λ os. ShowsEvent os word label (object_at os c.args.x)) c.heap.ensures c.shown-word.ensures in
-    let shows : ShowsEvent c.heap-2.result.now word label y = subst (λ os. ShowsEvent os word label y) (sym c.heap-2.ensures) here in
+    let shows : ShowsEvent c.heap-2.result.now.objects word label y = subst (λ os. ShowsEvent os word label y) (sym c.heap-2.ensures) here in
     let event = c.in_ok-fate.ensures in
     let end = c.end.ensures in
     OnOk-three c.end.result end.line end.counted end.refused_counted (λ line counted refused given.

@@ -1,7 +1,7 @@
 use Rattle.std.proofs.Common.{◌≡◌, ◌+◌, ◌-◌, ◌++◌, take, drop, sym, ap, ◌∙◌, arith}
 use Rattle.std.proofs.lemmas.List.{drop_all, take_rest}
-use Rattle.mw_book.specs.Trials.{lines_behind}
-use Rattle.mw_book.proofs.Trials.{lines_behind-next, given_part}
+use Rattle.mw_book.specs.Trials.{lines_after}
+use Rattle.mw_book.proofs.Trials.{lines_after-next, given_part}
 use Rattle.mw_book.proofs.trial.TrialSource.give.Goals as goal
 use Rattle.mw_book.proofs.trial.TrialSource.give.Goals.{then-self-len+else-self, else-self-len}
 
@@ -9,16 +9,16 @@ pub returns-clause-given : goal.returns-clause-given
 returns-clause-given c =
     let s = c.if-self-len.self-inside in
     let n = c.copy_front-n.result in
-    let rest = lines_behind s.event (s.events - s.event) in
+    let rest = lines_after s.event (s.events - s.event) in
     let before : c.args.self.now ≡ drop s.given s.line.bytes ++ rest =
     elim c.if-self-len.branch [
       | then-self-len+else-self w ↦
           let o = c.self.inside in
-          let later = lines_behind (o.event + 1) (o.events - (o.event + 1)) in
+          let later = lines_after (o.event + 1) (o.events - (o.event + 1)) in
           rw w.self-inside-is
           (sym c.self.view_is
-          ∙ ap (λ l. l ++ lines_behind o.event (o.events - o.event)) (drop_all o.given o.line.bytes (omega (arith, c.len.ensures.value, w.if-self-len.true)))
-          ∙ lines_behind-next o.event o.events (omega (arith, w.if-self.false, c.self.invariant))
+          ∙ ap (λ l. l ++ lines_after o.event (o.events - o.event)) (drop_all o.given o.line.bytes (omega (arith, c.len.ensures.value, w.if-self-len.true)))
+          ∙ lines_after-next o.event o.events (omega (arith, w.if-self.false, c.self.invariant))
           ∙ ap (λ l. l ++ later) (sym w.make_line.ensures))
       | else-self-len w ↦ rw w.self-inside-is (sym c.self.view_is)
     ] in

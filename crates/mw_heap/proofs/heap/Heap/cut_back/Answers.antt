@@ -10,7 +10,7 @@ use Rattle.mw_heap.proofs.Sound.{cut_sound, cut_objects, same_sound, same_object
 use Rattle.mw_heap.proofs.heap.Heap.cut_back.Goals as goal
 
 pub counts_from-naturals-requires : goal.counts_from-naturals-requires
-counts_from-naturals-requires c = omega (arith, c.requires, c.cells.ensures, length-cells _ _ _ c.self.invariant.sound _ c.self.view_is)
+counts_from-naturals-requires c = omega (arith, c.requires, c.cells.ensures, length-cells _ _ _ c.self.invariant.sound _ (ap (λ v. v.objects) c.self.view_is))
 
 pub overflow_sub-len : goal.overflow_sub-len
 overflow_sub-len c =
@@ -24,7 +24,7 @@ overflow_sub-len-2 c =
 
 -- the cut in the words of the lemmas
 within : (c : goal.After-truncate-4) → c.cells.result ≤ length c.self.inside.cells.keys
-within c = omega (arith, c.requires, c.cells.ensures, length-cells _ _ _ c.self.invariant.sound _ c.self.view_is)
+within c = omega (arith, c.requires, c.cells.ensures, length-cells _ _ _ c.self.invariant.sound _ (ap (λ v. v.objects) c.self.view_is))
 
 naturals_left : (c : goal.After-truncate-4) → (c.len.result - c.counts_from-naturals.result.0) + natural_count (drop c.cells.result c.self.inside.cells.keys) ≡ length c.self.inside.naturals.keys
 naturals_left c =
@@ -58,5 +58,5 @@ invariant_of-self c = record {
       ∙ (ap (take c.cells.result) c.self.invariant.measured ∙ (take-map lengths_of c.cells.result _ ∙ ap (map lengths_of) (sym (same_cut c)))));
 }
 
-pub returns : goal.returns
-returns c = same_cut c ∙ (ap (take c.cells.result) c.self.view_is ∙ ap (λ n. take n c.args.self.now) c.cells.ensures)
+pub returns-clause-kept : goal.returns-clause-kept
+returns-clause-kept c = same_cut c ∙ (ap (take c.cells.result) (ap (λ v. v.objects) c.self.view_is) ∙ ap (λ n. take n c.args.self.now.objects) c.cells.ensures)

@@ -16,12 +16,12 @@ other_length o b n f = by_cases (object_cases o NIL)
 
 pub returns-in_default-matches : goal.returns-in_default-matches
 returns-in_default-matches c =
-    let os = c.args.self.now in
+    let os = c.args.self.now.objects in
     other_length (object_at os c.in-Some.x) c.name_of.result.now c.name_of.ensures (λ e. omega (arith, e, c.in_default-matches.len_below))
     ∙ ap (λ x. same_object (part_at os x) NIL) (sym c.in-Some.is)
 
 pub returns-in_default-matches-5 : goal.returns-in_default-matches-5
 returns-in_default-matches-5 c =
-    let os = c.args.self.now in
+    let os = c.args.self.now.objects in
     other_length (object_at os c.in-Some.x) c.name_of.result.now c.name_of.ensures (λ e. omega (arith, e, c.in_default-matches.len_at_least))
     ∙ ap (λ x. same_object (part_at os x) NIL) (sym c.in-Some.is)

@@ -7,7 +7,7 @@ use Rattle.mw_heap.proofs.heap.Heap.member_after.Goals as goal
 
 pub returns-then-is_nil-clause-member : goal.returns-then-is_nil-clause-member
 returns-then-is_nil-clause-member c =
-    let os = c.args.self.now in
+    let os = c.args.self.now.objects in
     let head = same_object-eq (object_at os c.in-Pair.head) (Symbol (name_of_bytes c.args.name.now)) (sym c.is_named.ensures ∙ c.if-is_named.true) in
     let end = same_object-eq (object_at os c.in-Pair-view.end) NIL (sym c.is_nil.ensures ∙ c.if-is_nil.true) in
     let second = c.in-Pair-view.ensures.shows.2 ∙ ap (Pair (object_at os c.in-Pair-view.first)) end in

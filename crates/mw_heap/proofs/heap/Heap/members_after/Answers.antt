@@ -7,7 +7,7 @@ use Rattle.mw_heap.proofs.heap.Heap.members_after.Goals as goal
 
 pub returns-then-is_nil-clause-members : goal.returns-then-is_nil-clause-members
 returns-then-is_nil-clause-members c =
-    let os = c.args.self.now in
+    let os = c.args.self.now.objects in
     let head = same_object-eq (object_at os c.in-Pair.head) (Symbol (name_of_bytes c.args.name.now)) (sym c.is_named.ensures ∙ c.if-is_named.true) in
     let end = same_object-eq (object_at os c.in-Pair-view-2.end) NIL (sym c.is_nil.ensures ∙ c.if-is_nil.true) in
     let third = c.in-Pair-view-2.ensures.shows.2 ∙ ap (Pair (object_at os c.in-Pair-view-2.second)) end in

@@ -22,19 +22,19 @@ pub invariant_of-self : goal.invariant_of-self
 invariant_of-self c =
     let e = c.insert_measured.ensures in
     record {
-      sound = plain_sound _ _ _ c.self.invariant.sound _ (refl, refl) (omega (arith, c.in-Ok.ensures.0, c.in-Ok.ensures.1)) _ c.self.view_is _ e.few _ e.inserted e.distinct e.err;
+      sound = plain_sound _ _ _ c.self.invariant.sound _ (refl, refl) (omega (arith, c.in-Ok.ensures.0, c.in-Ok.ensures.1)) _ (ap (λ v. v.objects) c.self.view_is) _ e.few _ e.inserted e.distinct e.err;
       measured = measured-result _ _ _ _ _ _ _ _ c.self.invariant.measured e.measured e.err e.lengths_err;
     }
 
 pub returns-in-Ok-clause-grows : goal.returns-in-Ok-clause-grows
 returns-in-Ok-clause-grows c =
     let e = c.insert_measured.ensures in
-    plain_grows _ _ _ c.self.invariant.sound _ (refl, refl) (omega (arith, c.in-Ok.ensures.0, c.in-Ok.ensures.1)) _ c.self.view_is _ e.few _ e.inserted e.distinct e.err
+    plain_grows _ _ _ c.self.invariant.sound _ (refl, refl) (omega (arith, c.in-Ok.ensures.0, c.in-Ok.ensures.1)) _ (ap (λ v. v.objects) c.self.view_is) _ e.few _ e.inserted e.distinct e.err
 
 pub returns-in-Ok-clause-made : goal.returns-in-Ok-clause-made
 returns-in-Ok-clause-made c =
     let e = c.insert_measured.ensures in
-    plain_made _ _ _ c.self.invariant.sound _ (refl, refl) (omega (arith, c.in-Ok.ensures.0, c.in-Ok.ensures.1)) _ c.self.view_is _ e.few _ (ap Natural c.in-Ok.ensures.1) _ e.inserted e.distinct
+    plain_made _ _ _ c.self.invariant.sound _ (refl, refl) (omega (arith, c.in-Ok.ensures.0, c.in-Ok.ensures.1)) _ (ap (λ v. v.objects) c.self.view_is) _ e.few _ (ap Natural c.in-Ok.ensures.1) _ e.inserted e.distinct
 
 pub overflow_cast-index : goal.overflow_cast-index
 overflow_cast-index c =
@@ -55,7 +55,7 @@ invariant_of-self-in-Ok-insert_measured c = record {
 }
 
 pub returns-in-Ok-insert_measured-clause-grows : goal.returns-in-Ok-insert_measured-clause-grows
-returns-in-Ok-insert_measured-clause-grows c = grows_from _ c.self.view_is (adds c).1.grows
+returns-in-Ok-insert_measured-clause-grows c = grows_from _ (ap (λ v. v.objects) c.self.view_is) (adds c).1.grows
 
 pub returns-in-Ok-insert_measured-clause-made : goal.returns-in-Ok-insert_measured-clause-made
 returns-in-Ok-insert_measured-clause-made c = ((adds c).1.within, (adds c).1.made)

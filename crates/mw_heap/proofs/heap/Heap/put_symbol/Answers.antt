@@ -38,7 +38,7 @@ invariant_of-self-in-Ok c = record {
 }
 
 pub returns-in-Ok-clause-grows : goal.returns-in-Ok-clause-grows
-returns-in-Ok-clause-grows c = grows_from _ c.self.view_is (adds (goal.at.returns-in-Ok-clause-grows c).In-Ok).1.grows
+returns-in-Ok-clause-grows c = grows_from _ (ap (λ v. v.objects) c.self.view_is) (adds (goal.at.returns-in-Ok-clause-grows c).In-Ok).1.grows
 
 pub returns-in-Ok-clause-made : goal.returns-in-Ok-clause-made
 returns-in-Ok-clause-made c = ((adds (goal.at.returns-in-Ok-clause-made c).In-Ok).1.within, (adds (goal.at.returns-in-Ok-clause-made c).In-Ok).1.made)
@@ -55,8 +55,8 @@ invariant_of-self-in-Err c = record {
   measured = c.in-Err.ensures.lengths_err ∙ (c.self.invariant.measured ∙ ap (map lengths_of) (sym (same_cells c)));
 }
 
-same_heap : (c : goal.After-truncate) → objects c.self.inside.naturals.keys (bytes_of c.truncate.new.self.keys) c.insert_measured.new.cells.keys ≡ c.args.self.now
-same_heap c = same_cells c ∙ c.self.view_is
+same_heap : (c : goal.After-truncate) → objects c.self.inside.naturals.keys (bytes_of c.truncate.new.self.keys) c.insert_measured.new.cells.keys ≡ c.args.self.now.objects
+same_heap c = same_cells c ∙ (ap (λ v. v.objects) c.self.view_is)
 
 pub returns-in-Err-clause-grows : goal.returns-in-Err-clause-grows
 returns-in-Err-clause-grows c = grows_from _ (same_heap c) (stays _)

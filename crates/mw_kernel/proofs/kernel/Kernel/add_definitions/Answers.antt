@@ -19,21 +19,21 @@ add_definitions-requires-clause-block c = (c.requires.block.0, subst (λ v. IsNe
 pub invariant_of-self : goal.invariant_of-self
 invariant_of-self c =
     let inside = c.self.inside in
-    let new = c.add_definitions.new.heap in
+    let new = c.add_definitions.new.heap.objects in
     let ms = c.cut_marks.new.marks in
     let err = c.in_err-add_definitions.ensures.err in
-    let marked = AreMarks-grows inside.theory.arity inside.heap new ms c.add_definitions.ensures.grows (c.cut_marks.ensures.marked _ _ c.self.invariant.marked) in
+    let marked = AreMarks-grows inside.theory.arity inside.heap.objects new ms c.add_definitions.ensures.grows (c.cut_marks.ensures.marked _ _ c.self.invariant.marked) in
     grown-recoded _ _ _ _ c.self.invariant new c.add_definitions.ensures.grows c.add_definitions.new.self ms err (subst (λ A. AreMarks A new ms) (sym (ap (λ t. t.arity) err.rest)) marked)
 
 pub returns-in_err-add_definitions-clause-err : goal.returns-in_err-add_definitions-clause-err
 returns-in_err-add_definitions-clause-err c =
-    let new = c.add_definitions.new.heap in
+    let new = c.add_definitions.new.heap.objects in
     OnErr-from _ _ (ap (λ t. meant new (parts_of t)) c.in_err-add_definitions.ensures.err.rest ∙ (grown_theory _ _ _ _ c.self.invariant new c.add_definitions.ensures.grows ∙ ap theory_of c.self.view_is))
 
 pub invariant_of-self-2 : goal.invariant_of-self-2
 invariant_of-self-2 c =
     let inside = c.self.inside in
-    let new = c.add_definitions.new.heap in
+    let new = c.add_definitions.new.heap.objects in
     let t = c.add_definitions.new.self in
     let ms = c.cut_marks.new.marks in
     let B = c.requires.block.0 in
@@ -43,7 +43,7 @@ invariant_of-self-2 c =
     c.in_ok-add_definitions.ensures.held.arities
     ∙ (ap (λ u. arity_table u.definitions) (c.in_ok-add_definitions.ensures.theory B n)
     ∙ ap (add_block B) (sym (held _ _ _ _ c.self.invariant).arities)) in
-    let marked = subst (λ A. AreMarks A new ms) (sym arities) (AreMarks-grows (add_block B inside.theory.arity) inside.heap new ms c.add_definitions.ensures.grows kept) in
+    let marked = subst (λ A. AreMarks A new ms) (sym arities) (AreMarks-grows (add_block B inside.theory.arity) inside.heap.objects new ms c.add_definitions.ensures.grows kept) in
     subst (λ n. IsKernel new n t ms) (sym c.mark-self-inside.ensures) (needs-all new t ms c.in_ok-add_definitions.ensures.held marked)
 
 pub returns-clause-theory : goal.returns-clause-theory

@@ -9,54 +9,54 @@ use Rattle.mw_kernel.proofs.Defined.{theory-same, functions-fail, passed, functi
 use Rattle.mw_kernel.proofs.kernel.Kernel.add_functions.Goals as goal
 
 pub invariant_of-self : goal.invariant_of-self
-invariant_of-self c = grown _ _ _ _ c.self.invariant c.admit.new.heap c.admit.ensures.grows
+invariant_of-self c = grown _ _ _ _ c.self.invariant c.admit.new.heap.objects c.admit.ensures.grows
 
 pub returns-in-Refused-clause-fate : goal.returns-in-Refused-clause-fate
 returns-in-Refused-clause-fate c = λ M proofs a.
-    sym (ap (λ r. r.0) (functions-fail _ _ _ _ _ c.self.invariant c.args.self.now c.self.view_is c.admit.new.heap c.admit.ensures.grows c.args.drafts M proofs c.in-Refused.reason c.in-Refused.ensures.admitted))
+    sym (ap (λ r. r.0) (functions-fail _ _ _ _ _ c.self.invariant c.args.self.now c.self.view_is c.admit.new.heap.objects c.admit.ensures.grows c.args.drafts M proofs c.in-Refused.reason c.in-Refused.ensures.admitted))
 
 pub returns-in-Refused-clause-theory : goal.returns-in-Refused-clause-theory
 returns-in-Refused-clause-theory c = λ M proofs a.
-    theory-same _ _ _ _ _ c.self.invariant c.args.self.now c.self.view_is c.admit.new.heap c.admit.ensures.grows
-    ∙ sym (ap (λ r. r.1) (functions-fail _ _ _ _ _ c.self.invariant c.args.self.now c.self.view_is c.admit.new.heap c.admit.ensures.grows c.args.drafts M proofs c.in-Refused.reason c.in-Refused.ensures.admitted))
+    theory-same _ _ _ _ _ c.self.invariant c.args.self.now c.self.view_is c.admit.new.heap.objects c.admit.ensures.grows
+    ∙ sym (ap (λ r. r.1) (functions-fail _ _ _ _ _ c.self.invariant c.args.self.now c.self.view_is c.admit.new.heap.objects c.admit.ensures.grows c.args.drafts M proofs c.in-Refused.reason c.in-Refused.ensures.admitted))
 
 pub invariant_of-self-in-Memory : goal.invariant_of-self-in-Memory
-invariant_of-self-in-Memory c = grown _ _ _ _ c.self.invariant c.admit.new.heap c.admit.ensures.grows
+invariant_of-self-in-Memory c = grown _ _ _ _ c.self.invariant c.admit.new.heap.objects c.admit.ensures.grows
 
 pub returns-in-Memory-clause-err : goal.returns-in-Memory-clause-err
-returns-in-Memory-clause-err c = theory-same _ _ _ _ _ c.self.invariant c.args.self.now c.self.view_is c.admit.new.heap c.admit.ensures.grows
+returns-in-Memory-clause-err c = theory-same _ _ _ _ _ c.self.invariant c.args.self.now c.self.view_is c.admit.new.heap.objects c.admit.ensures.grows
 
 pub invariant_of-self-in_err-block : goal.invariant_of-self-in_err-block
-invariant_of-self-in_err-block c = grown _ _ _ _ c.self.invariant c.admit.new.heap c.admit.ensures.grows
+invariant_of-self-in_err-block c = grown _ _ _ _ c.self.invariant c.admit.new.heap.objects c.admit.ensures.grows
 
 pub returns-in_err-block-clause-err : goal.returns-in_err-block-clause-err
-returns-in_err-block-clause-err c = OnErr-from _ _ (theory-same _ _ _ _ _ c.self.invariant c.args.self.now c.self.view_is c.admit.new.heap c.admit.ensures.grows)
+returns-in_err-block-clause-err c = OnErr-from _ _ (theory-same _ _ _ _ _ c.self.invariant c.args.self.now c.self.view_is c.admit.new.heap.objects c.admit.ensures.grows)
 
 pub invariant_of-self-2 : goal.invariant_of-self-2
-invariant_of-self-2 c = grown _ _ _ _ c.self.invariant c.admit.new.heap c.admit.ensures.grows
+invariant_of-self-2 c = grown _ _ _ _ c.self.invariant c.admit.new.heap.objects c.admit.ensures.grows
 
 pub add_definitions-requires : goal.add_definitions-requires
 add_definitions-requires c =
     let owed = c.in-Obligations.owed in
     let (M, proofs, a) = c.requires.accepted in
-    let p = passed _ _ _ _ _ c.self.invariant c.args.self.now c.self.view_is c.admit.new.heap c.admit.ensures.grows c.args.drafts owed c.in-Obligations.ensures.admitted in
-    record { block = (_, functions-block _ _ _ _ _ c.self.invariant c.args.self.now c.self.view_is c.admit.new.heap c.admit.ensures.grows c.args.drafts owed p M proofs a c.as_slice-2.result.now (c.as_slice-2.ensures.value ∙ (c.in_ok-block.ensures ∙ ap (map function_of_entry) c.as_slice.ensures.value))) }
+    let p = passed _ _ _ _ _ c.self.invariant c.args.self.now c.self.view_is c.admit.new.heap.objects c.admit.ensures.grows c.args.drafts owed c.in-Obligations.ensures.admitted in
+    record { block = (_, functions-block _ _ _ _ _ c.self.invariant c.args.self.now c.self.view_is c.admit.new.heap.objects c.admit.ensures.grows c.args.drafts owed p M proofs a c.as_slice-2.result.now (c.as_slice-2.ensures.value ∙ (c.in_ok-block.ensures ∙ ap (map function_of_entry) c.as_slice.ensures.value))) }
 
 pub returns-in_err-add_definitions-clause-err : goal.returns-in_err-add_definitions-clause-err
-returns-in_err-add_definitions-clause-err c = OnErr-from _ _ (c.in_err-add_definitions.ensures.err ∙ theory-same _ _ _ _ _ c.self.invariant c.args.self.now c.self.view_is c.admit.new.heap c.admit.ensures.grows)
+returns-in_err-add_definitions-clause-err c = OnErr-from _ _ (c.in_err-add_definitions.ensures.err ∙ theory-same _ _ _ _ _ c.self.invariant c.args.self.now c.self.view_is c.admit.new.heap.objects c.admit.ensures.grows)
 
 pub returns-clause-fate : goal.returns-clause-fate
 returns-clause-fate c = λ M proofs a.
     let owed = c.in-Obligations.owed in
-    let p = passed _ _ _ _ _ c.self.invariant c.args.self.now c.self.view_is c.admit.new.heap c.admit.ensures.grows c.args.drafts owed c.in-Obligations.ensures.admitted in
-    c.accepted.ensures ∙ sym (ap (λ r. r.0) (functions-pass _ _ _ _ _ c.self.invariant c.args.self.now c.self.view_is c.admit.new.heap c.admit.ensures.grows c.args.drafts owed p M proofs a))
+    let p = passed _ _ _ _ _ c.self.invariant c.args.self.now c.self.view_is c.admit.new.heap.objects c.admit.ensures.grows c.args.drafts owed c.in-Obligations.ensures.admitted in
+    c.accepted.ensures ∙ sym (ap (λ r. r.0) (functions-pass _ _ _ _ _ c.self.invariant c.args.self.now c.self.view_is c.admit.new.heap.objects c.admit.ensures.grows c.args.drafts owed p M proofs a))
 
 pub returns-clause-theory : goal.returns-clause-theory
 returns-clause-theory c = λ M proofs a.
     let owed = c.in-Obligations.owed in
-    let p = passed _ _ _ _ _ c.self.invariant c.args.self.now c.self.view_is c.admit.new.heap c.admit.ensures.grows c.args.drafts owed c.in-Obligations.ensures.admitted in
-    let block = functions-block _ _ _ _ _ c.self.invariant c.args.self.now c.self.view_is c.admit.new.heap c.admit.ensures.grows c.args.drafts owed p M proofs a c.as_slice-2.result.now (c.as_slice-2.ensures.value ∙ (c.in_ok-block.ensures ∙ ap (map function_of_entry) c.as_slice.ensures.value)) in
+    let p = passed _ _ _ _ _ c.self.invariant c.args.self.now c.self.view_is c.admit.new.heap.objects c.admit.ensures.grows c.args.drafts owed c.in-Obligations.ensures.admitted in
+    let block = functions-block _ _ _ _ _ c.self.invariant c.args.self.now c.self.view_is c.admit.new.heap.objects c.admit.ensures.grows c.args.drafts owed p M proofs a c.as_slice-2.result.now (c.as_slice-2.ensures.value ∙ (c.in_ok-block.ensures ∙ ap (map function_of_entry) c.as_slice.ensures.value)) in
     let B = Functions (functions p.passes.names p.passes.formals p.passes.bodies) in
     c.in_ok-add_definitions.ensures.theory B block
-    ∙ (ap (λ t. add_to_theory t B) (theory-same _ _ _ _ _ c.self.invariant c.args.self.now c.self.view_is c.admit.new.heap c.admit.ensures.grows)
-    ∙ sym (ap (λ r. r.1) (functions-pass _ _ _ _ _ c.self.invariant c.args.self.now c.self.view_is c.admit.new.heap c.admit.ensures.grows c.args.drafts owed p M proofs a)))
+    ∙ (ap (λ t. add_to_theory t B) (theory-same _ _ _ _ _ c.self.invariant c.args.self.now c.self.view_is c.admit.new.heap.objects c.admit.ensures.grows)
+    ∙ sym (ap (λ r. r.1) (functions-pass _ _ _ _ _ c.self.invariant c.args.self.now c.self.view_is c.admit.new.heap.objects c.admit.ensures.grows c.args.drafts owed p M proofs a)))

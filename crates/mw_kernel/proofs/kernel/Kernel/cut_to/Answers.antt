@@ -11,7 +11,7 @@ invariant_of-self c =
     let h = c.self.invariant in
     let needed = subst (λ v. v.needed ≤ c.args.to) (sym c.self.view_is) c.requires.needed in
     let within = subst (λ v. c.args.to ≤ length v.objects) (sym c.self.view_is) c.requires.within in
-    subst (λ os. IsKernel os inside.needed inside.theory c.cut_marks.new.marks) (sym c.cut_back.ensures)
+    subst (λ os. IsKernel os inside.needed inside.theory c.cut_marks.new.marks) (sym c.cut_back.ensures.kept)
     (cut_back _ _ _ _ h c.args.to needed within c.cut_marks.new.marks c.cut_marks.ensures.few (c.cut_marks.ensures.marked _ _ h.marked))
 
 pub returns-clause-theory : goal.returns-clause-theory
@@ -19,7 +19,7 @@ returns-clause-theory c =
     let inside = c.self.inside in
     let needed = subst (λ v. v.needed ≤ c.args.to) (sym c.self.view_is) c.requires.needed in
     let within = subst (λ v. c.args.to ≤ length v.objects) (sym c.self.view_is) c.requires.within in
-    ap (λ os. meant os (parts_of inside.theory)) c.cut_back.ensures
+    ap (λ os. meant os (parts_of inside.theory)) c.cut_back.ensures.kept
     ∙ (cut_theory _ _ _ _ c.self.invariant c.args.to needed within ∙ ap theory_of c.self.view_is)
 
 pub returns-clause-sound : goal.returns-clause-sound
@@ -27,4 +27,4 @@ returns-clause-sound c =
     let inside = c.self.inside in
     let needed = subst (λ v. v.needed ≤ c.args.to) (sym c.self.view_is) c.requires.needed in
     let within = subst (λ v. c.args.to ≤ length v.objects) (sym c.self.view_is) c.requires.within in
-    subst (λ os. IsSound (meant os (parts_of inside.theory))) (sym c.cut_back.ensures) (cut_held _ _ _ _ c.self.invariant c.args.to needed within).sound
+    subst (λ os. IsSound (meant os (parts_of inside.theory))) (sym c.cut_back.ensures.kept) (cut_held _ _ _ _ c.self.invariant c.args.to needed within).sound

@@ -10,40 +10,40 @@ use Rattle.mw_kernel.proofs.Defined.{theory-same, functions-fail, passed, alone-
 use Rattle.mw_kernel.proofs.kernel.Kernel.define_alone.Goals as goal
 
 pub invariant_of-self : goal.invariant_of-self
-invariant_of-self c = grown _ _ _ _ c.self.invariant c.admit.new.heap c.admit.ensures.grows
+invariant_of-self c = grown _ _ _ _ c.self.invariant c.admit.new.heap.objects c.admit.ensures.grows
 
 pub returns-in-Refused-clause-fate : goal.returns-in-Refused-clause-fate
 returns-in-Refused-clause-fate c =
-    sym (ap (λ r. r.0) (functions-fail _ _ _ _ _ c.self.invariant c.args.self.now c.self.view_is c.admit.new.heap c.admit.ensures.grows c.args.drafts c.args.self.now.steps NIL c.in-Refused.reason c.in-Refused.ensures.admitted))
+    sym (ap (λ r. r.0) (functions-fail _ _ _ _ _ c.self.invariant c.args.self.now c.self.view_is c.admit.new.heap.objects c.admit.ensures.grows c.args.drafts c.args.self.now.steps NIL c.in-Refused.reason c.in-Refused.ensures.admitted))
 
 pub returns-in-Refused-clause-theory : goal.returns-in-Refused-clause-theory
 returns-in-Refused-clause-theory c =
-    theory-same _ _ _ _ _ c.self.invariant c.args.self.now c.self.view_is c.admit.new.heap c.admit.ensures.grows
-    ∙ sym (ap (λ r. r.1) (functions-fail _ _ _ _ _ c.self.invariant c.args.self.now c.self.view_is c.admit.new.heap c.admit.ensures.grows c.args.drafts c.args.self.now.steps NIL c.in-Refused.reason c.in-Refused.ensures.admitted))
+    theory-same _ _ _ _ _ c.self.invariant c.args.self.now c.self.view_is c.admit.new.heap.objects c.admit.ensures.grows
+    ∙ sym (ap (λ r. r.1) (functions-fail _ _ _ _ _ c.self.invariant c.args.self.now c.self.view_is c.admit.new.heap.objects c.admit.ensures.grows c.args.drafts c.args.self.now.steps NIL c.in-Refused.reason c.in-Refused.ensures.admitted))
 
 pub invariant_of-self-in-Memory : goal.invariant_of-self-in-Memory
-invariant_of-self-in-Memory c = grown _ _ _ _ c.self.invariant c.admit.new.heap c.admit.ensures.grows
+invariant_of-self-in-Memory c = grown _ _ _ _ c.self.invariant c.admit.new.heap.objects c.admit.ensures.grows
 
 pub returns-in-Memory-clause-err : goal.returns-in-Memory-clause-err
-returns-in-Memory-clause-err c = theory-same _ _ _ _ _ c.self.invariant c.args.self.now c.self.view_is c.admit.new.heap c.admit.ensures.grows
+returns-in-Memory-clause-err c = theory-same _ _ _ _ _ c.self.invariant c.args.self.now c.self.view_is c.admit.new.heap.objects c.admit.ensures.grows
 
 pub invariant_of-self-in_err-block : goal.invariant_of-self-in_err-block
-invariant_of-self-in_err-block c = grown _ _ _ _ c.self.invariant c.admit.new.heap c.admit.ensures.grows
+invariant_of-self-in_err-block c = grown _ _ _ _ c.self.invariant c.admit.new.heap.objects c.admit.ensures.grows
 
 pub returns-in_err-block-clause-err : goal.returns-in_err-block-clause-err
-returns-in_err-block-clause-err c = OnErr-from _ _ (theory-same _ _ _ _ _ c.self.invariant c.args.self.now c.self.view_is c.admit.new.heap c.admit.ensures.grows)
+returns-in_err-block-clause-err c = OnErr-from _ _ (theory-same _ _ _ _ _ c.self.invariant c.args.self.now c.self.view_is c.admit.new.heap.objects c.admit.ensures.grows)
 
 pub invariant_of-self-2 : goal.invariant_of-self-2
-invariant_of-self-2 c = grown _ _ _ _ c.self.invariant c.admit.new.heap c.admit.ensures.grows
+invariant_of-self-2 c = grown _ _ _ _ c.self.invariant c.admit.new.heap.objects c.admit.ensures.grows
 
 pub invariant_of-self-then-not-is_nil : goal.invariant_of-self-then-not-is_nil
-invariant_of-self-then-not-is_nil c = grown _ _ _ _ c.self.invariant c.admit.new.heap c.admit.ensures.grows
+invariant_of-self-then-not-is_nil c = grown _ _ _ _ c.self.invariant c.admit.new.heap.objects c.admit.ensures.grows
 
 pub returns-then-not-is_nil-clause-fate : goal.returns-then-not-is_nil-clause-fate
 returns-then-not-is_nil-clause-fate c =
     let old = c.args.self.now in
     let owed = c.in-Obligations.owed in
-    let new = c.admit.new.heap in
+    let new = c.admit.new.heap.objects in
     let g = c.admit.ensures.grows in
     let p = passed _ _ _ _ _ c.self.invariant old c.self.view_is new g c.args.drafts owed c.in-Obligations.ensures.admitted in
     let some = sym c.is_nil.ensures ∙ c.if-not-is_nil.true in
@@ -53,7 +53,7 @@ pub returns-then-not-is_nil-clause-theory : goal.returns-then-not-is_nil-clause-
 returns-then-not-is_nil-clause-theory c =
     let old = c.args.self.now in
     let owed = c.in-Obligations.owed in
-    let new = c.admit.new.heap in
+    let new = c.admit.new.heap.objects in
     let g = c.admit.ensures.grows in
     let p = passed _ _ _ _ _ c.self.invariant old c.self.view_is new g c.args.drafts owed c.in-Obligations.ensures.admitted in
     let some = sym c.is_nil.ensures ∙ c.if-not-is_nil.true in
@@ -63,7 +63,7 @@ pub add_definitions-requires : goal.add_definitions-requires
 add_definitions-requires c =
     let old = c.args.self.now in
     let owed = c.in-Obligations.owed in
-    let new = c.admit.new.heap in
+    let new = c.admit.new.heap.objects in
     let g = c.admit.ensures.grows in
     let p = passed _ _ _ _ _ c.self.invariant old c.self.view_is new g c.args.drafts owed c.in-Obligations.ensures.admitted in
     let none = sym c.is_nil.ensures ∙ c.if-not-is_nil.false in
@@ -71,13 +71,13 @@ add_definitions-requires c =
     record { block = (_, functions-block _ _ _ _ _ c.self.invariant old c.self.view_is new g c.args.drafts owed p old.steps NIL a c.as_slice-2.result.now (c.as_slice-2.ensures.value ∙ (c.in_ok-block.ensures ∙ ap (map function_of_entry) c.as_slice.ensures.value))) }
 
 pub returns-in_err-add_definitions-clause-err : goal.returns-in_err-add_definitions-clause-err
-returns-in_err-add_definitions-clause-err c = OnErr-from _ _ (c.in_err-add_definitions.ensures.err ∙ theory-same _ _ _ _ _ c.self.invariant c.args.self.now c.self.view_is c.admit.new.heap c.admit.ensures.grows)
+returns-in_err-add_definitions-clause-err c = OnErr-from _ _ (c.in_err-add_definitions.ensures.err ∙ theory-same _ _ _ _ _ c.self.invariant c.args.self.now c.self.view_is c.admit.new.heap.objects c.admit.ensures.grows)
 
 pub returns-clause-fate : goal.returns-clause-fate
 returns-clause-fate c =
     let old = c.args.self.now in
     let owed = c.in-Obligations.owed in
-    let new = c.admit.new.heap in
+    let new = c.admit.new.heap.objects in
     let g = c.admit.ensures.grows in
     let p = passed _ _ _ _ _ c.self.invariant old c.self.view_is new g c.args.drafts owed c.in-Obligations.ensures.admitted in
     let none = sym c.is_nil.ensures ∙ c.if-not-is_nil.false in
@@ -87,7 +87,7 @@ pub returns-clause-theory : goal.returns-clause-theory
 returns-clause-theory c =
     let old = c.args.self.now in
     let owed = c.in-Obligations.owed in
-    let new = c.admit.new.heap in
+    let new = c.admit.new.heap.objects in
     let g = c.admit.ensures.grows in
     let p = passed _ _ _ _ _ c.self.invariant old c.self.view_is new g c.args.drafts owed c.in-Obligations.ensures.admitted in
     let none = sym c.is_nil.ensures ∙ c.if-not-is_nil.false in

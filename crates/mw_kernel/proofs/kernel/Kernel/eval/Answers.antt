@@ -13,22 +13,22 @@ pub evaluated-requires-clause-table : goal.evaluated-requires-clause-table
 evaluated-requires-clause-table c =
     let inside = c.self.inside in
     let h = held _ _ _ _ c.self.invariant in
-    let D = definitions_of inside.heap (parts_of inside.theory) in
-    (D, subst (λ T. StandsFor inside.heap T D) (sym c.deref_mut.ensures.value) h.coded, h.arities)
+    let D = definitions_of inside.heap.objects (parts_of inside.theory) in
+    (D, subst (λ T. StandsFor inside.heap.objects T D) (sym c.deref_mut.ensures.value) h.coded, h.arities)
 
 pub invariant_of-self : goal.invariant_of-self
 invariant_of-self c =
-    grown-other _ _ _ _ c.self.invariant c.evaluated.new.heap c.evaluated.ensures.grows _
+    grown-other _ _ _ _ c.self.invariant c.evaluated.new.heap.objects c.evaluated.ensures.grows _
     (record { rest = refl; stands = λ os D h. c.evaluated.ensures.table os D (subst (λ T. StandsFor os T D) (sym c.deref_mut.ensures.value) h) })
 
 pub returns-clause-theory : goal.returns-clause-theory
-returns-clause-theory c = grown_theory _ _ _ _ c.self.invariant c.evaluated.new.heap c.evaluated.ensures.grows ∙ ap theory_of c.self.view_is
+returns-clause-theory c = grown_theory _ _ _ _ c.self.invariant c.evaluated.new.heap.objects c.evaluated.ensures.grows ∙ ap theory_of c.self.view_is
 
 pub returns-clause-fate : goal.returns-clause-fate
 returns-clause-fate c =
     let inside = c.self.inside in
     let held = held _ _ _ _ c.self.invariant in
-    let t = meant inside.heap (parts_of inside.theory) in
+    let t = meant inside.heap.objects (parts_of inside.theory) in
     IfOk-map c.evaluated.result _ _
-    (λ f h. h t (subst (λ T. StandsFor inside.heap T t.definitions) (sym c.deref_mut.ensures.value) held.coded) held.arities ∙ ap (λ v. (eval (theory_of v) v.steps (eval_event (object_at v.objects c.args.term))).0) c.self.view_is)
+    (λ f h. h t (subst (λ T. StandsFor inside.heap.objects T t.definitions) (sym c.deref_mut.ensures.value) held.coded) held.arities ∙ ap (λ v. (eval (theory_of v) v.steps (eval_event (object_at v.objects c.args.term))).0) c.self.view_is)
     c.evaluated.ensures.fate

@@ -7,7 +7,7 @@ use Rattle.mw_kernel.proofs.kernel.Kernel.new.Goals as goal
 
 pub invariant_of-result : goal.invariant_of-result
 invariant_of-result c =
-    let q = c.begin.new.heap in
+    let q = c.begin.new.heap.objects in
     let t = c.in_ok-theory.theory in
     subst (λ ms. IsKernel q c.mark.result t ms) (sym c.new-2.ensures)
     (subst (λ n. IsKernel q n t []) (sym c.mark.ensures) (needs-all q t [] c.in_ok-theory.ensures.held (AreMarks-none t.arity q)))

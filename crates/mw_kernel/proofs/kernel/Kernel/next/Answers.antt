@@ -5,7 +5,7 @@ use Rattle.mw_kernel.proofs.Held.{grown, grown_theory}
 use Rattle.mw_kernel.proofs.kernel.Kernel.next.Goals as goal
 
 pub invariant_of-self : goal.invariant_of-self
-invariant_of-self c = grown _ _ _ _ c.self.invariant c.next.new.heap c.next.ensures.grows
+invariant_of-self c = grown _ _ _ _ c.self.invariant c.next.new.heap.objects c.next.ensures.grows
 
 pub returns-clause-theory : goal.returns-clause-theory
-returns-clause-theory c = grown_theory _ _ _ _ c.self.invariant c.next.new.heap c.next.ensures.grows ∙ ap theory_of c.self.view_is
+returns-clause-theory c = grown_theory _ _ _ _ c.self.invariant c.next.new.heap.objects c.next.ensures.grows ∙ ap theory_of c.self.view_is

@@ -9,25 +9,25 @@ use Rattle.mw_kernel.proofs.Defined.{theory-same, skolem-fails, skolem-passes, w
 use Rattle.mw_kernel.proofs.kernel.Kernel.skolem.Goals as goal
 
 pub invariant_of-self : goal.invariant_of-self
-invariant_of-self c = grown _ _ _ _ c.self.invariant c.admit_witness.new.heap c.admit_witness.ensures.grows
+invariant_of-self c = grown _ _ _ _ c.self.invariant c.admit_witness.new.heap.objects c.admit_witness.ensures.grows
 
 pub returns-in-Refused-clause-fate : goal.returns-in-Refused-clause-fate
 returns-in-Refused-clause-fate c =
-    sym (ap (λ r. r.0) (skolem-fails _ _ _ _ _ c.self.invariant c.args.self.now c.self.view_is c.admit_witness.new.heap c.admit_witness.ensures.grows c.args.name c.args.bound c.args.free c.args.body c.in-Refused.reason c.in-Refused.ensures.admitted))
+    sym (ap (λ r. r.0) (skolem-fails _ _ _ _ _ c.self.invariant c.args.self.now c.self.view_is c.admit_witness.new.heap.objects c.admit_witness.ensures.grows c.args.name c.args.bound c.args.free c.args.body c.in-Refused.reason c.in-Refused.ensures.admitted))
 
 pub returns-in-Refused-clause-theory : goal.returns-in-Refused-clause-theory
 returns-in-Refused-clause-theory c =
-    theory-same _ _ _ _ _ c.self.invariant c.args.self.now c.self.view_is c.admit_witness.new.heap c.admit_witness.ensures.grows
-    ∙ sym (ap (λ r. r.1) (skolem-fails _ _ _ _ _ c.self.invariant c.args.self.now c.self.view_is c.admit_witness.new.heap c.admit_witness.ensures.grows c.args.name c.args.bound c.args.free c.args.body c.in-Refused.reason c.in-Refused.ensures.admitted))
+    theory-same _ _ _ _ _ c.self.invariant c.args.self.now c.self.view_is c.admit_witness.new.heap.objects c.admit_witness.ensures.grows
+    ∙ sym (ap (λ r. r.1) (skolem-fails _ _ _ _ _ c.self.invariant c.args.self.now c.self.view_is c.admit_witness.new.heap.objects c.admit_witness.ensures.grows c.args.name c.args.bound c.args.free c.args.body c.in-Refused.reason c.in-Refused.ensures.admitted))
 
 pub invariant_of-self-in-Memory : goal.invariant_of-self-in-Memory
-invariant_of-self-in-Memory c = grown _ _ _ _ c.self.invariant c.admit_witness.new.heap c.admit_witness.ensures.grows
+invariant_of-self-in-Memory c = grown _ _ _ _ c.self.invariant c.admit_witness.new.heap.objects c.admit_witness.ensures.grows
 
 pub returns-in-Memory-clause-err : goal.returns-in-Memory-clause-err
-returns-in-Memory-clause-err c = theory-same _ _ _ _ _ c.self.invariant c.args.self.now c.self.view_is c.admit_witness.new.heap c.admit_witness.ensures.grows
+returns-in-Memory-clause-err c = theory-same _ _ _ _ _ c.self.invariant c.args.self.now c.self.view_is c.admit_witness.new.heap.objects c.admit_witness.ensures.grows
 
 pub invariant_of-self-2 : goal.invariant_of-self-2
-invariant_of-self-2 c = grown _ _ _ _ c.self.invariant c.admit_witness.new.heap c.admit_witness.ensures.grows
+invariant_of-self-2 c = grown _ _ _ _ c.self.invariant c.admit_witness.new.heap.objects c.admit_witness.ensures.grows
 
 pub add_definitions-requires : goal.add_definitions-requires
 add_definitions-requires c =
@@ -35,16 +35,16 @@ add_definitions-requires c =
     let p = c.in-Obligations.ensures.admitted in
     let B = Choice p.symbol p.first p.rest p.term in
     let w_is = subst (λ es. IfSome (slice_get es 0) (λ e. c.witness_of-witness.result ≡ Witness c.args.name c.args.bound c.args.free e.body)) (c.as_slice.ensures.value ∙ p.entries) c.witness_of-witness.ensures in
-    let block = witness-block _ _ _ _ _ c.self.invariant c.args.self.now c.self.view_is c.admit_witness.new.heap c.admit_witness.ensures.grows c.args.name c.args.bound c.args.free c.args.body c.requires.name c.requires.bound c.requires.free owed p c.witness_of-witness.result w_is c.requires.sound in
+    let block = witness-block _ _ _ _ _ c.self.invariant c.args.self.now c.self.view_is c.admit_witness.new.heap.objects c.admit_witness.ensures.grows c.args.name c.args.bound c.args.free c.args.body c.requires.name c.requires.bound c.requires.free owed p c.witness_of-witness.result w_is c.requires.sound in
     record { block = (B, block) }
 
 pub returns-in_err-add_definitions-clause-err : goal.returns-in_err-add_definitions-clause-err
-returns-in_err-add_definitions-clause-err c = OnErr-from _ _ (c.in_err-add_definitions.ensures.err ∙ theory-same _ _ _ _ _ c.self.invariant c.args.self.now c.self.view_is c.admit_witness.new.heap c.admit_witness.ensures.grows)
+returns-in_err-add_definitions-clause-err c = OnErr-from _ _ (c.in_err-add_definitions.ensures.err ∙ theory-same _ _ _ _ _ c.self.invariant c.args.self.now c.self.view_is c.admit_witness.new.heap.objects c.admit_witness.ensures.grows)
 
 pub returns-clause-fate : goal.returns-clause-fate
 returns-clause-fate c =
     let p = c.in-Obligations.ensures.admitted in
-    c.accepted.ensures ∙ sym (ap (λ r. r.0) (skolem-passes _ _ _ _ _ c.self.invariant c.args.self.now c.self.view_is c.admit_witness.new.heap c.admit_witness.ensures.grows c.args.name c.args.bound c.args.free c.args.body c.in-Obligations.owed p))
+    c.accepted.ensures ∙ sym (ap (λ r. r.0) (skolem-passes _ _ _ _ _ c.self.invariant c.args.self.now c.self.view_is c.admit_witness.new.heap.objects c.admit_witness.ensures.grows c.args.name c.args.bound c.args.free c.args.body c.in-Obligations.owed p))
 
 pub returns-clause-theory : goal.returns-clause-theory
 returns-clause-theory c =
@@ -52,5 +52,5 @@ returns-clause-theory c =
     let p = c.in-Obligations.ensures.admitted in
     let B = Choice p.symbol p.first p.rest p.term in
     let w_is = subst (λ es. IfSome (slice_get es 0) (λ e. c.witness_of-witness.result ≡ Witness c.args.name c.args.bound c.args.free e.body)) (c.as_slice.ensures.value ∙ p.entries) c.witness_of-witness.ensures in
-    let block = witness-block _ _ _ _ _ c.self.invariant c.args.self.now c.self.view_is c.admit_witness.new.heap c.admit_witness.ensures.grows c.args.name c.args.bound c.args.free c.args.body c.requires.name c.requires.bound c.requires.free owed p c.witness_of-witness.result w_is c.requires.sound in
-    c.in_ok-add_definitions.ensures.theory B block ∙ (ap (λ t. add_to_theory t B) (theory-same _ _ _ _ _ c.self.invariant c.args.self.now c.self.view_is c.admit_witness.new.heap c.admit_witness.ensures.grows) ∙ sym (ap (λ r. r.1) (skolem-passes _ _ _ _ _ c.self.invariant c.args.self.now c.self.view_is c.admit_witness.new.heap c.admit_witness.ensures.grows c.args.name c.args.bound c.args.free c.args.body owed p)))
+    let block = witness-block _ _ _ _ _ c.self.invariant c.args.self.now c.self.view_is c.admit_witness.new.heap.objects c.admit_witness.ensures.grows c.args.name c.args.bound c.args.free c.args.body c.requires.name c.requires.bound c.requires.free owed p c.witness_of-witness.result w_is c.requires.sound in
+    c.in_ok-add_definitions.ensures.theory B block ∙ (ap (λ t. add_to_theory t B) (theory-same _ _ _ _ _ c.self.invariant c.args.self.now c.self.view_is c.admit_witness.new.heap.objects c.admit_witness.ensures.grows) ∙ sym (ap (λ r. r.1) (skolem-passes _ _ _ _ _ c.self.invariant c.args.self.now c.self.view_is c.admit_witness.new.heap.objects c.admit_witness.ensures.grows c.args.name c.args.bound c.args.free c.args.body owed p)))

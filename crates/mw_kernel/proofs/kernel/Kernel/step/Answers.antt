@@ -5,7 +5,7 @@ use Rattle.mw_kernel.proofs.Held.{grown, grown_theory}
 use Rattle.mw_kernel.proofs.kernel.Kernel.step.Goals as goal
 
 pub invariant_of-self : goal.invariant_of-self
-invariant_of-self c = grown _ _ _ _ c.self.invariant c.step.new.heap c.step.ensures.grows
+invariant_of-self c = grown _ _ _ _ c.self.invariant c.step.new.heap.objects c.step.ensures.grows
 
 pub returns-clause-theory : goal.returns-clause-theory
-returns-clause-theory c = grown_theory _ _ _ _ c.self.invariant c.step.new.heap c.step.ensures.grows ∙ ap theory_of c.self.view_is
+returns-clause-theory c = grown_theory _ _ _ _ c.self.invariant c.step.new.heap.objects c.step.ensures.grows ∙ ap theory_of c.self.view_is

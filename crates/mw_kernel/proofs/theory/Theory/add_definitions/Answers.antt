@@ -12,7 +12,7 @@ use Rattle.mw_kernel.proofs.theory.Theory.add_definitions.Goals as goal
 
 pub add_block-requires-clause-block : goal.add_block-requires-clause-block
 add_block-requires-clause-block c =
-    let os = c.args.heap.now in
+    let os = c.args.heap.now.objects in
     let t = c.args.self.now in
     let (B, n) = c.requires.block in
     let D = definitions_of os (parts_of t) in
@@ -31,7 +31,7 @@ returns-in_err-lists-clause-err c =
 
 pub returns-clause-held : goal.returns-clause-held
 returns-clause-held c =
-    let os = c.args.heap.now in
+    let os = c.args.heap.now.objects in
     let t = c.args.self.now in
     let h = c.requires.held in
     let ds = c.args.block.now in
@@ -40,14 +40,14 @@ returns-clause-held c =
     let e = c.in_ok-lists.ensures in
     let D = definitions_of os (parts_of t) in
     let may = subst (λ T. MayBeAdded os T D ds B) (sym c.deref_mut.ensures.value) (may_be_added os t h B ds c.args.axioms n) in
-    let put = subst (λ xs. object_at c.add_block.new.heap l.axioms ≡ put_all (map (object_at os) xs) (object_at os t.axioms)) c.as_slice.ensures.value e.axiom_list.1 in
+    let put = subst (λ xs. object_at c.add_block.new.heap.objects l.axioms ≡ put_all (map (object_at os) xs) (object_at os t.axioms)) c.as_slice.ensures.value e.axiom_list.1 in
     let listed = e.arity_list D B may h.arities in
-    defined os t h B ds n.means c.add_block.new.heap _
-    (is-added os t h B ds c.args.axioms n c.in_ok-members.members.items c.in_ok-members.ensures.within c.in_ok-members.ensures.members c.add_block.new.heap c.add_block.ensures.grows l.axioms put _ refl refl e.axiom_list.0 refl listed.0 listed.1 (e.arity D B may h.arities) (e.known ∙ ap (λ xs. reverse xs ++ t.known_axioms) c.as_slice.ensures.value) refl e.entries (e.table D B may) refl refl refl)
+    defined os t h B ds n.means c.add_block.new.heap.objects _
+    (is-added os t h B ds c.args.axioms n c.in_ok-members.members.items c.in_ok-members.ensures.within c.in_ok-members.ensures.members c.add_block.new.heap.objects c.add_block.ensures.grows l.axioms put _ refl refl e.axiom_list.0 refl listed.0 listed.1 (e.arity D B may h.arities) (e.known ∙ ap (λ xs. reverse xs ++ t.known_axioms) c.as_slice.ensures.value) refl e.entries (e.table D B may) refl refl refl)
 
 pub returns-clause-theory : goal.returns-clause-theory
 returns-clause-theory c = λ B n.
-    let os = c.args.heap.now in
+    let os = c.args.heap.now.objects in
     let t = c.args.self.now in
     let h = c.requires.held in
     let ds = c.args.block.now in
@@ -55,8 +55,8 @@ returns-clause-theory c = λ B n.
     let e = c.in_ok-lists.ensures in
     let D = definitions_of os (parts_of t) in
     let may = subst (λ T. MayBeAdded os T D ds B) (sym c.deref_mut.ensures.value) (may_be_added os t h B ds c.args.axioms n) in
-    let put = subst (λ xs. object_at c.add_block.new.heap l.axioms ≡ put_all (map (object_at os) xs) (object_at os t.axioms)) c.as_slice.ensures.value e.axiom_list.1 in
+    let put = subst (λ xs. object_at c.add_block.new.heap.objects l.axioms ≡ put_all (map (object_at os) xs) (object_at os t.axioms)) c.as_slice.ensures.value e.axiom_list.1 in
     let listed = e.arity_list D B may h.arities in
     let after = record t { known_axioms = c.add_block.new.known; arity = c.add_block.new.arity; axioms = l.axioms; arity_list = l.arity_list; entries = c.add_block.new.entries; table = with_value t.table c.add_block.new.table; is_initial = false } in
-    defined_theory os t h B ds n.means c.add_block.new.heap after
-    (is-added os t h B ds c.args.axioms n c.in_ok-members.members.items c.in_ok-members.ensures.within c.in_ok-members.ensures.members c.add_block.new.heap c.add_block.ensures.grows l.axioms put after refl refl e.axiom_list.0 refl listed.0 listed.1 (e.arity D B may h.arities) (e.known ∙ ap (λ xs. reverse xs ++ t.known_axioms) c.as_slice.ensures.value) refl e.entries (e.table D B may) refl refl refl)
+    defined_theory os t h B ds n.means c.add_block.new.heap.objects after
+    (is-added os t h B ds c.args.axioms n c.in_ok-members.members.items c.in_ok-members.ensures.within c.in_ok-members.ensures.members c.add_block.new.heap.objects c.add_block.ensures.grows l.axioms put after refl refl e.axiom_list.0 refl listed.0 listed.1 (e.arity D B may h.arities) (e.known ∙ ap (λ xs. reverse xs ++ t.known_axioms) c.as_slice.ensures.value) refl e.entries (e.table D B may) refl refl refl)

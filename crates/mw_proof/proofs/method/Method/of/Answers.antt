@@ -6,4 +6,4 @@ use Rattle.mw_proof.proofs.MethodNames.{method_of_bytes-symbol}
 use Rattle.mw_proof.proofs.method.Method.of.Goals as goal
 
 pub returns-in-Symbol : goal.returns-in-Symbol
-returns-in-Symbol c = c.first_named.ensures ∙ method_of_bytes-symbol methods (object_at c.args.heap.now c.args.x) c.name_of.result.now c.in-Symbol.ensures.shows c.name_of.ensures
+returns-in-Symbol c = c.first_named.ensures ∙ method_of_bytes-symbol methods (object_at c.args.heap.now.objects c.args.x) c.name_of.result.now c.in-Symbol.ensures.shows c.name_of.ensures

@@ -8,7 +8,7 @@ use Rattle.mw_read.proofs.name.Names.known.Goals as goal
 
 pub returns-in-Symbol : goal.returns-in-Symbol
 returns-in-Symbol c =
-    let os = c.args.heap.now in
+    let os = c.args.heap.now.objects in
     let b = map raised c.args.token.now in (
       omega (arith, c.if-index-cells.false, c.index.ensures, c.cells.ensures, c.mark.ensures),
       symbol_by_name (object_at os c.in_ok-place.place) b c.in-Symbol.ensures.shows

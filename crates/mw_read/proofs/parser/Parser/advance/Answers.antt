@@ -21,8 +21,8 @@ returns-in-Barred-clause-advances c t h =
     let y = Symbol (name_of_bytes a.token.items) in
     let n = append-nil a.token.items in
     let r = c.in_ok-end_bars-in-Barred.field-0 in
-    bars_advance c.end_bars.new.heap t a c.end_bars.new.self rest 0 (get_or rest 0 0) (a.start + 2 + length a.token.items) (drop 1 rest) y r
+    bars_advance c.end_bars.new.heap.objects t a c.end_bars.new.self rest 0 (get_or rest 0 0) (a.start + 2 + length a.token.items) (drop 1 rest) y r
     (λ f e. split_at rest 0 c.requires.some)
     (λ e z fit. ap (λ m. resume t (ahead e m a.token.items a.start z)) c.in-Barred.is ∙ ap (resume t) (bars_whole e a.start a.token.items z text.1 text.0 fit))
-    (subst (λ u. Took c.end_bars.new.heap c.end_bars.new.self.stack r (on t (Atom a.start (Symbol (name_of_bytes u))))) n (c.in_ok-end_bars-in-Barred.ensures.took t h))
+    (subst (λ u. Took c.end_bars.new.heap.objects c.end_bars.new.self.stack r (on t (Atom a.start (Symbol (name_of_bytes u))))) n (c.in_ok-end_bars-in-Barred.ensures.took t h))
     c.end_bars.ensures.begun (c.end_bars.ensures.start ∙ ap (λ u. a.start + 2 + length u) n)

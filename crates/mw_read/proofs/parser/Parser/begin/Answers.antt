@@ -11,7 +11,7 @@ use Rattle.mw_read.proofs.parser.Parser.begin.Goals as goal
 pub returns-then-is_full-clause-advances : goal.returns-then-is_full-clause-advances
 returns-then-is_full-clause-advances c t h =
     let a = c.args.self.now in
-    let os = c.args.heap.now in
+    let os = c.args.heap.now.objects in
     let full = sym (holds_full os a.stack t h) ∙ sym (c.is_full.ensures os c.requires.parser.stack) ∙ c.if-is_full.true in
     fault_advances os t a a c.args.rest.now c.fault.result 0 (record { kind = kinds.Dot; offset = a.start }) c.fault.ensures
     (λ e z. ap (λ m. resume t (ahead e m a.token.items a.start (c.args.rest.now ++ z))) c.requires.begun ∙ begun_full c.args.begun e t a.start c.args.rest.now z c.requires.begins full)
@@ -27,12 +27,12 @@ returns-in_ok-outcome-in-Bars-clause-moves c =
 pub returns-in_ok-outcome-in-Bars-clause-advances : goal.returns-in_ok-outcome-in-Bars-clause-advances
 returns-in_ok-outcome-in-Bars-clause-advances c t h =
     let a = c.args.self.now in
-    let os = c.args.heap.now in
+    let os = c.args.heap.now.objects in
     let mid : Parser = record a { begun = c.args.begun; token = c.clear.new.self } in
     let full = sym (holds_full os a.stack t h) ∙ sym (c.is_full.ensures os c.requires.parser.stack) ∙ c.if-is_full.false in
-    bars_begin c.in_bars.new.heap t a mid c.in_bars.new.self c.args.rest.now c.in_ok-outcome-in-Bars.outcome c.in_ok-outcome-in-Bars.n c.requires.begun c.in-Bars.is c.clear.ensures.items refl
+    bars_begin c.in_bars.new.heap.objects t a mid c.in_bars.new.self c.args.rest.now c.in_ok-outcome-in-Bars.outcome c.in_ok-outcome-in-Bars.n c.requires.begun c.in-Bars.is c.clear.ensures.items refl
     (subst (λ m. Begins m c.args.rest.now) c.in-Bars.is c.requires.begins) full (sound_clamp os a.stack t h.means)
-    (subst (λ u. Advances c.in_bars.new.heap t mid u c.in_ok-outcome-in-Bars.outcome c.in_ok-outcome-in-Bars.n c.in_bars.new.self) (rest_is 1 c.args.rest.now) (c.in_ok-outcome-in-Bars.ensures.advances t h))
+    (subst (λ u. Advances c.in_bars.new.heap.objects t mid u c.in_ok-outcome-in-Bars.outcome c.in_ok-outcome-in-Bars.n c.in_bars.new.self) (rest_is 1 c.args.rest.now) (c.in_ok-outcome-in-Bars.ensures.advances t h))
 
 pub returns-in_ok-outcome-in-Hash-clause-moves : goal.returns-in_ok-outcome-in-Hash-clause-moves
 returns-in_ok-outcome-in-Hash-clause-moves c =
@@ -45,17 +45,17 @@ returns-in_ok-outcome-in-Hash-clause-moves c =
 pub returns-in_ok-outcome-in-Hash-clause-advances : goal.returns-in_ok-outcome-in-Hash-clause-advances
 returns-in_ok-outcome-in-Hash-clause-advances c t h =
     let a = c.args.self.now in
-    let os = c.args.heap.now in
+    let os = c.args.heap.now.objects in
     let mid : Parser = record a { begun = c.args.begun; token = c.clear.new.self } in
     let full = sym (holds_full os a.stack t h) ∙ sym (c.is_full.ensures os c.requires.parser.stack) ∙ c.if-is_full.false in
-    hash_begin c.in_hash.new.heap t a mid c.in_hash.new.self c.args.rest.now c.in_ok-outcome-in-Hash.outcome c.in_ok-outcome-in-Hash.n c.requires.begun c.in-Hash.is c.clear.ensures.items refl
+    hash_begin c.in_hash.new.heap.objects t a mid c.in_hash.new.self c.args.rest.now c.in_ok-outcome-in-Hash.outcome c.in_ok-outcome-in-Hash.n c.requires.begun c.in-Hash.is c.clear.ensures.items refl
     (subst (λ m. Begins m c.args.rest.now) c.in-Hash.is c.requires.begins) full (sound_clamp os a.stack t h.means)
-    (subst (λ u. Advances c.in_hash.new.heap t mid u c.in_ok-outcome-in-Hash.outcome c.in_ok-outcome-in-Hash.n c.in_hash.new.self) (rest_is 1 c.args.rest.now) (c.in_ok-outcome-in-Hash.ensures.advances t h))
+    (subst (λ u. Advances c.in_hash.new.heap.objects t mid u c.in_ok-outcome-in-Hash.outcome c.in_ok-outcome-in-Hash.n c.in_hash.new.self) (rest_is 1 c.args.rest.now) (c.in_ok-outcome-in-Hash.ensures.advances t h))
 
 pub returns-in_default : goal.returns-in_default
 returns-in_default c =
     let a = c.args.self.now in
-    let os = c.args.heap.now in
+    let os = c.args.heap.now.objects in
     let mid : Parser = record a { begun = c.args.begun; token = c.clear.new.self } in
     let k = is_token c.args.begun c.args.rest.now c.requires.begins c.in_default.not-Bars c.in_default.not-Hash in
     let o = token_offset a mid c.requires.begun c.clear.ensures.items refl k.0 in
@@ -63,5 +63,5 @@ returns-in_default c =
       grows = c.in_token.ensures.grows;
       taken = c.in_token.ensures.taken;
       moves = if_ok_both _ _ _ c.in_token.result (λ r s m. moves_on r.0 a mid c.in_token.new.self c.args.rest.now r.1 o (s k.1) m) c.in_token.ensures.starts c.in_token.ensures.moves;
-      advances = if_ok_more _ _ c.in_token.result (λ r f t h. token_begin c.in_token.new.heap t a mid c.in_token.new.self c.args.rest.now r.0 r.1 c.requires.begun k.0 c.clear.ensures.items refl (f t h)) c.in_token.ensures.advances;
+      advances = if_ok_more _ _ c.in_token.result (λ r f t h. token_begin c.in_token.new.heap.objects t a mid c.in_token.new.self c.args.rest.now r.0 r.1 c.requires.begun k.0 c.clear.ensures.items refl (f t h)) c.in_token.ensures.advances;
     }

@@ -13,8 +13,8 @@ pub returns-then-glued-clause-advances : goal.returns-then-glued-clause-advances
 returns-then-glued-clause-advances c t h =
     let a = c.args.self.now in
     let rest = c.args.rest.now in
-    fault_advances c.args.heap.now t a a rest c.fault.result 0 (record { kind = kinds.Token; offset = a.start }) c.fault.ensures
-    (λ e z. glued_faults e t a rest z c.requires.some (subst (λ g. IsBehind a.begun g (get_or rest 0 0)) c.if-glued.true c.requires.behind) (sound_clamp c.args.heap.now a.stack t h.means))
+    fault_advances c.args.heap.now.objects t a a rest c.fault.result 0 (record { kind = kinds.Token; offset = a.start }) c.fault.ensures
+    (λ e z. glued_faults e t a rest z c.requires.some (subst (λ g. IsBehind a.begun g (get_or rest 0 0)) c.if-glued.true c.requires.behind) (sound_clamp c.args.heap.now.objects a.stack t h.means))
 
 pub returns-clause-advances : goal.returns-clause-advances
 returns-clause-advances c =
@@ -22,4 +22,4 @@ returns-clause-advances c =
     let rest = c.args.rest.now in
     let mid : Parser = record a { begun = Nothing } in
     let g = subst (λ g. IsBehind a.begun g (get_or rest 0 0)) c.if-glued.false c.requires.behind in
-    if_ok_both _ _ _ c.fresh.result (λ r m f t h. behind_advances c.fresh.new.heap t a mid c.fresh.new.self refl refl rest r.0 r.1 c.requires.some g m (f t h)) c.fresh.ensures.moves c.fresh.ensures.advances
+    if_ok_both _ _ _ c.fresh.result (λ r m f t h. behind_advances c.fresh.new.heap.objects t a mid c.fresh.new.self refl refl rest r.0 r.1 c.requires.some g m (f t h)) c.fresh.ensures.moves c.fresh.ensures.advances

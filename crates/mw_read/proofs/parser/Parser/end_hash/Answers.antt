@@ -12,7 +12,7 @@ use Rattle.mw_read.proofs.parser.Parser.end_hash.Goals as goal
 pub returns-then-b-eq61-clause-took : goal.returns-then-b-eq61-clause-took
 returns-then-b-eq61-clause-took c =
     let a = c.args.self.now in
-    let os = c.args.heap.now in
+    let os = c.args.heap.now.objects in
     let n = c.few_digits-n.ensures ∙ ap decimal_value c.deref.ensures.value in
     let q : c.end_label.new.self.stack ≡ a.stack = ap (λ (p : Parser). p.stack) c.end_label.ensures in
     if_ok_all _ _ _ _ c.mark.result
@@ -26,12 +26,12 @@ returns-then-b-eq61-clause-took c =
 pub returns-then-b-eq35-clause-took : goal.returns-then-b-eq35-clause-took
 returns-then-b-eq35-clause-took c =
     let a = c.args.self.now in
-    let os = c.args.heap.now in
+    let os = c.args.heap.now.objects in
     let n = c.few_digits-n.ensures ∙ ap decimal_value c.deref.ensures.value in
     let q : c.end_label-then-b-eq35.new.self.stack ≡ a.stack = ap (λ (p : Parser). p.stack) c.end_label-then-b-eq35.ensures in
     if_ok_all _ _ _ _ c.refer.result
     (λ r p d f e t h full.
     let h2 = subst (λ u. Holds os u t) (sym q) h in
-    subst (λ u. Took c.refer.new.heap c.refer.new.self r (on t u)) (ap (Ref a.start) n ∙ sym (label_ref a.start a.token.items c.args.b (not_empty a.token.items (vec_len a.token) a.token.ok.0 c.if-is_empty.ensures) c.if-b-eq35.true))
-    (took c.refer.new.heap c.end_label-then-b-eq35.new.self.stack c.refer.new.self r t (Ref a.start c.few_digits-n.result) os h2 tt p d (f _ h2.means) (or_small c.refer.new.self.big c.end_label-then-b-eq35.new.self.stack.big false refl e)))
+    subst (λ u. Took c.refer.new.heap.objects c.refer.new.self r (on t u)) (ap (Ref a.start) n ∙ sym (label_ref a.start a.token.items c.args.b (not_empty a.token.items (vec_len a.token) a.token.ok.0 c.if-is_empty.ensures) c.if-b-eq35.true))
+    (took c.refer.new.heap.objects c.end_label-then-b-eq35.new.self.stack c.refer.new.self r t (Ref a.start c.few_digits-n.result) os h2 tt p d (f _ h2.means) (or_small c.refer.new.self.big c.end_label-then-b-eq35.new.self.stack.big false refl e)))
     c.refer.ensures.stack c.refer.ensures.datum c.refer.ensures.turn c.refer.ensures.big

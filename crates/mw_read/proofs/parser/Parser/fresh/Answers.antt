@@ -12,7 +12,7 @@ use Rattle.mw_read.proofs.parser.Parser.fresh.Goals as goal
 pub returns-in_ok-open-in-Opening-clause-advances : goal.returns-in_ok-open-in-Opening-clause-advances
 returns-in_ok-open-in-Opening-clause-advances c t h =
     let a = c.args.self.now in
-    let os = c.args.heap.now in
+    let os = c.args.heap.now.objects in
     let p : Parser = record a { stack = c.open.new.self; start = a.start + 1 } in
     let r = c.in_ok-open-in-Opening.field-0 in
     let v = c.in_ok-open-in-Opening.ensures.turn os c.requires.parser.stack in
@@ -25,13 +25,13 @@ returns-in_ok-close-in-Closing-clause-advances c t h =
     let p : Parser = record a { stack = c.close.new.self; start = a.start + 1 } in
     let r = c.in_ok-close-in-Closing.field-0 in
     let v = c.in_ok-close-in-Closing.ensures in
-    lexeme_advances c.close.new.heap t a p c.args.rest.now r lex.Closing (Close a.start) c.requires.some c.requires.begun c.requires.begun refl (sym c.in-Closing.ensures) (λ b. refl)
-    (took c.close.new.heap a.stack p.stack r t (Close a.start) c.args.heap.now h tt v.stack v.datum (v.turn (clamp_state t) h.means) (or_small p.stack.big a.stack.big false refl v.big))
+    lexeme_advances c.close.new.heap.objects t a p c.args.rest.now r lex.Closing (Close a.start) c.requires.some c.requires.begun c.requires.begun refl (sym c.in-Closing.ensures) (λ b. refl)
+    (took c.close.new.heap.objects a.stack p.stack r t (Close a.start) c.args.heap.now.objects h tt v.stack v.datum (v.turn (clamp_state t) h.means) (or_small p.stack.big a.stack.big false refl v.big))
 
 pub returns-in_ok-quote-in-Apostrophe-clause-advances : goal.returns-in_ok-quote-in-Apostrophe-clause-advances
 returns-in_ok-quote-in-Apostrophe-clause-advances c t h =
     let a = c.args.self.now in
-    let os = c.args.heap.now in
+    let os = c.args.heap.now.objects in
     let p : Parser = record a { stack = c.quote.new.self; start = a.start + 1 } in
     let r = c.in_ok-quote-in-Apostrophe.field-0 in
     let v = c.in_ok-quote-in-Apostrophe.ensures.turn os c.requires.parser.stack in
@@ -41,5 +41,5 @@ returns-in_ok-quote-in-Apostrophe-clause-advances c t h =
 pub returns-in-Other-clause-advances : goal.returns-in-Other-clause-advances
 returns-in-Other-clause-advances c t h =
     let a = c.args.self.now in
-    fault_advances c.args.heap.now t a a c.args.rest.now c.fault.result 0 (record { kind = kinds.Byte; offset = a.start }) c.fault.ensures
-    (λ e z. byte_faults e t a c.args.rest.now z c.requires.some c.requires.begun (sym c.in-Other.ensures) (sound_clamp c.args.heap.now a.stack t h.means))
+    fault_advances c.args.heap.now.objects t a a c.args.rest.now c.fault.result 0 (record { kind = kinds.Byte; offset = a.start }) c.fault.ensures
+    (λ e z. byte_faults e t a c.args.rest.now z c.requires.some c.requires.begun (sym c.in-Other.ensures) (sound_clamp c.args.heap.now.objects a.stack t h.means))

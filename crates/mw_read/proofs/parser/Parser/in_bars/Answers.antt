@@ -18,17 +18,17 @@ returns-then-rest-n-ne124-clause-advances c t h =
     let n = c.name_bytes-n.result in
     let run = c.name_bytes-n.ensures in
     let lt : n < length rest = omega (arith, run.within, c.if-n-rest.false) in
-    let full = sym (holds_full c.args.heap.now a.stack t h) ∙ c.requires.parser.ready (ap is_inside c.requires.begun) in
+    let full = sym (holds_full c.args.heap.now.objects a.stack t h) ∙ c.requires.parser.ready (ap is_inside c.requires.begun) in
     let text : all_are is_name_byte a.token.items ≡ true = subst (λ m. IsText m a.token.items) c.requires.begun c.requires.parser.text in
     let whole = a.token.items ++ take n rest in
     let l = both_length a.token.items rest n run.within in
     let o : a.start + 1 + length whole ≡ a.start + 1 + (c.len.result + n) = omega (arith, l, c.len.ensures, a.token.ok.0) in
-    fault_advances c.args.heap.now t a a rest c.fault.result 0 (record { kind = kinds.Byte; offset = a.start + 1 + (c.len.result + n) }) c.fault.ensures
+    fault_advances c.args.heap.now.objects t a a rest c.fault.result 0 (record { kind = kinds.Byte; offset = a.start + 1 + (c.len.result + n) }) c.fault.ensures
     (λ e z.
     ap (λ m. resume t (ahead e m a.token.items a.start (rest ++ z))) c.requires.begun
     ∙ ap (λ y. resume t (lexemes_from e a.start 0 (124 ∷ y))) (go_on a.token.items rest n z lt)
     ∙ bars_faults e t a.start (get_or rest n 0) whole (drop (suc n) rest ++ z) (all_append is_name_byte a.token.items (take n rest) text run.all) (run.ends lt)
-    (not_eqb (get_or rest n 0) 124 c.if-rest-n-ne124.true) full (sound_clamp c.args.heap.now a.stack t h.means)
+    (not_eqb (get_or rest n 0) 124 c.if-rest-n-ne124.true) full (sound_clamp c.args.heap.now.objects a.stack t h.means)
     ∙ ap (λ i. book [] (Some (fault BYTE i))) o)
 
 pub returns-then-length-eq0-clause-advances : goal.returns-then-length-eq0-clause-advances
@@ -38,15 +38,15 @@ returns-then-length-eq0-clause-advances c t h =
     let n = c.name_bytes-n.result in
     let run = c.name_bytes-n.ensures in
     let lt : n < length rest = omega (arith, run.within, c.if-n-rest.false) in
-    let full = sym (holds_full c.args.heap.now a.stack t h) ∙ c.requires.parser.ready (ap is_inside c.requires.begun) in
+    let full = sym (holds_full c.args.heap.now.objects a.stack t h) ∙ c.requires.parser.ready (ap is_inside c.requires.begun) in
     let l = both_length a.token.items rest n run.within in
     let z0 : length (a.token.items ++ take n rest) ≡ 0 = omega (arith, l, c.len.ensures, a.token.ok.0, c.if-length-eq0.true) in
-    fault_advances c.args.heap.now t a a rest c.fault-then-length-eq0.result 0 (record { kind = kinds.Token; offset = a.start }) c.fault-then-length-eq0.ensures
+    fault_advances c.args.heap.now.objects t a a rest c.fault-then-length-eq0.result 0 (record { kind = kinds.Token; offset = a.start }) c.fault-then-length-eq0.ensures
     (λ e z.
     ap (λ m. resume t (ahead e m a.token.items a.start (rest ++ z))) c.requires.begun
     ∙ ap (λ y. resume t (lexemes_from e a.start 0 (124 ∷ y))) (go_on a.token.items rest n z lt)
     ∙ ap₂ (λ u b. resume t (lexemes_from e a.start 0 (124 ∷ (u ++ b ∷ (drop (suc n) rest ++ z))))) (empty_list (a.token.items ++ take n rest) z0) c.if-rest-n-ne124.false
-    ∙ bars_empty e t a.start (drop (suc n) rest ++ z) full (sound_clamp c.args.heap.now a.stack t h.means))
+    ∙ bars_empty e t a.start (drop (suc n) rest ++ z) full (sound_clamp c.args.heap.now.objects a.stack t h.means))
 
 pub returns-clause-advances : goal.returns-clause-advances
 returns-clause-advances c t h =
@@ -60,7 +60,7 @@ returns-clause-advances c t h =
     let whole = a.token.items ++ take n rest in
     let l = both_length a.token.items rest n run.within in
     let some : 0 < length whole = omega (arith, l, c.len.ensures, a.token.ok.0, c.if-length-eq0.false) in
-    bars_advance c.end_bars.new.heap t a c.end_bars.new.self rest (n + 1) (get_or rest (n + 1) 0) (a.start + 2 + length whole) (drop (suc (n + 1)) rest) (Symbol (name_of_bytes whole)) c.in_ok-outcome.outcome
+    bars_advance c.end_bars.new.heap.objects t a c.end_bars.new.self rest (n + 1) (get_or rest (n + 1) 0) (a.start + 2 + length whole) (drop (suc (n + 1)) rest) (Symbol (name_of_bytes whole)) c.in_ok-outcome.outcome
     (λ f e. split_at rest (n + 1) lt2)
     (λ e z fit.
     ap (λ m. resume t (ahead e m a.token.items a.start (take (n + 1) rest ++ z))) c.requires.begun

@@ -19,16 +19,16 @@ returns-then-length-gt9-clause-advances c t h =
     let rest = c.args.rest.now in
     let n = c.digits-n.result in
     let run = c.digits-n.ensures in
-    let full = sym (holds_full c.args.heap.now a.stack t h) ∙ c.requires.parser.ready (ap is_inside c.requires.begun) in
+    let full = sym (holds_full c.args.heap.now.objects a.stack t h) ∙ c.requires.parser.ready (ap is_inside c.requires.begun) in
     let text = subst (λ m. IsText m a.token.items) c.requires.begun c.requires.parser.text in
     let whole = a.token.items ++ take n rest in
     let l = both_length a.token.items rest n run.within in
     let long : 9 < length whole = omega (arith, l, c.len.ensures, a.token.ok.0, c.if-length-gt9.true) in
-    fault_advances c.args.heap.now t a a rest c.fault.result 0 (record { kind = kinds.Label; offset = a.start }) c.fault.ensures
+    fault_advances c.args.heap.now.objects t a a rest c.fault.result 0 (record { kind = kinds.Label; offset = a.start }) c.fault.ensures
     (λ e z.
     ap (λ m. resume t (ahead e m a.token.items a.start (rest ++ z))) c.requires.begun
     ∙ ap (λ y. resume t (lexemes_from e a.start 0 (35 ∷ y))) (take_cut a.token.items rest n z)
-    ∙ hash_long e t a.start whole (drop n rest ++ z) (all_append is_digit a.token.items (take n rest) text.0 run.all) long full (sound_clamp c.args.heap.now a.stack t h.means))
+    ∙ hash_long e t a.start whole (drop n rest ++ z) (all_append is_digit a.token.items (take n rest) text.0 run.all) long full (sound_clamp c.args.heap.now.objects a.stack t h.means))
 
 pub returns-clause-advances : goal.returns-clause-advances
 returns-clause-advances c t h =
@@ -37,17 +37,17 @@ returns-clause-advances c t h =
     let n = c.digits-n.result in
     let run = c.digits-n.ensures in
     let lt : n < length rest = omega (arith, run.within, c.if-n-rest.false) in
-    let full = sym (holds_full c.args.heap.now a.stack t h) ∙ c.requires.parser.ready (ap is_inside c.requires.begun) in
+    let full = sym (holds_full c.args.heap.now.objects a.stack t h) ∙ c.requires.parser.ready (ap is_inside c.requires.begun) in
     let text = subst (λ m. IsText m a.token.items) c.requires.begun c.requires.parser.text in
     let whole = a.token.items ++ take n rest in
     let l = both_length a.token.items rest n run.within in
     let few : length whole ≤ 9 = omega (arith, l, c.len.ensures, a.token.ok.0, c.if-length-gt9.false) in
     let i : c.extend_from_slice.new.self.items ≡ whole = c.in_ok-extend_from_slice.ensures.items in
     let mid : Parser = record a { token = c.extend_from_slice.new.self } in
-    hash_advance c.end_hash.new.heap t a mid c.end_hash.new.self rest (n + 1) whole (drop (n + 1) rest) (get_or rest n 0) c.in_ok-outcome.outcome i refl
+    hash_advance c.end_hash.new.heap.objects t a mid c.end_hash.new.self rest (n + 1) whole (drop (n + 1) rest) (get_or rest n 0) c.in_ok-outcome.outcome i refl
     (λ z. take_cut [] rest (n + 1) z) (all_append is_digit a.token.items (take n rest) text.0 run.all) (run.ends lt) few
     (λ e z.
     ap (λ m. resume t (ahead e m a.token.items a.start (take (n + 1) rest ++ z))) c.requires.begun
     ∙ ap (λ y. resume t (lexemes_from e a.start 0 (35 ∷ y))) (go_on_past a.token.items rest n z lt))
-    (subst (λ u. Took c.end_hash.new.heap c.end_hash.new.self.stack c.in_ok-outcome.outcome (on t (label_lexeme a.start u (get_or rest n 0)))) i (c.in_ok-outcome.ensures.took t h full))
+    (subst (λ u. Took c.end_hash.new.heap.objects c.end_hash.new.self.stack c.in_ok-outcome.outcome (on t (label_lexeme a.start u (get_or rest n 0)))) i (c.in_ok-outcome.ensures.took t h full))
     c.in_ok-outcome.ensures.ended

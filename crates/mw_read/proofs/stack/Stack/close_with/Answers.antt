@@ -10,12 +10,12 @@ pub give-requires-clause-waits : goal.give-requires-clause-waits
 give-requires-clause-waits c = subst (λ u. IsFrames u) (sym c.in_ok-list.ensures.rest) tt
 
 pub give-requires-clause-listed : goal.give-requires-clause-listed
-give-requires-clause-listed c = listed_grows (length c.args.heap.now) (length c.fold.new.heap) c.args.self.now.labels.entries (length_grows c.args.heap.now c.fold.new.heap c.fold.ensures.grows) c.requires.stack.listed
+give-requires-clause-listed c = listed_grows (length c.args.heap.now.objects) (length c.fold.new.heap.objects) c.args.self.now.labels.entries (length_grows c.args.heap.now.objects c.fold.new.heap.objects c.fold.ensures.grows) c.requires.stack.listed
 
 pub returns-clause-turn : goal.returns-clause-turn
 returns-clause-turn c =
     if_ok_map c.give.result
     (λ r f ks a.
-    subst (λ (w : Turn). Does c.give.new.heap c.give.new.layers.items c.give.new.labels.entries r w) (ap₂ (λ u y. give_to u y ks) c.in_ok-list.ensures.rest c.in_ok-list.ensures.made.1)
-    (f ks (agree_grows c.args.heap.now c.fold.new.heap c.args.self.now.labels.entries ks c.fold.ensures.grows c.requires.stack.listed a)))
+    subst (λ (w : Turn). Does c.give.new.heap.objects c.give.new.layers.items c.give.new.labels.entries r w) (ap₂ (λ u y. give_to u y ks) c.in_ok-list.ensures.rest c.in_ok-list.ensures.made.1)
+    (f ks (agree_grows c.args.heap.now.objects c.fold.new.heap.objects c.args.self.now.labels.entries ks c.fold.ensures.grows c.requires.stack.listed a)))
     c.give.ensures.turn

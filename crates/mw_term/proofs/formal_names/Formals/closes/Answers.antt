@@ -8,7 +8,7 @@ use Rattle.mw_term.proofs.formal_names.Formals.closes.Goals as goal
 
 pub returns : goal.returns
 returns c = λ t h.
-    let os = c.args.heap.now in
+    let os = c.args.heap.now.objects in
     c.in_ok-is_closed.ensures
     ∙ (closed-object (names_at os c.self.inside.symbols.keys) (object_at os c.args.term) t h
     ∙ ap (λ k. is_closed (names_at os k) t) c.self.view_is)

@@ -1,0 +1,36 @@
+//! T and NIL at hand.
+ghost use Rattle.std.specs.Prelude.{◌≡◌, IfOk};
+ghost use Rattle.mw_model.specs.Object.{truth_of};
+ghost use Rattle.mw_heap.specs.Objects.{object_at, IsIn, Grows};
+ghost use Rattle.mw_base.specs.Truths.{AreTruths};
+
+use mw_heap::{Heap, Memory, Ref};
+
+/// The references of T and NIL.
+#[derive(Clone, Copy, Debug, PartialEq, Eq)]
+pub struct Truths {
+    pub t: Ref,
+    pub nil: Ref,
+}
+
+impl Truths {
+    /// T and NIL in a heap. The error is memory that is refused.
+    pub fn new(heap: &mut Heap) -> Result<Truths, Memory>
+        ensures grows { Grows heap.old.objects heap.new.objects }
+        ensures made { IfOk result (AreTruths heap.new.objects) }
+    {
+        let t = heap.symbol(b"T")?;
+        let nil = heap.nil()?;
+        Ok(Truths { t, nil })
+    }
+
+    // T or NIL.
+    pub(crate) fn of(&self, heap: &Heap, holds: bool) -> Ref
+        requires { AreTruths heap.now.objects self.now }
+        ensures within { IsIn heap.now.objects result }
+        ensures value { object_at heap.now.objects result ≡ truth_of holds }
+    {
+        let _ = heap.same(self.t, self.nil);
+        if holds { self.t } else { self.nil }
+    }
+}

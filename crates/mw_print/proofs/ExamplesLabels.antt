@@ -1,0 +1,28 @@
+-- Texts with labels that a person can check: each computes from its object.
+use Rattle.std.proofs.Common.{◌≡◌, ℕ, Bool, true, false, refl}
+use Rattle.std.specs.Prelude.{codes}
+use Rattle.mw_model.specs.Object.{Object, Natural, Pair, symbol, NIL, same_object, list1, list2, list3}
+use Rattle.mw_print.specs.Labelling.{labelled_text, labelled_next}
+
+-- the list (A 7)
+abbrev part : Object
+part = list2 (symbol "A") (Natural 7)
+
+-- a member that stands twice is written once
+twice : labelled_text (same_object part) (list2 part part) 1 ≡ codes "(#1=(A 7) #1#)"
+twice = refl
+
+-- so is the rest of a list
+rest : labelled_text (same_object part) (Pair part part) 3 ≡ codes "(#3=(A 7) . #3#)"
+rest = refl
+
+-- without labels the text is the plain one
+plain : labelled_text (λ x. false) (list3 part NIL part) 1 ≡ codes "((A 7) NIL (A 7))"
+plain = refl
+
+-- a label for each pair
+each : labelled_text (λ x. true) (list1 (list1 NIL)) 1 ≡ codes "#1=(#2=(NIL))"
+each = refl
+
+next : labelled_next (λ x. true) (list1 (list1 NIL)) 1 ≡ 3
+next = refl

@@ -1,0 +1,52 @@
+-- What is owed for a formula's decision, and for its table.
+use Rattle.std.specs.Prelude.{◌≡◌, false, List, [], Some, map, slice_get}
+use Rattle.mw_model.specs.Object.{Object}
+use Rattle.mw_model.specs.Term.{Formula, formula_object, ArityTable}
+use Rattle.mw_model.specs.Tautology.{equations, choice_object, Decision as Due, Many as ManyDue, FailsUnder, Holds}
+use Rattle.mw_model.specs.Fate.{is_out_of_range}
+use Rattle.mw_model.specs.TautologyBook.{IsPureProof}
+use Rattle.mw_heap.specs.Objects.{object_at, IsIn}
+use Rattle.mw_taut.specs.declared.table.Table.{Table}
+use Rattle.mw_taut.specs.declared.deciding.Decision.{Decision}
+use Rattle.mw_taut.specs.declared.deciding.Decision.TheVariants.{Proof, Choice, Many, Memory}
+use Rattle.mw_taut.specs.Meaning.{AreNodesOf}
+use Rattle.mw_taut.specs.declared.case.Outcome.{Outcome}
+use Rattle.mw_taut.specs.declared.case.Outcome.TheVariants.{Proof as Proven, Against}
+use Rattle.mw_taut.specs.Steps.{schema}
+use Rattle.mw_taut.specs.ByCases.{Taken, IsTableIn}
+
+-- the table is that of the formula
+pub record IsTableOf (os : List Object) (F : Formula) (t : Table) : Type 0 where
+  pub parts : List Formula
+  pub nodes : AreNodesOf (equations F) [] t.nodes.items parts
+  pub root : slice_get parts t.root ≡ Some F
+  pub formulas : map (object_at os) t.formulas.items ≡ map formula_object parts
+  pub equations_are : map (object_at os) t.equations.items ≡ map formula_object (equations F)
+  pub inside : IsTableIn os t
+
+-- the answer is the decision that is due for the formula, or want of memory
+abbrev pub IsDecision : List Object → ArityTable → Formula → Due → Decision → Type 0
+IsDecision os A F due Memory = Unit {0}
+IsDecision os A F ManyDue Many = Unit {0}
+IsDecision os A F ManyDue (Proof r) = ⊥
+IsDecision os A F ManyDue (Choice r) = ⊥
+IsDecision os A F (FailsUnder c) Many = ⊥
+IsDecision os A F (FailsUnder c) (Proof r) = ⊥
+IsDecision os A F (FailsUnder c) (Choice r) = IsIn os r × (object_at os r ≡ choice_object c)
+IsDecision os A F Holds Many = ⊥
+IsDecision os A F Holds (Proof r) = IsIn os r × IsPureProof A (object_at os r) F
+IsDecision os A F Holds (Choice r) = ⊥
+
+-- the case in which nothing is chosen
+abbrev pub at_first : Object → Taken
+at_first x = record { context = x; denial = schema x; chosen = [] }
+
+-- the answer for an outcome
+abbrev pub decision_of : Outcome → Decision
+decision_of (Proven r) = Proof r
+decision_of (Against r) = Choice r
+
+-- a proof holds no natural that is out of range
+abbrev pub IsInRange : List Object → Outcome → Type 0
+IsInRange os (Proven r) = is_out_of_range (object_at os r) ≡ false
+IsInRange os (Against r) = Unit {0}

@@ -1,0 +1,107 @@
+//! Whether a formula is a tautology.
+ghost use Rattle.std.specs.Prelude.{◌≡◌, true, Some, length, map, IfOk};
+ghost use Rattle.mw_model.specs.Term.{Formula, formula_object, is_formula};
+ghost use Rattle.mw_model.specs.Reading.{formula_under};
+ghost use Rattle.mw_model.specs.Rules.{is_formula_object};
+ghost use Rattle.mw_model.specs.Tautology.{decision};
+ghost use Rattle.mw_heap.specs.Objects.{object_at, IsIn, Grows};
+ghost use Rattle.mw_taut.specs.ByCases.{by_cases, parts_at, taken_at, answer_at, IsTableIn, IsCaseIn, IsOutcomeIn};
+ghost use Rattle.mw_taut.specs.Decided.{IsDecision, at_first, decision_of, IsInRange};
+
+use crate::case::{Case, Outcome};
+use crate::cases::by_cases;
+use crate::compile::table_of;
+use crate::steps::schema;
+use crate::table::Table;
+use mw_heap::{Heap, Memory, Ref};
+use mw_term::Arity;
+
+/// What is decided of a formula.
+#[derive(Clone, Copy, Debug, PartialEq, Eq)]
+pub enum Decision {
+    /// It is a tautology, by this proof, from no axioms and no theorems.
+    Proof(Ref),
+    /// It is none: the first choice that makes it false, as a list of pairs (equation . value).
+    Choice(Ref),
+    /// It has more than twelve equations.
+    Many,
+    /// Out of memory.
+    Memory,
+}
+
+// Formulas with more equations than this are not decided.
+const MOST_EQUATIONS: usize = 12;
+
+// The case in which nothing is chosen: the context is the formula alone.
+fn first_case(heap: &mut Heap, f: Ref) -> Result<Case, Memory>
+    requires { IsIn heap.old.objects f }
+    ensures grows { Grows heap.old.objects heap.new.objects }
+    ensures within { IfOk result (λ c. IsCaseIn heap.new.objects c) }
+    ensures none { IfOk result (λ c. length c.chosen.items ≡ 0) }
+    ensures made { IfOk result (λ c. taken_at heap.new.objects c ≡ at_first (object_at heap.old.objects f)) }
+{
+    let denial = schema(heap, f)?;
+    Ok(Case {
+        context: f,
+        denial,
+        chosen: Vec::new(heap.alloc()),
+    })
+}
+
+// What comes of the proof by cases.
+fn outcome(heap: &mut Heap, f: Ref, table: &Table) -> Result<Outcome, Memory>
+    requires within { IsIn heap.old.objects f }
+    requires table { IsTableIn heap.old.objects table.now }
+    ensures grows { Grows heap.old.objects heap.new.objects }
+    ensures within { IfOk result (λ o. IsOutcomeIn heap.new.objects o) }
+    ensures made { IfOk result (λ o. answer_at heap.new.objects o ≡ by_cases (parts_at heap.old.objects table.now) (map (object_at heap.old.objects) table.now.equations.items) (at_first (object_at heap.old.objects f))) }
+{
+    let first = first_case(heap, f)?;
+    by_cases(heap, table, &first)
+}
+
+// The answer for an outcome. That all objects of the heap are in range is seen at the proof.
+fn answer(heap: &Heap, outcome: Outcome) -> Decision
+    requires { IsOutcomeIn heap.now.objects outcome }
+    ensures answer { result ≡ decision_of outcome }
+    ensures in_range { IsInRange heap.now.objects outcome }
+{
+    match outcome {
+        Outcome::Proof(p) => {
+            let _ = heap.view(p);
+            Decision::Proof(p)
+        }
+        Outcome::Against(c) => Decision::Choice(c),
+    }
+}
+
+// The decision, where memory suffices.
+fn decided(heap: &mut Heap, f: Ref, arity: &Arity) -> Result<Decision, Memory>
+    requires within { IsIn heap.old.objects f }
+    requires formula { (F : Formula) × (object_at heap.old.objects f ≡ formula_object F) × (is_formula arity.now F ≡ true) }
+    ensures grows { Grows heap.old.objects heap.new.objects }
+    ensures decided { IfOk result (λ d. (F : Formula) → object_at heap.old.objects f ≡ formula_object F → is_formula arity.now F ≡ true → IsDecision heap.new.objects arity.now F (decision F) d) }
+{
+    let _ = arity;
+    let table = table_of(heap, f)?;
+    if table.equations.len() > MOST_EQUATIONS {
+        return Ok(Decision::Many);
+    }
+    let outcome = outcome(heap, f, &table)?;
+    Ok(answer(heap, outcome))
+}
+
+/// Whether a formula of these arities is a tautology. It answers that there are many equations exactly when there are more than twelve;
+/// else a proof from no axioms and no theorems under profile one, which holds no natural past the range, exactly when the formula
+/// is a tautology; else the first choice against it. What the heap gets more is not cut back.
+pub fn decide(heap: &mut Heap, f: Ref, arity: &Arity) -> Decision
+    requires within { IsIn heap.old.objects f }
+    requires formula { is_formula_object arity.now (object_at heap.old.objects f) ≡ true }
+    ensures grows { Grows heap.old.objects heap.new.objects }
+    ensures decided { (F : Formula) → formula_under arity.now (object_at heap.old.objects f) ≡ Some F → IsDecision heap.new.objects arity.now F (decision F) result }
+{
+    match decided(heap, f, arity) {
+        Ok(decision) => decision,
+        Err(Memory) => Decision::Memory,
+    }
+}
