@@ -15,7 +15,7 @@ fn make_list(heap: &mut Heap, stack: &mut Vec<Ref>, word: Word, count: usize) ->
     ensures within { OnOk result (AreIn heap.new.objects stack.new.items) }
     ensures made { OnOk result (stack_of heap.new.objects stack.new.items ≡ gather word count NIL (stack_of heap.old.objects stack.old.items)) }
 {
-    let mut members = heap.symbol(b"NIL")?;
+    let mut members = heap.nil()?;
     for _ in 0..count {
         if let Some(last) = stack.pop() {
             members = heap.cons(last, members)?;

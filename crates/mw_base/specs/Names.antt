@@ -5,9 +5,9 @@ use Rattle.mw_model.specs.Primitive.{name_of}
 use Rattle.mw_heap.specs.declared.primitive.Primitive.{Primitive as Word}
 use Rattle.mw_heap.specs.declared.primitive.Primitive.TheVariants as word
 
--- the full blocks of 64 bytes of the shorter name
+-- the full blocks of 16 bytes of the shorter name
 abbrev pub blocks_of_two : List Object → ℕ
-blocks_of_two (a ∷ b ∷ []) = min (length (name_of a).bytes) (length (name_of b).bytes) / 64
+blocks_of_two (a ∷ b ∷ []) = min (length (name_of a).bytes) (length (name_of b).bytes) / 16
 blocks_of_two vs = 0
 
 abbrev pub blocks_of : Word → List Object → ℕ

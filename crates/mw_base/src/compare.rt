@@ -7,7 +7,7 @@ ghost use Rattle.mw_heap.specs.Parts.{part_at, IsPart};
 ghost use Rattle.mw_base.specs.Answers.{value_of};
 
 use crate::values::{is_before, is_natural, is_symbol};
-use mw_heap::{Heap, Primitive, Ref, View};
+use mw_heap::{Heap, Primitive, Ref, View, Word};
 
 // Whether v is T or NIL, as the test says.
 
@@ -16,7 +16,7 @@ fn is_truth(heap: &Heap, holds: bool, v: Option<Ref>) -> bool
     ensures { result ≡ same_object (truth_of holds) (part_at heap.now.objects v) }
 {
     if holds {
-        heap.is_named(v, b"T")
+        heap.is_word(v, Word::T)
     } else {
         heap.is_nil(v)
     }

@@ -5,7 +5,7 @@ ghost use Rattle.mw_model.specs.Rules.{is_constant_object, are_constant_objects}
 ghost use Rattle.mw_heap.specs.Objects.{object_at, IsIn};
 ghost use Rattle.mw_heap.specs.Parts.{part_at, IsPart};
 
-use mw_heap::{Heap, Ref, View};
+use mw_heap::{Heap, Ref, View, Word};
 
 // Whether it is (quote c).
 #[tactic(auto, using(crate::proofs::ConstantTests::is_constant_object_at))]
@@ -17,7 +17,7 @@ pub(crate) fn is_constant(heap: &Heap, x: Ref) -> bool
         return false;
     };
     match heap.view(rest) {
-        View::Pair(_, end) => heap.is_named(Some(head), b"QUOTE") && heap.is_nil(Some(end)),
+        View::Pair(_, end) => heap.is_word(Some(head), Word::Quote) && heap.is_nil(Some(end)),
         _ => false,
     }
 }

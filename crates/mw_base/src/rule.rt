@@ -8,7 +8,7 @@ ghost use Rattle.mw_heap.specs.Variants.{profile_of};
 
 use crate::compare::is_value;
 use crate::constants::{are_constants, is_constant, unquoted};
-use mw_heap::{Heap, Memory, Primitive, Profile, Ref, View};
+use mw_heap::{Heap, Memory, Primitive, Profile, Ref, View, Word};
 
 /// Conclude (f 'c1 .. 'cn) = 'v, where f is a primitive function of the profile, or IF, and v its value at c1 .. cn. The value
 /// is not made but compared, so that the heap stays as it is and no memory is wanted.
@@ -29,7 +29,7 @@ fn is_base_eval(heap: &Heap, c: Ref, profile: Profile) -> bool
     let Some(value) = heap.third_of(c) else {
         return false;
     };
-    heap.is_headed(c, b"PEQUAL*")
+    heap.is_headed(c, Word::Pequal)
         && is_constant(heap, value)
         && is_call_with_value(heap, heap.second_of(c), heap.second_of(value), profile)
 }

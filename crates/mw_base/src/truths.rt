@@ -4,7 +4,7 @@ ghost use Rattle.mw_model.specs.Object.{truth_of};
 ghost use Rattle.mw_heap.specs.Objects.{object_at, IsIn, Grows};
 ghost use Rattle.mw_base.specs.Truths.{AreTruths};
 
-use mw_heap::{Heap, Memory, Ref};
+use mw_heap::{Heap, Memory, Ref, Word};
 
 /// The references of T and NIL.
 #[derive(Clone, Copy, Debug, PartialEq, Eq)]
@@ -19,7 +19,7 @@ impl Truths {
         ensures grows { Grows heap.old.objects heap.new.objects }
         ensures made { IfOk result (AreTruths heap.new.objects) }
     {
-        let t = heap.symbol(b"T")?;
+        let t = heap.word(Word::T)?;
         let nil = heap.nil()?;
         Ok(Truths { t, nil })
     }

@@ -54,7 +54,7 @@ pub(crate) fn is_before(heap: &Heap, x: Option<Ref>, y: Option<Ref>) -> bool
     name(heap, x) < name(heap, y)
 }
 
-/// How many blocks of 64 bytes, all of them full, a primitive function may have to look at in the names of its arguments. Only SYMBOL-<
+/// How many blocks of 16 bytes, all of them full, a primitive function may have to look at in the names of its arguments. Only SYMBOL-<
 /// looks at names, and at no more of them than the shorter one has.
 pub fn blocks_of_names(heap: &Heap, p: Primitive, args: &[Ref]) -> u64
     requires { All (IsIn heap.now.objects) args.now }
@@ -63,7 +63,7 @@ pub fn blocks_of_names(heap: &Heap, p: Primitive, args: &[Ref]) -> u64
     match (p, args) {
         (Primitive::SymbolLess, [a, b]) => {
             let shorter = name(heap, Some(*a)).len().min(name(heap, Some(*b)).len());
-            shorter as u64 / 64
+            shorter as u64 / 16
         }
         _ => 0,
     }

@@ -68,6 +68,7 @@ module _ (N : ℕ) (input first : Option (List ℕ)) (j : Judging) (p : Parser) 
   read_fails now e = (
     between.bytes,
     subst (λ u. Gives input u between.bytes) (sym e) between.gives,
+    ap (λ (b : Book). b.fault) between.so_far,
     subst (λ (b : Book). SinkTakes first sink (lines_of b.events N)) (sym between.so_far) between.takes,
   )
 

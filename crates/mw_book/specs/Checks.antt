@@ -2,7 +2,8 @@
 use Rattle.std.specs.Prelude.{◌≡◌, ℕ, List, ◌++◌, Option, Some, None}
 use Rattle.mw_model.specs.Object.{Object}
 use Rattle.mw_model.specs.Command.{Check}
-use Rattle.mw_model.specs.Grammar.{book, trees}
+use Rattle.mw_model.specs.Lexemes.{Goes}
+use Rattle.mw_model.specs.Grammar.{book, reading, trees}
 use Rattle.mw_model.specs.Report.{Status, Done, SomeRefused, Syntax, lines_so_far, last_line}
 use Rattle.mw_model.specs.Trial.{trial_book}
 use Rattle.mw_model.specs.Headline.{Headline, TrialHeadline}
@@ -28,7 +29,7 @@ CheckEnds ending.SomeRefused N old_book new_book old new = HasEnded new_book × 
 CheckEnds (ending.Syntax k o) N old_book new_book old new = Reported N old_book old new (Syntax (kind_of k) o)
 CheckEnds ending.Help N old_book new_book old new = ⊥
 CheckEnds ending.Usage N old_book new_book old new = ⊥
-CheckEnds ending.ReadFault N old_book new_book old new = (given : List ℕ) × Gives old_book new_book given × Takes old new (lines_so_far given N)
+CheckEnds ending.ReadFault N old_book new_book old new = (given : List ℕ) × Gives old_book new_book given × ((reading Goes given).fault ≡ None) × Takes old new (lines_so_far given N)
 CheckEnds ending.WriteFault N old_book new_book old new = IsPartOf (Check N) old_book old new
 CheckEnds ending.Memory N old_book new_book old new = IsPartOf (Check N) old_book old new
 

@@ -1,7 +1,8 @@
 -- How the program ends, and what is then true.
 use Rattle.std.specs.Prelude.{◌≡◌, ℕ, Bool, true, false, List, Option, Some, None}
 use Rattle.mw_model.specs.Command.{Request, Check, Trial, Help, Usage, asked, help_text}
-use Rattle.mw_model.specs.Grammar.{trees}
+use Rattle.mw_model.specs.Lexemes.{Goes}
+use Rattle.mw_model.specs.Grammar.{reading, trees}
 use Rattle.mw_model.specs.Report.{Status, Done, SomeRefused, Syntax, lines_so_far, report, last_line}
 use Rattle.mw_model.specs.Trial.{trial_book}
 use Rattle.mw_model.specs.Headline.{Headline, TrialHeadline}
@@ -52,6 +53,6 @@ IsPartOf Usage book old new = TakesSome old new help_text
 abbrev pub IsCutShort : List (List ℕ) → Option (List ℕ) → Option (List ℕ) → Option (List ℕ) → Type 0
 IsCutShort words book old new = IsPartOf (asked words) book old new
 
--- The lines were written of all data that are complete in the bytes that the source gave.
+-- The bytes that the source gave hold no fault, and the lines were written of all data that are complete in them.
 abbrev pub ReportsSoFar : List (List ℕ) → Option (List ℕ) → Option (List ℕ) → Option (List ℕ) → Option (List ℕ) → Type 0
-ReportsSoFar words old_book new_book old new = (N : ℕ) × (asked words ≡ Check N) × (given : List ℕ) × Gives old_book new_book given × Takes old new (lines_so_far given N)
+ReportsSoFar words old_book new_book old new = (N : ℕ) × (asked words ≡ Check N) × (given : List ℕ) × Gives old_book new_book given × ((reading Goes given).fault ≡ None) × Takes old new (lines_so_far given N)

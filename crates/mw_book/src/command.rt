@@ -24,7 +24,8 @@ const HELP: &[u8] = b"milawa check [--steps N]\nmilawa trial M [--steps N]\n";
 /// sink then took the report whole, or its last line: what it calls accepted is true in the standard model. `Help` comes where the
 /// words ask how the program is used, and `Usage` where they ask for nothing that it does. `ReadFault` and `WriteFault` come where
 /// the source, or the sink, counted a fault in this call, and `Memory` where memory was refused: what the sink took is a prefix
-/// of the text that was due, and at a fault in reading the lines of all data that are complete in the bytes read.
+/// of the text that was due, and at a fault in reading the lines of all data that are complete in the bytes read, which hold no fault of the
+/// text.
 pub fn run<S: Source, K: Sink>(
     alloc: Global,
     words: &[Text],

@@ -14,7 +14,7 @@ ghost use Rattle.mw_define.specs.declared.piece.Piece.TheVariants as piece;
 use crate::block_names::is_among_names;
 use crate::piece::Piece;
 use indexmap::IndexSet;
-use mw_heap::{Heap, Memory, Ref, View, take_look};
+use mw_heap::{Heap, Memory, Ref, View, Word, take_look};
 
 fn split_lambda(
     heap: &Heap,
@@ -59,10 +59,10 @@ fn look_at_named(
     requires whole { object_at heap.now.objects x ≡ Pair (object_at heap.now.objects name) (object_at heap.now.objects arguments) }
     ensures { IfOk result (IsLook (names_at heap.now.objects names.now.keys) heap.now.objects (piece.Term x) waiting.old.items waiting.new.items) }
 {
-    if heap.is_named(Some(name), b"QUOTE") {
+    if heap.is_word(Some(name), Word::Quote) {
         return Ok(false);
     }
-    if heap.is_named(Some(name), b"IF") {
+    if heap.is_word(Some(name), Word::If) {
         waiting.push(Piece::Terms(arguments))?;
         return Ok(false);
     }

@@ -158,7 +158,7 @@ fn owe_flat(
 }
 
 // The most looks at the actuals of one function's calls: where more are needed the answer is out of memory.
-const MOST_LOOKS: u64 = 1 << 26;
+const MOST_LOOKS: u64 = 1 << 24;
 
 // Adds what a function owes, where none of its calls is in an actual of another. These are all its calls.
 fn owe_found(

@@ -5,7 +5,7 @@ ghost use Rattle.mw_model.specs.Rules.{last_disjunct_object, unless_equal_object
 ghost use Rattle.mw_heap.specs.Objects.{object_at, IsIn};
 
 use crate::shapes::{arguments_of_one, is_inequality, members};
-use mw_heap::{Heap, Ref, View};
+use mw_heap::{Heap, Ref, View, Word};
 
 /// Whether `c` is: not a1 = b1 or .. or not an = bn or (f a1 .. an) = (f b1 .. bn), where f is the name of a function.
 pub fn functional_equality(heap: &Heap, c: Ref) -> bool
@@ -43,7 +43,7 @@ fn later_disjunct(heap: &Heap, x: Ref) -> Option<Ref>
     let View::Pair(second, _) = heap.view(others) else {
         return None;
     };
-    if heap.is_named(Some(head), b"POR*") {
+    if heap.is_word(Some(head), Word::Por) {
         Some(second)
     } else {
         None
@@ -56,7 +56,7 @@ fn ends_with_equality(heap: &Heap, c: Ref, e: Ref) -> bool
     requires end_within { IsIn heap.now.objects e }
     ensures { result ≡ object_ends_with_equality (object_at heap.now.objects c) (object_at heap.now.objects e) }
 {
-    if !heap.is_headed(e, b"PEQUAL*") {
+    if !heap.is_headed(e, Word::Pequal) {
         return false;
     }
     match arguments_of_one(heap, heap.second_of(e), heap.third_of(e)) {
@@ -77,7 +77,7 @@ fn is_unless_equal(heap: &Heap, c: Ref, firsts: Ref, seconds: Ref, end: Ref) -> 
     let mut firsts = firsts;
     let mut seconds = seconds;
     while let Some(((a, more_firsts), (b, more_seconds))) = members(heap, firsts, seconds) {
-        let Some((first, others)) = heap.members_after(rest, b"POR*") else {
+        let Some((first, others)) = heap.members_after(rest, Word::Por) else {
             return false;
         };
         if !is_inequality(heap, first, a, b) {

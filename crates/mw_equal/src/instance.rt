@@ -2,28 +2,27 @@
 ghost use Rattle.std.specs.Prelude.{◌≡◌, ◌<◌, true, length, IfOk};
 ghost use Rattle.mw_model.specs.Term.{ArityTable};
 ghost use Rattle.mw_model.specs.Rules.{is_formula_object, object_is_instance};
-ghost use Rattle.mw_heap.specs.Objects.{object_at, IsIn, Grows};
+ghost use Rattle.mw_heap.specs.Objects.{object_at, IsIn};
 ghost use Rattle.mw_term.specs.Marking.{AreMarks};
 
 use mw_heap::{Heap, Memory, Ref};
-use mw_subst::{sigma_of, substitute};
+use mw_subst::{is_instance, sigma_of};
 use mw_term::{Marks, is_substitution};
 
 /// Whether the formula `c` is the formula `a` under the substitution `s`, a proper list of pairs (variable . term), where the marks
-/// say what is a term. The heap grows by what the substitution makes; the only error is being out of memory.
+/// say what is a term. Nothing is made; the only error is being out of memory.
 pub fn instantiation(heap: &mut Heap, c: Ref, a: Ref, s: Ref, marks: &Marks) -> Result<bool, Memory>
     requires marks { (A : ArityTable) × AreMarks A heap.old.objects marks.now }
     requires conclusion { IsIn heap.old.objects c }
     requires premise { IsIn heap.old.objects a }
     requires substitution { s < length marks.now }
     requires formula { (A : ArityTable) × (is_formula_object A (object_at heap.old.objects a) ≡ true) }
-    ensures grows { Grows heap.old.objects heap.new.objects }
+    ensures objects { heap.new.objects ≡ heap.old.objects }
     ensures answer { IfOk result (λ b. (A : ArityTable) → AreMarks A heap.old.objects marks.now → b ≡ object_is_instance A (object_at heap.old.objects c) (object_at heap.old.objects a) (object_at heap.old.objects s)) }
 {
     if !is_substitution(heap, marks, s) {
         return Ok(false);
     }
     let sigma = sigma_of(heap, s)?;
-    let instance = substitute(heap, a, &sigma)?;
-    Ok(heap.same(c, instance))
+    is_instance(heap, a, &sigma, c)
 }

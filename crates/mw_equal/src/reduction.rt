@@ -1,24 +1,24 @@
 //! A lambda call equals its body with the arguments for the formals.
 ghost use Rattle.std.specs.Prelude.{◌≡◌, IfOk};
-ghost use Rattle.mw_model.specs.Object.{Pair};
+ghost use Rattle.mw_model.specs.Object.{Pair, same_object, second_of};
 ghost use Rattle.mw_model.specs.Rules.{beta_object, actuals_object, object_is_beta};
 ghost use Rattle.mw_heap.specs.Objects.{object_at, IsIn, Grows};
 ghost use Rattle.mw_heap.specs.Parts.{part_at, IsPart};
 ghost use Rattle.mw_subst.specs.Sigma.{sigma_object, AreIn};
 
 use crate::shapes::members;
-use mw_heap::{Heap, Memory, Ref, View, take_look};
-use mw_subst::{Sigma, substitute};
+use mw_heap::{Heap, Memory, Ref, View, Word, take_look};
+use mw_subst::{Sigma, is_instance, substitute};
 use mw_term::take_looks;
 
-/// Whether `c` is: ((lambda (x1 .. xn) b) t1 .. tn) = b with t1 .. tn for x1 .. xn. The heap grows by what the substitution makes; the
-/// only error is want of memory.
+/// Whether `c` is: ((lambda (x1 .. xn) b) t1 .. tn) = b with t1 .. tn for x1 .. xn. Nothing is made, but NIL where a part is missing; the
+/// only error is being out of memory.
 pub fn beta(heap: &mut Heap, c: Ref) -> Result<bool, Memory>
     requires { IsIn heap.old.objects c }
     ensures grows { Grows heap.old.objects heap.new.objects }
     ensures answer { IfOk result (λ b. b ≡ object_is_beta (object_at heap.old.objects c)) }
 {
-    if !heap.is_headed(c, b"PEQUAL*") {
+    if !heap.is_headed(c, Word::Pequal) {
         return Ok(false);
     }
     let Some(call) = heap.second_of(c) else {
@@ -30,12 +30,24 @@ pub fn beta(heap: &mut Heap, c: Ref) -> Result<bool, Memory>
     let View::Pair(_, _) = heap.view(function) else {
         return Ok(false);
     };
-    let right = heap.third_of(c);
-    let body = reduced(heap, function, arguments)?;
-    Ok(heap.is_same(right, Some(body)))
+    let right = present(heap, heap.third_of(c))?;
+    is_reduced(heap, function, arguments, right)
 }
 
-/// The body of the function of a lambda call with the arguments for its formals. The only error is want of memory.
+// Whether it is the body of the function of a lambda call with the arguments for its formals.
+fn is_reduced(heap: &mut Heap, function: Ref, arguments: Ref, x: Ref) -> Result<bool, Memory>
+    requires within { IsIn heap.old.objects function }
+    requires arguments_within { IsIn heap.old.objects arguments }
+    requires reduced_within { IsIn heap.old.objects x }
+    ensures grows { Grows heap.old.objects heap.new.objects }
+    ensures reduced { IfOk result (λ b. b ≡ same_object (object_at heap.old.objects x) (beta_object (Pair (object_at heap.old.objects function) (object_at heap.old.objects arguments)))) }
+{
+    let body = present(heap, heap.third_of(function))?;
+    let sigma = actuals_of(heap, function, arguments)?;
+    is_instance(heap, body, &sigma, x)
+}
+
+/// The body of the function of a lambda call with the arguments for its formals. The only error is being out of memory.
 pub fn reduced(heap: &mut Heap, function: Ref, arguments: Ref) -> Result<Ref, Memory>
     requires within { IsIn heap.old.objects function }
     requires arguments_within { IsIn heap.old.objects arguments }
@@ -43,11 +55,22 @@ pub fn reduced(heap: &mut Heap, function: Ref, arguments: Ref) -> Result<Ref, Me
     ensures reduced { IfOk result (λ r. IsIn heap.new.objects r × (object_at heap.new.objects r ≡ beta_object (Pair (object_at heap.old.objects function) (object_at heap.old.objects arguments)))) }
 {
     let body = present(heap, heap.third_of(function))?;
+    let sigma = actuals_of(heap, function, arguments)?;
+    substitute(heap, body, &sigma)
+}
+
+// The arguments for the formals of the function of a lambda call. Each takes a look from those that the heap allows.
+fn actuals_of(heap: &mut Heap, function: Ref, arguments: Ref) -> Result<Sigma, Memory>
+    requires within { IsIn heap.old.objects function }
+    requires arguments_within { IsIn heap.old.objects arguments }
+    ensures objects { heap.new.objects ≡ heap.old.objects }
+    ensures within { IfOk result (λ s. AreIn heap.old.objects s) }
+    ensures actuals { IfOk result (λ s. sigma_object heap.old.objects s ≡ actuals_object (second_of (object_at heap.old.objects function)) (object_at heap.old.objects arguments)) }
+{
     let mut looks_left = u64::MAX;
     let sigma = actuals(heap, heap.second_of(function), arguments, &mut looks_left)?;
-    let made = substitute(heap, body, &sigma)?;
     take_looks(heap, u64::MAX.saturating_sub(looks_left))?;
-    Ok(made)
+    Ok(sigma)
 }
 
 // A part as an object of the heap: NIL where there is none.
@@ -58,7 +81,7 @@ fn present(heap: &mut Heap, x: Option<Ref>) -> Result<Ref, Memory>
 {
     match x {
         Some(x) => Ok(x),
-        None => heap.symbol(b"NIL"),
+        None => heap.nil(),
     }
 }
 

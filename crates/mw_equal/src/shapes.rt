@@ -8,7 +8,7 @@ ghost use Rattle.mw_model.specs.Rules.{or_object, not_object, equal_object, are_
 ghost use Rattle.mw_heap.specs.Objects.{object_at, IsIn};
 ghost use Rattle.mw_heap.specs.Parts.{part_at, IsPart};
 
-use mw_heap::{Heap, Ref, View};
+use mw_heap::{Heap, Ref, View, Word};
 
 // What is no name of a function.
 const OTHER_WORDS: [&[u8]; 18] = [
@@ -23,8 +23,8 @@ pub(crate) fn is_inequality(heap: &Heap, x: Ref, a: Ref, b: Ref) -> bool
     requires second_within { IsIn heap.now.objects b }
     ensures { result ≡ same_object (object_at heap.now.objects x) (not_object (equal_object (object_at heap.now.objects a) (object_at heap.now.objects b))) }
 {
-    match heap.member_after(x, b"PNOT*") {
-        Some(equality) => heap.is_list3(Some(equality), b"PEQUAL*", Some(a), Some(b)),
+    match heap.member_after(x, Word::Pnot) {
+        Some(equality) => heap.is_list3(Some(equality), Word::Pequal, Some(a), Some(b)),
         None => false,
     }
 }

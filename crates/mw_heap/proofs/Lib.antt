@@ -13,3 +13,4 @@ pub mod PrimitivesNamed
 pub mod BareNames
 pub mod Measures
 pub mod Measuring
+pub mod Words

@@ -5,7 +5,7 @@ use Rattle.mw_heap.specs.declared.cell.Cell.{Cell}
 use Rattle.mw_heap.specs.declared.lengths.Lengths.{Lengths}
 use Rattle.mw_heap.specs.Cells.{object, objects, IsSound}
 use Rattle.mw_heap.specs.Inserted.{Inserts}
-use Rattle.mw_heap.specs.Lengths.{lengths_of, Measures, IsMeasured}
+use Rattle.mw_heap.specs.Lengths.{lengths_of, Measures}
 use Rattle.mw_heap.proofs.Growth.{length-objects, objects_after-push, objects-more}
 
 -- naturals and names that were listed since change no object
@@ -44,5 +44,5 @@ pub measured-result : {E : Type 0} (ns : List ℕ) (ss : List (List ℕ)) (old n
 measured-result ns ss old new lengths lengths' c (Ok r) are m e f = measured-after ns ns ss ss old new lengths lengths' c refl are m
 measured-result ns ss old new lengths lengths' c (Err x) are m e f = f ∙ (are ∙ ap (λ l. map lengths_of (objects ns ss l)) (sym e))
 
-pub length-measured : (ns : List ℕ) (ss : List (List ℕ)) (cs : List Cell) (lengths : List Lengths) → IsMeasured ns ss cs lengths → length lengths ≡ length cs
-length-measured ns ss cs lengths h = ap length h.measured ∙ (length-map (objects ns ss cs) lengths_of ∙ length-objects ns ss cs)
+pub length-measured : (ns : List ℕ) (ss : List (List ℕ)) (cs : List Cell) (lengths : List Lengths) → lengths ≡ map lengths_of (objects ns ss cs) → length lengths ≡ length cs
+length-measured ns ss cs lengths h = ap length h ∙ (length-map (objects ns ss cs) lengths_of ∙ length-objects ns ss cs)

@@ -2,7 +2,7 @@
 use Rattle.std.specs.Prelude.{◌≡◌, ℕ, ◌+◌, ◌-◌, ◌<◌, min, true, List, [], ◌∷◌, ◌++◌, length, map, get_or, ◌⊎◌}
 use Rattle.mw_model.specs.Object.{Object, is_name}
 use Rattle.mw_model.specs.Printing.{text_of, tail_text}
-use Rattle.mw_heap.specs.Cells.{object, objects, IsSound}
+use Rattle.mw_heap.specs.Cells.{object}
 use Rattle.mw_heap.specs.declared.cell.Cell.{Cell}
 use Rattle.mw_heap.specs.declared.cell.Cell.TheVariants.{Small, Large, Symbol as Named, Pair as Parts}
 use Rattle.mw_heap.specs.declared.lengths.Lengths.{Lengths}
@@ -40,8 +40,3 @@ module _ (naturals : List ℕ) (names : List (List ℕ)) where
   -- a cell that is new goes last, and its lengths do
   abbrev pub Measures : (old new : List Cell) (lengths lengths' : List Lengths) → Cell → Type 0
   Measures old new lengths lengths' c = ((new ≡ old) × (lengths' ≡ lengths)) ⊎ ((new ≡ old ++ c ∷ []) × (measured : Lengths) × (lengths' ≡ lengths ++ measured ∷ []) × IsLengthsOf lengths c measured)
-
--- a sound heap, whose objects have these lengths
-pub record IsMeasured (naturals : List ℕ) (names : List (List ℕ)) (cells : List Cell) (lengths : List Lengths) : Type 0 where
-  pub sound : IsSound naturals names cells
-  pub measured : lengths ≡ map lengths_of (objects naturals names cells)

@@ -3,6 +3,7 @@ pub mod Lists
 pub mod Inserted
 pub mod Cells
 pub mod Lengths
+pub mod Words
 pub mod Code
 pub mod Contents
 pub mod Variants

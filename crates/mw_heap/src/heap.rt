@@ -4,6 +4,8 @@ ghost use Rattle.mw_model.specs.Object.{Symbol, Natural, Pair, NIL, name_of_byte
 ghost use Rattle.mw_model.specs.Primitive.{is_symbol, name_of};
 ghost use Rattle.mw_model.specs.Fate.{is_out_of_range};
 ghost use Rattle.mw_heap.specs.Lengths.{text_length, tail_length};
+ghost use Rattle.mw_heap.specs.Parts.{part_at, IsPart};
+ghost use Rattle.mw_heap.specs.Words.{word_object};
 ghost use Rattle.mw_heap.specs.Objects.{object_at, IsIn, Grows, Shows, NamesOlder, AreDistinct, ArePartsOlder};
 
 use crate::cell::Cell;
@@ -13,7 +15,8 @@ use crate::sets::{
     Naturals, can_number, cell_at, counts_from, find_name, insert_measured, insert_name,
     insert_natural, is_place, note_place,
 };
-use crate::{Mark, Memory, Ref, View};
+use crate::word::{WORDS, are_kept};
+use crate::{Mark, Memory, Ref, View, Word};
 use indexmap::IndexSet;
 use std::alloc::Global;
 use std::hash::BuildHasherDefault;
@@ -29,8 +32,8 @@ pub struct Heap {
     names: IndexSet<Vec<u8>>,
     // for each name where its cell may stand, which is looked up there before it is searched for
     places: Vec<Ref>,
-    // where NIL may stand, which is looked up there before it is searched for
-    nil: Ref,
+    // whether the words are known to be the first objects
+    has_words: bool,
     // how many looks at cells are left to work that may look at a cell many times
     looks_left: u64,
     alloc: Global,
@@ -46,12 +49,12 @@ impl Model for Heap {
     ghost use Rattle.std.specs.Prelude.{◌-◌, ◌^◌, length, vec_len, vec_capacity};
     ghost use Rattle.indexmap.specs.IndexSet.{spare};
     ghost use Rattle.mw_heap.specs.Cells.{objects, bytes_of};
-    ghost use Rattle.mw_heap.specs.Lengths.{IsMeasured};
+    ghost use Rattle.mw_heap.specs.Words.{IsKept};
     ghost use Rattle.mw_heap.specs.Contents.{room};
 
     ghost view = { λ h. record { objects = objects h.naturals.keys (bytes_of h.names.keys) h.cells.keys; spare = room (spare h.cells) (spare h.naturals) (vec_capacity h.lengths - vec_len h.lengths) (2 ^ 32 - 1 - length h.cells.keys) } };
 
-    ghost invariant = { λ h. IsMeasured h.naturals.keys (bytes_of h.names.keys) h.cells.keys h.lengths.items };
+    ghost invariant = { λ h. IsKept h.naturals.keys (bytes_of h.names.keys) h.cells.keys h.lengths.items h.has_words };
 }
 
 impl Heap {
@@ -65,7 +68,7 @@ impl Heap {
             naturals: IndexSet::with_hasher(alloc, BuildHasherDefault::new()),
             names: IndexSet::new(alloc),
             places: Vec::new(alloc),
-            nil: Ref::new(0),
+            has_words: false,
             looks_left: u64::MAX,
             alloc,
         })
@@ -144,23 +147,46 @@ impl Heap {
         ensures made { IfOk result (λ r. IsIn self.new.objects r × (object_at self.new.objects r ≡ NIL)) }
         ensures err { OnErr result (self.new.objects ≡ self.old.objects) }
     {
-        if let Some(known) = self.known_nil() {
-            return Ok(known);
-        }
-        let nil = self.symbol(b"NIL")?;
-        self.nil = nil;
-        Ok(nil)
+        self.word(Word::Nil)
     }
 
-    // NIL, where it stands in its noted place.
-    fn known_nil(&self) -> Option<Ref>
-        ensures { IfSome result (λ r. IsIn self.now.objects r × (object_at self.now.objects r ≡ NIL)) }
+    /// The symbol that a word is.
+    pub fn word(&mut self, word: Word) -> Result<Ref, Memory>
+        ensures grows { Grows self.old.objects self.new.objects }
+        ensures made { IfOk result (λ r. IsIn self.new.objects r × (object_at self.new.objects r ≡ word_object word)) }
+        ensures err { OnErr result (self.new.objects ≡ self.old.objects) }
     {
-        let place = self.nil;
-        if place.index() < self.cells.len() && self.is_nil(Some(place)) {
-            Some(place)
-        } else {
-            None
+        if self.has_words {
+            return Ok(word.place());
+        }
+        self.symbol(word.name())
+    }
+
+    /// Keeps the words as the first objects, from now on and until a cut takes one away: then each is found without a search, and needs
+    /// no memory. The error is memory that is refused, or that other objects came first.
+    pub fn keep_words(&mut self) -> Result<(), Memory>
+        ensures { Grows self.old.objects self.new.objects }
+    {
+        for word in &WORDS {
+            if self.symbol(word.name())? != word.place() {
+                return Err(Memory);
+            }
+        }
+        self.has_words = true;
+        Ok(())
+    }
+
+    /// Whether it is the symbol that a word is.
+    pub fn is_word(&self, x: Option<Ref>, word: Word) -> bool
+        requires { IsPart self.now.objects x }
+        ensures { result ≡ same_object (part_at self.now.objects x) (word_object word) }
+    {
+        if !self.has_words {
+            return self.is_named(x, word.name());
+        }
+        match x {
+            Some(x) => x == word.place(),
+            None => word.place().index() == 0,
         }
     }
 
@@ -346,5 +372,6 @@ impl Heap {
         self.names.truncate(self.names.len() - names);
         self.cells.truncate(to.cells());
         self.lengths.truncate(to.cells());
+        self.has_words = are_kept(self.has_words, to.cells());
     }
 }

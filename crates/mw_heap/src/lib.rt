@@ -19,6 +19,7 @@ mod reference;
 mod refusal;
 mod sets;
 mod view;
+mod word;
 
 pub use bare::is_bare_name;
 pub use heap::Heap;
@@ -31,3 +32,4 @@ pub use profile::Profile;
 pub use reference::Ref;
 pub use refusal::Refusal;
 pub use view::View;
+pub use word::Word;

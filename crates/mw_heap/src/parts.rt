@@ -5,8 +5,9 @@ ghost use Rattle.mw_model.specs.Object.{Symbol, Pair, name_of_bytes, is_name, sa
 ghost use Rattle.mw_model.specs.Primitive.{number, is_pair};
 ghost use Rattle.mw_heap.specs.Objects.{object_at, IsIn};
 ghost use Rattle.mw_heap.specs.Parts.{part_at, IsPart};
+ghost use Rattle.mw_heap.specs.Words.{word_object};
 
-use crate::{Heap, Ref, View};
+use crate::{Heap, Ref, View, Word};
 
 impl Heap {
     /// The first part of a pair; nothing of what is no pair.
@@ -100,13 +101,7 @@ impl Heap {
         requires { IsPart self.now.objects x }
         ensures { result ≡ same_object (part_at self.now.objects x) NIL }
     {
-        match x {
-            Some(x) => match self.view(x) {
-                View::Symbol => matches!(self.name_of(x), [b'N', b'I', b'L']),
-                _ => false,
-            },
-            None => true,
-        }
+        self.is_word(x, Word::Nil)
     }
 
     /// Whether two parts are equal.
@@ -122,45 +117,42 @@ impl Heap {
         }
     }
 
-    /// Whether its first part is the symbol of this name.
-    pub fn is_headed(&self, x: Ref, name: &[u8]) -> bool
-        requires within { IsIn self.now.objects x }
-        requires name { is_name name.now ≡ true }
-        ensures { result ≡ same_object (car (object_at self.now.objects x)) (Symbol (name_of_bytes name.now)) }
+    /// Whether its first part is the word.
+    pub fn is_headed(&self, x: Ref, word: Word) -> bool
+        requires { IsIn self.now.objects x }
+        ensures { result ≡ same_object (car (object_at self.now.objects x)) (word_object word) }
     {
-        self.is_named(self.car(x), name)
+        self.is_word(self.car(x), word)
     }
 
-    /// Whether it is the list (NAME a), where NAME is the symbol of this name.
-    pub fn is_list2(&self, x: Option<Ref>, name: &[u8], a: Option<Ref>) -> bool
+    /// Whether it is the list (WORD a).
+    pub fn is_list2(&self, x: Option<Ref>, word: Word, a: Option<Ref>) -> bool
         requires within { IsPart self.now.objects x }
-        requires name { is_name name.now ≡ true }
         requires member_within { IsPart self.now.objects a }
-        ensures { result ≡ same_object (part_at self.now.objects x) (list2 (Symbol (name_of_bytes name.now)) (part_at self.now.objects a)) }
+        ensures { result ≡ same_object (part_at self.now.objects x) (list2 (word_object word) (part_at self.now.objects a)) }
     {
         let Some(x) = x else {
             return false;
         };
         match self.view(x) {
-            View::Pair(head, rest) => self.is_named(Some(head), name)
+            View::Pair(head, rest) => self.is_word(Some(head), word)
                 && self.is_list_of_one(rest, a),
             _ => false,
         }
     }
 
-    /// Whether it is the list (NAME a b), where NAME is the symbol of this name.
-    pub fn is_list3(&self, x: Option<Ref>, name: &[u8], a: Option<Ref>, b: Option<Ref>) -> bool
+    /// Whether it is the list (WORD a b).
+    pub fn is_list3(&self, x: Option<Ref>, word: Word, a: Option<Ref>, b: Option<Ref>) -> bool
         requires within { IsPart self.now.objects x }
-        requires name { is_name name.now ≡ true }
         requires first_within { IsPart self.now.objects a }
         requires second_within { IsPart self.now.objects b }
-        ensures { result ≡ same_object (part_at self.now.objects x) (list3 (Symbol (name_of_bytes name.now)) (part_at self.now.objects a) (part_at self.now.objects b)) }
+        ensures { result ≡ same_object (part_at self.now.objects x) (list3 (word_object word) (part_at self.now.objects a) (part_at self.now.objects b)) }
     {
         let Some(x) = x else {
             return false;
         };
         match self.view(x) {
-            View::Pair(head, rest) => self.is_named(Some(head), name)
+            View::Pair(head, rest) => self.is_word(Some(head), word)
                 && self.is_list_of_two(rest, a, b),
             _ => false,
         }

@@ -23,6 +23,10 @@ other_first x h a b c d e s = ap (λ y. same_object y (list3 h c d)) e ∙ (same
 pub other_second : (x h a b c d : Object) → x ≡ list3 h a b → same_object b d ≡ false → same_object x (list3 h c d) ≡ false
 other_second x h a b c d e s = ap (λ y. same_object y (list3 h c d)) e ∙ (same_list3 h a b c d ∙ (ap (λ t. same_object a c && t) s ∙ and-false (same_object a c)))
 
+-- what ends with one member: the one before it decides
+pub same_first : (x h a b c d : Object) → x ≡ list3 h a b → same_object b d ≡ true → same_object x (list3 h c d) ≡ same_object a c
+same_first x h a b c d e s = ap (λ y. same_object y (list3 h c d)) e ∙ (same_list3 h a b c d ∙ (ap (λ t. same_object a c && t) s ∙ and-true (same_object a c)))
+
 -- what begins with a as a disjunction does, and what does not
 pub or_from : (x a b c : Object) → x ≡ or_object a b → same_object a c ≡ true → same_object x (or_object c b) ≡ true
 or_from x a b c e s = same_rest x (symbol "POR*") a b c b e s ∙ same_object-refl b
@@ -46,6 +50,28 @@ pub hypotheses_next : (x n e b a s r more : Object) → x ≡ or_object n e → 
 hypotheses_next x n e b a s r more is_or is_not is_more =
     sym (same_rest x (symbol "POR*") n e (not_object b) (disjunction_object (Pair (not_object (substitute_formula_object s a)) (hypotheses_object a r))) is_or is_not)
     ∙ ap (λ y. same_object x (disjunction_object (Pair (not_object b) (hypotheses_object a y)))) (sym is_more)
+
+-- what begins with one negated instance, and those after it
+module _ (x a s t r more : Object) (is_more : more ≡ Pair t r) where
+  abbrev Hypotheses : Object → Object
+  Hypotheses y = disjunction_object (hypotheses_object a (Pair s y))
+
+  pub instances_next : (n e : Object) → x ≡ or_object n e → same_object n (not_object (substitute_formula_object s a)) ≡ true → same_object x (disjunction_object (hypotheses_object a (Pair s more))) ≡ same_object e (disjunction_object (hypotheses_object a (Pair t r)))
+  instances_next n e is_or is_not =
+      ap (λ y. same_object x (Hypotheses y)) is_more ∙ same_rest x (symbol "POR*") n e (not_object (substitute_formula_object s a)) (disjunction_object (hypotheses_object a (Pair t r))) is_or is_not
+
+  pub instances_other : (n e : Object) → x ≡ or_object n e → same_object n (not_object (substitute_formula_object s a)) ≡ false → same_object x (disjunction_object (hypotheses_object a (Pair s more))) ≡ false
+  instances_other n e is_or is_not =
+      ap (λ y. same_object x (Hypotheses y)) is_more ∙ other_first x (symbol "POR*") n e (not_object (substitute_formula_object s a)) (disjunction_object (hypotheses_object a (Pair t r))) is_or is_not
+
+  pub instances_none : ((c d : Object) → same_object x (or_object c d) ≡ false) → same_object x (disjunction_object (hypotheses_object a (Pair s more))) ≡ false
+  instances_none none = ap (λ y. same_object x (Hypotheses y)) is_more ∙ none (not_object (substitute_formula_object s a)) (disjunction_object (hypotheses_object a (Pair t r)))
+
+-- the last one
+pub instances_end : (x a s more : Object) → is_pair more ≡ false → same_object x (disjunction_object (hypotheses_object a (Pair s more))) ≡ same_object x (not_object (substitute_formula_object s a))
+instances_end x a s (Natural n) h = refl
+instances_end x a s (Symbol n) h = refl
+instances_end x a s (Pair t r) h = cc
 
 -- the step premise for a condition and its substitutions
 abbrev pub step_object : Object → Object → Object → Object

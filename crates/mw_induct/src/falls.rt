@@ -7,9 +7,9 @@ ghost use Rattle.mw_subst.specs.Pairs.{is_list_of_pairs};
 ghost use Rattle.mw_induct.specs.Conclusions.{conclusions_object, Takes};
 ghost use Rattle.mw_induct.specs.Pairs.{are_lists_of_pairs, are_cases_of_pairs};
 
-use crate::instance::instance_of;
+use crate::instance::is_instance_by;
 use crate::shapes::true_term;
-use mw_heap::{Heap, Memory, Ref, View};
+use mw_heap::{Heap, Memory, Ref, View, Word};
 
 // Whether the conclusions are those by which the measure falls, in each case by each of its substitutions.
 pub(crate) fn are_all_falls(
@@ -92,15 +92,20 @@ fn is_fall(heap: &mut Heap, x: Ref, measure: Ref, condition: Ref, s: Ref) -> Res
     ensures grows { Grows heap.old.objects heap.new.objects }
     ensures fall { IfOk result (λ b. b ≡ same_object (object_at heap.old.objects x) (fall_object (object_at heap.old.objects measure) (object_at heap.old.objects condition) (object_at heap.old.objects s))) }
 {
-    let Some((negation, fall)) = heap.members_after(x, b"POR*") else {
+    let Some((negation, fall)) = heap.members_after(x, Word::Por) else {
         return Ok(false);
     };
-    if !heap.is_list2(Some(negation), b"PNOT*", Some(condition)) {
+    if !heap.is_list2(Some(negation), Word::Pnot, Some(condition)) {
         return Ok(false);
     }
     let Some(term) = true_term(heap, fall) else {
         return Ok(false);
     };
-    let before = instance_of(heap, measure, s)?;
-    Ok(heap.is_list3(Some(term), b"ORD<", Some(before), Some(measure)))
+    let Some((before, after)) = heap.members_after(term, Word::OrdLess) else {
+        return Ok(false);
+    };
+    if !heap.same(after, measure) {
+        return Ok(false);
+    }
+    is_instance_by(heap, measure, s, before)
 }

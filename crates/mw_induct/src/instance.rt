@@ -1,20 +1,39 @@
-//! What a substitution in the heap makes of an object.
+//! Instances by a substitution in the heap.
 ghost use Rattle.std.specs.Prelude.{◌≡◌, true, IfOk};
-ghost use Rattle.mw_model.specs.Rules.{substitute_object};
-ghost use Rattle.mw_heap.specs.Objects.{object_at, Grows, IsIn};
+ghost use Rattle.mw_model.specs.Object.{same_object};
+ghost use Rattle.mw_model.specs.Rules.{not_object, substitute_object, substitute_formula_object};
+ghost use Rattle.mw_heap.specs.Objects.{object_at, IsIn};
 ghost use Rattle.mw_subst.specs.Pairs.{is_list_of_pairs};
+ghost use Rattle.mw_induct.specs.Pairs.{IsLikeFormula};
 
-use mw_heap::{Heap, Memory, Ref};
-use mw_subst::{sigma_of, substitute};
+use mw_heap::{Heap, Memory, Ref, Word};
+use mw_subst::{is_instance, sigma_of};
 
-// The object under the substitution s, a proper list of pairs.
-pub(crate) fn instance_of(heap: &mut Heap, x: Ref, s: Ref) -> Result<Ref, Memory>
+// Whether y is the object x under the substitution s, a proper list of pairs.
+pub(crate) fn is_instance_by(heap: &mut Heap, x: Ref, s: Ref, y: Ref) -> Result<bool, Memory>
     requires within { IsIn heap.old.objects x }
     requires substitution_within { IsIn heap.old.objects s }
+    requires instance_within { IsIn heap.old.objects y }
     requires pairs { is_list_of_pairs (object_at heap.old.objects s) ≡ true }
-    ensures grows { Grows heap.old.objects heap.new.objects }
-    ensures instance { IfOk result (λ r. IsIn heap.new.objects r × (object_at heap.new.objects r ≡ substitute_object (object_at heap.old.objects s) (object_at heap.old.objects x))) }
+    ensures objects { heap.new.objects ≡ heap.old.objects }
+    ensures instance { IfOk result (λ b. b ≡ same_object (object_at heap.old.objects y) (substitute_object (object_at heap.old.objects s) (object_at heap.old.objects x))) }
 {
     let sigma = sigma_of(heap, s)?;
-    substitute(heap, x, &sigma)
+    is_instance(heap, x, &sigma, y)
+}
+
+// Whether x is: not A/s.
+pub(crate) fn is_negated_instance(heap: &mut Heap, x: Ref, a: Ref, s: Ref) -> Result<bool, Memory>
+    requires within { IsIn heap.old.objects x }
+    requires formula_within { IsIn heap.old.objects a }
+    requires substitution_within { IsIn heap.old.objects s }
+    requires pairs { is_list_of_pairs (object_at heap.old.objects s) ≡ true }
+    requires formula { IsLikeFormula (object_at heap.old.objects a) }
+    ensures objects { heap.new.objects ≡ heap.old.objects }
+    ensures negation { IfOk result (λ b. b ≡ same_object (object_at heap.old.objects x) (not_object (substitute_formula_object (object_at heap.old.objects s) (object_at heap.old.objects a)))) }
+{
+    match heap.member_after(x, Word::Pnot) {
+        Some(instance) => is_instance_by(heap, a, s, instance),
+        None => Ok(false),
+    }
 }

@@ -18,7 +18,7 @@ use mw_term::Marks;
 
 /// Whether the conclusions are, in order, the premises of an induction that concludes the formula `f`, by `extras`: a list of the
 /// measure, the conditions, and for each condition a list of substitutions. The marks say what is a term.
-/// The heap grows by what the substitutions make; the only error is being out of memory.
+/// Nothing is made; the only error is being out of memory.
 pub fn premises_hold(
     heap: &mut Heap,
     f: Ref,

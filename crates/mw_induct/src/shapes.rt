@@ -4,7 +4,7 @@ ghost use Rattle.mw_model.specs.Object.{Object, Pair, same_object};
 ghost use Rattle.mw_model.specs.RulesInduction.{disjunction_object, true_object, ordinal_object};
 ghost use Rattle.mw_heap.specs.Objects.{object_at, IsIn};
 
-use mw_heap::{Heap, Ref, View};
+use mw_heap::{Heap, Ref, View, Word};
 
 // Whether x is: A or q1 or .. or qn, for the formula A and the members of a list.
 pub(crate) fn is_disjunction(heap: &Heap, x: Ref, a: Ref, members: Ref) -> bool
@@ -17,7 +17,7 @@ pub(crate) fn is_disjunction(heap: &Heap, x: Ref, a: Ref, members: Ref) -> bool
     let mut first = a;
     let mut members = members;
     while let View::Pair(next, more) = heap.view(members) {
-        let Some((side, others)) = heap.members_after(rest, b"POR*") else {
+        let Some((side, others)) = heap.members_after(rest, Word::Por) else {
             return false;
         };
         if !heap.same(side, first) {
@@ -37,7 +37,7 @@ pub(crate) fn is_disjunction_from(heap: &Heap, x: Ref, a: Ref) -> bool
     ensures no { result ≡ false → (members : Object) → same_object (object_at heap.now.objects x) (disjunction_object (Pair (object_at heap.now.objects a) members)) ≡ false }
     ensures yes { result ≡ true → (members : Object) × (same_object (object_at heap.now.objects x) (disjunction_object (Pair (object_at heap.now.objects a) members)) ≡ true) }
 {
-    if let Some((first, _)) = heap.members_after(x, b"POR*") {
+    if let Some((first, _)) = heap.members_after(x, Word::Por) {
         if heap.same(first, a) {
             return true;
         }
@@ -51,13 +51,13 @@ pub(crate) fn true_term(heap: &Heap, x: Ref) -> Option<Ref>
     ensures within { IfSome result (λ t. IsIn heap.now.objects t) }
     ensures term { MatchOption result ((t : Object) → same_object (object_at heap.now.objects x) (true_object t) ≡ false) (λ t. object_at heap.now.objects x ≡ true_object (object_at heap.now.objects t)) }
 {
-    let Some((term, constant)) = heap.members_after(x, b"PEQUAL*") else {
+    let Some((term, constant)) = heap.members_after(x, Word::Pequal) else {
         return None;
     };
-    let Some(value) = heap.member_after(constant, b"QUOTE") else {
+    let Some(value) = heap.member_after(constant, Word::Quote) else {
         return None;
     };
-    if heap.is_named(Some(value), b"T") {
+    if heap.is_word(Some(value), Word::T) {
         Some(term)
     } else {
         None
@@ -71,7 +71,7 @@ pub(crate) fn is_ordinal_premise(heap: &Heap, x: Ref, measure: Ref) -> bool
     ensures { result ≡ same_object (object_at heap.now.objects x) (ordinal_object (object_at heap.now.objects measure)) }
 {
     match true_term(heap, x) {
-        Some(term) => heap.is_list2(Some(term), b"ORDP", Some(measure)),
+        Some(term) => heap.is_list2(Some(term), Word::Ordp, Some(measure)),
         None => false,
     }
 }

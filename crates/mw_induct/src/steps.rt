@@ -4,11 +4,12 @@ ghost use Rattle.mw_model.specs.Object.{Pair, same_object};
 ghost use Rattle.mw_model.specs.Rules.{not_object};
 ghost use Rattle.mw_model.specs.RulesInduction.{length_object, disjunction_object, hypotheses_object, steps_object};
 ghost use Rattle.mw_heap.specs.Objects.{object_at, Grows, IsIn};
+ghost use Rattle.mw_subst.specs.Pairs.{is_list_of_pairs};
 ghost use Rattle.mw_induct.specs.Conclusions.{Takes};
 ghost use Rattle.mw_induct.specs.Pairs.{are_lists_of_pairs, are_cases_of_pairs, IsLikeFormula};
 
-use crate::instance::instance_of;
-use mw_heap::{Heap, Memory, Ref, View};
+use crate::instance::is_negated_instance;
+use mw_heap::{Heap, Memory, Ref, View, Word};
 
 // How many conclusions the step premises take, one for each condition, where these fit.
 pub(crate) fn take_steps(
@@ -65,7 +66,7 @@ fn is_step(
     ensures grows { Grows heap.old.objects heap.new.objects }
     ensures step { IfOk result (λ b. b ≡ same_object (object_at heap.old.objects x) (disjunction_object (Pair (object_at heap.old.objects a) (Pair (not_object (object_at heap.old.objects condition)) (hypotheses_object (object_at heap.old.objects a) (object_at heap.old.objects substitutions)))))) }
 {
-    let Some((side, others)) = heap.members_after(x, b"POR*") else {
+    let Some((side, others)) = heap.members_after(x, Word::Por) else {
         return Ok(false);
     };
     if !heap.same(side, a) {
@@ -91,19 +92,43 @@ fn are_hypotheses(
     ensures grows { Grows heap.old.objects heap.new.objects }
     ensures hypotheses { IfOk result (λ r. r ≡ same_object (object_at heap.old.objects x) (disjunction_object (Pair (not_object (object_at heap.old.objects b)) (hypotheses_object (object_at heap.old.objects a) (object_at heap.old.objects substitutions))))) }
 {
+    let View::Pair(s, more) = heap.view(substitutions) else {
+        return Ok(heap.is_list2(Some(x), Word::Pnot, Some(b)));
+    };
+    let Some((side, others)) = heap.members_after(x, Word::Por) else {
+        return Ok(false);
+    };
+    if !heap.is_list2(Some(side), Word::Pnot, Some(b)) {
+        return Ok(false);
+    }
+    are_negated_instances(heap, others, a, s, more)
+}
+
+// Whether x is: not A/s or .., for the substitution s and then each of the list.
+fn are_negated_instances(heap: &mut Heap, x: Ref, a: Ref, s: Ref, more: Ref) -> Result<bool, Memory>
+    requires within { IsIn heap.old.objects x }
+    requires formula_within { IsIn heap.old.objects a }
+    requires first_within { IsIn heap.old.objects s }
+    requires more_within { IsIn heap.old.objects more }
+    requires first_pairs { is_list_of_pairs (object_at heap.old.objects s) ≡ true }
+    requires more_pairs { are_lists_of_pairs (object_at heap.old.objects more) ≡ true }
+    requires formula { IsLikeFormula (object_at heap.old.objects a) }
+    ensures objects { heap.new.objects ≡ heap.old.objects }
+    ensures hypotheses { IfOk result (λ r. r ≡ same_object (object_at heap.old.objects x) (disjunction_object (hypotheses_object (object_at heap.old.objects a) (Pair (object_at heap.old.objects s) (object_at heap.old.objects more))))) }
+{
     let mut rest = x;
-    let mut negated = b;
-    let mut substitutions = substitutions;
-    while let View::Pair(s, more) = heap.view(substitutions) {
-        let Some((side, others)) = heap.members_after(rest, b"POR*") else {
+    let mut s = s;
+    let mut more = more;
+    while let View::Pair(next, others) = heap.view(more) {
+        let Some((side, sides)) = heap.members_after(rest, Word::Por) else {
             return Ok(false);
         };
-        if !heap.is_list2(Some(side), b"PNOT*", Some(negated)) {
+        if !is_negated_instance(heap, side, a, s)? {
             return Ok(false);
         }
-        negated = instance_of(heap, a, s)?;
-        rest = others;
-        substitutions = more;
+        rest = sides;
+        s = next;
+        more = others;
     }
-    Ok(heap.is_list2(Some(rest), b"PNOT*", Some(negated)))
+    is_negated_instance(heap, rest, a, s)
 }

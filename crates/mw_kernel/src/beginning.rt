@@ -28,7 +28,7 @@ pub(crate) fn begin(heap: &mut Heap, profile: Profile) -> Result<Theory, Memory>
     let primitives = build(heap, profile)?;
     let preamble = admit_all(heap, profile)?;
     let arity_list = list_arities(heap, &preamble.arity)?;
-    let nil = heap.symbol(b"NIL")?;
+    let nil = heap.nil()?;
     let mut known = Known::new(heap.alloc());
     let axioms = add_axioms(heap, &mut known, nil, primitives.as_slice())?;
     let axioms = add_axioms(heap, &mut known, axioms, preamble.axioms.as_slice())?;
@@ -76,7 +76,7 @@ fn list_arities(heap: &mut Heap, arity: &Arity) -> Result<Ref, Memory>
     ensures grows { Grows heap.old.objects heap.new.objects }
     ensures list { IfOk result (λ r. IsIn heap.new.objects r × (object_at heap.new.objects r ≡ table_object arity.now)) }
 {
-    let mut list = heap.symbol(b"NIL")?;
+    let mut list = heap.nil()?;
     for index in 0..arity.len() {
         let (name, count) = arity.nth(index);
         list = add_arity(heap, list, name, count)?;

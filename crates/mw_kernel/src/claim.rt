@@ -34,7 +34,7 @@ fn answers_nil(heap: &mut Heap, function: Ref, argument: Ref) -> Result<Ref, Mem
     ensures formula { IfOk result (λ r. (f : Name) (t : Term) → object_at heap.old.objects function ≡ Symbol f → object_at heap.old.objects argument ≡ term_object t → object_at heap.new.objects r ≡ formula_object (Equal (on_the_theory f t) (Constant NIL))) }
 {
     let call = call_on_the_theory(heap, function, argument)?;
-    let nil = heap.symbol(b"NIL")?;
+    let nil = heap.nil()?;
     let constant = form_of(heap, b"QUOTE", &[nil])?;
     form_of(heap, b"PEQUAL*", &[call, constant])
 }

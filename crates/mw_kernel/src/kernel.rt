@@ -80,6 +80,7 @@ impl Kernel {
         ensures room { IfOk result (λ k. length k.objects ≡ k.needed) }
     {
         let mut heap = Heap::new(alloc)?;
+        heap.keep_words()?;
         let theory = begin(&mut heap, Profile::One)?;
         Ok(Kernel {
             needed: heap.mark(),
@@ -433,7 +434,7 @@ impl Kernel {
         ensures steps { self.new.steps ≡ self.old.steps }
     {
         let first = first_name(&self.heap, block);
-        cut_marks(&mut self.marks, first);
+        forget_marks(&mut self.marks, first);
         self.theory.add_definitions(&mut self.heap, block, axioms)?;
         self.needed = self.heap.mark();
         Ok(())
@@ -549,12 +550,18 @@ impl Kernel {
     }
 }
 
-// Forgets the marks of the objects from there on.
+// Forgets the marks of the objects from there on, since the heap forgets these.
 fn cut_marks(marks: &mut Marks, to: Mark)
     ensures few { length marks.new ≤ to }
     ensures marked { (A : ArityTable) (os : List Object) → AreMarks A os marks.old → AreMarks A os marks.new }
 {
-    if to.cells() < marks.len() {
-        marks.cut(to);
-    }
+    marks.cut(to);
+}
+
+// The same, since they may be other terms under a new table.
+fn forget_marks(marks: &mut Marks, from: Mark)
+    ensures few { length marks.new ≤ from }
+    ensures marked { (A : ArityTable) (os : List Object) → AreMarks A os marks.old → AreMarks A os marks.new }
+{
+    marks.forget(from);
 }

@@ -23,28 +23,28 @@ pub(crate) fn word_of(heap: &Heap, x: Ref) -> Option<Word>
     requires { IsIn heap.now.objects x }
     ensures { MatchOption result (word_at (object_at heap.now.objects x) ≡ None) (λ w. object_at heap.now.objects x ≡ word_symbol w) }
 {
-    if heap.is_named(Some(x), b"VERIFY") {
+    if heap.is_word(Some(x), mw_heap::Word::Verify) {
         return Some(Word::Verify);
     }
-    if heap.is_named(Some(x), b"DEFINE") {
+    if heap.is_word(Some(x), mw_heap::Word::Define) {
         return Some(Word::Define);
     }
-    if heap.is_named(Some(x), b"SKOLEM") {
+    if heap.is_word(Some(x), mw_heap::Word::Skolem) {
         return Some(Word::Skolem);
     }
-    if heap.is_named(Some(x), b"SWITCH") {
+    if heap.is_word(Some(x), mw_heap::Word::Switch) {
         return Some(Word::Switch);
     }
-    if heap.is_named(Some(x), b"EVAL") {
+    if heap.is_word(Some(x), mw_heap::Word::Eval) {
         return Some(Word::Eval);
     }
-    if heap.is_named(Some(x), b"PRINT") {
+    if heap.is_word(Some(x), mw_heap::Word::Print) {
         return Some(Word::Print);
     }
-    if heap.is_named(Some(x), b"DEFINE-ALL") {
+    if heap.is_word(Some(x), mw_heap::Word::DefineAll) {
         return Some(Word::DefineAll);
     }
-    if heap.is_named(Some(x), b"PROFILE") {
+    if heap.is_word(Some(x), mw_heap::Word::Profile) {
         return Some(Word::Profile);
     }
     None

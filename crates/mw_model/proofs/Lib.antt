@@ -81,3 +81,7 @@ pub mod WrittenRead
 pub mod LexemesGrow
 pub mod ReadingGrows
 pub mod LinesGrow
+pub mod FromNothing
+pub mod OneLine
+pub mod Theorems
+pub mod TautologiesAgain

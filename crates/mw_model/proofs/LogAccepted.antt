@@ -104,7 +104,7 @@ module _ (t : Theory) (N : ℕ) (built_in : t.checker ≡ None) where
   abbrev Proof : Object → Formula → Type 0
   Proof p F = Proves t.axioms t.theorems (arity_table t.definitions) t.definitions.profile p F
 
-  judged_well : (p : Object) (F : Formula) → Proof p F → judged_as t N F p ≡ None
+  pub judged_well : (p : Object) (F : Formula) → Proof p F → judged_as t N F p ≡ None
   judged_well p F g =
       ap (λ x. cond (same_object x (formula_object F)) (judged_by t.checker t p N) (Some CONCLUSION)) (conclusion_is _ _ _ _ p F g)
       ∙ (ap (λ b. cond b (judged_by t.checker t p N) (Some CONCLUSION)) (same_object-refl (formula_object F))

@@ -9,7 +9,7 @@ use Rattle.mw_model.specs.Printing.{numeral, numeral_from}
 abbrev pub IsNumeral : ℕ → List ℕ → Type 0
 IsNumeral n ds = (all_are is_digit ds ≡ true) × (decimal_value ds ≡ n) × (0 < length ds)
 
-all_are-append : (p : ℕ → Bool) (t u : List ℕ) → all_are p t ≡ true → all_are p u ≡ true → all_are p (t ++ u) ≡ true
+pub all_are-append : (p : ℕ → Bool) (t u : List ℕ) → all_are p t ≡ true → all_are p u ≡ true → all_are p (t ++ u) ≡ true
 all_are-append p [] u h k = k
 all_are-append p (c ∷ t) u h k = let a = and_parts (p c) (all_are p t) h in and_from (p c) (all_are p (t ++ u)) a.0 (all_are-append p t u a.1 k)
 

@@ -4,7 +4,7 @@ use Rattle.mw_model.specs.Object.{Object, Pair}
 use Rattle.mw_model.specs.Value.{pick}
 use Rattle.mw_model.specs.Fate.{longest}
 use Rattle.mw_model.specs.Lexemes.{Lexeme, LABEL, Atom, Open, Close, Dot, Quote, Mark, Ref, Wrong, Stray, End, Fault, Ends, Goes, lexemes, lexemes_from, class, piece, extent, is_inside_comment}
-use Rattle.mw_model.specs.Grammar.{limit, cut_short, Labels, Label, Unused, Read, Got, Stop, and_then, quoting, labelling, pairing, and_tail, halt, closing, reference, Part, Datum, First, Tail, Last, read, labelled, is_begun, Book, book, and_events, enough, and_data, data_of, reading}
+use Rattle.mw_model.specs.Grammar.{limit, cut_short, Labels, Label, Unused, Read, Got, Stop, and_then, quoting, labelling, pairing, and_tail, halt, closing, reference, Part, Datum, First, Tail, Last, read, labelled, is_begun, Book, book, and_events, enough, and_data, data_of, reading, trees}
 use Rattle.mw_model.specs.Printing.{text_of}
 use Rattle.mw_model.specs.Written.{IsLabelled, IsWritten, IsDatumLine, IsBookText, no_lines, datum_line, comment_line}
 use Rattle.mw_model.specs.Pieces.{InOrder}
@@ -215,8 +215,12 @@ line_read x xs t rest h more o k n =
     ∙ before_others k x xs L l.lexed N d.after (End d.s ∷ []) d.one d.one.front l.alike d.one.some e (more (suc (o + length t))) (subst (λ z. length z ≤ k) l.cut n)
 
 -- what is written for a datum is read as just this
+-- a text within the limit is read whole
+pub within_limit : (text : List ℕ) → length text ≤ limit → trees text ≡ reading Ends text
+within_limit text l = ap (λ v. if v then reading Ends text else cut_short (reading Goes (take limit text))) (le-leb (length text) limit l)
+
 plain_read : (x : Object) → length (text_of x) ≤ limit → reading Ends (text_of x) ≡ book (x ∷ []) None
-plain_read x l = sym (ap (λ v. if v then reading Ends (text_of x) else cut_short (reading Goes (take limit (text_of x)))) (le-leb (length (text_of x)) limit l)) ∙ trees-text_of x l
+plain_read x l = sym (within_limit (text_of x) l) ∙ trees-text_of x l
 
 pub written_is_read : (x : Object) (first next : ℕ) (t : List ℕ) → IsWritten x first t next → reading Ends t ≡ book (x ∷ []) None
 written_is_read x first next t h = go (ltb longest (length (text_of x))) refl h

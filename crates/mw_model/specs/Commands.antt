@@ -1,14 +1,12 @@
--- What the words of the command line ask for, with the commands that are still to come. What they ask for today is in Command.
+-- What the words of the command line ask for, with `taut`. What they ask for without it is in Command. Requests that no words make yet are those of
+-- commands that are still to come.
 use Rattle.std.specs.Prelude.{ℕ, true, cond, List, [], ◌∷◌, ◌++◌, Option, Some, None, codes}
 use Prim.Native.String.{String}
-use Rattle.mw_model.specs.Object.{Name, Object, Symbol, same_bytes}
-use Rattle.mw_model.specs.Lexemes.{Fault}
-use Rattle.mw_model.specs.Grammar.{trees}
-use Rattle.mw_model.specs.Command.{steps_option, check_command, trial_command, steps_of, events_of, is_help}
-use Rattle.clap.specs.Walk.{Text, Row, Rule, first_of}
-use Rattle.clap.specs.Simple.{App, Shape, new_rule, new_shape, new_app, on_top, with_subcommand, subcommand_of}
+use Rattle.mw_model.specs.Object.{Name, same_bytes}
+use Rattle.mw_model.specs.Command.{check_command, trial_command, steps_of, events_of, is_help}
+use Rattle.clap.specs.Walk.{Text, Row, first_of}
+use Rattle.clap.specs.Simple.{App, Shape, new_shape, new_app, on_top, with_subcommand, subcommand_of}
 use Rattle.clap.specs.Takes.{takes}
-use Rattle.clap.specs.declared.builder.action.ArgAction.TheVariants.{Set}
 
 pub data Request : Type 0 where
   -- judge the book, with this step limit
@@ -32,18 +30,8 @@ pub data Request : Type 0 where
 
 -- ---- the commands, as `clap` reads them
 
--- the argument NAME of `slice`
-abbrev pub name_argument : Rule
-name_argument = record (new_rule (codes "name")) { action = Some Set; required = true }
-
 abbrev pub plain_command : String → Shape
 plain_command word = new_shape (codes word)
-
-abbrev pub command_with_steps : String → Shape
-command_with_steps word = record (new_shape (codes word)) { rules = steps_option ∷ [] }
-
-abbrev pub slice_command : Shape
-slice_command = record (new_shape (codes "slice")) { rules = name_argument ∷ steps_option ∷ [] }
 
 abbrev pub with_subcommands : App → List Shape → App
 with_subcommands app [] = app
@@ -53,18 +41,9 @@ with_subcommands app (s ∷ ss) = with_subcommands (with_subcommand app s) ss
 abbrev pub program : App
 program =
     with_subcommands (on_top (λ s. record s { no_binary_name = true }) (new_app (codes "milawa")))
-    (check_command ∷ trial_command ∷ plain_command "taut" ∷ command_with_steps "lower" ∷ slice_command ∷ command_with_steps "flat" ∷ plain_command "recheck" ∷ [])
+    (check_command ∷ trial_command ∷ plain_command "taut" ∷ [])
 
 -- ---- the request
-
--- the symbol that the text is, where a book of just this line has one datum
-abbrev pub symbol_among : List Object → Option Fault → Option Name
-symbol_among (Symbol s ∷ []) None = Some s
-symbol_among _ _ = None
-
-abbrev pub name_of : Option Text → Option Name
-name_of None = None
-name_of (Some text) = let b = trees (text ++ 10 ∷ []) in symbol_among b.events b.fault
 
 abbrev pub with_number : (ℕ → Request) → Option ℕ → Request
 with_number request None = Usage
@@ -74,24 +53,18 @@ abbrev pub trial_with : Option ℕ → Option ℕ → Request
 trial_with None steps = Usage
 trial_with (Some m) steps = with_number (Trial m) steps
 
-abbrev pub slice_with : Option Name → Option ℕ → Request
-slice_with None steps = Usage
-slice_with (Some name) steps = with_number (Slice name) steps
-
 abbrev pub request_named : List (List ℕ × Request) → Text → Request
 request_named [] word = Usage
 request_named (p ∷ ps) word = cond (same_bytes p.0 word) p.1 (request_named ps word)
 
 -- what a command asks for that has these matches
-abbrev pub request_with : Text → (steps : Option ℕ) → (events : Option ℕ) → (name : Option Name) → Request
-request_with word steps events name =
-    request_named
-    ((codes "check", with_number Check steps) ∷ (codes "trial", trial_with events steps) ∷ (codes "taut", Taut) ∷ (codes "lower", with_number Lower steps) ∷ (codes "slice", slice_with name steps) ∷ (codes "flat", with_number Flat steps) ∷ (codes "recheck", Recheck) ∷ [])
-    word
+abbrev pub request_with : Text → (steps : Option ℕ) → (events : Option ℕ) → Request
+request_with word steps events =
+    request_named ((codes "check", with_number Check steps) ∷ (codes "trial", trial_with events steps) ∷ (codes "taut", Taut) ∷ []) word
 
 abbrev pub request_of : Option (Text × List Row) → Request
 request_of None = Usage
-request_of (Some found) = request_with found.0 (steps_of (first_of (codes "steps") found.1)) (events_of (first_of (codes "events") found.1)) (name_of (first_of (codes "name") found.1))
+request_of (Some found) = request_with found.0 (steps_of (first_of (codes "steps") found.1)) (events_of (first_of (codes "events") found.1))
 
 abbrev pub asked : List Text → Request
 asked words = cond (is_help words) Help (cond (takes program words) (request_of (subcommand_of program words)) Usage)
@@ -102,6 +75,4 @@ help_lines [] = []
 help_lines (l ∷ ls) = codes l ++ 10 ∷ help_lines ls
 
 abbrev pub help_text : List ℕ
-help_text =
-    help_lines
-    ("milawa check [--steps N]" ∷ "milawa trial M [--steps N]" ∷ "milawa taut" ∷ "milawa lower [--steps N]" ∷ "milawa slice NAME [--steps N]" ∷ "milawa flat [--steps N]" ∷ "milawa recheck" ∷ [])
+help_text = help_lines ("milawa check [--steps N]" ∷ "milawa trial M [--steps N]" ∷ "milawa taut" ∷ [])

@@ -1,5 +1,5 @@
 //! Laws on what the commands that are still to come owe.
-ghost use Rattle.std.specs.Prelude.{◌≡◌, ◌↔◌, ℕ, ◌<◌, Bool, false, true, List, [], ◌∷◌, ◌++◌, length, map, Some, None};
+ghost use Rattle.std.specs.Prelude.{◌≡◌, ◌↔◌, ℕ, ◌≤◌, ◌<◌, Bool, false, true, List, [], ◌∷◌, ◌++◌, length, map, Some, None};
 ghost use Rattle.mw_model.specs.Object.{Object, Member};
 ghost use Rattle.mw_model.specs.Term.{ArityTable, Formula, IsFormula, formula_object};
 ghost use Rattle.mw_model.specs.Primitive.{Profile};
@@ -14,17 +14,19 @@ ghost use Rattle.mw_model.specs.Checking.{judged_as};
 ghost use Rattle.mw_model.specs.Fate.{EventWord, event_word, happens};
 ghost use Rattle.mw_model.specs.Keeping.{formulas_of_word};
 ghost use Rattle.mw_model.specs.Lexemes.{Ends};
-ghost use Rattle.mw_model.specs.Grammar.{book, reading};
+ghost use Rattle.mw_model.specs.Grammar.{Book, book, limit, reading};
 ghost use Rattle.mw_model.specs.Written.{IsBookText, IsDatumLine, IsWritten};
 ghost use Rattle.mw_model.specs.Tautology.{Choice, IsTautology, choices, equations, falsifying, value_under};
+ghost use Rattle.mw_model.specs.TautologyBook.{TautologiesWritten, is_proved};
 ghost use Rattle.mw_model.specs.Demand.{Wants, demand, happens_under, proofs_of, with_proofs};
-ghost use Rattle.mw_model.specs.Pieces.{InOrder, numbered};
+ghost use Rattle.mw_model.specs.Pieces.{InOrder, how_many, numbered};
 ghost use Rattle.mw_model.specs.Subproofs.{distinct_proofs};
 ghost use Rattle.mw_model.specs.Derivation.{IsDerivation, Turns};
 ghost use Rattle.mw_model.specs.DerivationTest.{derive};
 ghost use Rattle.mw_model.specs.Slice.{IsSlice, Needed, event_at, rests_on, sets_profile};
 ghost use Rattle.mw_model.specs.Log.{Objection, No, Yes, conclusions, logged};
 ghost use Rattle.mw_model.specs.Flattening.{flat_event, is_logged_word, step_datum};
+ghost use Rattle.mw_model.specs.Headlines.{AcceptsAll};
 
 /// What is written for a datum is read as just this, and a text of data and comments, each on a line, as just these data.
 pub fn written_data()
@@ -38,6 +40,12 @@ pub fn written_data()
 pub fn tautologies()
     ensures decided { (F : Formula) → (falsifying F ≡ None) ↔ IsTautology F }
     ensures first { (F : Formula) (c : Choice) → falsifying F ≡ Some c → (earlier later : List Choice) × (choices (equations F) ≡ earlier ++ c ∷ later) × (value_under c F ≡ false) × Each (λ d. value_under d F ≡ true) earlier }
+{}
+
+/// What `taut` writes on a book is a book whose events are all accepted, whatever the step limit; there are as many as formulas
+/// that were proved.
+pub fn tautologies_again()
+    ensures { (b : Book) (text : List ℕ) → TautologiesWritten b text → length text ≤ limit → (N : ℕ) → AcceptsAll text N (how_many is_proved b.events) }
 {}
 
 /// What an event wants settles its fate, where the judge is the theory's own checker.

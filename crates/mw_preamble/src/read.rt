@@ -8,7 +8,7 @@ ghost use Rattle.mw_preamble.specs.Entries.{IsBlock};
 ghost use Rattle.mw_preamble.specs.Rows.{IsRowOf, first_part, second_part};
 
 use crate::Definition;
-use mw_heap::{Heap, Ref, View};
+use mw_heap::{Heap, Ref, View, Word};
 
 // The first part of a pair; what is no pair is its own part.
 fn first(heap: &Heap, x: Ref) -> Ref
@@ -59,7 +59,7 @@ pub(crate) fn definition_of(heap: &Heap, row: Ref) -> Definition
 {
     let name = first(heap, row);
     let formula = second(heap, second(heap, row));
-    if heap.is_headed(formula, b"POR*") {
+    if heap.is_headed(formula, Word::Por) {
         witness_of(heap, name, formula)
     } else {
         function_of(heap, name, formula)

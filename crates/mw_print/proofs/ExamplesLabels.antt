@@ -1,8 +1,9 @@
 -- Texts with labels that a person can check: each computes from its object.
-use Rattle.std.proofs.Common.{◌≡◌, ℕ, Bool, true, false, refl}
+use Rattle.std.proofs.Common.{◌≡◌, true, false, refl}
 use Rattle.std.specs.Prelude.{codes}
 use Rattle.mw_model.specs.Object.{Object, Natural, Pair, symbol, NIL, same_object, list1, list2, list3}
 use Rattle.mw_print.specs.Labelling.{labelled_text, labelled_next}
+use Rattle.mw_print.specs.Repeats.{stands}
 
 -- the list (A 7)
 abbrev part : Object
@@ -26,3 +27,18 @@ each = refl
 
 next : labelled_next (λ x. true) (list1 (list1 NIL)) 1 ≡ 3
 next = refl
+
+-- The part stands twice in this list, and each rest of the list once.
+stands_twice : stands part (list2 part part) ≡ 2
+stands_twice = refl
+
+stands_once : stands (list1 part) (list2 part part) ≡ 1
+stands_once = refl
+
+-- as the list itself does
+stands_whole : stands (list2 part part) (list2 part part) ≡ 1
+stands_whole = refl
+
+-- Within a pair of two equal ones, which is written out once, the part still stands twice.
+stands_within : stands part (Pair (Pair part part) (Pair part part)) ≡ 2
+stands_within = refl

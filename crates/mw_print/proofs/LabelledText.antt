@@ -134,7 +134,7 @@ module _ (s : Object → Bool) where
 
 -- ---- the whole
 
-none_small : (first : ℕ) → AreSmall (record { given = []; next = first })
+pub none_small : (first : ℕ) → AreSmall (record { given = []; next = first })
 none_small first y n h = cc
 
 pub labelled_text_is : (s : Object → Bool) (x : Object) (first : ℕ) → IsLabelled x first (labelled_text s x first) (labelled_next s x first)

@@ -6,3 +6,11 @@ pub mod LabelsKept
 pub mod LabelledReads
 pub mod LabelledText
 pub mod ExamplesLabels
+pub mod References
+pub mod Waiting
+pub mod Meeting
+pub mod Data
+pub mod Times
+pub mod Walked
+pub mod Compact
+pub mod Counting

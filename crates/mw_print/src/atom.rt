@@ -1,7 +1,6 @@
 //! The text of naturals and symbols, and how a list ends.
 ghost use Rattle.std.specs.Prelude.{◌≡◌, ◌++◌, false, OnOk};
 ghost use Rattle.mw_model.specs.Primitive.{is_pair};
-ghost use Rattle.mw_model.specs.Object.{same_object, NIL};
 ghost use Rattle.mw_model.specs.Printing.{numeral, tail_text, text_of};
 ghost use Rattle.mw_heap.specs.Objects.{IsIn, object_at};
 
@@ -10,7 +9,7 @@ use itoa::Buffer;
 use mw_heap::{Heap, Memory, Ref, View};
 
 // Writes a natural in decimal digits.
-fn write_natural(n: u128, out: &mut Vec<u8>) -> Result<(), Memory>
+pub(crate) fn write_natural(n: u128, out: &mut Vec<u8>) -> Result<(), Memory>
     ensures { OnOk result (out.new.items ≡ out.old.items ++ numeral n) }
 {
     let mut buffer = Buffer::new();
@@ -31,21 +30,13 @@ pub(crate) fn write_atom(heap: &Heap, x: Ref, out: &mut Vec<u8>) -> Result<(), M
     }
 }
 
-// Whether an object is NIL.
-fn is_nil(heap: &Heap, x: Ref) -> bool
-    requires { IsIn heap.now.objects x }
-    ensures { result ≡ same_object (object_at heap.now.objects x) NIL }
-{
-    matches!(heap.view(x), View::Symbol) && heap.name_of(x) == b"NIL".as_slice()
-}
-
 // Writes how a list ends of which the natural or symbol is the rest.
 pub(crate) fn write_end(heap: &Heap, x: Ref, out: &mut Vec<u8>) -> Result<(), Memory>
     requires within { IsIn heap.now.objects x }
     requires atom { is_pair (object_at heap.now.objects x) ≡ false }
     ensures { OnOk result (out.new.items ≡ out.old.items ++ tail_text (object_at heap.now.objects x)) }
 {
-    if !is_nil(heap, x) {
+    if !heap.is_nil(Some(x)) {
         out.extend_from_slice(b" . ")?;
         write_atom(heap, x, out)?;
     }

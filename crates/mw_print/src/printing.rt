@@ -9,7 +9,7 @@ use crate::text::text;
 use mw_heap::{Heap, Ref, View, is_bare_name};
 
 // The longest text that is shown, in bytes.
-const LONGEST: u64 = 65536;
+pub(crate) const LONGEST: u64 = 65536;
 
 /// What printing did.
 #[derive(Clone, Copy, Debug, PartialEq, Eq)]

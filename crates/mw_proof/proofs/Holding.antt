@@ -17,7 +17,7 @@ use Rattle.mw_proof.specs.Judging.{Basis, basis, is_proof_on, are_proofs_on, is_
 use Rattle.mw_proof.proofs.StepExact.{is_proof-step}
 
 module _ (os new : List Object) (g : Grows os new) where
-  list_object-grows : (k : List ℕ) → All (λ r. r < length os) k → list_object new k ≡ list_object os k
+  pub list_object-grows : (k : List ℕ) → All (λ r. r < length os) k → list_object new k ≡ list_object os k
   list_object-grows [] h = refl
   list_object-grows (r ∷ k) h = ap₂ Pair (object_at-Grows os new g r (All-head (λ r. r < length os) r k h)) (list_object-grows k (All-tail (λ r. r < length os) r k h))
 
@@ -49,7 +49,7 @@ module _ (b : Basis) where
   proof_parts p h = parts_of p (are_proofs_on b (subproofs_of p)) (sym (is_proof-step b.axioms b.theorems b.table b.profile p) ∙ h)
 
   -- the conclusions of proofs are formulas
-  proofs_conclude : (x : Object) → are_proofs_on b x ≡ true → have_conclusions b.table x ≡ true
+  pub proofs_conclude : (x : Object) → are_proofs_on b x ≡ true → have_conclusions b.table x ≡ true
   proofs_conclude (Pair p ps) h =
       let both = and_parts (is_proof_on b p) (are_proofs_on b ps) h in
       and_from (formula_of p) (have_conclusions b.table ps) (proof_parts p both.0).1 (proofs_conclude ps both.1)

@@ -1,5 +1,5 @@
 -- Known objects: the list of their references beside the set of these.
-use Rattle.std.specs.Prelude.{◌≡◌, ℕ, zero, suc, ◌==◌, ◌≤◌, List, [], ◌∷◌, length, map, reverse, take, get_or}
+use Rattle.std.specs.Prelude.{◌≡◌, ℕ, zero, suc, ◌==◌, ◌≤◌, List, length, map, reverse, take, get_or}
 use Rattle.std.specs.List.{list_any}
 use Rattle.mw_proof.specs.declared.known.Entry.{Entry}
 

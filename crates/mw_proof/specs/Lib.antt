@@ -6,3 +6,4 @@ pub mod Gathered
 pub mod Judging
 pub mod Counted
 pub mod Judgments
+pub mod Rewritten

@@ -1,6 +1,4 @@
 -- The methods of the code are those of the logic.
-use Rattle.std.specs.Prelude.{ℕ, cond, List, [], ◌∷◌, Option, Some, None}
-use Rattle.mw_model.specs.Object.{same_bytes}
 use Rattle.mw_model.specs.Proof as logic
 use Rattle.mw_proof.specs.declared.method.Method.{Method}
 use Rattle.mw_proof.specs.declared.method.Method.TheVariants.{Axiom, Theorem, PropositionalSchema, FunctionalEquality, BetaReduction, BaseEval, Expansion, Contraction, Associativity, Cut, Instantiation, Induction}
@@ -18,8 +16,3 @@ method_of_logic Associativity = logic.Associativity
 method_of_logic Cut = logic.Cut
 method_of_logic Instantiation = logic.Instantiation
 method_of_logic Induction = logic.Induction
-
--- the method of this name
-abbrev pub method_of_bytes : List logic.Method → List ℕ → Option logic.Method
-method_of_bytes [] bytes = None
-method_of_bytes (m ∷ ms) bytes = cond (same_bytes (logic.method_name m).bytes bytes) (Some m) (method_of_bytes ms bytes)

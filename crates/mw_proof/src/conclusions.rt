@@ -10,7 +10,7 @@ use mw_heap::{Heap, Memory, Ref, View};
 use mw_term::{Marks, is_formula};
 
 /// The conclusions of a proper list of objects, where there are at most `most` and each is a formula. Then the objects are found. It looks at one more cell of the list at most.
-pub(crate) fn conclusions_of(
+pub fn conclusions_of(
     heap: &Heap,
     subproofs: Ref,
     found: &mut IndexSet<Ref>,

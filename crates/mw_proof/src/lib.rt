@@ -1,4 +1,4 @@
-//! Judging proofs over a heap, each distinct proof once.
+//! Judging proofs over a heap, each distinct proof once, and what a rewriter of proofs is.
 #![tactic(auto)]
 
 mod conclusions;
@@ -7,6 +7,7 @@ mod judging;
 mod known;
 mod members;
 mod method;
+mod rewriter;
 mod rules;
 
 ghost use Rattle.std.specs.Prelude.{◌≡◌, Some};
@@ -16,9 +17,14 @@ ghost use Rattle.mw_model.specs.Primitive.{Profile};
 ghost use Rattle.mw_model.specs.Judgment.{judge};
 ghost use Rattle.mw_proof.specs.Step.{subproofs_of, is_proof, are_proofs, is_step};
 
+pub use conclusions::conclusions_of;
 pub use judging::{Judged, judge, judge_counted};
 pub use known::Known;
+pub use members::{Members, members_of};
+pub use method::Method;
 pub use mw_subst::Steps;
+pub use rewriter::{Rewriter, Rewritten};
+pub use rules::follows;
 
 /// Judging is a local test: an object is a proof exactly where it has the shape of one, its conclusion is a formula, its
 /// subproofs are proofs and the rule of its method holds. What is judged a proof proves the formula that it names.

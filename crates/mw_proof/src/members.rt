@@ -8,7 +8,7 @@ use mw_heap::{Heap, Ref, View};
 
 /// What a proof is a list of.
 #[derive(Clone, Copy)]
-pub(crate) struct Members {
+pub struct Members {
     pub method: Ref,
     pub conclusion: Ref,
     pub subproofs: Ref,
@@ -16,7 +16,7 @@ pub(crate) struct Members {
 }
 
 /// The members, where it is a list of two to four. For one that is missing stands the NIL at the list's end.
-pub(crate) fn members_of(heap: &Heap, p: Ref) -> Option<Members>
+pub fn members_of(heap: &Heap, p: Ref) -> Option<Members>
     requires { IsIn heap.now.objects p }
     ensures shape { is_some result ≡ has_proof_shape (object_at heap.now.objects p) }
     ensures members { IfSome result (λ m. AreMembers heap.now.objects p m) }

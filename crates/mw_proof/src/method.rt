@@ -1,16 +1,18 @@
 //! Methods of proof.
 ghost use Rattle.std.specs.Prelude.{◌≡◌, map, option_map};
+ghost use Rattle.mw_model.specs.Object.{Symbol};
 ghost use Rattle.mw_model.specs.Proof.{method_name};
 ghost use Rattle.mw_model.specs.Judgment.{methods, method_among};
 ghost use Rattle.mw_heap.specs.Objects.{object_at, IsIn};
-ghost use Rattle.mw_proof.specs.Methods.{method_of_logic, method_of_bytes};
+ghost use Rattle.mw_heap.specs.Words.{word_object};
+ghost use Rattle.mw_proof.specs.Methods.{method_of_logic};
 ghost use Rattle.mw_proof.specs.Counted.{most_subproofs};
 
-use mw_heap::{Heap, Ref, View};
+use mw_heap::{Heap, Ref, Word};
 
 /// How a conclusion follows.
 #[derive(Clone, Copy, Debug, PartialEq, Eq)]
-pub(crate) enum Method {
+pub enum Method {
     Axiom,
     Theorem,
     PropositionalSchema,
@@ -41,23 +43,23 @@ const METHODS: [Method; 12] = [
 ];
 
 impl Method {
-    // The name by which proofs call it.
-    fn name(self) -> &'static [u8]
-        ensures { result.now ≡ (method_name (method_of_logic self)).bytes }
+    // The word by which proofs call it.
+    fn word(self) -> Word
+        ensures { word_object result ≡ Symbol (method_name (method_of_logic self)) }
     {
         match self {
-            Method::Axiom => b"AXIOM",
-            Method::Theorem => b"THEOREM",
-            Method::PropositionalSchema => b"PROPOSITIONAL-SCHEMA",
-            Method::FunctionalEquality => b"FUNCTIONAL-EQUALITY",
-            Method::BetaReduction => b"BETA-REDUCTION",
-            Method::BaseEval => b"BASE-EVAL",
-            Method::Expansion => b"EXPANSION",
-            Method::Contraction => b"CONTRACTION",
-            Method::Associativity => b"ASSOCIATIVITY",
-            Method::Cut => b"CUT",
-            Method::Instantiation => b"INSTANTIATION",
-            Method::Induction => b"INDUCTION",
+            Method::Axiom => Word::Axiom,
+            Method::Theorem => Word::Theorem,
+            Method::PropositionalSchema => Word::PropositionalSchema,
+            Method::FunctionalEquality => Word::FunctionalEquality,
+            Method::BetaReduction => Word::BetaReduction,
+            Method::BaseEval => Word::BaseEval,
+            Method::Expansion => Word::Expansion,
+            Method::Contraction => Word::Contraction,
+            Method::Associativity => Word::Associativity,
+            Method::Cut => Word::Cut,
+            Method::Instantiation => Word::Instantiation,
+            Method::Induction => Word::Induction,
         }
     }
 
@@ -81,19 +83,17 @@ impl Method {
         requires { IsIn heap.now.objects x }
         ensures { option_map method_of_logic result ≡ method_among methods (object_at heap.now.objects x) }
     {
-        match heap.view(x) {
-            View::Symbol => first_named(&METHODS, heap.name_of(x)),
-            _ => None,
-        }
+        first_named(&METHODS, heap, x)
     }
 }
 
-// The first of the methods that has the name.
-fn first_named(methods: &[Method], name: &[u8]) -> Option<Method>
-    ensures { option_map method_of_logic result ≡ method_of_bytes (map method_of_logic methods.now) name.now }
+// The first of the methods that a symbol names.
+fn first_named(methods: &[Method], heap: &Heap, x: Ref) -> Option<Method>
+    requires { IsIn heap.now.objects x }
+    ensures { option_map method_of_logic result ≡ method_among (map method_of_logic methods.now) (object_at heap.now.objects x) }
 {
     for method in methods {
-        if method.name() == name {
+        if heap.is_word(Some(x), method.word()) {
             return Some(*method);
         }
     }

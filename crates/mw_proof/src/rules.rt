@@ -21,7 +21,7 @@ use mw_prop::{associativity, contraction, cut, expansion, schema};
 use mw_term::Marks;
 
 /// Whether the conclusion `c` follows from those of the subproofs by the method.
-pub(crate) fn follows(
+pub fn follows(
     heap: &mut Heap,
     method: Method,
     c: Ref,

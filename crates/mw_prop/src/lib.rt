@@ -7,19 +7,14 @@ ghost use Rattle.mw_model.specs.Rules.{or_object, object_is_schema, object_is_ex
 ghost use Rattle.mw_heap.specs.Objects.{object_at, IsIn};
 ghost use Rattle.mw_heap.specs.Parts.{part_at, IsPart};
 
-use mw_heap::{Heap, Ref};
-
-// The heads of the objects of negations and of disjunctions.
-const NOT: &[u8] = b"PNOT*";
-
-const OR: &[u8] = b"POR*";
+use mw_heap::{Heap, Ref, Word};
 
 /// Conclude not A or A.
 pub fn schema(heap: &Heap, c: Ref) -> bool
     requires { IsIn heap.now.objects c }
     ensures { result ≡ object_is_schema (object_at heap.now.objects c) }
 {
-    heap.is_headed(c, OR) && heap.is_list2(heap.second_of(c), NOT, heap.third_of(c))
+    heap.is_headed(c, Word::Por) && heap.is_list2(heap.second_of(c), Word::Pnot, heap.third_of(c))
 }
 
 /// From A, conclude B or A.
@@ -28,7 +23,7 @@ pub fn expansion(heap: &Heap, c: Ref, a: Ref) -> bool
     requires a_in { IsIn heap.now.objects a }
     ensures { result ≡ object_is_expansion (object_at heap.now.objects c) (object_at heap.now.objects a) }
 {
-    heap.is_headed(c, OR) && heap.is_same(heap.third_of(c), Some(a))
+    heap.is_headed(c, Word::Por) && heap.is_same(heap.third_of(c), Some(a))
 }
 
 /// From A or A, conclude A.
@@ -37,7 +32,7 @@ pub fn contraction(heap: &Heap, c: Ref, a: Ref) -> bool
     requires a_in { IsIn heap.now.objects a }
     ensures { result ≡ object_is_contraction (object_at heap.now.objects c) (object_at heap.now.objects a) }
 {
-    heap.is_list3(Some(a), OR, Some(c), Some(c))
+    heap.is_list3(Some(a), Word::Por, Some(c), Some(c))
 }
 
 /// From A or (B or C), conclude (A or B) or C.
@@ -48,8 +43,8 @@ pub fn associativity(heap: &Heap, c: Ref, a: Ref) -> bool
 {
     match heap.third_of(a) {
         Some(bc) => {
-            heap.is_headed(a, OR)
-                && heap.is_headed(bc, OR)
+            heap.is_headed(a, Word::Por)
+                && heap.is_headed(bc, Word::Por)
                 && is_left_or(
                     heap,
                     c,
@@ -71,7 +66,8 @@ fn is_left_or(heap: &Heap, c: Ref, x: Option<Ref>, y: Option<Ref>, z: Option<Ref
     requires z_within { IsPart heap.now.objects z }
     ensures { result ≡ same_object (object_at heap.now.objects c) (or_object (or_object (part_at heap.now.objects x) (part_at heap.now.objects y)) (part_at heap.now.objects z)) }
 {
-    heap.is_list3(heap.second_of(c), OR, x, y) && heap.is_list3(Some(c), OR, heap.second_of(c), z)
+    heap.is_list3(heap.second_of(c), Word::Por, x, y)
+        && heap.is_list3(Some(c), Word::Por, heap.second_of(c), z)
 }
 
 /// From A or B and not A or C, conclude B or C.
@@ -81,8 +77,8 @@ pub fn cut(heap: &Heap, c: Ref, a: Ref, b: Ref) -> bool
     requires b_in { IsIn heap.now.objects b }
     ensures { result ≡ object_is_cut (object_at heap.now.objects c) (object_at heap.now.objects a) (object_at heap.now.objects b) }
 {
-    heap.is_headed(a, OR)
-        && heap.is_headed(b, OR)
-        && heap.is_list2(heap.second_of(b), NOT, heap.second_of(a))
-        && heap.is_list3(Some(c), OR, heap.third_of(a), heap.third_of(b))
+    heap.is_headed(a, Word::Por)
+        && heap.is_headed(b, Word::Por)
+        && heap.is_list2(heap.second_of(b), Word::Pnot, heap.second_of(a))
+        && heap.is_list3(Some(c), Word::Por, heap.third_of(a), heap.third_of(b))
 }

@@ -12,7 +12,7 @@ ghost use Rattle.mw_read.specs.Stacks.{IsStack, Means};
 use crate::labels::{begin, end, look};
 use crate::step::{Fault, Outcome, SyntaxKind};
 use indexmap::IndexMap;
-use mw_heap::{Heap, Memory, Ref};
+use mw_heap::{Heap, Memory, Ref, Word};
 
 /// A part of what is open.
 #[derive(Clone, Copy, Debug, PartialEq, Eq)]
@@ -69,11 +69,11 @@ fn quote_word(noted: &mut Option<Ref>, heap: &mut Heap) -> Result<Ref, Memory>
     ensures made { IfOk result (λ r. IsIn heap.new.objects r × (object_at heap.new.objects r ≡ symbol "QUOTE")) }
 {
     if let Some(place) = *noted {
-        if place.index() < heap.mark().cells() && heap.is_named(Some(place), b"QUOTE") {
+        if place.index() < heap.mark().cells() && heap.is_word(Some(place), Word::Quote) {
             return Ok(place);
         }
     }
-    let word = heap.symbol(b"QUOTE")?;
+    let word = heap.word(Word::Quote)?;
     *noted = Some(word);
     Ok(word)
 }

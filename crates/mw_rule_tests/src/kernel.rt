@@ -1,6 +1,6 @@
 //! What a kernel shows: a new one, one after an event that is refused, one after a theorem, and one after a switch.
 use mw_forms::is_in;
-use mw_heap::{Heap, Memory, Ref, Refusal, View};
+use mw_heap::{Heap, Memory, Ref, Refusal, View, Word};
 use mw_kernel::{Fate, Kernel};
 use mw_read::{Reader, Step};
 use std::alloc::Global;
@@ -73,7 +73,7 @@ fn first_equates(heap: &Heap, list: Ref) -> bool {
         return false;
     }
     match heap.car(list) {
-        Some(first) => heap.is_headed(first, b"PEQUAL*"),
+        Some(first) => heap.is_headed(first, Word::Pequal),
         None => false,
     }
 }
@@ -84,7 +84,7 @@ fn first_number(heap: &Heap, list: Ref) -> Option<u128> {
         return None;
     }
     let first = heap.car(list)?;
-    if heap.is_headed(first, b"LOGIC.PROVABLEP") {
+    if heap.is_named(heap.car(first), b"LOGIC.PROVABLEP") {
         Some(heap.number(heap.cdr(first)))
     } else {
         None

@@ -10,6 +10,8 @@ mod induct;
 #[cfg(test)]
 mod kernel;
 #[cfg(test)]
+mod lower;
+#[cfg(test)]
 mod machine;
 #[cfg(test)]
 mod preamble;

@@ -9,3 +9,4 @@ pub mod Needed
 pub mod Closed
 pub mod Among
 pub mod Seen
+pub mod Comparing

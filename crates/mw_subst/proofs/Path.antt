@@ -36,7 +36,7 @@ keys_small n (p ∷ es) h q e = go (nat_eq q p.0) refl e (keys_small n es h.1 q)
     go true t k rest = subst (λ z. z < n) (sym (eqb-true q p.0 t)) h.0
     go false t k rest = rest k
 
-few : (n : ℕ) (es : List (ℕ × ℕ)) → AreSmall n es → IsDistinct nat_eq (keys_of es) → length es ≤ n
+pub few : (n : ℕ) (es : List (ℕ × ℕ)) → AreSmall n es → IsDistinct nat_eq (keys_of es) → length es ≤ n
 few n es h d = let l = length-le_from_distinct_below (keys_of es) n d (keys_small n es h) in omega (arith, l, length-keys_of es)
 
 pub record IsPath (first now : List Object) (pairs : List (ℕ × ℕ)) (x : ℕ) (terms lists : List (ℕ × ℕ)) (path : List Part) : Type 0 where
@@ -102,7 +102,7 @@ pub small-added : (n : ℕ) (terms lists more_terms more_lists : List (ℕ × �
 small-added n terms lists mt ml (Term k) r h a b = (subst (AreSmall n) (sym a.0) (small-push n k r terms h.0 b), subst (AreSmall n) (sym a.1) h.1)
 small-added n terms lists mt ml (Terms k) r h a b = (subst (AreSmall n) (sym a.0) h.0, subst (AreSmall n) (sym a.1) (small-push n k r lists h.1 b))
 
-length-added : (terms lists more_terms more_lists : List (ℕ × ℕ)) (part : Part) (r : ℕ) → Adds terms lists more_terms more_lists part r → length more_terms + length more_lists ≡ (length terms + length lists) + 1
+pub length-added : (terms lists more_terms more_lists : List (ℕ × ℕ)) (part : Part) (r : ℕ) → Adds terms lists more_terms more_lists part r → length more_terms + length more_lists ≡ (length terms + length lists) + 1
 length-added terms lists mt ml (Term k) r a = omega (arith, ap length a.0, ap length a.1, length-append terms ((k, r) ∷ []))
 length-added terms lists mt ml (Terms k) r a = omega (arith, ap length a.0, ap length a.1, length-append lists ((k, r) ∷ []))
 

@@ -3,3 +3,4 @@ pub mod Memo
 pub mod Steps
 pub mod Pairs
 pub mod Reached
+pub mod Instances

@@ -1,6 +1,7 @@
 //! Simultaneous substitution of terms for variables.
 #![tactic(auto)]
 
+mod instance;
 mod memo;
 mod part;
 mod read;
@@ -8,6 +9,7 @@ mod sigma;
 mod steps;
 mod walk;
 
+pub use instance::is_instance;
 pub use read::sigma_of;
 pub use sigma::Sigma;
 pub use steps::Steps;

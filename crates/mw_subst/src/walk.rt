@@ -1,6 +1,6 @@
 //! Substitution in a term.
 ghost use Rattle.std.specs.Prelude.{◌≡◌, ◌+◌, ◌<◌, ◌≤◌, ℕ, true, None, List, length, IfOk, OnOk, OnErr};
-ghost use Rattle.mw_model.specs.Object.{symbol, is_name, name_of_bytes, same_name, same_object};
+ghost use Rattle.mw_model.specs.Object.{symbol, same_object};
 ghost use Rattle.mw_model.specs.Rules.{substitute_object, image_object};
 ghost use Rattle.mw_heap.specs.Objects.{object_at, IsIn, Grows};
 ghost use Rattle.mw_subst.specs.Sigma.{sigma_object, AreIn};
@@ -12,7 +12,7 @@ ghost use Rattle.mw_subst.specs.declared.part.Part.TheVariants.{Term, Terms};
 use crate::memo::Memo;
 use crate::part::Part;
 use crate::{Sigma, Steps};
-use mw_heap::{Heap, Memory, Ref, View};
+use mw_heap::{Heap, Memory, Ref, View, Word};
 use std::marker::Brand;
 use std::sync::ledger::{Blank, Ledger};
 
@@ -22,26 +22,8 @@ enum Progress {
     Wants(Part),
 }
 
-fn is_same_name(name: &[u8], word: &[u8]) -> bool
-    requires name { is_name name.now ≡ true }
-    requires word { is_name word.now ≡ true }
-    ensures { result ≡ same_name (name_of_bytes name.now) (name_of_bytes word.now) }
-{
-    name == word
-}
-
-fn is_quote(heap: &Heap, x: Ref) -> bool
-    requires { IsIn heap.now.objects x }
-    ensures { result ≡ same_object (object_at heap.now.objects x) (symbol "QUOTE") }
-{
-    match heap.view(x) {
-        View::Symbol => is_same_name(heap.name_of(x), b"QUOTE"),
-        _ => false,
-    }
-}
-
 // What stands for an object that is no pair.
-fn image(heap: &Heap, sigma: &Sigma, x: Ref) -> Ref
+pub(crate) fn image(heap: &Heap, sigma: &Sigma, x: Ref) -> Ref
     requires within { IsIn heap.now.objects x }
     requires sigma { AreIn heap.now.objects sigma.now }
     ensures within { IsIn heap.now.objects result }
@@ -64,7 +46,7 @@ fn step_term(heap: &mut Heap, sigma: &Sigma, memo: &Memo, x: Ref) -> Result<Prog
     let View::Pair(head, actuals) = heap.view(x) else {
         return Ok(Progress::Made(image(heap, sigma, x)));
     };
-    if is_quote(heap, head) {
+    if heap.is_word(Some(head), Word::Quote) {
         return Ok(Progress::Made(x));
     }
     heap.order();
@@ -81,7 +63,7 @@ fn step_terms(heap: &mut Heap, sigma: &Sigma, memo: &Memo, x: Ref) -> Result<Pro
     ensures step { IfOk result (λ s. IsStep heap.old.objects heap.new.objects (sigma_object heap.old.objects sigma.now) memo.now.terms.entries memo.now.lists.entries (Terms x) s) }
 {
     let View::Pair(first, rest) = heap.view(x) else {
-        return Ok(Progress::Made(heap.symbol(b"NIL")?));
+        return Ok(Progress::Made(heap.nil()?));
     };
     let Some(a) = memo.find(Part::Term(first)) else {
         return Ok(Progress::Wants(Part::Term(first)));

@@ -11,7 +11,7 @@ use crate::settle::settle_all;
 use crate::settled::Settled;
 use crate::table::Table;
 use crate::widen::assume;
-use mw_heap::{Heap, Memory, Ref};
+use mw_heap::{Heap, Memory, Ref, Word};
 
 // T or NIL.
 fn truth(heap: &mut Heap, value: bool) -> Result<Ref, Memory>
@@ -19,7 +19,11 @@ fn truth(heap: &mut Heap, value: bool) -> Result<Ref, Memory>
     ensures within { IfOk result (λ r. IsIn heap.new.objects r) }
     ensures made { IfOk result (λ r. object_at heap.new.objects r ≡ truth_of value) }
 {
-    if value { heap.symbol(b"T") } else { heap.nil() }
+    if value {
+        heap.word(Word::T)
+    } else {
+        heap.nil()
+    }
 }
 
 // The pair (equation . value) before the rest of a list.

@@ -9,7 +9,7 @@ use crate::node::Node;
 use crate::progress::Progress;
 use crate::table::Table;
 use indexmap::IndexSet;
-use mw_heap::{Heap, Memory, Ref};
+use mw_heap::{Heap, Memory, Ref, Word};
 
 // The place of a part, where it stands in the table.
 fn place_of(parts: &IndexSet<Ref>, x: Ref) -> Option<usize>
@@ -23,13 +23,13 @@ fn look(heap: &Heap, parts: &IndexSet<Ref>, equations: usize, x: Ref) -> Progres
     requires { IsIn heap.now.objects x }
     ensures { IsProgress heap.now.objects parts.now.keys equations x result }
 {
-    if let Some(a) = heap.member_after(x, b"PNOT*") {
+    if let Some(a) = heap.member_after(x, Word::Pnot) {
         return match place_of(parts, a) {
             Some(i) => Progress::Made(Node::Not(i)),
             None => Progress::Wants(a),
         };
     }
-    let Some((a, b)) = heap.members_after(x, b"POR*") else {
+    let Some((a, b)) = heap.members_after(x, Word::Por) else {
         return Progress::Made(Node::Equation(equations));
     };
     let Some(i) = place_of(parts, a) else {

@@ -56,6 +56,15 @@ head-no_term A (Some xs) (Some b) h = go (are_formals xs) (is_closed xs b) (is_t
     go true false t k = refl
     go false c t k = refl
 
+head-no_formals : (A : ArityTable) (o : Option (List Name)) (p : Option Term) → if_formals o ≡ None → head_count A o p ≡ None
+head-no_formals A None p h = refl
+head-no_formals A (Some xs) None h = refl
+head-no_formals A (Some xs) (Some b) h = go (are_formals xs) h
+  where
+    go : (f : Bool) → cond f (Some xs) None ≡ None → cond (f && (is_closed xs b && is_term A b)) (Some (length xs)) None ≡ None
+    go true k = cc
+    go false k = refl
+
 module _ (A : ArityTable) (f : Name) (x l b z : Object) (shape : x ≡ Pair l (Pair b z)) where
   count_is : formal_count A (Pair (Symbol f) x) ≡ when (same_name f (named "LAMBDA") && same_object z NIL) (head_count A (names_of l) (term_of b))
   count_is = ap (λ y. formal_count A (Pair (Symbol f) y)) shape
@@ -73,6 +82,9 @@ module _ (A : ArityTable) (f : Name) (x l b z : Object) (shape : x ≡ Pair l (P
 
   pub formal_count-no_term : is_term_object A b ≡ false → formal_count A (Pair (Symbol f) x) ≡ None
   formal_count-no_term h = count_is ∙ none_when (same_name f (named "LAMBDA") && same_object z NIL) (head_count A (names_of l) (term_of b)) (head-no_term A (names_of l) (term_of b) h)
+
+  pub formal_count-no_formals : formals_of l ≡ None → formal_count A (Pair (Symbol f) x) ≡ None
+  formal_count-no_formals h = count_is ∙ none_when (same_name f (named "LAMBDA") && same_object z NIL) (head_count A (names_of l) (term_of b)) (head-no_formals A (names_of l) (term_of b) h)
 
   -- where there are formals and a body
   module _ (xs : List Name) (formals : formals_of l ≡ Some xs) (body : is_term_object A b ≡ true) where

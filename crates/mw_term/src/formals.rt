@@ -6,7 +6,7 @@ ghost use Rattle.mw_model.specs.Term.{is_among};
 ghost use Rattle.mw_heap.specs.Objects.{object_at, IsIn};
 ghost use Rattle.mw_term.specs.Parts.{formals_of, names_at, AreSymbols, is_new_variable};
 
-use crate::names::{is_symbol_of, is_variable_name};
+use crate::names::is_variable_name;
 use crate::work::Work;
 use indexmap::IndexSet;
 use mw_heap::{Heap, Memory, Ref, View};
@@ -60,7 +60,7 @@ pub(crate) fn formal_set(
         }
         rest = more;
     }
-    if is_symbol_of(heap, rest, b"NIL") {
+    if heap.is_nil(Some(rest)) {
         Ok(Some(formals))
     } else {
         Ok(None)

@@ -9,12 +9,11 @@ ghost use Rattle.mw_term.specs.Parts.{names_at, AreSymbols};
 ghost use Rattle.mw_term.specs.Occurrences.{object_variables, IsPartIn, AreFound, IsLooked};
 
 use crate::formals::is_among_symbols;
-use crate::names::is_symbol_of;
 use crate::part::Part;
 use crate::variables::Vars;
 use crate::work::Work;
 use indexmap::IndexSet;
-use mw_heap::{Heap, Memory, Ref, View};
+use mw_heap::{Heap, Memory, Ref, View, Word};
 
 /// The free variables of a term, in order of first occurrence. Those of a lambda call are those of its actuals. The one error is that
 /// memory is refused. It takes time and memory in proportion to the distinct objects that make up the term. Of an object that is no
@@ -80,7 +79,7 @@ fn look(
             View::Nat(_) => Ok(()),
             View::Symbol => add_symbol(heap, found, x),
             View::Pair(head, actuals) => {
-                if !is_symbol_of(heap, head, b"QUOTE") {
+                if !heap.is_word(Some(head), Word::Quote) {
                     waiting.push(Part::Terms(actuals))?;
                 }
                 Ok(())

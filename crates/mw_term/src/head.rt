@@ -8,7 +8,7 @@ ghost use Rattle.mw_term.specs.Marking.{AreMarks, formal_count};
 use crate::cell_mark::CellMark;
 use crate::formals::formal_set;
 use crate::free::is_closed;
-use crate::names::{is_symbol_of, is_word};
+use crate::names::is_word;
 use crate::work::Work;
 use mw_heap::{Heap, Memory, Ref, View};
 
@@ -34,14 +34,14 @@ pub(crate) fn is_lambda_head(
     let View::Pair(body, end) = heap.view(tail) else {
         return Ok(false);
     };
-    if !is_symbol_of(heap, end, b"NIL") {
+    if !heap.is_nil(Some(end)) {
         return Ok(false);
     }
     if !marks[body.index()].is_term {
         return Ok(false);
     }
-    let Some(formals) = formal_set(heap, list, work)? else {
-        return Ok(false);
-    };
-    is_closed(heap, &formals, body, work)
+    match formal_set(heap, list, work)? {
+        Some(formals) => is_closed(heap, &formals, body, work),
+        None => Ok(false),
+    }
 }

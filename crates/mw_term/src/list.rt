@@ -9,7 +9,7 @@ ghost use Rattle.mw_term.specs.Parts.{is_single, wanted, length_of};
 
 use crate::Arity;
 use crate::cell_mark::CellMark;
-use crate::names::{is_symbol_of, is_word};
+use crate::names::is_word;
 use crate::work::Work;
 use mw_heap::{Heap, Memory, Ref, View};
 
@@ -86,7 +86,7 @@ fn is_single_list(heap: &Heap, x: Ref) -> bool
     ensures { result ≡ is_single (object_at heap.now.objects x) }
 {
     match heap.view(x) {
-        View::Pair(_, end) => is_symbol_of(heap, end, b"NIL"),
+        View::Pair(_, end) => heap.is_nil(Some(end)),
         _ => false,
     }
 }
@@ -123,6 +123,7 @@ pub(crate) fn is_call(
     if !are_terms {
         return Ok(false);
     }
+    work.take_looks_at(name)?;
     match wanted_count(arity.lookup(name), is_word(name, b"IF")) {
         Some(count) => has_length(heap, rest, count, work),
         None => Ok(false),
@@ -161,8 +162,8 @@ pub(crate) fn is_formula_list(heap: &Heap, marks: &[CellMark], name: &[u8], rest
     let first = marks[a.index()];
     match heap.view(more) {
         View::Pair(b, end) => {
-            is_symbol_of(heap, end, b"NIL") && is_binary_of(name, first, marks[b.index()])
+            heap.is_nil(Some(end)) && is_binary_of(name, first, marks[b.index()])
         }
-        _ => is_symbol_of(heap, more, b"NIL") && is_negation_of(name, first),
+        _ => heap.is_nil(Some(more)) && is_negation_of(name, first),
     }
 }

@@ -123,8 +123,17 @@ fn mark_up_to(
 #[derive(Drop)]
 pub struct Marks {
     cells: Vec<CellMark>,
+    // how many of the heap's objects had marks, before some of these were forgotten
+    had: usize,
+    // how many marks may still be made anew
+    anew: u64,
     alloc: Global,
 }
+
+// The marks that may be made anew in all, and how many more for each new one.
+const MOST_ANEW: u64 = 1 << 26;
+
+const ANEW_FOR_A_CELL: u64 = 256;
 
 impl Model for Marks {
     ghost use Rattle.std.specs.Prelude.{List};
@@ -154,6 +163,8 @@ impl Marks {
     {
         Marks {
             cells: Vec::new(alloc),
+            had: 0,
+            anew: MOST_ANEW,
             alloc,
         }
     }
@@ -165,8 +176,23 @@ impl Marks {
         self.cells.len()
     }
 
-    /// Adds the marks of the objects of the heap below a mark, at the cost of `mark_terms` for these. Where memory is refused nothing
-    /// changes.
+    // Counts the marks up to this end: those that are made anew are taken from what is allowed.
+    fn count_anew(&mut self, end: usize) -> Result<(), Memory>
+        ensures { self.new ≡ self.old }
+    {
+        let anew = end.min(self.had).saturating_sub(self.cells.len()) as u64;
+        if anew > self.anew {
+            return Err(Memory);
+        }
+        let new = end.saturating_sub(self.had) as u64;
+        let earned = new.saturating_mul(ANEW_FOR_A_CELL);
+        self.anew = (self.anew - anew).saturating_add(earned);
+        self.had = self.had.max(end);
+        Ok(())
+    }
+
+    /// Adds the marks of the objects of the heap below a mark, at the cost of `mark_terms` for these. The error is memory that is
+    /// refused, also where marks were forgotten and made anew too often: 2^26 times, and 256 times for each new mark. Then nothing changes.
     pub fn extend(&mut self, heap: &Heap, arity: &Arity, below: Mark) -> Result<(), Memory>
         requires marked { AreMarks arity.now heap.now.objects self.old }
         requires from { length self.old ≤ below }
@@ -175,6 +201,7 @@ impl Marks {
         ensures length { OnOk result (length self.new ≡ below) }
         ensures err { OnErr result (self.new ≡ self.old) }
     {
+        self.count_anew(below.cells())?;
         let had = self.cells.len();
         let looks = looks_for(below.cells() - had);
         let mut work = Work::new(self.alloc, looks);
@@ -185,12 +212,19 @@ impl Marks {
         done
     }
 
-    /// Forgets the marks of the objects from a mark on.
+    /// Forgets the marks of the objects from a mark on, since the heap forgets these.
     pub fn cut(&mut self, to: Mark)
-        requires { to ≤ length self.old }
         ensures { self.new ≡ take to self.old }
     {
         self.cells.truncate(to.cells());
+        self.had = self.had.min(to.cells());
+    }
+
+    /// Forgets the marks of the objects from a mark on, since they may be other terms under a new table.
+    pub fn forget(&mut self, from: Mark)
+        ensures { self.new ≡ take from self.old }
+    {
+        self.cells.truncate(from.cells());
     }
 }
 

@@ -1,10 +1,7 @@
-//! Symbols by the bytes of their names.
+//! Words and variables by the bytes of their names.
 ghost use Rattle.std.specs.Prelude.{◌≡◌, true};
-ghost use Rattle.mw_model.specs.Object.{Symbol, is_name, name_of_bytes, same_name, same_object};
+ghost use Rattle.mw_model.specs.Object.{is_name, name_of_bytes, same_name};
 ghost use Rattle.mw_model.specs.Term.{is_variable};
-ghost use Rattle.mw_heap.specs.Objects.{object_at, IsIn};
-
-use mw_heap::{Heap, Ref, View};
 
 pub(crate) fn is_word(name: &[u8], word: &[u8]) -> bool
     requires name { is_name name.now ≡ true }
@@ -19,15 +16,4 @@ pub(crate) fn is_variable_name(name: &[u8]) -> bool
     ensures { result ≡ is_variable (name_of_bytes name.now) }
 {
     !is_word(name, b"T") && !is_word(name, b"NIL")
-}
-
-pub(crate) fn is_symbol_of(heap: &Heap, x: Ref, word: &[u8]) -> bool
-    requires within { IsIn heap.now.objects x }
-    requires word { is_name word.now ≡ true }
-    ensures { result ≡ same_object (object_at heap.now.objects x) (Symbol (name_of_bytes word.now)) }
-{
-    match heap.view(x) {
-        View::Symbol => is_word(heap.name_of(x), word),
-        _ => false,
-    }
 }

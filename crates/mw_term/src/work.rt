@@ -37,4 +37,14 @@ impl Work {
     {
         take_look(&mut self.looks_left)
     }
+
+    /// Takes a look for each 64 bytes of a name that is searched for. The error is that fewer are left.
+    pub fn take_looks_at(&mut self, name: &[u8]) -> Result<(), Memory> {
+        let looks = name.len() as u64 / 64;
+        if looks > self.looks_left {
+            return Err(Memory);
+        }
+        self.looks_left -= looks;
+        Ok(())
+    }
 }

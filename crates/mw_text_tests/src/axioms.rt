@@ -1,13 +1,13 @@
 //! The axioms of both profiles, counted, kept, and one looked at.
 use mw_axioms::{Axioms, build};
 use mw_forms::{boxed, is_in};
-use mw_heap::{Heap, Memory, Profile, Ref};
+use mw_heap::{Heap, Memory, Profile, Ref, Word};
 use std::test::Fail;
 
 // Whether an object is X = X.
 fn is_reflexivity(heap: &mut Heap, formula: Ref) -> Result<bool, Memory> {
     let x = heap.symbol(b"X")?;
-    Ok(is_in(heap, formula) && heap.is_list3(Some(formula), b"PEQUAL*", Some(x), Some(x)))
+    Ok(is_in(heap, formula) && heap.is_list3(Some(formula), Word::Pequal, Some(x), Some(x)))
 }
 
 // How many axioms the profiles have, whether those of the first begin those of the second, and whether the first axiom is X = X.

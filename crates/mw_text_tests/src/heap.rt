@@ -1,6 +1,6 @@
 //! Objects that are kept once, names in their order, and the words that the crates above share.
 use mw_forms::boxed;
-use mw_heap::{Heap, Mark, Memory, Refusal, View, is_bare_name};
+use mw_heap::{Heap, Mark, Memory, Refusal, View, Word, is_bare_name};
 use std::test::Fail;
 
 // What a natural over 2^32 and a pair of it are seen as, whether the pair is kept once, and how many objects stay without it.
@@ -33,6 +33,29 @@ fn has_one_nil(heap: &mut Heap) -> Result<[bool; 4], Memory> {
     ])
 }
 
+// Whether a word is found in its place, and by its name after a cut took it away; and whether a heap that has other objects first keeps none.
+fn keeps_the_words(heap: &mut Heap) -> Result<[bool; 6], Memory> {
+    heap.keep_words()?;
+    let quote = heap.word(Word::Quote)?;
+    let is_named = heap.symbol(b"QUOTE")? == quote;
+    let is_word = heap.is_word(Some(quote), Word::Quote);
+    let is_other = heap.is_word(Some(quote), Word::Nil);
+    let is_nil = heap.is_word(None, Word::Nil);
+    heap.cut_back(Mark::before(quote));
+    let again = heap.word(Word::Quote)?;
+    let is_again = heap.is_word(Some(again), Word::Quote);
+    heap.cut_back(Mark::before(heap.nth(0)));
+    heap.nat(1)?;
+    Ok([
+        is_named,
+        is_word,
+        !is_other,
+        is_nil,
+        is_again,
+        heap.keep_words().is_err(),
+    ])
+}
+
 // What is said of the symbols CAR and CDR, of which CAR came first.
 fn orders_names(heap: &mut Heap) -> Result<[bool; 7], Memory> {
     let car = heap.symbol(b"CAR")?;
@@ -52,6 +75,13 @@ fn orders_names(heap: &mut Heap) -> Result<[bool; 7], Memory> {
 fn a_pair_is_kept_once(rt: HostRuntime) -> Result<(), Fail> {
     let mut heap = boxed(rt.alloc())?;
     assert_eq!(rt; keeps_a_pair_once(&mut heap)?, (true, true, true, 1));
+    Ok(())
+}
+
+#[test]
+fn the_words_are_kept(rt: HostRuntime) -> Result<(), Fail> {
+    let mut heap = boxed(rt.alloc())?;
+    assert_eq!(rt; keeps_the_words(&mut heap)?, [true; 6]);
     Ok(())
 }
 

@@ -5,6 +5,8 @@
 #[cfg(test)]
 mod axioms;
 #[cfg(test)]
+mod data;
+#[cfg(test)]
 mod heap;
 #[cfg(test)]
 mod ordinal;

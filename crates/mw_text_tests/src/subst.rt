@@ -5,7 +5,7 @@ ghost use Rattle.mw_heap.specs.Objects.{IsIn};
 
 use mw_forms::{boxed, form, is_in, quoted};
 use mw_heap::{Heap, Memory, Ref, looks_for};
-use mw_subst::{Sigma, Steps, sigma_of, substitute, substitute_counted};
+use mw_subst::{Sigma, Steps, is_instance, sigma_of, substitute, substitute_counted};
 use std::marker::Brand;
 use std::sync::ledger::{Blank, Ledger};
 use std::test::Fail;
@@ -169,5 +169,53 @@ fn substitutes_in_shared(heap: &mut Heap) -> Result<bool, Memory> {
 fn shared_parts_are_looked_at_once(rt: HostRuntime) -> Result<(), Fail> {
     let mut heap = boxed(rt.alloc())?;
     assert!(rt; substitutes_in_shared(&mut heap)?);
+    Ok(())
+}
+
+// Whether y is the object x with the term for one variable.
+fn is_with_term(heap: &mut Heap, x: Ref, variable: Ref, term: Ref, y: Ref) -> Result<bool, Memory> {
+    if !is_in(heap, x) || !is_in(heap, variable) || !is_in(heap, term) || !is_in(heap, y) {
+        return Err(Memory);
+    }
+    let mut sigma = Sigma::new(heap.alloc());
+    sigma.put(variable, term)?;
+    is_instance(heap, x, &sigma, y)
+}
+
+// Whether (F X 'X) with 'A for X is (F 'A 'X), and whether it is (F 'A 'A).
+fn compares(heap: &mut Heap) -> Result<(bool, bool), Memory> {
+    let x = heap.symbol(b"X")?;
+    let quoted_x = quoted_symbol(heap, b"X")?;
+    let quoted_a = quoted_symbol(heap, b"A")?;
+    let before = form(heap, b"F", &[x, quoted_x])?;
+    let after = form(heap, b"F", &[quoted_a, quoted_x])?;
+    let other = form(heap, b"F", &[quoted_a, quoted_a])?;
+    let is = is_with_term(heap, before, x, quoted_a, after)?;
+    Ok((is, is_with_term(heap, before, x, quoted_a, other)?))
+}
+
+// Whether X doubled 41 times, with 'A for X, is 'A doubled as often, and whether (CONS X X) is (CONS 'A X).
+fn compares_shared(heap: &mut Heap) -> Result<(bool, bool), Memory> {
+    let x = heap.symbol(b"X")?;
+    let quoted_a = quoted_symbol(heap, b"A")?;
+    let before = doubled(heap, x, 41)?;
+    let after = doubled(heap, quoted_a, 41)?;
+    let is = is_with_term(heap, before, x, quoted_a, after)?;
+    let once = form(heap, b"CONS", &[x, x])?;
+    let other = form(heap, b"CONS", &[quoted_a, x])?;
+    Ok((is, is_with_term(heap, once, x, quoted_a, other)?))
+}
+
+#[test]
+fn instances_are_compared(rt: HostRuntime) -> Result<(), Fail> {
+    let mut heap = boxed(rt.alloc())?;
+    assert_eq!(rt; compares(&mut heap)?, (true, false));
+    Ok(())
+}
+
+#[test]
+fn instances_with_shared_parts_are_compared(rt: HostRuntime) -> Result<(), Fail> {
+    let mut heap = boxed(rt.alloc())?;
+    assert_eq!(rt; compares_shared(&mut heap)?, (true, false));
     Ok(())
 }

@@ -107,8 +107,8 @@ fn terms_and_formulas_are_marked(rt: HostRuntime) -> Result<(), Fail> {
     Ok(())
 }
 
-// How many objects are marked up to a mark, then up to the end, and then up to the mark again.
-fn extends_and_cuts(heap: &Heap, arity: &Arity, to: Mark) -> Result<[usize; 3], Memory> {
+// How many objects are marked up to a mark, then up to the end, up to the mark again, anew up to the end, and with none cut.
+fn extends_and_cuts(heap: &Heap, arity: &Arity, to: Mark) -> Result<[usize; 5], Memory> {
     if to.cells() > heap.mark().cells() {
         return Err(Memory);
     }
@@ -116,12 +116,16 @@ fn extends_and_cuts(heap: &Heap, arity: &Arity, to: Mark) -> Result<[usize; 3], 
     let first = marks.len();
     marks.extend(heap, arity, heap.mark())?;
     let all = marks.len();
-    marks.cut(to);
-    Ok([first, all, marks.len()])
+    marks.forget(to);
+    let fewer = marks.len();
+    marks.extend(heap, arity, heap.mark())?;
+    let anew = marks.len();
+    marks.cut(heap.mark());
+    Ok([first, all, fewer, anew, marks.len()])
 }
 
 // The same, where the mark is after the first of three objects.
-fn extends_after_the_first(heap: &mut Heap, arity: &Arity) -> Result<[usize; 3], Memory> {
+fn extends_after_the_first(heap: &mut Heap, arity: &Arity) -> Result<[usize; 5], Memory> {
     let first = heap.symbol(b"X")?;
     let to = heap.mark_after(first);
     heap.symbol(b"Y")?;
@@ -133,7 +137,10 @@ fn extends_after_the_first(heap: &mut Heap, arity: &Arity) -> Result<[usize; 3],
 fn marks_are_extended_and_cut(rt: HostRuntime) -> Result<(), Fail> {
     let mut heap = boxed(rt.alloc())?;
     let arity = boxed_arity(rt.alloc())?;
-    assert_eq!(rt; extends_after_the_first(&mut heap, &arity)?, [1, 3, 1]);
+    assert_eq!(rt;
+        extends_after_the_first(&mut heap, &arity)?,
+        [1, 3, 1, 3, 3]
+    );
     Ok(())
 }
 

@@ -19,7 +19,7 @@ use crate::progress::Progress;
 use crate::shape::two_members;
 use crate::table::takes;
 use crate::word::is_same_name;
-use mw_heap::{Heap, Memory, Ref, View};
+use mw_heap::{Heap, Memory, Ref, View, Word};
 use mw_term::{Arity, Formals, take_looks};
 
 // Whether the function of this name may be called with so many actuals. IF takes three, whatever else a table says of it.
@@ -157,7 +157,7 @@ pub(crate) fn step_head(heap: &mut Heap, memo: &Memo, x: Ref) -> Result<Progress
     let Some(two) = two_members(heap, members) else {
         return Ok(Progress::Fails);
     };
-    if !heap.is_named(Some(lambda), b"LAMBDA") {
+    if !heap.is_word(Some(lambda), Word::Lambda) {
         return Ok(Progress::Fails);
     }
     let term = Part {

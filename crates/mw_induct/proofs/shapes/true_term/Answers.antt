@@ -13,7 +13,7 @@ pub returns-in_default-member_after-clause-term : goal.returns-in_default-member
 returns-in_default-member_after-clause-term c =
     λ t. other_second _ (symbol "PEQUAL*") _ _ t (list2 (symbol "QUOTE") T) c.in-Some.ensures.members (c.in_default-member_after.ensures.member T)
 
-pub returns-then-is_named-clause-term : goal.returns-then-is_named-clause-term
-returns-then-is_named-clause-term c =
-    let value = same_object-eq (object_at c.args.heap.now.objects c.in-Some-member_after.value) T (sym c.if-is_named.ensures) in
+pub returns-then-is_word-clause-term : goal.returns-then-is_word-clause-term
+returns-then-is_word-clause-term c =
+    let value = same_object-eq (object_at c.args.heap.now.objects c.in-Some-member_after.value) T (sym c.if-is_word.ensures) in
     true_from _ _ _ _ c.in-Some.ensures.members c.in-Some-member_after.ensures.member value

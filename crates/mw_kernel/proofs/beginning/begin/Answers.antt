@@ -17,27 +17,27 @@ use Rattle.mw_kernel.proofs.beginning.begin.Goals as goal
 
 pub add_axioms-requires-clause-axioms : goal.add_axioms-requires-clause-axioms
 add_axioms-requires-clause-axioms c =
-    let n = c.symbol.new.self.objects in
-    let grows = Grows-trans _ _ _ c.admit_all.ensures.grows (Grows-trans _ _ _ c.list_arities.ensures.grows c.symbol.ensures.grows) in
+    let n = c.nil.new.self.objects in
+    let grows = Grows-trans _ _ _ c.admit_all.ensures.grows (Grows-trans _ _ _ c.list_arities.ensures.grows c.nil.ensures.grows) in
     subst (All (IsIn n)) (sym c.as_slice.ensures) (all-grow c.build.new.heap.objects n grows c.in_ok-primitives.primitives c.in_ok-primitives.ensures.within)
 
 pub add_axioms-requires-2-clause-axioms : goal.add_axioms-requires-2-clause-axioms
 add_axioms-requires-2-clause-axioms c =
     let p = c.add_axioms.new.heap.objects in
-    let grows = Grows-trans _ _ _ c.list_arities.ensures.grows (Grows-trans _ _ _ c.symbol.ensures.grows c.add_axioms.ensures.grows) in
+    let grows = Grows-trans _ _ _ c.list_arities.ensures.grows (Grows-trans _ _ _ c.nil.ensures.grows c.add_axioms.ensures.grows) in
     subst (All (IsIn p)) (sym c.as_slice-2.ensures) (all-grow c.admit_all.new.heap.objects p grows c.in_ok-preamble.preamble.axioms c.in_ok-preamble.ensures.within)
 
-start : (c : goal.After-drop-primitives-inside-2) → Begins (profile_of c.args.profile) c.build.new.heap.objects c.admit_all.new.heap.objects c.symbol.new.self.objects c.add_axioms.new.heap.objects c.add_axioms-2.new.heap.objects c.in_ok-primitives.primitives c.in_ok-preamble.preamble.axioms c.in_ok-nil.nil c.in_ok-axioms.axioms c.in_ok-axioms-2.axioms c.add_axioms-2.new.known
+start : (c : goal.After-drop-primitives-inside-2) → Begins (profile_of c.args.profile) c.build.new.heap.objects c.admit_all.new.heap.objects c.nil.new.self.objects c.add_axioms.new.heap.objects c.add_axioms-2.new.heap.objects c.in_ok-primitives.primitives c.in_ok-preamble.preamble.axioms c.in_ok-nil.nil c.in_ok-axioms.axioms c.in_ok-axioms-2.axioms c.add_axioms-2.new.known
 start c =
     let primitives = c.in_ok-primitives.primitives in
     let definitions = c.in_ok-preamble.preamble.axioms in
-    let n = c.symbol.new.self.objects in
+    let n = c.nil.new.self.objects in
     let p = c.add_axioms.new.heap.objects in
     let first = c.in_ok-axioms.ensures in
     let second = c.in_ok-axioms-2.ensures in
     record {
       a_grows = c.admit_all.ensures.grows;
-      b_grows = Grows-trans _ _ _ c.list_arities.ensures.grows c.symbol.ensures.grows;
+      b_grows = Grows-trans _ _ _ c.list_arities.ensures.grows c.nil.ensures.grows;
       n_grows = c.add_axioms.ensures.grows;
       p_grows = c.add_axioms-2.ensures.grows;
       primitives_in = c.in_ok-primitives.ensures.within;
@@ -54,7 +54,7 @@ start c =
     }
 
 listed_grows : (c : goal.After-drop-primitives-inside-2) → Grows c.list_arities.new.heap.objects c.add_axioms-2.new.heap.objects
-listed_grows c = Grows-trans _ _ _ c.symbol.ensures.grows (Grows-trans _ _ _ c.add_axioms.ensures.grows c.add_axioms-2.ensures.grows)
+listed_grows c = Grows-trans _ _ _ c.nil.ensures.grows (Grows-trans _ _ _ c.add_axioms.ensures.grows c.add_axioms-2.ensures.grows)
 
 admitted_grows : (c : goal.After-drop-primitives-inside-2) → Grows c.admit_all.new.heap.objects c.add_axioms-2.new.heap.objects
 admitted_grows c = Grows-trans _ _ _ c.list_arities.ensures.grows (listed_grows c)
@@ -80,12 +80,12 @@ made c = record {
 }
 
 pub returns-in_err-axioms-clause-grows : goal.returns-in_err-axioms-clause-grows
-returns-in_err-axioms-clause-grows c = Grows-trans _ _ _ c.build.ensures.grows (Grows-trans _ _ _ c.admit_all.ensures.grows (Grows-trans _ _ _ c.list_arities.ensures.grows (Grows-trans _ _ _ c.symbol.ensures.grows c.add_axioms.ensures.grows)))
+returns-in_err-axioms-clause-grows c = Grows-trans _ _ _ c.build.ensures.grows (Grows-trans _ _ _ c.admit_all.ensures.grows (Grows-trans _ _ _ c.list_arities.ensures.grows (Grows-trans _ _ _ c.nil.ensures.grows c.add_axioms.ensures.grows)))
 
 pub returns-in_err-axioms-2-clause-grows : goal.returns-in_err-axioms-2-clause-grows
 returns-in_err-axioms-2-clause-grows c =
     Grows-trans _ _ _ c.build.ensures.grows
-    (Grows-trans _ _ _ c.admit_all.ensures.grows (Grows-trans _ _ _ c.list_arities.ensures.grows (Grows-trans _ _ _ c.symbol.ensures.grows (Grows-trans _ _ _ c.add_axioms.ensures.grows c.add_axioms-2.ensures.grows))))
+    (Grows-trans _ _ _ c.admit_all.ensures.grows (Grows-trans _ _ _ c.list_arities.ensures.grows (Grows-trans _ _ _ c.nil.ensures.grows (Grows-trans _ _ _ c.add_axioms.ensures.grows c.add_axioms-2.ensures.grows))))
 
 pub returns-clause-grows : goal.returns-clause-grows
 returns-clause-grows c = Grows-trans _ _ _ c.build.ensures.grows (Grows-trans _ _ _ c.admit_all.ensures.grows (admitted_grows c))

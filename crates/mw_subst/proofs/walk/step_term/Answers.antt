@@ -23,11 +23,11 @@ returns-in_ok-cons-in-Some-clause-step c =
       c.in_ok-cons-in-Some.ensures.made.0,
       c.in_ok-cons-in-Some.ensures.made.1
           ∙ (ap (Pair h) rest.1
-          ∙ (sym (substitute-list s h (object_at os c.in-Pair.actuals) (sym c.is_quote.ensures ∙ c.if-is_quote.false)) ∙ ap (substitute_object s) (sym c.in-Pair.ensures.shows.2))),
+          ∙ (sym (substitute-list s h (object_at os c.in-Pair.actuals) (sym c.is_word.ensures ∙ c.if-is_word.false)) ∙ ap (substitute_object s) (sym c.in-Pair.ensures.shows.2))),
       call-needs os c.order.ensures.distinct c.args.memo.now.terms.entries c.args.memo.now.lists.entries c.args.x c.in-Pair.head c.in-Pair.actuals c.in-Pair.ensures.shows.0 c.in-Pair.ensures.shows.1 c.in-Pair.ensures.shows.2 c.in-Some.rest (sym c.find.ensures ∙ c.in-Some.is),
     )
 
 pub returns-in-None-clause-step : goal.returns-in-None-clause-step
 returns-in-None-clause-step c =
     let os = c.args.heap.now.objects in
-    (c.in-Pair.ensures.below.1, sym c.find.ensures ∙ c.in-None.is, (c.in-Pair.ensures.shows.1, object_at os c.in-Pair.head, c.in-Pair.ensures.shows.2, sym c.is_quote.ensures ∙ c.if-is_quote.false))
+    (c.in-Pair.ensures.below.1, sym c.find.ensures ∙ c.in-None.is, (c.in-Pair.ensures.shows.1, object_at os c.in-Pair.head, c.in-Pair.ensures.shows.2, sym c.is_word.ensures ∙ c.if-is_word.false))

@@ -15,15 +15,15 @@ returns-in-Nat c =
 pub returns-in_ok-push-in-Pair : goal.returns-in_ok-push-in-Pair
 returns-in_ok-push-in-Pair c =
     let shows = c.in-Pair.ensures.shows in
-    looked-call c.args.heap.now.objects c.args.part c.args.found.now.keys c.args.waiting.now.items c.push.new.self.items c.in-Term.x c.in-Pair.head c.in-Pair.actuals c.requires.symbols c.in-Term.is shows.2 (sym c.is_symbol_of.ensures ∙ c.if-not-is_symbol_of.true) shows.1 c.in-Pair.ensures.below.1 c.in_ok-push-in-Pair.ensures.items
+    looked-call c.args.heap.now.objects c.args.part c.args.found.now.keys c.args.waiting.now.items c.push.new.self.items c.in-Term.x c.in-Pair.head c.in-Pair.actuals c.requires.symbols c.in-Term.is shows.2 (sym c.is_word.ensures ∙ c.if-not-is_word.true) shows.1 c.in-Pair.ensures.below.1 c.in_ok-push-in-Pair.ensures.items
 
-pub returns-else-not-is_symbol_of : goal.returns-else-not-is_symbol_of
-returns-else-not-is_symbol_of c =
+pub returns-else-not-is_word : goal.returns-else-not-is_word
+returns-else-not-is_word c =
     let os = c.args.heap.now.objects in
     looked-none os c.args.part c.args.found.now.keys c.args.waiting.now.items c.requires.symbols
     (ap (part_occurrences os) c.in-Term.is
     ∙ (ap object_occurrences c.in-Pair.ensures.shows.2
-    ∙ ap (λ b. cond b [] (objects_occurrences (object_at os c.in-Pair.actuals))) (sym c.is_symbol_of.ensures ∙ c.if-not-is_symbol_of.false)))
+    ∙ ap (λ b. cond b [] (objects_occurrences (object_at os c.in-Pair.actuals))) (sym c.is_word.ensures ∙ c.if-not-is_word.false)))
 
 pub returns-in_ok-push-in-Terms-2 : goal.returns-in_ok-push-in-Terms-2
 returns-in_ok-push-in-Terms-2 c =

@@ -1,11 +1,11 @@
 -- The head of a lambda call has a body that is a term with no other variables than its formals.
-use Rattle.std.proofs.Common.{◌≡◌, ◌<◌, Some, length, is_some, option_map, sym, ap, ◌∙◌, arith}
+use Rattle.std.proofs.Common.{◌≡◌, ◌<◌, Some, None, length, is_some, option_map, sym, ap, ◌∙◌, arith}
 use Rattle.std.proofs.lemmas.Result.{IfOk-weaker}
 use Rattle.mw_model.specs.Object.{Pair, name_of_bytes}
 use Rattle.mw_heap.specs.Objects.{object_at}
 use Rattle.mw_term.specs.Parts.{names_at, formals_of}
 use Rattle.mw_term.proofs.ListMarks.{term_at}
-use Rattle.mw_term.proofs.Heads.{formal_count-no_term, formal_count-closes}
+use Rattle.mw_term.proofs.Heads.{formal_count-no_term, formal_count-no_formals, formal_count-closes}
 use Rattle.mw_term.proofs.head.is_lambda_head.Goals as goal
 
 pub returns-then-not-marks-index : goal.returns-then-not-marks-index
@@ -18,8 +18,15 @@ returns-then-not-marks-index c = λ A marked.
     (formal_count-no_term A (name_of_bytes c.args.name.now) (object_at os c.args.rest) (object_at os c.in-Pair.list) (object_at os c.in-Pair-view.body) (object_at os c.in-Pair-view.end) shape
     (term_at A os c.args.marks.now marked c.index.result c.in-Pair-view.body c.index.ensures below _ _ c.if-not-marks-index.true)))
 
-pub returns : goal.returns
-returns c = λ A marked.
+pub returns-in-None : goal.returns-in-None
+returns-in-None c = λ A marked.
+    let os = c.args.heap.now.objects in
+    let shape = c.in-Pair.ensures.shows.2 ∙ ap (Pair (object_at os c.in-Pair.list)) c.in-Pair-view.ensures.shows.2 in
+    let none : formals_of (object_at os c.in-Pair.list) ≡ None = sym c.in_ok-formals.ensures.formals ∙ ap (option_map (λ s. names_at os s.keys)) c.in-None.is in
+    sym (ap is_some (formal_count-no_formals A (name_of_bytes c.args.name.now) (object_at os c.args.rest) (object_at os c.in-Pair.list) (object_at os c.in-Pair-view.body) (object_at os c.in-Pair-view.end) shape none))
+
+pub returns-in-Some : goal.returns-in-Some
+returns-in-Some c = λ A marked.
     let os = c.args.heap.now.objects in
     let xs = names_at os c.in-Some.formals.keys in
     let shape = c.in-Pair.ensures.shows.2 ∙ ap (Pair (object_at os c.in-Pair.list)) c.in-Pair-view.ensures.shows.2 in
@@ -29,5 +36,5 @@ returns c = λ A marked.
     formal_count-closes A (name_of_bytes c.args.name.now) (object_at os c.args.rest) (object_at os c.in-Pair.list) (object_at os c.in-Pair-view.body) (object_at os c.in-Pair-view.end) shape xs formals
     (term_at A os c.args.marks.now marked c.index.result c.in-Pair-view.body c.index.ensures below _ _ c.if-not-marks-index.false)
     (sym c.is_word.ensures ∙ c.if-not-is_word.false)
-    (sym c.is_symbol_of.ensures ∙ c.if-not-is_symbol_of.false) in
+    (sym c.is_nil.ensures ∙ c.if-not-is_nil.false) in
     IfOk-weaker c.is_closed.result _ _ (λ b e. e ∙ sym closes) c.is_closed.ensures

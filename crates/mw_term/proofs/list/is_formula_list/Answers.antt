@@ -5,8 +5,8 @@ use Rattle.mw_heap.specs.Objects.{object_at}
 use Rattle.mw_term.proofs.ListMarks.{mark_at, is_formula-binary_list, is_formula-negation_list}
 use Rattle.mw_term.proofs.list.is_formula_list.Goals as goal
 
-pub returns-then-is_symbol_of : goal.returns-then-is_symbol_of
-returns-then-is_symbol_of c = λ A marked.
+pub returns-then-is_nil : goal.returns-then-is_nil
+returns-then-is_nil c = λ A marked.
     let os = c.args.heap.now.objects in
     let a = c.in-Pair.a in
     let b = c.in-Pair-view.b in
@@ -15,15 +15,15 @@ returns-then-is_symbol_of c = λ A marked.
     ∙ sym
     (is_formula-binary_list A (name_of_bytes c.args.name.now) (object_at os c.args.rest) (object_at os a) (object_at os b) (object_at os c.in-Pair-view.end) _ _ shape
     (mark_at A os c.args.marks.now marked _ a c.index.ensures (omega (arith, c.in-Pair.ensures.below)) _)
-    (mark_at A os c.args.marks.now marked _ b c.index-then-is_symbol_of.ensures (omega (arith, c.in-Pair.ensures.below, c.in-Pair-view.ensures.below)) _)
-    (sym c.is_symbol_of.ensures ∙ c.if-is_symbol_of.true))
+    (mark_at A os c.args.marks.now marked _ b c.index-then-is_nil.ensures (omega (arith, c.in-Pair.ensures.below, c.in-Pair-view.ensures.below)) _)
+    (sym c.is_nil.ensures ∙ c.if-is_nil.true))
 
-pub returns-then-is_symbol_of-2 : goal.returns-then-is_symbol_of-2
-returns-then-is_symbol_of-2 c = λ A marked.
+pub returns-then-is_nil-2 : goal.returns-then-is_nil-2
+returns-then-is_nil-2 c = λ A marked.
     let os = c.args.heap.now.objects in
     let a = c.in-Pair.a in
     c.is_negation_of.ensures
     ∙ sym
     (is_formula-negation_list A (name_of_bytes c.args.name.now) (object_at os c.args.rest) (object_at os a) (object_at os c.in-Pair.more) _ c.in-Pair.ensures.shows.2
     (mark_at A os c.args.marks.now marked _ a c.index.ensures (omega (arith, c.in-Pair.ensures.below)) _)
-    (sym c.is_symbol_of-in_default-view.ensures ∙ c.if-is_symbol_of-2.true))
+    (sym c.is_nil-in_default-view.ensures ∙ c.if-is_nil-2.true))

@@ -27,7 +27,7 @@ returns-in_ok-closed_head-in-Some-find-clause-step c = λ A made.
     let read : term_of m ≡ Some t.0 = ap term_of (sym t.3) ∙ term_read A t.0 (formed A t.0 t.2) in
     let e =
     ap (meaning A kind.Head) (c.in-Pair.ensures.shows.2 ∙ ap (Pair l) c.in-Some.ensures.4)
-    ∙ head-body A l xs b m t.0 (sym c.is_named.ensures ∙ c.if-not-is_named.false) t.1 t.2 t.3 in
+    ∙ head-body A l xs b m t.0 (sym c.is_word.ensures ∙ c.if-not-is_word.false) t.1 t.2 t.3 in
     step_made A os c.closed_head.new.heap.objects c.args.memo.now.made.entries (meaning A kind.Head (object_at os c.args.x)) _ c.args.x c.in_ok-closed_head-in-Some-find.field-0 e (c.in_ok-closed_head-in-Some-find.ensures.head t.0 read)
 
 pub returns-in-None-clause-step : goal.returns-in-None-clause-step

@@ -7,13 +7,14 @@ use Rattle.mw_heap.proofs.Counts.{count_of-le-length}
 use Rattle.mw_heap.proofs.Measuring.{length-measured, measured-result, measured-after, objects-listed_natural}
 use Rattle.mw_heap.proofs.Sound.{BecomesWith, plain_sound, plain_grows, plain_made, Inserts-le, grows_from}
 use Rattle.mw_heap.proofs.Numbered.{natural_adds}
+use Rattle.mw_heap.proofs.Words.{KeepsWords-Grows}
 use Rattle.mw_heap.proofs.heap.Heap.nat.Goals as goal
 
 pub insert_measured-requires-clause-all : goal.insert_measured-requires-clause-all
-insert_measured-requires-clause-all c = c.self.inside.lengths.ok.0 ∙ length-measured _ _ _ _ c.self.invariant
+insert_measured-requires-clause-all c = c.self.inside.lengths.ok.0 ∙ length-measured _ _ _ _ c.self.invariant.measured
 
 pub insert_measured-requires-2-clause-all : goal.insert_measured-requires-2-clause-all
-insert_measured-requires-2-clause-all c = c.self.inside.lengths.ok.0 ∙ length-measured _ _ _ _ c.self.invariant
+insert_measured-requires-2-clause-all c = c.self.inside.lengths.ok.0 ∙ length-measured _ _ _ _ c.self.invariant.measured
 
 pub insert_measured-requires-2-clause-measurable : goal.insert_measured-requires-2-clause-measurable
 insert_measured-requires-2-clause-measurable c = slice_get_within _ _ _ c.in_ok-index.ensures.inserted.stands
@@ -24,6 +25,8 @@ invariant_of-self c =
     record {
       sound = plain_sound _ _ _ c.self.invariant.sound _ (refl, refl) (omega (arith, c.in-Ok.ensures.0, c.in-Ok.ensures.1)) _ (ap (λ v. v.objects) c.self.view_is) _ e.few _ e.inserted e.distinct e.err;
       measured = measured-result _ _ _ _ _ _ _ _ c.self.invariant.measured e.measured e.err e.lengths_err;
+      words = KeepsWords-Grows _ _ _ _ (ap (λ v. v.objects) c.self.view_is)
+          (plain_grows _ _ _ c.self.invariant.sound _ (refl, refl) (omega (arith, c.in-Ok.ensures.0, c.in-Ok.ensures.1)) _ (ap (λ v. v.objects) c.self.view_is) _ e.few _ e.inserted e.distinct e.err) c.self.invariant.words;
     }
 
 pub returns-in-Ok-clause-grows : goal.returns-in-Ok-clause-grows
@@ -52,6 +55,7 @@ pub invariant_of-self-in-Ok-insert_measured : goal.invariant_of-self-in-Ok-inser
 invariant_of-self-in-Ok-insert_measured c = record {
   sound = (adds c).0;
   measured = measured-after _ _ _ _ _ _ _ _ _ (objects-listed_natural _ _ _ _ _ _ c.self.invariant.sound c.in_ok-index.ensures.inserted) c.self.invariant.measured c.in-Ok-insert_measured.ensures.measured;
+  words = KeepsWords-Grows _ _ _ _ refl (adds c).1.grows c.self.invariant.words;
 }
 
 pub returns-in-Ok-insert_measured-clause-grows : goal.returns-in-Ok-insert_measured-clause-grows

@@ -9,6 +9,7 @@ use Rattle.mw_heap.specs.Lengths.{lengths_of}
 use Rattle.mw_heap.proofs.Measuring.{length-measured, measured-after, objects-listed_name}
 use Rattle.mw_heap.proofs.NameSet.{removed_name}
 use Rattle.mw_heap.proofs.Numbered.{name_adds}
+use Rattle.mw_heap.proofs.Words.{KeepsWords-Grows}
 use Rattle.mw_heap.proofs.heap.Heap.put_symbol.Goals as goal
 use Rattle.mw_heap.proofs.heap.Heap.put_symbol.Goals.{In-Ok}
 
@@ -24,7 +25,7 @@ adds c =
     name_adds _ _ _ _ _ _ _ _ c.self.invariant.sound c.in_ok-index.ensures.inserted c.in_ok-index.ensures.distinct c.requires e.inserted e.distinct e.few
 
 pub insert_measured-requires-clause-all : goal.insert_measured-requires-clause-all
-insert_measured-requires-clause-all c = c.self.inside.lengths.ok.0 ∙ length-measured _ _ _ _ c.self.invariant
+insert_measured-requires-clause-all c = c.self.inside.lengths.ok.0 ∙ length-measured _ _ _ _ c.self.invariant.measured
 
 pub insert_measured-requires-clause-measurable : goal.insert_measured-requires-clause-measurable
 insert_measured-requires-clause-measurable c =
@@ -35,6 +36,7 @@ pub invariant_of-self-in-Ok : goal.invariant_of-self-in-Ok
 invariant_of-self-in-Ok c = record {
   sound = (adds (goal.at.invariant_of-self-in-Ok c).In-Ok).0;
   measured = measured-after _ _ _ _ _ _ _ _ _ (objects-listed_name _ _ _ _ _ _ c.self.invariant.sound c.in_ok-index.ensures.inserted) c.self.invariant.measured c.in-Ok.ensures.measured;
+  words = KeepsWords-Grows _ _ _ _ refl (adds (goal.at.invariant_of-self-in-Ok c).In-Ok).1.grows c.self.invariant.words;
 }
 
 pub returns-in-Ok-clause-grows : goal.returns-in-Ok-clause-grows
@@ -53,6 +55,7 @@ pub invariant_of-self-in-Err : goal.invariant_of-self-in-Err
 invariant_of-self-in-Err c = record {
   sound = same_sound _ _ _ _ _ _ refl (same_names c) c.in-Err.ensures.err c.self.invariant.sound;
   measured = c.in-Err.ensures.lengths_err ∙ (c.self.invariant.measured ∙ ap (map lengths_of) (sym (same_cells c)));
+  words = KeepsWords-Grows _ _ _ _ refl (grows_from _ (same_cells c) (stays _)) c.self.invariant.words;
 }
 
 same_heap : (c : goal.After-truncate) → objects c.self.inside.naturals.keys (bytes_of c.truncate.new.self.keys) c.insert_measured.new.cells.keys ≡ c.args.self.now.objects

@@ -20,9 +20,9 @@ pub invariant_of-self : goal.invariant_of-self
 invariant_of-self c =
     let inside = c.self.inside in
     let new = c.add_definitions.new.heap.objects in
-    let ms = c.cut_marks.new.marks in
+    let ms = c.forget_marks.new.marks in
     let err = c.in_err-add_definitions.ensures.err in
-    let marked = AreMarks-grows inside.theory.arity inside.heap.objects new ms c.add_definitions.ensures.grows (c.cut_marks.ensures.marked _ _ c.self.invariant.marked) in
+    let marked = AreMarks-grows inside.theory.arity inside.heap.objects new ms c.add_definitions.ensures.grows (c.forget_marks.ensures.marked _ _ c.self.invariant.marked) in
     grown-recoded _ _ _ _ c.self.invariant new c.add_definitions.ensures.grows c.add_definitions.new.self ms err (subst (λ A. AreMarks A new ms) (sym (ap (λ t. t.arity) err.rest)) marked)
 
 pub returns-in_err-add_definitions-clause-err : goal.returns-in_err-add_definitions-clause-err
@@ -35,10 +35,10 @@ invariant_of-self-2 c =
     let inside = c.self.inside in
     let new = c.add_definitions.new.heap.objects in
     let t = c.add_definitions.new.self in
-    let ms = c.cut_marks.new.marks in
+    let ms = c.forget_marks.new.marks in
     let B = c.requires.block.0 in
     let n = subst (λ v. IsNewBlockOf v c.args.block.now c.args.axioms B) (sym c.self.view_is) c.requires.block.1 in
-    let kept = c.first_name-first.ensures.marks inside.theory.arity B ms n.means c.cut_marks.ensures.few (c.cut_marks.ensures.marked _ _ c.self.invariant.marked) in
+    let kept = c.first_name-first.ensures.marks inside.theory.arity B ms n.means c.forget_marks.ensures.few (c.forget_marks.ensures.marked _ _ c.self.invariant.marked) in
     let arities : t.arity ≡ add_block B inside.theory.arity =
     c.in_ok-add_definitions.ensures.held.arities
     ∙ (ap (λ u. arity_table u.definitions) (c.in_ok-add_definitions.ensures.theory B n)

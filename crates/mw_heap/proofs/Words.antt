@@ -1,0 +1,171 @@
+-- Where the words stand.
+use Rattle.std.proofs.Common.{◌≡◌, ℕ, ◌+◌, ◌<◌, ◌≤◌, Bool, true, eqb, List, take, length, get_or, refl, sym, ap, ◌∙◌, arith, ◌⊎◌, inl, inr}
+use Rattle.std.proofs.Math.Nat.{eq-or-lt_of_le}
+use Rattle.mw_model.specs.Object.{Object, same_object, NIL}
+use Rattle.mw_heap.specs.Objects.{object_at, IsIn, Grows}
+use Rattle.mw_heap.specs.declared.word.Word.{Word}
+use Rattle.mw_heap.specs.declared.word.Word.TheVariants as word
+use Rattle.mw_heap.specs.declared.word.TheConstants.{WORDS}
+use Rattle.mw_heap.specs.Words.{word_object, place_of, word_count, KeepsWords}
+use Rattle.mw_heap.proofs.Objects.{IsIn-Grows, object_at-Grows, IsIn-take, object_at-take}
+
+pub place_of-below : (w : Word) → place_of w < word_count
+place_of-below word.Nil = omega arith
+place_of-below word.T = omega arith
+place_of-below word.Quote = omega arith
+place_of-below word.Lambda = omega arith
+place_of-below word.If = omega arith
+place_of-below word.Pequal = omega arith
+place_of-below word.Pnot = omega arith
+place_of-below word.Por = omega arith
+place_of-below word.And = omega arith
+place_of-below word.Or = omega arith
+place_of-below word.Cond = omega arith
+place_of-below word.List = omega arith
+place_of-below word.Let = omega arith
+place_of-below word.LetStar = omega arith
+place_of-below word.First = omega arith
+place_of-below word.Second = omega arith
+place_of-below word.Third = omega arith
+place_of-below word.Fourth = omega arith
+place_of-below word.Fifth = omega arith
+place_of-below word.Verify = omega arith
+place_of-below word.Define = omega arith
+place_of-below word.DefineAll = omega arith
+place_of-below word.Skolem = omega arith
+place_of-below word.Switch = omega arith
+place_of-below word.Eval = omega arith
+place_of-below word.Print = omega arith
+place_of-below word.Profile = omega arith
+place_of-below word.Axiom = omega arith
+place_of-below word.Theorem = omega arith
+place_of-below word.PropositionalSchema = omega arith
+place_of-below word.FunctionalEquality = omega arith
+place_of-below word.BetaReduction = omega arith
+place_of-below word.BaseEval = omega arith
+place_of-below word.Expansion = omega arith
+place_of-below word.Contraction = omega arith
+place_of-below word.Associativity = omega arith
+place_of-below word.Cut = omega arith
+place_of-below word.Instantiation = omega arith
+place_of-below word.Induction = omega arith
+place_of-below word.Ordp = omega arith
+place_of-below word.OrdLess = omega arith
+
+-- the list of all words has each in its place
+pub word_in_place : (d w : Word) → get_or WORDS (place_of w) d ≡ w
+word_in_place d word.Nil = refl
+word_in_place d word.T = refl
+word_in_place d word.Quote = refl
+word_in_place d word.Lambda = refl
+word_in_place d word.If = refl
+word_in_place d word.Pequal = refl
+word_in_place d word.Pnot = refl
+word_in_place d word.Por = refl
+word_in_place d word.And = refl
+word_in_place d word.Or = refl
+word_in_place d word.Cond = refl
+word_in_place d word.List = refl
+word_in_place d word.Let = refl
+word_in_place d word.LetStar = refl
+word_in_place d word.First = refl
+word_in_place d word.Second = refl
+word_in_place d word.Third = refl
+word_in_place d word.Fourth = refl
+word_in_place d word.Fifth = refl
+word_in_place d word.Verify = refl
+word_in_place d word.Define = refl
+word_in_place d word.DefineAll = refl
+word_in_place d word.Skolem = refl
+word_in_place d word.Switch = refl
+word_in_place d word.Eval = refl
+word_in_place d word.Print = refl
+word_in_place d word.Profile = refl
+word_in_place d word.Axiom = refl
+word_in_place d word.Theorem = refl
+word_in_place d word.PropositionalSchema = refl
+word_in_place d word.FunctionalEquality = refl
+word_in_place d word.BetaReduction = refl
+word_in_place d word.BaseEval = refl
+word_in_place d word.Expansion = refl
+word_in_place d word.Contraction = refl
+word_in_place d word.Associativity = refl
+word_in_place d word.Cut = refl
+word_in_place d word.Instantiation = refl
+word_in_place d word.Induction = refl
+word_in_place d word.Ordp = refl
+word_in_place d word.OrdLess = refl
+
+-- NIL stands first
+pub nil_is_first : (w : Word) → eqb (place_of w) 0 ≡ same_object NIL (word_object w)
+nil_is_first word.Nil = refl
+nil_is_first word.T = refl
+nil_is_first word.Quote = refl
+nil_is_first word.Lambda = refl
+nil_is_first word.If = refl
+nil_is_first word.Pequal = refl
+nil_is_first word.Pnot = refl
+nil_is_first word.Por = refl
+nil_is_first word.And = refl
+nil_is_first word.Or = refl
+nil_is_first word.Cond = refl
+nil_is_first word.List = refl
+nil_is_first word.Let = refl
+nil_is_first word.LetStar = refl
+nil_is_first word.First = refl
+nil_is_first word.Second = refl
+nil_is_first word.Third = refl
+nil_is_first word.Fourth = refl
+nil_is_first word.Fifth = refl
+nil_is_first word.Verify = refl
+nil_is_first word.Define = refl
+nil_is_first word.DefineAll = refl
+nil_is_first word.Skolem = refl
+nil_is_first word.Switch = refl
+nil_is_first word.Eval = refl
+nil_is_first word.Print = refl
+nil_is_first word.Profile = refl
+nil_is_first word.Axiom = refl
+nil_is_first word.Theorem = refl
+nil_is_first word.PropositionalSchema = refl
+nil_is_first word.FunctionalEquality = refl
+nil_is_first word.BetaReduction = refl
+nil_is_first word.BaseEval = refl
+nil_is_first word.Expansion = refl
+nil_is_first word.Contraction = refl
+nil_is_first word.Associativity = refl
+nil_is_first word.Cut = refl
+nil_is_first word.Instantiation = refl
+nil_is_first word.Induction = refl
+nil_is_first word.Ordp = refl
+nil_is_first word.OrdLess = refl
+
+-- growth keeps the words
+pub KeepsWords-Grows : (known : Bool) (inside old new : List Object) → inside ≡ old → Grows old new → KeepsWords known inside → KeepsWords known new
+KeepsWords-Grows known inside old new e g keeps k w =
+    let h = keeps k w in
+    let within : IsIn old (place_of w) = omega (arith, h.0, ap length e) in
+    (IsIn-Grows old new g (place_of w) within, object_at-Grows old new g (place_of w) within ∙ (ap (λ os. object_at os (place_of w)) (sym e) ∙ h.1))
+
+-- and so does a cut after them
+pub KeepsWords-cut : (known : Bool) (os cut : List Object) (n : ℕ) → cut ≡ take n os → word_count ≤ n → n ≤ length os → known ≡ true → KeepsWords known os → (w : Word) → IsIn cut (place_of w) × (object_at cut (place_of w) ≡ word_object w)
+KeepsWords-cut known os cut n e after within k keeps w =
+    let h = keeps k w in
+    let below : place_of w < n = omega (arith, place_of-below w, after) in
+    let is_in : IsIn (take n os) (place_of w) = IsIn-take n os (place_of w) below within in
+    (omega (arith, is_in, ap length e), ap (λ l. object_at l (place_of w)) e ∙ (object_at-take n os (place_of w) below ∙ h.1))
+
+-- each word before the i-th stands in its place
+abbrev pub StandBefore : ℕ → List Object → Type 0
+StandBefore i os = (w : Word) → place_of w < i → IsIn os (place_of w) × (object_at os (place_of w) ≡ word_object w)
+
+-- one word more
+pub one_word_more : (os new : List Object) (i : ℕ) (d : Word) → Grows os new → StandBefore i os → (r : ℕ) → IsIn new r → object_at new r ≡ word_object (get_or WORDS i d) → r ≡ place_of (get_or WORDS i d) → StandBefore (i + 1) new
+one_word_more os new i d g before r is_in made placed w below = go (eq-or-lt_of_le (omega (arith, below)))
+  where
+    go : (place_of w ≡ i) ⊎ (place_of w < i) → IsIn new (place_of w) × (object_at new (place_of w) ≡ word_object w)
+    go (inl e) =
+        let is : get_or WORDS i d ≡ w = ap (λ k. get_or WORDS k d) (sym e) ∙ word_in_place d w in
+        let at : r ≡ place_of w = placed ∙ ap place_of is in
+        (omega (arith, at, is_in), ap (object_at new) (sym at) ∙ (made ∙ ap word_object is))
+    go (inr l) = let h = before w l in (IsIn-Grows os new g (place_of w) h.0, object_at-Grows os new g (place_of w) h.0 ∙ h.1)

@@ -1,0 +1,43 @@
+-- The test of functional equality on the disjunction, and the premises that are detached from it.
+use Rattle.std.proofs.Common.{sym, ◌∙◌, subst}
+use Rattle.mw_model.specs.Proof.{ProveEach}
+use Rattle.mw_heap.specs.Objects.{object_at}
+use Rattle.mw_heap.specs.Lists.{list_object}
+use Rattle.mw_heap.proofs.Objects.{Grows-trans, object_at-Grows}
+use Rattle.mw_proof.proofs.Holding.{list_object-grows}
+use Rattle.mw_lower.specs.Schemes.{IsProof}
+use Rattle.mw_lower.specs.Unless.{unless_all}
+use Rattle.mw_lower.proofs.OnStack.{AreIn-grows}
+use Rattle.mw_lower.proofs.Replaced.{not_headed, test_exact, functional_proves}
+use Rattle.mw_lower.proofs.replace.replace.Goals as goal
+
+pub detach_all-requires-clause-proofs : goal.detach_all-requires-clause-proofs
+detach_all-requires-clause-proofs c = AreIn-grows _ _ _ (Grows-trans _ _ _ c.in_ok-whole.ensures.grows c.in_ok-step.ensures.grows) c.requires.proofs
+
+pub returns-then-not-is_headed-clause-answer : goal.returns-then-not-is_headed-clause-answer
+returns-then-not-is_headed-clause-answer c = λ b F Fs has i d hs. not_headed F Fs (object_at c.args.heap.now.objects c.args.c) d (sym c.is_headed.ensures ∙ c.if-not-is_headed.true)
+
+pub returns-then-not-functional_equality-clause-answer : goal.returns-then-not-functional_equality-clause-answer
+returns-then-not-functional_equality-clause-answer c = λ b F Fs has i d hs.
+    let os = c.args.heap.now.objects in
+    let whole = c.in_ok-whole.ensures.made b F Fs d hs in
+    let headed = sym c.is_headed.ensures ∙ c.if-not-is_headed.false in
+    sym (test_exact b Fs (list_object os c.args.proofs.now) hs F (object_at os c.args.c) _ i d headed whole) ∙ (sym c.functional_equality.ensures ∙ c.if-not-functional_equality.true)
+
+pub returns-clause-answer : goal.returns-clause-answer
+returns-clause-answer c = λ b F Fs has i d hs.
+    let os = c.args.heap.now.objects in
+    let mid = c.unless.new.heap.objects in
+    let new = c.make.new.heap.objects in
+    let ps = list_object os c.args.proofs.now in
+    let whole = c.in_ok-whole.ensures.made b F Fs d hs in
+    let headed = sym c.is_headed.ensures ∙ c.if-not-is_headed.false in
+    let holds = sym c.functional_equality.ensures ∙ c.if-not-functional_equality.false in
+    let step = c.in_ok-step.ensures.made in
+    let grows = Grows-trans os mid new c.in_ok-whole.ensures.grows c.in_ok-step.ensures.grows in
+    let whole_now = object_at-Grows mid new c.in_ok-step.ensures.grows _ c.in_ok-whole.ensures.within ∙ whole in
+    let proves = subst (λ z. IsProof b z (unless_all Fs F)) (sym step.1) (functional_proves b Fs ps hs F _ i whole holds) in (
+      sym (test_exact b Fs ps hs F (object_at os c.args.c) _ i d headed whole) ∙ holds,
+      c.in_ok-detach_all.ensures.within,
+      c.in_ok-detach_all.ensures.made b F Fs whole_now proves (subst (λ z. ProveEach b.axioms b.theorems b.table b.profile z Fs) (sym (list_object-grows os new grows c.args.proofs.now c.requires.proofs)) hs),
+    )

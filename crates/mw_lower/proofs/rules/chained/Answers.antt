@@ -1,0 +1,12 @@
+-- By what the scheme makes.
+use Rattle.std.proofs.Common.{sym, subst}
+use Rattle.mw_heap.specs.Objects.{object_at}
+use Rattle.mw_lower.specs.Replacements.{Chains}
+use Rattle.mw_lower.proofs.Results.{IfOk-map}
+use Rattle.mw_lower.proofs.SchemesProve.{chained_made}
+use Rattle.mw_lower.proofs.rules.chained.Goals as goal
+
+pub returns-clause-made : goal.returns-clause-made
+returns-clause-made c =
+    let at = object_at c.args.heap.now.objects in
+    IfOk-map c.derive.result _ _ (λ r m. subst (Chains (at c.args.a) (at c.args.b) (at c.args.c) (at c.args.p) (at c.args.q)) (sym m.1) (chained_made (at c.args.a) (at c.args.b) (at c.args.c) (at c.args.p) (at c.args.q))) c.derive.ensures.made

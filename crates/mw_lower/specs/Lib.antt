@@ -1,0 +1,11 @@
+pub mod Pieces
+pub mod Stacks
+pub mod Lines
+pub mod Schemes
+pub mod Replacements
+pub mod Answers
+pub mod Further
+pub mod Methods
+pub mod Parts
+pub mod Turned
+pub mod Unless

@@ -1,0 +1,46 @@
+//! The walk over what a derivation is made of.
+ghost use Rattle.std.specs.Prelude.{◌≡◌, All, length, IfOk};
+ghost use Rattle.mw_heap.specs.Objects.{object_at, IsIn, Grows};
+ghost use Rattle.mw_heap.specs.Variants.{profile_of};
+ghost use Rattle.mw_term.specs.Marking.{AreMarks};
+ghost use Rattle.mw_model.specs.Term.{ArityTable};
+ghost use Rattle.mw_proof.specs.Judging.{basis};
+ghost use Rattle.mw_lower.specs.Parts.{AreParts};
+ghost use Rattle.mw_lower.specs.Schemes.{HasEquality};
+ghost use Rattle.mw_lower.specs.Turned.{IsTurned};
+
+use crate::turn::turn;
+use indexmap::IndexMap;
+use mw_heap::{Heap, Memory, Profile, Ref};
+use mw_proof::Known;
+use mw_term::Marks;
+
+/// What a derivation becomes, from what it is made of. It ends at the first part that is no derivation: then the whole is none.
+pub(crate) fn turn_all(
+    heap: &mut Heap,
+    proof: Ref,
+    parts: &[Ref],
+    axioms: &Known,
+    theorems: &Known,
+    profile: Profile,
+    marks: &Marks,
+) -> Result<Option<Ref>, Memory>
+    requires marks { (A : ArityTable) × AreMarks A heap.old.objects marks.now }
+    requires all { length marks.now ≡ length heap.old.objects }
+    requires parts { AreParts heap.old.objects proof parts.now }
+    requires axioms { All (IsIn heap.old.objects) axioms.now }
+    requires theorems { All (IsIn heap.old.objects) theorems.now }
+    requires equality { (A : ArityTable) → HasEquality (basis heap.old.objects A axioms.now theorems.now (profile_of profile)) }
+    ensures grows { Grows heap.old.objects heap.new.objects }
+    ensures turned { IfOk result (λ o. (A : ArityTable) → AreMarks A heap.old.objects marks.now → IsTurned (basis heap.old.objects A axioms.now theorems.now (profile_of profile)) heap.new.objects o (object_at heap.old.objects proof)) }
+{
+    let mut turned = IndexMap::new(heap.alloc());
+    for p in parts {
+        heap.order();
+        let Some(q) = turn(heap, *p, &turned, axioms, theorems, profile, marks)? else {
+            return Ok(None);
+        };
+        turned.insert(*p, q)?;
+    }
+    Ok(turned.get(&proof).copied())
+}
