@@ -1,6 +1,6 @@
 -- The report on a book that was read to its end or its first fault.
 use Rattle.std.proofs.Common.{◌≡◌, ℕ, List, [], ◌++◌, Option, Some, None, refl, sym, ap, ◌∙◌, subst, append_assoc}
-use Rattle.mw_model.specs.Command.{Check}
+use Rattle.mw_model.specs.Commands.{Check}
 use Rattle.mw_model.specs.Grammar.{Book, book, trees}
 use Rattle.mw_model.specs.Report.{Status, Done, SomeRefused, Syntax, status_of, report_of, report, last_line}
 use Rattle.mw_port.specs.Ports.{Takes}
@@ -9,8 +9,8 @@ use Rattle.mw_read.specs.declared.step.SyntaxKind.{SyntaxKind}
 use Rattle.mw_reflect.specs.Laws.{EventsKeep}
 use Rattle.mw_book.specs.Books.{TakesSome}
 use Rattle.mw_book.specs.Taking.{fault_of}
-use Rattle.mw_book.specs.Statuses.{IsPartOf}
-use Rattle.mw_book.specs.Checks.{Reported, CheckEnds, SourceCounts, ReadWhole, Concludes}
+use Rattle.mw_book.specs.Statuses.{Keeps, IsPartOf}
+use Rattle.mw_book.specs.Checks.{BookEnds, SourceCounts, ReadWhole, Concludes}
 use Rattle.mw_book.specs.declared.judging.Judging.{Judging}
 use Rattle.mw_book.specs.declared.status.Status.{Status as Ending}
 use Rattle.mw_book.specs.declared.status.Status.TheVariants as ending
@@ -21,11 +21,11 @@ pub part_none : (N : ℕ) (input sink : Option (List ℕ)) → IsPartOf (Check N
 part_none N input sink = (left_of input, gives_has input input [] (gives_none input), nothing_taken (report (left_of input) N).text sink)
 
 -- a report that is done is that of a book with no fault
-done_none : (f : Option (SyntaxKind × ℕ)) (n : ℕ) → Some Done ≡ Some (status_of (fault_of f) n) → f ≡ None
+pub done_none : (f : Option (SyntaxKind × ℕ)) (n : ℕ) → Some Done ≡ Some (status_of (fault_of f) n) → f ≡ None
 done_none None n e = refl
 done_none (Some f) n e = absurd (let h : Some Done ≡ Some (Syntax (kind_of f.0) f.1) = e in cc)
 
-some_refused_none : (f : Option (SyntaxKind × ℕ)) (n : ℕ) → Some SomeRefused ≡ Some (status_of (fault_of f) n) → f ≡ None
+pub some_refused_none : (f : Option (SyntaxKind × ℕ)) (n : ℕ) → Some SomeRefused ≡ Some (status_of (fault_of f) n) → f ≡ None
 some_refused_none None n e = refl
 some_refused_none (Some f) n e = absurd (let h : Some SomeRefused ≡ Some (Syntax (kind_of f.0) f.1) = e in cc)
 
@@ -61,7 +61,7 @@ module _ (N : ℕ) (input now first middle : Option (List ℕ)) (f : Option (Syn
   same_status : (report_of read N).status ≡ (report w.bytes N).status
   same_status = ap (λ (b : Book). (report_of b N).status) same_book
 
-  reported : EventsKeep → (after : Option (List ℕ)) (s : Status) → s ≡ (report_of read N).status → Takes middle after rest → Reported N input first after s
+  reported : EventsKeep → (after : Option (List ℕ)) (s : Status) → s ≡ (report_of read N).status → Takes middle after rest → Keeps (Check N) input first after s
   reported keeps after s e t = (
     w.bytes,
     w.has,
@@ -73,7 +73,7 @@ module _ (N : ℕ) (input now first middle : Option (List ℕ)) (f : Option (Syn
   part : (after : Option (List ℕ)) → TakesSome middle after rest → IsPartOf (Check N) input first after
   part after t = (w.bytes, w.has, subst (λ u. TakesSome first after u) whole (takes_then first middle after w.written rest w.takes t))
 
-  pub ends_with : EventsKeep → (e : Ending) (after : Option (List ℕ)) → Concludes e (report_of read N).status rest middle after → CheckEnds e N input now first after
+  pub ends_with : EventsKeep → (e : Ending) (after : Option (List ℕ)) → Concludes e (report_of read N).status rest middle after → BookEnds e (Check N) input now first after
   ends_with keeps ending.Done after c = (w.ended (done_none f _ c.0), reported keeps after Done (same_some Done (report_of read N).status c.0) c.1)
   ends_with keeps ending.SomeRefused after c = (w.ended (some_refused_none f _ c.0), reported keeps after SomeRefused (same_some SomeRefused (report_of read N).status c.0) c.1)
   ends_with keeps (ending.Syntax k o) after c = reported keeps after (Syntax (kind_of k) o) (same_some (Syntax (kind_of k) o) (report_of read N).status c.0) c.1

@@ -1,5 +1,5 @@
 -- What is asked for, by what `clap` found in the words.
-use Rattle.std.proofs.Common.{◌≡◌, ◌∙◌, ℕ, Bool, true, false, cond, List, [], ◌∷◌, length, get_or, Option, Some, None, is_some, option_map, refl, sym, ap, ap₂, codes, true≢false, arith}
+use Rattle.std.proofs.Common.{◌≡◌, ◌∙◌, ℕ, Bool, true, false, cond, List, [], ◌∷◌, length, get_or, Option, Some, None, is_some, option_map, refl, sym, subst, ap, ap₂, codes, true≢false, arith}
 use Rattle.std.specs.Prelude.{unwrap_or}
 use Rattle.std.specs.Str.{bytes_eq}
 use Rattle.clap.specs.Words.{App, Row, Text, fault_of, first_value, is_simple, is_simple_and_free, rows_of, subcommand_name_of, subcommand_of, subcommand_rows_of, takes, built}
@@ -8,8 +8,10 @@ use Rattle.clap.specs.declared.parser.matches.ArgMatches.TheViews.{out-ArgMatche
 use Rattle.clap.specs.declared.parser.matches.Found.{Found}
 use Rattle.clap.proofs.WalkLemmas.{first_value-rows}
 use Rattle.clap.proofs.OnLiterals.{clap_on_literals}
-use Rattle.mw_model.specs.Command.{Request, Help, Usage, asked, check_with, events_of, is_help, program, request_of, steps_of, trial_with}
+use Rattle.mw_model.specs.Command.{events_of, is_help, steps_of}
+use Rattle.mw_model.specs.Commands.{Request, Check, Taut, Help, Usage, asked, program, request_of, request_with, trial_with, with_number}
 use Rattle.mw_model.specs.Object.{same_bytes}
+use Rattle.mw_model.proofs.Names.{same_bytes-eq, same_bytes-refl}
 use Rattle.mw_heap.proofs.NameSet.{pointwise-same_bytes}
 use Rattle.mw_book.proofs.Faultless.{faultless_taken, is_plain_app}
 
@@ -39,29 +41,38 @@ subcommand_met m name rows e h = both_parts (subcommand_rows_of m) name rows (e 
 
 -- ---- what the subcommand asks for
 
-abbrev asked_by : Bool → Option ℕ → Option ℕ → Request
-asked_by is_check steps events = cond is_check (check_with steps) (trial_with events steps)
+same_bytes-sym : (x y : Text) → same_bytes x y ≡ same_bytes y x
+same_bytes-sym x y = go (same_bytes x y) (same_bytes y x) refl refl
+  where
+    turned : (u v : Text) → same_bytes u v ≡ true → same_bytes v u ≡ true
+    turned u v h = subst (λ w. same_bytes w u ≡ true) (same_bytes-eq u v h) (same_bytes-refl u)
 
-nothing_asked : (is_check : Bool) (events : Option ℕ) → Usage ≡ asked_by is_check None events
-nothing_asked true events = refl
-nothing_asked false None = refl
-nothing_asked false (Some m) = refl
+    go : (a b : Bool) → same_bytes x y ≡ a → same_bytes y x ≡ b → a ≡ b
+    go true b e f = sym (turned x y e) ∙ f
+    go false true e f = sym e ∙ turned y x f
+    go false false e f = refl
 
-module _ (m : ArgMatches) (name : Text) (found : Found) (named : Some name ≡ subcommand_name_of m) (has : Some (rows_of found) ≡ option_map (λ p. p.1) (subcommand_rows_of m)) where
-  pub found_asks : (is_check : Bool) (steps events : Option ℕ) → is_check ≡ bytes_eq name (codes "check") → steps ≡ steps_of (first_value found (codes "steps"))
-      → events ≡ events_of (first_value found (codes "events")) → asked_by is_check steps events ≡ request_of (subcommand_rows_of m)
-  found_asks is_check steps events b s e =
-      let same = b ∙ pointwise-same_bytes name (codes "check") in
-      let read = s ∙ ap steps_of (first_value-rows found (codes "steps")) in
-      let counted = e ∙ ap events_of (first_value-rows found (codes "events")) in
-      (λ i. asked_by (same i) (read i) (counted i)) ∙ ap request_of (sym (subcommand_met m name (rows_of found) named has))
+named_so : (name word : Text) → bytes_eq name word ≡ same_bytes word name
+named_so name word = pointwise-same_bytes name word ∙ same_bytes-sym name word
 
-  -- without steps nothing is asked for
-  pub no_steps : None ≡ steps_of (first_value found (codes "steps")) → Usage ≡ request_of (subcommand_rows_of m)
-  no_steps s =
-      let is_check = bytes_eq name (codes "check") in
-      let events = events_of (first_value found (codes "events")) in
-      nothing_asked is_check events ∙ found_asks is_check None events refl s refl
+abbrev asked_by : (is_check is_trial is_taut : Bool) → (steps events : Option ℕ) → Request
+asked_by is_check is_trial is_taut steps events = cond is_check (with_number Check steps) (cond is_trial (trial_with events steps) (cond is_taut Taut Usage))
+
+-- what a subcommand of this name asks for
+pub name_asks : (name : Text) (is_check is_trial is_taut : Bool) (steps events : Option ℕ) → is_check ≡ bytes_eq name (codes "check") → is_trial ≡ bytes_eq name (codes "trial") → is_taut ≡ bytes_eq name (codes "taut")
+    → asked_by is_check is_trial is_taut steps events ≡ request_with name steps events
+name_asks name is_check is_trial is_taut steps events b c d =
+    let first = b ∙ named_so name (codes "check") in
+    let second = c ∙ named_so name (codes "trial") in
+    let third = d ∙ named_so name (codes "taut") in
+    λ i. asked_by (first i) (second i) (third i) steps events
+
+pub found_asks : (m : ArgMatches) (name : Text) (found : Found) → Some name ≡ subcommand_name_of m → Some (rows_of found) ≡ option_map (λ p. p.1) (subcommand_rows_of m)
+    → (steps events : Option ℕ) → steps ≡ steps_of (first_value found (codes "steps")) → events ≡ events_of (first_value found (codes "events")) → request_with name steps events ≡ request_of (subcommand_rows_of m)
+found_asks m name found named has steps events s e =
+    let read = s ∙ ap steps_of (first_value-rows found (codes "steps")) in
+    let counted = e ∙ ap events_of (first_value-rows found (codes "events")) in
+    (λ i. request_with name (read i) (counted i)) ∙ ap request_of (sym (subcommand_met m name (rows_of found) named has))
 
 -- ---- what the words ask for
 

@@ -2,7 +2,7 @@
 use Rattle.std.proofs.Common.{◌≡◌, ℕ, ◌+◌, ◌*◌, ◌<◌, ◌≤◌, ◌^◌, true, false, List, [], ◌++◌, length, Option, Some, None, sym, ap, ◌∙◌, subst, arith, true≢false, append_assoc, append-nil, length-append}
 use Rattle.std.specs.Option.{is_some}
 use Rattle.mw_model.specs.Object.{Object}
-use Rattle.mw_model.specs.Command.{Check}
+use Rattle.mw_model.specs.Commands.{Request, Check}
 use Rattle.mw_model.specs.Lexemes.{Goes}
 use Rattle.mw_model.specs.Grammar.{Book, book, reading}
 use Rattle.mw_port.specs.Ports.{Gives, Takes as SinkTakes, HasEnded}
@@ -15,7 +15,7 @@ use Rattle.mw_book.specs.Books.{Has, TakesSome}
 use Rattle.mw_book.specs.Knowing.{Judged, Judges, lines_of}
 use Rattle.mw_book.specs.Taking.{Takes, Ends}
 use Rattle.mw_book.specs.Statuses.{IsPartOf}
-use Rattle.mw_book.specs.Checks.{CheckEnds, SourceCounts, IsHalt, IsStop, ReadWhole}
+use Rattle.mw_book.specs.Checks.{BookEnds, SourceCounts, IsHalt, IsStop, ReadWhole}
 use Rattle.mw_book.specs.declared.judging.Judging.{Judging}
 use Rattle.mw_book.specs.declared.status.Status.{Status as Ending}
 use Rattle.mw_book.specs.declared.status.Status.TheVariants as ending
@@ -64,12 +64,14 @@ module _ (N : ℕ) (input first : Option (List ℕ)) (j : Judging) (p : Parser) 
   room_for piece l = omega (arith, between.events, between.stands.short, weight_small p.begun, l)
 
   -- a read failed
-  pub read_fails : (now : Option (List ℕ)) → now ≡ left → CheckEnds ending.ReadFault N input now first sink
+  pub read_fails : (now : Option (List ℕ)) → now ≡ left → BookEnds ending.ReadFault (Check N) input now first sink
   read_fails now e = (
     between.bytes,
     subst (λ u. Gives input u between.bytes) (sym e) between.gives,
     ap (λ (b : Book). b.fault) between.so_far,
-    subst (λ (b : Book). SinkTakes first sink (lines_of b.events N)) (sym between.so_far) between.takes,
+    lines_of between.given N,
+    between.takes,
+    ap (λ (b : Book). lines_of b.events N) (sym between.so_far),
   )
 
   -- memory was refused: what was written begins the report on any book that goes on so
@@ -161,15 +163,15 @@ module _ (N : ℕ) (input first : Option (List ℕ)) (j : Judging) (p : Parser) 
           }
 
 -- a write that stopped ends the run so
-pub halt_ends : (N : ℕ) (input now first after : Option (List ℕ)) (s : Ending) → IsHalt s → IsPartOf (Check N) input first after → CheckEnds s N input now first after
-halt_ends N input now first after ending.WriteFault h p = p
-halt_ends N input now first after ending.Memory h p = p
-halt_ends N input now first after ending.Done h p = absurd h
-halt_ends N input now first after ending.SomeRefused h p = absurd h
-halt_ends N input now first after ending.Help h p = absurd h
-halt_ends N input now first after ending.Usage h p = absurd h
-halt_ends N input now first after (ending.Syntax k o) h p = absurd h
-halt_ends N input now first after ending.ReadFault h p = absurd h
+pub halt_ends : (q : Request) (input now first after : Option (List ℕ)) (s : Ending) → IsHalt s → IsPartOf q input first after → BookEnds s q input now first after
+halt_ends q input now first after ending.WriteFault h p = p
+halt_ends q input now first after ending.Memory h p = p
+halt_ends q input now first after ending.Done h p = absurd h
+halt_ends q input now first after ending.SomeRefused h p = absurd h
+halt_ends q input now first after ending.Help h p = absurd h
+halt_ends q input now first after ending.Usage h p = absurd h
+halt_ends q input now first after (ending.Syntax k o) h p = absurd h
+halt_ends q input now first after ending.ReadFault h p = absurd h
 
 pub halt_reads : (s : Ending) (old new : ℕ) → IsHalt s → new ≡ old → SourceCounts s old new
 halt_reads ending.WriteFault old new h e = e

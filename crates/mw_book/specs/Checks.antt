@@ -1,37 +1,34 @@
 -- How the judging of a book ends, and what is then true.
 use Rattle.std.specs.Prelude.{◌≡◌, ℕ, List, ◌++◌, Option, Some, None}
 use Rattle.mw_model.specs.Object.{Object}
-use Rattle.mw_model.specs.Command.{Check}
-use Rattle.mw_model.specs.Lexemes.{Goes}
-use Rattle.mw_model.specs.Grammar.{book, reading, trees}
-use Rattle.mw_model.specs.Report.{Status, Done, SomeRefused, Syntax, lines_so_far, last_line}
+use Rattle.mw_model.specs.Commands.{Request}
+use Rattle.mw_model.specs.Grammar.{book, trees}
+use Rattle.mw_model.specs.Report.{Status, Done, SomeRefused, Syntax, last_line}
 use Rattle.mw_model.specs.Trial.{trial_book}
-use Rattle.mw_model.specs.Headline.{Headline, TrialHeadline}
-use Rattle.mw_port.specs.Ports.{Rises, Gives, Takes, HasEnded}
+use Rattle.mw_model.specs.Headline.{TrialHeadline}
+use Rattle.mw_port.specs.Ports.{Rises, Takes, HasEnded}
 use Rattle.mw_read.specs.Piles.{kind_of}
 use Rattle.mw_read.specs.declared.step.SyntaxKind.{SyntaxKind}
 use Rattle.mw_book.specs.Books.{Has, TakesSome}
+use Rattle.mw_book.specs.Answered.{AreAnswers, Answered}
 use Rattle.mw_book.specs.Knowing.{Judged, lines_of}
-use Rattle.mw_book.specs.Statuses.{report_status, IsPartOf}
+use Rattle.mw_book.specs.Statuses.{report_status, Keeps, IsPartOf, WritesSoFar}
 use Rattle.mw_book.specs.Taking.{fault_of}
 use Rattle.mw_book.specs.declared.judging.Judging.{Judging}
+use Rattle.mw_book.specs.declared.proving.Proving.{Proving}
 use Rattle.mw_book.specs.declared.status.Status.{Status as Ending}
 use Rattle.mw_book.specs.declared.status.Status.TheVariants as ending
 
--- What the sink took is the report on the book with this step limit.
-abbrev pub Reported : ℕ → Option (List ℕ) → Option (List ℕ) → Option (List ℕ) → Status → Type 0
-Reported N old_book old new s = (bytes : List ℕ) × Has old_book bytes × (written : List ℕ) × Takes old new written × Headline bytes N written s
-
--- what the sink took, with this step limit, of the report on a book of which this was left before and afterwards
-abbrev pub CheckEnds : Ending → ℕ → Option (List ℕ) → Option (List ℕ) → Option (List ℕ) → Option (List ℕ) → Type 0
-CheckEnds ending.Done N old_book new_book old new = HasEnded new_book × Reported N old_book old new Done
-CheckEnds ending.SomeRefused N old_book new_book old new = HasEnded new_book × Reported N old_book old new SomeRefused
-CheckEnds (ending.Syntax k o) N old_book new_book old new = Reported N old_book old new (Syntax (kind_of k) o)
-CheckEnds ending.Help N old_book new_book old new = ⊥
-CheckEnds ending.Usage N old_book new_book old new = ⊥
-CheckEnds ending.ReadFault N old_book new_book old new = (given : List ℕ) × Gives old_book new_book given × ((reading Goes given).fault ≡ None) × Takes old new (lines_so_far given N)
-CheckEnds ending.WriteFault N old_book new_book old new = IsPartOf (Check N) old_book old new
-CheckEnds ending.Memory N old_book new_book old new = IsPartOf (Check N) old_book old new
+-- what the sink took, of what this request is owed, for a book of which this was left before and afterwards
+abbrev pub BookEnds : Ending → Request → Option (List ℕ) → Option (List ℕ) → Option (List ℕ) → Option (List ℕ) → Type 0
+BookEnds ending.Done q old_book new_book old new = HasEnded new_book × Keeps q old_book old new Done
+BookEnds ending.SomeRefused q old_book new_book old new = HasEnded new_book × Keeps q old_book old new SomeRefused
+BookEnds (ending.Syntax k o) q old_book new_book old new = Keeps q old_book old new (Syntax (kind_of k) o)
+BookEnds ending.Help q old_book new_book old new = ⊥
+BookEnds ending.Usage q old_book new_book old new = ⊥
+BookEnds ending.ReadFault q old_book new_book old new = WritesSoFar q old_book new_book old new
+BookEnds ending.WriteFault q old_book new_book old new = IsPartOf q old_book old new
+BookEnds ending.Memory q old_book new_book old new = IsPartOf q old_book old new
 
 -- What the sink took is the last line of the report on the trial book of m events with this step limit.
 abbrev pub LastReported : (m N : ℕ) → Option (List ℕ) → Option (List ℕ) → Status → Type 0
@@ -69,6 +66,18 @@ pub record ReadWhole (N : ℕ) (old_book new_book old new : Option (List ℕ)) (
   pub written : List ℕ
   pub takes : Takes old new written
   pub lines : written ++ j.lines.items ≡ lines_of given N
+
+-- The same of a book of formulas, whose data were answered.
+pub record TriedWhole (old_book new_book old new : Option (List ℕ)) (fault : Option (SyntaxKind × ℕ)) (p : Proving) : Type 0 where
+  pub bytes : List ℕ
+  pub has : Has old_book bytes
+  pub ended : fault ≡ None → HasEnded new_book
+  pub given : List Object
+  pub read : trees bytes ≡ book given (fault_of fault)
+  pub answered : Answered p given
+  pub written : List ℕ
+  pub takes : Takes old new written
+  pub lines : AreAnswers given (written ++ p.lines.items)
 
 -- a report with this status ends with this text, of which the sink took all, or a prefix
 abbrev pub Concludes : Ending → Status → List ℕ → Option (List ℕ) → Option (List ℕ) → Type 0

@@ -1,9 +1,12 @@
 pub mod Books
+pub mod Answered
+pub mod Verdicts
 pub mod Statuses
 pub mod Numbers
 pub mod Words
 pub mod Lines
 pub mod Knowing
 pub mod Taking
+pub mod Trying
 pub mod Checks
 pub mod Trials

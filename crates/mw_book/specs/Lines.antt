@@ -15,3 +15,6 @@ summary_of events refused level =
 
 abbrev pub fault_line : SyntaxKind → ℕ → List ℕ
 fault_line kind offset = spaced (codes "syntax") (spaced (kind_word kind) (spaced (codes "at") (numeral offset))) ++ 10 ∷ []
+
+abbrev pub formulas_line : (formulas proved : ℕ) → List ℕ
+formulas_line formulas proved = spaced (codes "formulas") (spaced (numeral formulas) (spaced (codes "proved") (numeral proved))) ++ 10 ∷ []

@@ -1,6 +1,7 @@
 //! The commands that judge a book.
 ghost use Rattle.std.specs.Prelude.{◌≡◌, ℕ, ◌≤◌, List, [], ◌++◌, Some, OnOk, OnErr, IfOk, IfErr};
 ghost use Rattle.mw_model.specs.Object.{Object};
+ghost use Rattle.mw_model.specs.Commands.{Check};
 ghost use Rattle.mw_model.specs.Grammar.{book};
 ghost use Rattle.mw_model.specs.Report.{report_of, last_line};
 ghost use Rattle.mw_model.specs.Trial.{trial_book};
@@ -9,7 +10,7 @@ ghost use Rattle.mw_port.specs.Ports.{Takes};
 ghost use Rattle.mw_book.specs.Books.{TakesSome};
 ghost use Rattle.mw_book.specs.Knowing.{Judged};
 ghost use Rattle.mw_book.specs.Taking.{fault_of};
-ghost use Rattle.mw_book.specs.Checks.{CheckEnds, TrialEnds, SourceCounts, SinkCounts, ReadWhole, Concludes, IsHalt, IsStop};
+ghost use Rattle.mw_book.specs.Checks.{BookEnds, TrialEnds, SourceCounts, SinkCounts, ReadWhole, Concludes, IsHalt, IsStop};
 
 use crate::Status;
 use crate::judging::Judging;
@@ -23,11 +24,11 @@ use mw_read::{Reader, SyntaxKind};
 use mw_reflect::reached_sound;
 use std::alloc::Global;
 
-// The longest book, in bytes.
-const LIMIT: u64 = 1 << 40;
+/// The longest book, in bytes.
+pub(crate) const LIMIT: u64 = 1 << 40;
 
-// How many bytes are read at a time.
-const PIECE: usize = 4096;
+/// How many bytes are read at a time.
+pub(crate) const PIECE: usize = 4096;
 
 // Nothing was read. It is boxed, so that the proofs of its owners are short.
 fn begin(alloc: Global, steps: u64) -> Result<Box<Judging>, Memory>
@@ -46,7 +47,7 @@ pub(crate) fn check<S: Source, K: Sink>(
     source: &mut S,
     sink: &mut K,
 ) -> Status
-    ensures ends { CheckEnds result steps (S.left source.old) (S.left source.new) (K.taken sink.old) (K.taken sink.new) }
+    ensures ends { BookEnds result (Check steps) (S.left source.old) (S.left source.new) (K.taken sink.old) (K.taken sink.new) }
     ensures source_counts { SourceCounts result (S.faults source.old) (S.faults source.new) }
     ensures sink_counts { SinkCounts result (K.faults sink.old) (K.faults sink.new) }
 {
@@ -101,7 +102,7 @@ fn read_all<S: Source, K: Sink>(
     ensures few { OnOk result (judging.new.refused ≤ judging.new.events) }
     ensures steady { OnOk result ((S.faults source.new ≡ S.faults source.old) × (K.faults sink.new ≡ K.faults sink.old)) }
     ensures stops { IfErr result IsStop }
-    ensures ends { IfErr result (λ s. CheckEnds s judging.old.kernel.steps (S.left source.old) (S.left source.new) (K.taken sink.old) (K.taken sink.new)) }
+    ensures ends { IfErr result (λ s. BookEnds s (Check judging.old.kernel.steps) (S.left source.old) (S.left source.new) (K.taken sink.old) (K.taken sink.new)) }
     ensures source_counts { IfErr result (λ s. SourceCounts s (S.faults source.old) (S.faults source.new)) }
     ensures sink_counts { IfErr result (λ s. SinkCounts s (K.faults sink.old) (K.faults sink.new)) }
 {

@@ -1,6 +1,6 @@
 //! The program, but for its words, its source and its sink, which it is handed.
 ghost use Rattle.std.specs.Prelude.{◌≡◌, ◌≢◌, ◌⊎◌, true, false, IfSome, IfErr, OnOk, OnErr};
-ghost use Rattle.mw_model.specs.Command.{Help, Usage, asked, help_text};
+ghost use Rattle.mw_model.specs.Commands.{Help, Usage, asked, help_text};
 ghost use Rattle.mw_port.specs.Ports.{Rises, Takes, HasEnded};
 ghost use Rattle.mw_book.specs.Books.{TakesSome};
 ghost use Rattle.mw_book.specs.Checks.{TrialEnds, SinkCounts, IsHalt};
@@ -9,23 +9,26 @@ ghost use Rattle.mw_book.specs.Statuses.{report_status, reads_book, Reports, Rep
 use crate::Status;
 use crate::check::{check, trial};
 use crate::output::{status_of, write_all};
+use crate::promise::answers_promised;
+use crate::taut::taut;
 use crate::trial::TrialSource;
 use crate::words::{Request, request_of};
 use mw_port::{Sink, Source, Text};
 use std::alloc::Global;
 
 // How the program is used: a line for each command.
-const HELP: &[u8] = b"milawa check [--steps N]\nmilawa trial M [--steps N]\n";
+const HELP: &[u8] = b"milawa check [--steps N]\nmilawa trial M [--steps N]\nmilawa taut\n";
 
 /// Does what the words ask for: judges the book on the source and writes its report to the sink, or judges the trial book and writes
-/// the last line of its report, or writes how the program is used.
+/// the last line of its report, or proves the formulas of the book on the source and writes the theorems, or writes how the program is
+/// used.
 ///
-/// `Done`, `SomeRefused` and `Syntax` come where the words ask for a book to be judged and the report on it has that status; the
-/// sink then took the report whole, or its last line: what it calls accepted is true in the standard model. `Help` comes where the
-/// words ask how the program is used, and `Usage` where they ask for nothing that it does. `ReadFault` and `WriteFault` come where
-/// the source, or the sink, counted a fault in this call, and `Memory` where memory was refused: what the sink took is a prefix
-/// of the text that was due, and at a fault in reading the lines of all data that are complete in the bytes read, which hold no fault of the
-/// text.
+/// `Done`, `SomeRefused` and `Syntax` come where the words ask for a book and its report, or its answers, have that status; the
+/// sink then took these whole, or the last line: what a report calls accepted is true in the standard model, and the theorems that
+/// were written are accepted when they are read again. `Help` comes where the words ask how the program is used, and `Usage` where
+/// they ask for nothing that it does. `ReadFault` and `WriteFault` come where the source, or the sink, counted a fault in this call, and
+/// `Memory` where memory was refused: what the sink took is a prefix of a text that was due, and at a fault in reading what is due
+/// for all data that are complete in the bytes read, which hold no fault of the text.
 pub fn run<S: Source, K: Sink>(
     alloc: Global,
     words: &[Text],
@@ -43,9 +46,11 @@ pub fn run<S: Source, K: Sink>(
     ensures source_steady { result ≢ Status.ReadFault → S.faults source.new ≡ S.faults source.old }
     ensures sink_steady { result ≢ Status.WriteFault → K.faults sink.new ≡ K.faults sink.old }
 {
+    answers_promised();
     match request_of(alloc, words) {
         Ok(Request::Check { steps }) => check(alloc, steps, source, sink),
         Ok(Request::Trial { events, steps }) => judge_trial(alloc, events, steps, sink),
+        Ok(Request::Taut) => taut(alloc, source, sink),
         Ok(Request::Help) => match write_help(sink) {
             Ok(()) => Status::Help,
             Err(status) => status,

@@ -1,6 +1,7 @@
 //! Judging a book from its bytes to its report.
 #![tactic(auto)]
 
+mod answer;
 mod check;
 mod command;
 mod judging;
@@ -9,9 +10,14 @@ mod nowhere;
 mod number;
 mod output;
 mod program;
+mod promise;
+mod proving;
 mod reading;
 mod status;
+mod taut;
 mod trial;
+mod trying;
+mod verdict;
 mod words;
 
 pub use command::run;

@@ -91,8 +91,8 @@ pub(crate) fn write_fault(lines: &mut Vec<u8>, kind: SyntaxKind, offset: u64) ->
     Ok(())
 }
 
-// Writes a natural in decimal digits.
-fn write_number(lines: &mut Vec<u8>, n: u64) -> Result<(), Memory>
+/// Writes a natural in decimal digits.
+pub(crate) fn write_number(lines: &mut Vec<u8>, n: u64) -> Result<(), Memory>
     ensures { OnOk result (lines.new.items ≡ lines.old.items ++ numeral n) }
 {
     let mut buffer = Buffer::new();
@@ -121,8 +121,8 @@ fn write_symbol(lines: &mut Vec<u8>, heap: &Heap, x: Ref) -> Result<(), Memory>
     }
 }
 
-// Writes a member that is shown, or a dash where there is none.
-fn write_shown(lines: &mut Vec<u8>, heap: &Heap, x: Option<Ref>) -> Result<(), Memory>
+/// Writes a member that is shown, or a dash where there is none.
+pub(crate) fn write_shown(lines: &mut Vec<u8>, heap: &Heap, x: Option<Ref>) -> Result<(), Memory>
     requires { IsShown heap.now.objects x }
     ensures { OnOk result (lines.new.items ≡ lines.old.items ++ shown_text heap.now.objects x) }
 {

@@ -2,12 +2,13 @@
 ghost use Rattle.std.specs.Prelude.{◌≡◌, false, IfOk};
 ghost use Rattle.clap.specs.Words.{app_of, shape_of, rule_of};
 ghost use Rattle.clap.specs.declared.builder.command.Command.TheViews.{out-Command as fields_of};
-ghost use Rattle.mw_model.specs.Command as model;
+ghost use Rattle.mw_model.specs.Commands as model;
+ghost use Rattle.mw_model.specs.Command as arguments;
 
 use clap::{Arg, ArgAction, Command};
 use std::alloc::{AllocError, Global};
 
-/// The command with its subcommands `check` and `trial`.
+/// The command with its subcommands `check`, `trial` and `taut`.
 pub(crate) fn program<'a>(alloc: Global) -> Result<Command<'a>, AllocError>
     ensures { IfOk result (λ c. app_of c ≡ model.program) }
 {
@@ -16,12 +17,13 @@ pub(crate) fn program<'a>(alloc: Global) -> Result<Command<'a>, AllocError>
     Command::new(alloc, "milawa")
         .no_binary_name(true)
         .subcommand(check)?
-        .subcommand(trial)
+        .subcommand(trial)?
+        .subcommand(taut_command(alloc))
 }
 
 // check [--steps N]
 fn check_command<'a>(alloc: Global) -> Result<Command<'a>, AllocError>
-    ensures shape { IfOk result (λ c. shape_of c ≡ model.check_command) }
+    ensures shape { IfOk result (λ c. shape_of c ≡ arguments.check_command) }
     ensures local { IfOk result (λ c. (fields_of c).has_globals ≡ false) }
 {
     Command::new(alloc, "check").arg(steps_option(alloc))
@@ -29,7 +31,7 @@ fn check_command<'a>(alloc: Global) -> Result<Command<'a>, AllocError>
 
 // trial M [--steps N]
 fn trial_command<'a>(alloc: Global) -> Result<Command<'a>, AllocError>
-    ensures shape { IfOk result (λ c. shape_of c ≡ model.trial_command) }
+    ensures shape { IfOk result (λ c. shape_of c ≡ arguments.trial_command) }
     ensures local { IfOk result (λ c. (fields_of c).has_globals ≡ false) }
 {
     Command::new(alloc, "trial")
@@ -37,8 +39,16 @@ fn trial_command<'a>(alloc: Global) -> Result<Command<'a>, AllocError>
         .arg(steps_option(alloc))
 }
 
+// taut
+fn taut_command<'a>(alloc: Global) -> Command<'a>
+    ensures shape { shape_of result ≡ model.plain_command "taut" }
+    ensures local { (fields_of result).has_globals ≡ false }
+{
+    Command::new(alloc, "taut")
+}
+
 fn steps_option<'a>(alloc: Global) -> Arg<'a>
-    ensures rule { rule_of result ≡ model.steps_option }
+    ensures rule { rule_of result ≡ arguments.steps_option }
     ensures local { result.global ≡ false }
 {
     Arg::new(alloc, "steps")
@@ -47,7 +57,7 @@ fn steps_option<'a>(alloc: Global) -> Arg<'a>
 }
 
 fn events_argument<'a>(alloc: Global) -> Arg<'a>
-    ensures rule { rule_of result ≡ model.events_argument }
+    ensures rule { rule_of result ≡ arguments.events_argument }
     ensures local { result.global ≡ false }
 {
     Arg::new(alloc, "events")

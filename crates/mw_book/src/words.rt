@@ -1,7 +1,8 @@
 //! The words of the command line.
 ghost use Rattle.std.specs.Prelude.{◌≡◌, ℕ, IfOk, option_map};
 ghost use Rattle.clap.specs.Words.{subcommand_rows_of};
-ghost use Rattle.mw_model.specs.Command as model;
+ghost use Rattle.mw_model.specs.Commands as model;
+ghost use Rattle.mw_model.specs.Command as numbers;
 ghost use Rattle.mw_book.specs.Words.{meaning_of};
 
 use crate::number::number_within;
@@ -20,6 +21,8 @@ pub(crate) enum Request {
     Check { steps: u64 },
     /// To judge the trial book of so many events, with this step limit.
     Trial { events: u64, steps: u64 },
+    /// To prove the formulas that are tautologies.
+    Taut,
     /// To show how the program is used.
     Help,
     /// Nothing that the program does.
@@ -48,7 +51,7 @@ pub(crate) fn request_of(alloc: Global, words: &[Text]) -> Result<Request, Memor
 
 // Is `--help` the only word?
 fn is_help(words: &[Text]) -> bool
-    ensures { result ≡ model.is_help words.now }
+    ensures { result ≡ numbers.is_help words.now }
 {
     match words {
         [word] => word.as_str() == "--help",
@@ -60,24 +63,58 @@ fn is_help(words: &[Text]) -> bool
 fn request_by(matches: &ArgMatches<'_>) -> Request
     ensures { meaning_of result ≡ model.request_of (subcommand_rows_of matches.now) }
 {
-    let Some((name, found)) = matches.subcommand() else {
-        return Request::Usage;
-    };
-    let Some(steps) = steps_of(found.get_str("steps")) else {
-        return Request::Usage;
-    };
-    if name == "check" {
-        return Request::Check { steps };
+    match matches.subcommand() {
+        Some((name, found)) => request_with(
+            name,
+            steps_of(found.get_str("steps")),
+            events_of(found.get_str("events")),
+        ),
+        None => Request::Usage,
     }
-    match events_of(found.get_str("events")) {
-        Some(events) => Request::Trial { events, steps },
+}
+
+// What a subcommand of this name asks for, with these numbers.
+fn request_with(name: &str, steps: Option<u64>, events: Option<u64>) -> Request
+    ensures { meaning_of result ≡ model.request_with name.now steps events }
+{
+    if name == "check" {
+        return check_with(steps);
+    }
+    if name == "trial" {
+        return trial_with(events, steps);
+    }
+    if name == "taut" {
+        return Request::Taut;
+    }
+    Request::Usage
+}
+
+// To judge the book, where there is a step limit.
+fn check_with(steps: Option<u64>) -> Request
+    ensures { meaning_of result ≡ model.with_number model.Check steps }
+{
+    match steps {
+        Some(steps) => Request::Check { steps },
+        None => Request::Usage,
+    }
+}
+
+// To judge the trial book, where there are both numbers.
+fn trial_with(events: Option<u64>, steps: Option<u64>) -> Request
+    ensures { meaning_of result ≡ model.trial_with events steps }
+{
+    let Some(events) = events else {
+        return Request::Usage;
+    };
+    match steps {
+        Some(steps) => Request::Trial { events, steps },
         None => Request::Usage,
     }
 }
 
 // The step limit: from 1 to 10^12.
 fn steps_of(text: Option<&str>) -> Option<u64>
-    ensures { result ≡ model.steps_of (option_map (λ s. s.now) text.entry) }
+    ensures { result ≡ numbers.steps_of (option_map (λ s. s.now) text.entry) }
 {
     match text {
         Some(text) => number_within(text, 13, 1, 1_000_000_000_000),
@@ -87,7 +124,7 @@ fn steps_of(text: Option<&str>) -> Option<u64>
 
 // How many events the trial book has: up to 10^6.
 fn events_of(text: Option<&str>) -> Option<u64>
-    ensures { result ≡ model.events_of (option_map (λ s. s.now) text.entry) }
+    ensures { result ≡ numbers.events_of (option_map (λ s. s.now) text.entry) }
 {
     number_within(text?, 7, 0, 1_000_000)
 }

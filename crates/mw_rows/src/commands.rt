@@ -9,10 +9,10 @@ const BOOK: &str = "(print 1)";
 
 const REPORT: &str = "1 PRINT - accepted 1\nevents 1 accepted 1 refused 0 level 1\n";
 
-const HELP: &str = "milawa check [--steps N]\nmilawa trial M [--steps N]\n";
+const HELP: &str = "milawa check [--steps N]\nmilawa trial M [--steps N]\nmilawa taut\n";
 
 // Words that ask for nothing that the program does.
-const OTHERS: [&[&str]; 23] = [
+const OTHERS: [&[&str]; 25] = [
     &[],
     &["check", "--steps", "0"],
     &["check", "--steps", "1000000000001"],
@@ -36,6 +36,8 @@ const OTHERS: [&[&str]; 23] = [
     &["trial", "00000001"],
     &["trial", "2", "3"],
     &["Check"],
+    &["taut", "x"],
+    &["taut", "--steps", "5"],
 ];
 
 // Words that ask for a book to be judged.

@@ -42,6 +42,8 @@ mod shared;
 #[cfg(test)]
 mod switches;
 #[cfg(test)]
+mod taut;
+#[cfg(test)]
 mod trial;
 #[cfg(test)]
 mod wrap;

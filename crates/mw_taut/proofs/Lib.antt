@@ -11,6 +11,8 @@ pub mod Choosing
 pub mod Branches
 pub mod Assumed
 pub mod DecidedBy
+pub mod InRange
+pub mod PureProofs
 pub mod Building
 pub mod Falls
 pub mod Compiling

@@ -2,6 +2,7 @@
 use Rattle.std.proofs.Common.{◌∙◌, refl, sym, subst, [], take, arith}
 use Rattle.std.proofs.lemmas.List.{length-take-le}
 use Rattle.std.proofs.lemmas.Result.{err_from_is_err_and}
+use Rattle.mw_model.specs.Commands.{Check}
 use Rattle.mw_port.specs.Ports.{Gives}
 use Rattle.mw_book.specs.Checks.{SinkCounts}
 use Rattle.mw_book.proofs.Rounds.{between_none, here, count_short, room_for, read_fails, part_here, whole_end, whole_fault, taken_all, write_stops, between_more, halt_ends, halt_reads, halt_stops}
@@ -83,7 +84,7 @@ returns-in_err-write_lines g c =
       few = tt;
       steady = tt;
       stops = halt_stops s c.in_err-write_lines.ensures.halt;
-      ends = halt_ends c.args.judging.now.kernel.steps input now (g.K.Sink.taken c.args.sink.now) (g.K.Sink.taken c.write_lines.new.sink) s c.in_err-write_lines.ensures.halt stops;
+      ends = halt_ends (Check c.args.judging.now.kernel.steps) input now (g.K.Sink.taken c.args.sink.now) (g.K.Sink.taken c.write_lines.new.sink) s c.in_err-write_lines.ensures.halt stops;
       source_counts = halt_reads s (g.S.Source.faults c.args.source.now) (g.S.Source.faults c.read.new.self) c.in_err-write_lines.ensures.halt (c.in-Ok.ensures.steady ∙ c.loop.invariant.source_steady);
       sink_counts = subst (λ n. SinkCounts s n (g.K.Sink.faults c.write_lines.new.sink)) c.loop.invariant.sink_steady c.in_err-write_lines.ensures.sink_counts;
     })

@@ -1,0 +1,56 @@
+-- What one datum more adds, and the numbers of the last line.
+use Rattle.std.proofs.Common.{◌≡◌, ℕ, suc, ◌+◌, ◌-◌, Bool, true, false, cond, not, List, [], ◌∷◌, ◌++◌, length, refl, sym, ap, ap₂, ◌∙◌, subst, arith, append_assoc, append-nil}
+use Rattle.std.proofs.lemmas.List.{length_push}
+use Rattle.mw_model.specs.Object.{Object}
+use Rattle.mw_model.specs.Pieces.{how_many}
+use Rattle.mw_model.specs.TautologyBook.{OwesTautology, is_proved, tautology_summary}
+use Rattle.mw_book.specs.Answered.{AreAnswers, Answered, Answers}
+use Rattle.mw_book.specs.Lines.{formulas_line}
+use Rattle.mw_book.specs.declared.proving.Proving.{Proving}
+use Rattle.mw_book.proofs.Promising.{answers_both}
+
+abbrev pub is_unproved : Object → Bool
+is_unproved x = not (is_proved x)
+
+how_many-append : (test : Object → Bool) (xs : List Object) (y : Object) → how_many test (xs ++ y ∷ []) ≡ how_many test xs + cond (test y) 1 0
+how_many-append test [] y = let e : cond (test y) 1 0 + 0 ≡ 0 + cond (test y) 1 0 = omega arith in e
+how_many-append test (x ∷ xs) y = let h = how_many-append test xs y in let e : cond (test x) 1 0 + how_many test (xs ++ y ∷ []) ≡ (cond (test x) 1 0 + how_many test xs) + cond (test y) 1 0 = omega (arith, h) in e
+
+-- each datum is proved or not
+all_counted : (xs : List Object) → how_many is_proved xs + how_many is_unproved xs ≡ length xs
+all_counted [] = refl
+all_counted (x ∷ xs) = go (is_proved x) (all_counted xs)
+  where
+    go : (b : Bool) → how_many is_proved xs + how_many is_unproved xs ≡ length xs → (cond b 1 0 + how_many is_proved xs) + (cond (not b) 1 0 + how_many is_unproved xs) ≡ suc (length xs)
+    go true h = omega (arith, h)
+    go false h = omega (arith, h)
+
+pub summary_is : (j : Proving) (given : List Object) → Answered j given → formulas_line j.formulas (j.formulas - j.unproved) ≡ tautology_summary given ++ 10 ∷ []
+summary_is j given h =
+    let p : j.formulas - j.unproved ≡ how_many is_proved given = omega (arith, h.counted, h.unproved_counted, all_counted given) in
+    ap₂ formulas_line h.counted p
+
+-- a datum was answered by this piece
+pub answers_one : (old new : Proving) (x : Object) (b : Bool) (piece : List ℕ) →
+    OwesTautology (old.formulas + 1, x) piece → is_proved x ≡ b →
+    new.lines.items ≡ old.lines.items ++ piece →
+    new.formulas ≡ old.formulas + 1 →
+    new.unproved ≡ old.unproved + cond b 0 1 →
+    (given : List Object) → Answers old given new (given ++ x ∷ [])
+answers_one old new x b piece owed proved lines counted unproved given = record {
+  answered = λ h. record {
+    counted = counted ∙ ap (λ k. k + 1) h.counted ∙ sym (length_push given x);
+    unproved_counted = unproved ∙ ap₂ (λ k n. k + n) h.unproved_counted (by_value b (is_proved x) proved) ∙ sym (how_many-append is_unproved given x);
+  };
+  lines = λ h written due.
+      let number : old.formulas + 1 ≡ 1 + length given = omega (arith, h.counted) in
+      let one = subst (λ k. OwesTautology (k, x) piece) number owed in
+      subst (AreAnswers (given ++ x ∷ [])) (append_assoc written old.lines.items piece ∙ ap (λ u. written ++ u) (sym lines))
+      (answers_both given (x ∷ []) (written ++ old.lines.items) piece due (piece, [], sym (append-nil piece), one, refl));
+}
+  where
+    by_value : (c d : Bool) → d ≡ c → ◌≡◌ {A = ℕ} (cond c 0 1) (cond (not d) 1 0)
+    by_value true true e = refl
+    by_value false false e = refl
+    by_value true false e = cc
+    by_value false true e = cc

@@ -1,0 +1,9 @@
+-- The laws of what is written, of tautologies and of proofs, put together.
+use Rattle.mw_book.proofs.Promising.{whole, begun}
+use Rattle.mw_book.proofs.promise.answers_promised.Goals as goal
+
+pub returns-clause-whole : goal.returns-clause-whole
+returns-clause-whole c = whole c.labelled_texts_are_read.ensures c.tautologies_have_proofs.ensures c.tautologies_again.ensures
+
+pub returns-clause-begun : goal.returns-clause-begun
+returns-clause-begun c = begun c.labelled_texts_are_read.ensures c.tautologies_have_proofs.ensures c.tautologies_again.ensures

@@ -1,0 +1,164 @@
+//! Books of formulas, and what `taut` writes for them.
+use crate::row::{Answer, Row, answer_between, answer_to, answer_within};
+use mw_book::Status;
+use mw_port::{MemSink, MemSource};
+use mw_read::SyntaxKind;
+use std::alloc::{AllocError, Global};
+use std::test::Fail;
+
+const EXCLUDED_MIDDLE: &str = "(em (por* (pequal* x y) (pnot* (pequal* x y))))";
+
+// Books of which no formula is proved.
+const UNPROVED: [Row; 14] = [
+    Row {
+        book: "",
+        report: "; formulas 0 proved 0\n",
+        status: Status::Done,
+    },
+    Row {
+        book: "(no (por* (pequal* x y) (pequal* y x)))",
+        report: "; 1 NO FALSE (((PEQUAL* X Y)) ((PEQUAL* Y X)))\n; formulas 1 proved 0\n",
+        status: Status::SomeRefused,
+    },
+    Row {
+        book: "(no (pnot* (pequal* x y)))",
+        report: "; 1 NO FALSE (((PEQUAL* X Y) . T))\n; formulas 1 proved 0\n",
+        status: Status::SomeRefused,
+    },
+    Row {
+        book: "(many (por* (pequal* a a) (por* (pequal* b b) (por* (pequal* c c) (por* (pequal* d d) (por* (pequal* e e) (por* (pequal* f f) (por* (pequal* g g) (por* (pequal* h h) (por* (pequal* i i) (por* (pequal* j j) (por* (pequal* k k) (por* (pequal* l l) (por* (pequal* m m) (pnot* (pequal* a a))))))))))))))))",
+        report: "; 1 MANY MANY\n; formulas 1 proved 0\n",
+        status: Status::SomeRefused,
+    },
+    Row {
+        book: "7",
+        report: "; 1 - SHAPE\n; formulas 1 proved 0\n",
+        status: Status::SomeRefused,
+    },
+    Row {
+        book: "(a)",
+        report: "; 1 A SHAPE\n; formulas 1 proved 0\n",
+        status: Status::SomeRefused,
+    },
+    Row {
+        book: "(a (pequal* x x) b)",
+        report: "; 1 A SHAPE\n; formulas 1 proved 0\n",
+        status: Status::SomeRefused,
+    },
+    Row {
+        book: "(a (pequal* x x) . b)",
+        report: "; 1 A SHAPE\n; formulas 1 proved 0\n",
+        status: Status::SomeRefused,
+    },
+    Row {
+        book: "((a) (pequal* x x))",
+        report: "; 1 - SHAPE\n; formulas 1 proved 0\n",
+        status: Status::SomeRefused,
+    },
+    Row {
+        book: "(a (pequal* x (none x)))",
+        report: "; 1 A SHAPE\n; formulas 1 proved 0\n",
+        status: Status::SomeRefused,
+    },
+    Row {
+        book: "(large (pequal* x '340282366920938463463374607431768211456))",
+        report: "; 1 LARGE SHAPE\n; formulas 1 proved 0\n",
+        status: Status::SomeRefused,
+    },
+    Row {
+        book: "(a) (b (pequal* x y)) 7",
+        report: "; 1 A SHAPE\n; 2 B FALSE (((PEQUAL* X Y)))\n; 3 - SHAPE\n; formulas 3 proved 0\n",
+        status: Status::SomeRefused,
+    },
+    Row {
+        book: ")",
+        report: "; syntax CLOSE at 0\n",
+        status: Status::Syntax(SyntaxKind::Close, 0),
+    },
+    Row {
+        book: "(a) (b",
+        report: "; 1 A SHAPE\n; syntax END at 6\n",
+        status: Status::Syntax(SyntaxKind::End, 6),
+    },
+];
+
+// What `taut` answers to a book that it reads in pieces of so many bytes.
+fn proofs_of(alloc: Global, book: &str, size: usize) -> Result<Answer, AllocError> {
+    answer_within(alloc, &["taut"], book, size)
+}
+
+// The books to which it does not answer so, with what it answered.
+fn wrong_proofs(alloc: Global, rows: &[Row], size: usize) -> Result<String, AllocError> {
+    let mut wrong = String::new(alloc);
+    for row in rows {
+        let answer = proofs_of(alloc, row.book, size)?;
+        if answer.report.as_str() != row.report || answer.status != row.status {
+            wrong.push_str(row.book)?;
+            wrong.push_str("\n")?;
+            wrong.push_str(answer.report.as_str())?;
+        }
+    }
+    Ok(wrong)
+}
+
+// What it answers where the reads and the writes of these numbers fail.
+fn proofs_with_faults(alloc: Global, reads: &[u64], writes: &[u64]) -> Result<Answer, AllocError> {
+    let bytes = Vec::from_slice(alloc, b"(a) (b (pequal* x y)) 7")?;
+    let pieces = vec![in alloc; 5; 23]?;
+    let mut source = MemSource::new(bytes, pieces, Vec::from_slice(alloc, reads)?);
+    let taken = vec![in alloc; 3; 100]?;
+    let mut sink = MemSink::with_cuts(alloc, taken, Vec::from_slice(alloc, writes)?);
+    answer_between(alloc, &["taut"], &mut source, &mut sink)
+}
+
+#[test]
+fn what_is_no_tautology_has_a_comment(rt: HostRuntime) -> Result<(), Fail> {
+    let wrong = wrong_proofs(rt.alloc(), &UNPROVED, 4096)?;
+    assert_eq!(rt; wrong.as_str(), "");
+    Ok(())
+}
+
+#[test]
+fn what_is_read_byte_by_byte_is_answered_in_the_same_way(rt: HostRuntime) -> Result<(), Fail> {
+    let wrong = wrong_proofs(rt.alloc(), &UNPROVED, 1)?;
+    assert_eq!(rt; wrong.as_str(), "");
+    Ok(())
+}
+
+#[test]
+fn a_tautology_is_proved(rt: HostRuntime) -> Result<(), Fail> {
+    let answer = proofs_of(rt.alloc(), EXCLUDED_MIDDLE, 4096)?;
+    assert_eq!(rt; answer.status, Status::Done);
+    assert!(rt;
+        answer
+            .report
+            .as_str()
+            .ends_with("\n; formulas 1 proved 1\n")
+    );
+    Ok(())
+}
+
+#[test]
+fn what_is_written_is_accepted(rt: HostRuntime) -> Result<(), Fail> {
+    let answer = proofs_of(rt.alloc(), EXCLUDED_MIDDLE, 4096)?;
+    let again = answer_to(rt.alloc(), answer.report.as_str(), 4096)?;
+    let due = "1 VERIFY EM accepted\nevents 1 accepted 1 refused 0 level 1\n";
+    assert_eq!(rt; again.report.as_str(), due);
+    Ok(())
+}
+
+#[test]
+fn what_was_written_first_stays_where_a_read_fails(rt: HostRuntime) -> Result<(), Fail> {
+    let answer = proofs_with_faults(rt.alloc(), &[3], &[])?;
+    assert_eq!(rt; answer.status, Status::ReadFault);
+    assert_eq!(rt; answer.report.as_str(), "; 1 A SHAPE\n");
+    Ok(())
+}
+
+#[test]
+fn what_was_written_first_stays_where_a_write_fails(rt: HostRuntime) -> Result<(), Fail> {
+    let answer = proofs_with_faults(rt.alloc(), &[], &[3])?;
+    assert_eq!(rt; answer.status, Status::WriteFault);
+    assert_eq!(rt; answer.report.as_str(), "; 1 A ");
+    Ok(())
+}
