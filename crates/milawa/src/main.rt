@@ -1,4 +1,4 @@
-//! The program `milawa`: judges a book of events on standard input, and writes its report to standard output.
+//! The program `milawa`: does what its words ask for, with the book on standard input, and writes to standard output.
 #![tactic(auto)]
 
 use mw_book::{Status, run};

@@ -89,8 +89,8 @@ fn admit_list(heap: &mut Heap, defs: Ref, arity: &Arity) -> Result<Admitted, Mem
 /// `defs` is such a list, that the names are new and none comes twice, that each has a list of formals, that the bodies expand to
 /// terms, where the functions may be called, and the measures to terms, where they may not, that both have no variables but the
 /// formals, and that no function of the block is called in an actual of a call of one. Where all pass it answers the obligations, in
-/// order and each once, the axioms, and the entries. A block whose calls take more than 2^24 looks is answered as out of memory, and so
-/// is one that takes more looks than the heap allows.
+/// order and each once, the axioms, and the entries. A body in which the search for calls comes to more than 2^24 parts is answered as out
+/// of memory, and so is a block that takes more looks than the heap allows.
 pub fn admit_block(heap: &mut Heap, defs: Ref, arity: &Arity) -> Admitted
     requires { IsIn heap.old.objects defs }
     ensures grows { Grows heap.old.objects heap.new.objects }

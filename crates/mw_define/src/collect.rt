@@ -93,6 +93,7 @@ pub(crate) fn find_calls(
     ensures found { IfOk result (λ fs. AreFoundCalls heap.new.objects (names_at heap.old.objects names.now.keys) fs.items) }
     ensures calls { IfOk result (λ fs. (B : List Function) (t : Term) → HasNames B (names_at heap.old.objects names.now.keys) → term_of (object_at heap.old.objects term) ≡ Some t → found_calls B heap.new.objects fs.items ≡ collect B [] t) }
 {
+    // one walk over the distinct parts of the body, which needs no bound
     let mut looks_left = u64::MAX;
     if mentions_some(heap, names, Piece::Term(term), &mut looks_left)? {
         check_size(heap, term)?;

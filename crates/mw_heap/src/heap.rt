@@ -163,7 +163,7 @@ impl Heap {
     }
 
     /// Keeps the words as the first objects, from now on and until a cut takes one away: then each is found without a search, and needs
-    /// no memory. The error is memory that is refused, or that other objects came first.
+    /// no memory. The error is memory that is refused, or that other objects came first: the heap may then have grown, and keeps none.
     pub fn keep_words(&mut self) -> Result<(), Memory>
         ensures { Grows self.old.objects self.new.objects }
     {

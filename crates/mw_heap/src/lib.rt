@@ -1,5 +1,5 @@
-//! Objects in memory: naturals, symbols and pairs, each kept once and named by its index. And the words that the layers above share:
-//! out of memory, the primitives, the profiles and the reasons of refusal.
+//! Objects in memory: naturals, symbols and pairs, each kept once and named by its index. And what the layers above share: out of memory,
+//! the words of the logic, the primitives, the profiles and the reasons of refusal.
 #![tactic(auto)]
 
 mod bare;

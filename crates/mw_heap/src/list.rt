@@ -6,7 +6,7 @@ ghost use Rattle.mw_heap.specs.Lists.{list_object};
 
 use crate::{Heap, Memory, Ref};
 
-/// The list of these members.
+/// The list of these members. The error is memory that is refused: the heap may then have grown.
 pub fn list_of(heap: &mut Heap, members: &[Ref]) -> Result<Ref, Memory>
     requires { All (IsIn heap.old.objects) members.now }
     ensures grows { Grows heap.old.objects heap.new.objects }
@@ -19,7 +19,7 @@ pub fn list_of(heap: &mut Heap, members: &[Ref]) -> Result<Ref, Memory>
     Ok(list)
 }
 
-/// The list of the symbol of this name and, after it, of these members.
+/// The list of the symbol of this name and, after it, of these members. The error is that of `list_of`.
 pub fn form_of(heap: &mut Heap, head: &[u8], members: &[Ref]) -> Result<Ref, Memory>
     requires name { is_name head.now ≡ true }
     requires members { All (IsIn heap.old.objects) members.now }

@@ -12,7 +12,7 @@ use mw_code::{Entry, Table};
 use mw_heap::{Heap, Ref};
 use mw_machine::{Machine, Outcome};
 
-// The units and the places of the stack for which room is made first, and the instructions that a run may then take, of which it has no count.
+// Room is made first for runs of at most so many units and places of the stack, and so many instructions, which such a run does not count.
 const MOST_UNITS: u64 = 10_000;
 
 const MOST_PLACES: u64 = 1 << 24;

@@ -1,5 +1,5 @@
--- What the words of the command line ask for, with `taut`. What they ask for without it is in Command. Requests that no words make yet are those of
--- commands that are still to come.
+-- What the words of the command line ask for. How `clap` reads their options, and the numbers among them, is in Command. Requests that no words make
+-- yet are those of commands that are still to come.
 use Rattle.std.specs.Prelude.{ℕ, true, cond, List, [], ◌∷◌, ◌++◌, Option, Some, None, codes}
 use Prim.Native.String.{String}
 use Rattle.mw_model.specs.Object.{Name, same_bytes}

@@ -4,7 +4,7 @@ ghost use Rattle.mw_model.specs.Object.{Object};
 ghost use Rattle.mw_model.specs.Written.{IsLabelled};
 ghost use Rattle.mw_print.specs.Labelling.{labelled_text, labelled_next};
 
-/// Whichever pairs have labels, the text with labels of an object is read as just this object, and so it is before more; it holds no
+/// Whichever pairs have labels, the text with labels of an object is read as just this object, also before a further symbol; it holds no
 /// line end, and its labels are numbered upwards from the first one.
 pub fn labelled_texts_are_read()
     ensures { (has_label : Object → Bool) (x : Object) (first : ℕ) → IsLabelled x first (labelled_text has_label x first) (labelled_next has_label x first) }

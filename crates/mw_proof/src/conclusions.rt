@@ -9,7 +9,8 @@ use indexmap::IndexSet;
 use mw_heap::{Heap, Memory, Ref, View};
 use mw_term::{Marks, is_formula};
 
-/// The conclusions of a proper list of objects, where there are at most `most` and each is a formula. Then the objects are found. It looks at one more cell of the list at most.
+/// The conclusions of a proper list of objects, where there are at most `most` and each is a formula; then the objects are added to those
+/// found. It looks at one more cell of the list at most. The error is memory that is refused.
 pub fn conclusions_of(
     heap: &Heap,
     subproofs: Ref,

@@ -6,7 +6,7 @@ ghost use Rattle.mw_proof.specs.Members.{AreMembers, IsNext};
 
 use mw_heap::{Heap, Ref, View};
 
-/// What a proof is a list of.
+/// The members of a proof: what it is a list of.
 #[derive(Clone, Copy)]
 pub struct Members {
     pub method: Ref,

@@ -10,7 +10,7 @@ ghost use Rattle.mw_proof.specs.Counted.{most_subproofs};
 
 use mw_heap::{Heap, Ref, Word};
 
-/// How a conclusion follows.
+/// One of the twelve methods of proof: how a conclusion follows.
 #[derive(Clone, Copy, Debug, PartialEq, Eq)]
 pub enum Method {
     Axiom,

@@ -26,8 +26,9 @@ pub enum Rewritten {
 pub trait Rewriter {
     ghost turns: { Turning };
 
-    /// What `proof` turns to over these axioms and theorems, under the arity table and in the profile. The first two axioms of the
-    /// primitives, of equality, are among the axioms. The marks, which are under that table, may come to reach further.
+    /// What `proof` turns to over these axioms and theorems, under the arity table and in the profile; `Keep` where it turns to nothing.
+    /// The first two axioms of the primitives, of equality, are among the axioms. The marks, which are under that table, may come to
+    /// reach further.
     fn rewrite(
         &mut self,
         heap: &mut Heap,

@@ -30,7 +30,7 @@ eqb-suc m n = go (eqb m n) refl
     go true e = eq-eqb (suc m) (suc n) (ap suc (eqb-true m n e))
     go false e = sym (differ (suc m) (suc n) (λ k. let same : m ≡ n = omega (arith, k) in let both = sym (eq-eqb m n same) ∙ e in cc))
 
--- after m members the list ends just where it has so many
+-- after m members the list ends exactly when it has so many
 pub ends_at : (m l : ℕ) (x : Object) → l ≡ m + length_of x → not (is_pair x) ≡ eqb m l
 ends_at m l (Natural n) e = sym (eq-eqb m l (omega (arith, e)))
 ends_at m l (Symbol s) e = sym (eq-eqb m l (omega (arith, e)))

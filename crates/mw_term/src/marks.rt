@@ -123,7 +123,7 @@ fn mark_up_to(
 #[derive(Drop)]
 pub struct Marks {
     cells: Vec<CellMark>,
-    // how many of the heap's objects had marks, before some of these were forgotten
+    // how many of the heap's first objects have had marks: of those that have none now they were forgotten
     had: usize,
     // how many marks may still be made anew
     anew: u64,
@@ -192,7 +192,8 @@ impl Marks {
     }
 
     /// Adds the marks of the objects of the heap below a mark, at the cost of `mark_terms` for these. The error is memory that is
-    /// refused, also where marks were forgotten and made anew too often: 2^26 times, and 256 times for each new mark. Then nothing changes.
+    /// refused, also where the allowance of `mark_terms` is used up, and where more marks than 2^26, and 256 for each new one, were
+    /// forgotten and made anew. Then the marks stay.
     pub fn extend(&mut self, heap: &Heap, arity: &Arity, below: Mark) -> Result<(), Memory>
         requires marked { AreMarks arity.now heap.now.objects self.old }
         requires from { length self.old ≤ below }
