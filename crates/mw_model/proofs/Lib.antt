@@ -60,6 +60,7 @@ mod ExamplesLogs
 mod ExamplesCommands
 mod ExamplesTautologies
 pub mod Demands
+pub mod Settling
 pub mod Deriving
 pub mod SlicePlaces
 pub mod WrittenData
@@ -84,4 +85,9 @@ pub mod LinesGrow
 pub mod FromNothing
 pub mod OneLine
 pub mod Theorems
+pub mod Comments
 pub mod TautologiesAgain
+pub mod FirstAxioms
+pub mod LoweredEvent
+pub mod LoweredAccepted
+pub mod LoweringsAgain

@@ -3,13 +3,13 @@ use Rattle.std.proofs.Common.{◌≡◌, ℕ, Bool, true, false, not, cond, List
 use Rattle.std.proofs.lemmas.Bool.{and_parts, not-true}
 use Rattle.mw_model.specs.Object.{Name, Object, Natural, Symbol, Pair, same_object, NIL, car, second_of, third_of, fourth_of, fifth_of, has_members, list1}
 use Rattle.mw_model.specs.Term.{Formula, formula_object, ArityTable}
-use Rattle.mw_model.specs.Reading.{formula_under, when}
+use Rattle.mw_model.specs.Reading.{formula_under}
 use Rattle.mw_model.specs.Primitive.{Profile, is_symbol}
 use Rattle.mw_model.specs.Definition.{arity_table}
 use Rattle.mw_model.specs.Truth.{Each}
 use Rattle.mw_model.specs.Proof.{HasMembers, two, three, four, Proves, proof, ProveEach, no_proofs, more_proofs}
 use Rattle.mw_model.specs.Theory.{Theory}
-use Rattle.mw_model.specs.Refusal.{RANGE, EVENT, NAME, FORMULA, PROOF, CONCLUSION, COUNT, Fate, Accepted, Refused, accept, need, must, unless}
+use Rattle.mw_model.specs.Refusal.{NAME, FORMULA, PROOF, CONCLUSION, COUNT, Fate, Accepted, Refused, accept, must, unless}
 use Rattle.mw_model.specs.Checking.{no_unless, judged_by, judged_as, or_else}
 use Rattle.mw_model.specs.Admission.{skolem}
 use Rattle.mw_model.specs.Fate.{EventWord, Verify, Define, Skolem, Switch, Eval, Print, DefineAll, SetProfile, event_words, event_word_among, member_count, with_members, event_word, profile, is_out_of_range, happens}
@@ -21,6 +21,7 @@ use Rattle.mw_model.proofs.SameTerms.{same_formula-eq}
 use Rattle.mw_model.proofs.ReadBack.{some_one, when_some}
 use Rattle.mw_model.proofs.Judging.{good_judge}
 use Rattle.mw_model.proofs.Demands.{as_before}
+use Rattle.mw_model.proofs.Settling.{under_word}
 use Rattle.mw_model.proofs.Logs.{car_in_range, second_in_range, third_in_range, fourth_in_range, fifth_in_range, pair_in_range, HasProof, HaveProofs, nothing_to_prove, one_more, numbered_proof, conclusions_proved}
 
 -- ---- what a yes comes from
@@ -86,7 +87,7 @@ module _ (ax th : Object) (A : ArityTable) (P : Profile) where
   as_many Fs ps no_proofs = refl
   as_many Fs ps (more_proofs p qs F Gs g gs) = as_many Gs qs gs
 
-  second_is : (p m c ps x : Object) → HasMembers p m c ps x → second_of p ≡ c
+  pub second_is : (p m c ps x : Object) → HasMembers p m c ps x → second_of p ≡ c
   second_is p m c ps x (two a b) = refl
   second_is p m c ps x (three a b d) = refl
   second_is p m c ps x (four a b d y) = refl
@@ -232,11 +233,7 @@ same_formulas_brought Eval next e ps = refl
 same_formulas_brought Print next e ps = refl
 
 pub happens_as : (t : Theory) (N : ℕ) (e : Object) (w : EventWord) → is_out_of_range e ≡ false → event_word e ≡ Some w → happens t N e ≡ happens_by_under judged_as w t N e
-unfolding need
-happens_as t N e w h k =
-    sym (as_before t N e)
-    ∙ (ap (λ b. need t RANGE (when (not b) (Some e)) (λ x. need t EVENT (event_word x) (λ v. happens_by_under judged_as v t N x))) h
-    ∙ ap (λ o. need t EVENT o (λ v. happens_by_under judged_as v t N e)) k)
+happens_as t N e w h k = sym (as_before t N e) ∙ under_word judged_as t N e w h k
 
 -- with a yes: this event, whose proofs alone may differ, is accepted, leads to the same theory and brings the same formulas
 pub yes_is_accepted : (t next : Theory) (N : ℕ) (steps : List Object) (e : Object) → t.checker ≡ None → logged t steps e ≡ (Yes, next) → (w : EventWord) × (ps : Object) × (event_word e ≡ Some w) × (happens t N (with_proofs w e ps) ≡ accept next) × (formulas_of_word (event_word (with_proofs w e ps)) next (with_proofs w e ps) ≡ formulas_of_word (event_word e) next e)

@@ -6,7 +6,9 @@ use Rattle.mw_model.specs.Value.{pick}
 use Rattle.mw_model.specs.Fate.{longest}
 use Rattle.mw_model.specs.Lexemes.{SyntaxKind, END, CLOSE, DOT, TOKEN, BYTE, LABEL, LENGTH, all_are, is_digit}
 use Rattle.mw_model.specs.Printing.{numeral, is_bare, name_text, end_text, text_of, tail_text}
-use Rattle.mw_model.specs.Report.{spaced, symbol_text, word_text, kind_word}
+use Rattle.mw_model.specs.Report.{dash, spaced, symbol_text, word_text, labelled_words, label_text, kind_word}
+use Rattle.mw_model.specs.Refusal.{Refusal, RANGE, EVENT, NAME, FORMALS, TERM, FORMULA, VARIABLES, NESTED, COUNT, CONCLUSION, PROOF, NILVALUE, STEPS, OVERFLOW, WITNESS, CLAIM, CHECKER, LONG, PROFILE, reason_of}
+use Rattle.mw_model.specs.Term.{is_among}
 use Rattle.mw_model.specs.Written.{IsLabelled, IsWritten}
 use Rattle.mw_model.proofs.LexingLines.{no_newline}
 use Rattle.mw_model.proofs.Numerals.{numeral_is, all_are-append}
@@ -85,6 +87,40 @@ pub word_line : (x : Object) → no_newline (word_text x) ≡ true
 word_line (Pair w r) = symbol_line w
 word_line (Natural n) = refl
 word_line (Symbol s) = refl
+
+pub label_line : (x : Object) → no_newline (label_text x) ≡ true
+label_line (Natural n) = refl
+label_line (Symbol s) = refl
+label_line (Pair (Natural n) r) = refl
+label_line (Pair (Pair a b) r) = refl
+label_line (Pair (Symbol w) (Natural n)) = refl
+label_line (Pair (Symbol w) (Symbol s)) = refl
+label_line (Pair (Symbol w) (Pair x r)) = go (is_among w labelled_words)
+  where
+    go : (b : Bool) → no_newline (cond b (symbol_text x) dash) ≡ true
+    go true = symbol_line x
+    go false = refl
+
+pub reason_line : (r : Refusal) → no_newline (reason_of r) ≡ true
+reason_line RANGE = refl
+reason_line EVENT = refl
+reason_line NAME = refl
+reason_line FORMALS = refl
+reason_line TERM = refl
+reason_line FORMULA = refl
+reason_line VARIABLES = refl
+reason_line NESTED = refl
+reason_line COUNT = refl
+reason_line CONCLUSION = refl
+reason_line PROOF = refl
+reason_line NILVALUE = refl
+reason_line STEPS = refl
+reason_line OVERFLOW = refl
+reason_line WITNESS = refl
+reason_line CLAIM = refl
+reason_line CHECKER = refl
+reason_line LONG = refl
+reason_line PROFILE = refl
 
 pub kind_line : (k : SyntaxKind) → no_newline (kind_word k) ≡ true
 kind_line END = refl

@@ -1,5 +1,5 @@
 -- What is owed for a book of formulas is the text of a book of theorems, each proved from nothing, with comments between.
-use Rattle.std.proofs.Common.{◌≡◌, ℕ, suc, ◌+◌, ◌≤◌, append-nil, true, false, not, cond, List, [], ◌∷◌, ◌++◌, length, Option, Some, None, codes, refl, sym, ap, ◌∙◌, subst, arith, append_assoc}
+use Rattle.std.proofs.Common.{◌≡◌, ℕ, suc, ◌+◌, ◌≤◌, true, false, not, cond, List, [], ◌∷◌, ◌++◌, length, Option, Some, None, codes, refl, sym, ap, ◌∙◌, subst, arith, append_assoc}
 use Rattle.std.proofs.lemmas.Bool.{not-true}
 use Rattle.mw_model.specs.Object.{Object, symbol, NIL, car, second_of, has_members, list1, list2, list4}
 use Rattle.mw_model.specs.Term.{ArityTable, Formula, formula_object, is_formula}
@@ -11,8 +11,8 @@ use Rattle.mw_model.specs.Fate.{is_out_of_range}
 use Rattle.mw_model.specs.Lexemes.{Fault}
 use Rattle.mw_model.specs.Grammar.{Book, book, limit, trees}
 use Rattle.mw_model.specs.Printing.{numeral}
-use Rattle.mw_model.specs.Report.{status_of, spaced, word_text, kind_word, report_of, accepted_among}
-use Rattle.mw_model.specs.Written.{IsDatumLine, IsBookText, no_lines, datum_line, comment_line}
+use Rattle.mw_model.specs.Report.{status_of, spaced, word_text, report_of, accepted_among}
+use Rattle.mw_model.specs.Written.{IsDatumLine, IsBookText, datum_line}
 use Rattle.mw_model.specs.Pieces.{InOrder, numbered, how_many, comment, comment_ending}
 use Rattle.mw_model.specs.Tautology.{Decision, Many, FailsUnder, Holds, decision, choice_object}
 use Rattle.mw_model.specs.TautologyBook.{IsPureProof, initial_arities, formula_given, decision_on, remark, OwesDecided, OwesGiven, OwesTautology, is_holding, is_proved, tautology_summary, TautologiesWritten}
@@ -21,7 +21,8 @@ use Rattle.mw_model.proofs.ReadBack.{when_some, formula_back}
 use Rattle.mw_model.proofs.Logs.{car_in_range, second_in_range, pair_in_range}
 use Rattle.mw_model.proofs.LexingLines.{no_newline}
 use Rattle.mw_model.proofs.WrittenRead.{within_limit, text_is_read}
-use Rattle.mw_model.proofs.OneLine.{spaced_line, numeral_line, written_line, word_line, kind_line}
+use Rattle.mw_model.proofs.OneLine.{spaced_line, numeral_line, written_line, word_line}
+use Rattle.mw_model.proofs.Comments.{comment_reads, ending_reads}
 use Rattle.mw_model.proofs.Theorems.{IsTheorem, all_accepted, none_refused}
 
 -- a text that is read as so many theorems
@@ -33,13 +34,7 @@ record IsTheoremText (n : ℕ) (text : List ℕ) : Type 0 where
 
 -- a comment adds no theorem
 comment_first : (n : ℕ) (c text : List ℕ) → no_newline c ≡ true → IsTheoremText n text → IsTheoremText (0 + n) (comment c ++ text)
-comment_first n c text h r =
-    record {
-      events = r.events;
-      reads = subst (IsBookText r.events) (ap (λ z. 59 ∷ 32 ∷ z) (sym (append_assoc c (10 ∷ []) text))) (comment_line r.events (32 ∷ c) text h r.reads);
-      theorems = r.theorems;
-      count = let c = r.count in omega arith;
-    }
+comment_first n c text h r = record { events = r.events; reads = comment_reads r.events c text h r.reads; theorems = r.theorems; count = let c = r.count in omega arith }
 
 remark_first : (n k : ℕ) (x : Object) (reason text : List ℕ) → no_newline reason ≡ true → IsTheoremText n text → IsTheoremText (0 + n) (remark k x reason ++ text)
 remark_first n k x reason text h r =
@@ -108,17 +103,8 @@ pieces_read k (x ∷ xs) body last w r =
 
 -- ---- the last line
 
-no_theorems : IsTheoremText 0 []
-no_theorems = record { events = []; reads = no_lines; theorems = tt; count = refl }
-
-last_comment : (c : List ℕ) → no_newline c ≡ true → IsTheoremText 0 (comment c)
-last_comment c h = subst (IsTheoremText 0) (ap (λ z. 59 ∷ 32 ∷ z) (append-nil (c ++ 10 ∷ []))) (comment_first 0 c [] h no_theorems)
-
 ending_read : (fault : Option Fault) (summary : List ℕ) → no_newline summary ≡ true → IsTheoremText 0 (comment_ending fault summary)
-ending_read None summary h = last_comment summary h
-ending_read (Some f) summary h =
-    let place = spaced (kind_word f.kind) (spaced (codes "at") (numeral f.offset)) in
-    last_comment (spaced (codes "syntax") place) (spaced_line (codes "syntax") place refl (spaced_line (kind_word f.kind) (spaced (codes "at") (numeral f.offset)) (kind_line f.kind) (spaced_line (codes "at") (numeral f.offset) refl (numeral_line f.offset))))
+ending_read fault summary h = record { events = []; reads = ending_reads fault summary h; theorems = tt; count = refl }
 
 summary_line : (xs : List Object) → no_newline (tautology_summary xs) ≡ true
 summary_line xs =
