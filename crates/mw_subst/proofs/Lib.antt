@@ -10,3 +10,4 @@ pub mod Closed
 pub mod Among
 pub mod Seen
 pub mod Comparing
+mod TakingUp
