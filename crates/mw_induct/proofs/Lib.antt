@@ -1,3 +1,4 @@
 mod Forms
 mod Rests
 mod Ends
+mod NextCases

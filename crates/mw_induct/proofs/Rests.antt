@@ -1,22 +1,17 @@
--- Conclusions one after another, over a heap that grows.
-use Rattle.std.proofs.Common.{◌≡◌, ℕ, zero, suc, ◌+◌, ◌<◌, ◌≤◌, false, nat_eq, All, List, [], ◌∷◌, length, take, drop, ◌-◌, get_or, Option, Some, None, refl, sym, ap, ap₂, ◌∙◌, subst, arith, zero-add}
+-- Conclusions one after another.
+use Rattle.std.proofs.Common.{◌≡◌, ℕ, zero, suc, ◌+◌, ◌<◌, ◌≤◌, false, nat_eq, All, List, [], ◌∷◌, length, take, drop, ◌-◌, get_or, Option, Some, None, refl, sym, ap, ◌∙◌, subst, arith, zero-add}
 use Rattle.std.proofs.Math.Dec.{eqb-zero-suc, eqb-suc-suc}
 use Rattle.std.proofs.lemmas.List.{drop_more, drop_all, length-drop}
 use Rattle.std.proofs.lemmas.Bool.{and_left, and_right}
 use Rattle.std.proofs.Math.Seq.{take-length}
 use Rattle.mw_model.specs.Object.{Object, Natural, Symbol, Pair, NIL, same_object}
-use Rattle.mw_heap.specs.Objects.{object_at, IsIn, Grows}
-use Rattle.mw_heap.proofs.Objects.{object_at-Grows}
-use Rattle.mw_model.specs.RulesInduction.{disjunction_object, steps_object, ordinal_object, fall_object, falls_object, all_falls_object, premises_object}
-use Rattle.mw_induct.proofs.Forms.{step_object, same_step}
+use Rattle.mw_heap.specs.Objects.{object_at, IsIn}
+use Rattle.mw_model.specs.RulesInduction.{disjunction_object, steps_object, ordinal_object, all_falls_object, premises_object}
 use Rattle.mw_induct.specs.Conclusions.{conclusions_object, Takes}
 
--- the parts of a pair that stood in the heap before it grew stood there too
-pub older_pair : (os new : List Object) (r a b : ℕ) → Grows os new → IsIn os r → a < r → b < r → object_at new r ≡ Pair (object_at new a) (object_at new b) → IsIn os a × IsIn os b × (object_at os r ≡ Pair (object_at os a) (object_at os b))
-older_pair os new r a b g h below_a below_b e =
-    let in_a : IsIn os a = omega arith in
-    let in_b : IsIn os b = omega arith in
-    (in_a, in_b, sym (object_at-Grows os new g r h) ∙ (e ∙ ap₂ Pair (object_at-Grows os new g a in_a) (object_at-Grows os new g b in_b)))
+-- the parts of a pair, over the heap at the start
+pub same_pair : (os now : List Object) (r a b : ℕ) → now ≡ os → IsIn now a × IsIn now b × (object_at now r ≡ Pair (object_at now a) (object_at now b)) → IsIn os a × IsIn os b × (object_at os r ≡ Pair (object_at os a) (object_at os b))
+same_pair os now r a b same shown = subst (λ h. IsIn h a × IsIn h b × (object_at h r ≡ Pair (object_at h a) (object_at h b))) same shown
 
 -- the next conclusion, and what follows it
 pub next_conclusion : (os : List Object) (xs : List ℕ) (i x : ℕ) → i < length xs → x ≡ get_or xs i x → conclusions_object os (drop i xs) ≡ Pair (object_at os x) (conclusions_object os (drop (i + 1) xs))
@@ -24,10 +19,6 @@ next_conclusion os xs i x h e = ap (conclusions_object os) (drop_more xs i x h) 
 
 pub no_conclusion : (os : List Object) (xs : List ℕ) (i : ℕ) → length xs ≤ i → conclusions_object os (drop i xs) ≡ NIL
 no_conclusion os xs i h = ap (conclusions_object os) (drop_all i xs h)
-
-pub conclusions_object-Grows : (os new : List Object) → Grows os new → (xs : List ℕ) → All (IsIn os) xs → conclusions_object new xs ≡ conclusions_object os xs
-conclusions_object-Grows os new g [] h = refl
-conclusions_object-Grows os new g (x ∷ xs) h = ap₂ Pair (object_at-Grows os new g x (h 0 0 (omega arith))) (conclusions_object-Grows os new g xs (λ k d l. h (suc k) d (omega arith)))
 
 pub All-drop : (P : ℕ → Type 0) (n : ℕ) (xs : List ℕ) → All P xs → All P (drop n xs)
 All-drop P zero xs h = h
@@ -54,20 +45,6 @@ takes_none premises os xs o e t = subst (Takes premises os xs) e t
 
 pub takes_some : (premises : Object → Object) (os : List Object) (xs : List ℕ) (o : Option ℕ) (n : ℕ) → o ≡ Some n → Takes premises os xs o → Takes premises os xs (Some n)
 takes_some premises os xs o n e t = subst (Takes premises os xs) e t
-
--- the tests of a step and of falls mean the same in the heap before it grew
-module _ (os new : List Object) (g : Grows os new) where
-  pub same_step-Grows : (x a q s : ℕ) → IsIn os x → IsIn os a → IsIn os q → IsIn os s → same_object (object_at new x) (step_object (object_at new a) (object_at new q) (object_at new s)) ≡ same_object (object_at os x) (step_object (object_at os a) (object_at os q) (object_at os s))
-  same_step-Grows x a q s i j k l = same_step _ _ _ _ _ _ _ _ (object_at-Grows os new g x i) (object_at-Grows os new g a j) (object_at-Grows os new g q k) (object_at-Grows os new g s l)
-
-  pub same_fall-Grows : (x m q s : ℕ) → IsIn os x → IsIn os m → IsIn os q → IsIn os s → same_object (object_at new x) (fall_object (object_at new m) (object_at new q) (object_at new s)) ≡ same_object (object_at os x) (fall_object (object_at os m) (object_at os q) (object_at os s))
-  same_fall-Grows x m q s h i j k = rw (object_at-Grows os new g x h, object_at-Grows os new g m i, object_at-Grows os new g q j, object_at-Grows os new g s k) refl
-
-  pub same_falls-Grows : (xs : List ℕ) (m q s : ℕ) (rest : Object) → All (IsIn os) xs → IsIn os m → IsIn os q → IsIn os s → same_object (conclusions_object new xs) (falls_object (object_at new m) (object_at new q) (object_at new s) rest) ≡ same_object (conclusions_object os xs) (falls_object (object_at os m) (object_at os q) (object_at os s) rest)
-  same_falls-Grows xs m q s rest h i j k = rw (conclusions_object-Grows os new g xs h, object_at-Grows os new g m i, object_at-Grows os new g q j, object_at-Grows os new g s k) refl
-
-  pub same_measured-Grows : (xs : List ℕ) (m q s : ℕ) → All (IsIn os) xs → IsIn os m → IsIn os q → IsIn os s → same_object (conclusions_object new xs) (Pair (ordinal_object (object_at new m)) (all_falls_object (object_at new m) (object_at new q) (object_at new s))) ≡ same_object (conclusions_object os xs) (Pair (ordinal_object (object_at os m)) (all_falls_object (object_at os m) (object_at os q) (object_at os s)))
-  same_measured-Grows xs m q s h i j k = rw (conclusions_object-Grows os new g xs h, object_at-Grows os new g m i, object_at-Grows os new g q j, object_at-Grows os new g s k) refl
 
 pub some_conclusion : (xs : List ℕ) → nat_eq (length xs) 0 ≡ false → 0 < length xs
 some_conclusion [] h = cc

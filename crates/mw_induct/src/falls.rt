@@ -2,7 +2,7 @@
 ghost use Rattle.std.specs.Prelude.{◌≡◌, true, All, IfOk};
 ghost use Rattle.mw_model.specs.Object.{same_object};
 ghost use Rattle.mw_model.specs.RulesInduction.{length_object, fall_object, falls_object, all_falls_object};
-ghost use Rattle.mw_heap.specs.Objects.{object_at, Grows, IsIn};
+ghost use Rattle.mw_heap.specs.Objects.{object_at, IsIn};
 ghost use Rattle.mw_subst.specs.Pairs.{is_list_of_pairs};
 ghost use Rattle.mw_induct.specs.Conclusions.{conclusions_object, Takes};
 ghost use Rattle.mw_induct.specs.Pairs.{are_lists_of_pairs, are_cases_of_pairs};
@@ -25,7 +25,7 @@ pub(crate) fn are_all_falls(
     requires conclusions_within { All (IsIn heap.old.objects) conclusions.now }
     requires as_many { length_object (object_at heap.old.objects conditions) ≡ length_object (object_at heap.old.objects cases) }
     requires pairs { are_cases_of_pairs (object_at heap.old.objects cases) ≡ true }
-    ensures grows { Grows heap.old.objects heap.new.objects }
+    ensures objects { heap.new.objects ≡ heap.old.objects }
     ensures falls { IfOk result (λ b. b ≡ same_object (conclusions_object heap.old.objects conclusions.now) (all_falls_object (object_at heap.old.objects measure) (object_at heap.old.objects conditions) (object_at heap.old.objects cases))) }
 {
     let mut taken = 0;
@@ -64,7 +64,7 @@ fn take_falls(
     requires substitutions_within { IsIn heap.old.objects substitutions }
     requires conclusions_within { All (IsIn heap.old.objects) conclusions.now }
     requires pairs { are_lists_of_pairs (object_at heap.old.objects substitutions) ≡ true }
-    ensures grows { Grows heap.old.objects heap.new.objects }
+    ensures objects { heap.new.objects ≡ heap.old.objects }
     ensures falls { IfOk result (Takes (falls_object (object_at heap.old.objects measure) (object_at heap.old.objects condition) (object_at heap.old.objects substitutions)) heap.old.objects conclusions.now) }
 {
     let mut taken = 0;
@@ -89,7 +89,7 @@ fn is_fall(heap: &mut Heap, x: Ref, measure: Ref, condition: Ref, s: Ref) -> Res
     requires condition_within { IsIn heap.old.objects condition }
     requires substitution_within { IsIn heap.old.objects s }
     requires pairs { is_list_of_pairs (object_at heap.old.objects s) ≡ true }
-    ensures grows { Grows heap.old.objects heap.new.objects }
+    ensures objects { heap.new.objects ≡ heap.old.objects }
     ensures fall { IfOk result (λ b. b ≡ same_object (object_at heap.old.objects x) (fall_object (object_at heap.old.objects measure) (object_at heap.old.objects condition) (object_at heap.old.objects s))) }
 {
     let Some((negation, fall)) = heap.members_after(x, Word::Por) else {

@@ -4,7 +4,7 @@ ghost use Rattle.mw_model.specs.Term.{ArityTable};
 ghost use Rattle.mw_model.specs.Rules.{is_formula_object};
 ghost use Rattle.mw_model.specs.Object.{Pair, same_object};
 ghost use Rattle.mw_model.specs.RulesInduction.{length_object, ordinal_object, all_falls_object, premises_object, object_is_induction};
-ghost use Rattle.mw_heap.specs.Objects.{object_at, Grows, IsIn};
+ghost use Rattle.mw_heap.specs.Objects.{object_at, IsIn};
 ghost use Rattle.mw_term.specs.Marking.{AreMarks};
 ghost use Rattle.mw_induct.specs.Conclusions.{conclusions_object};
 ghost use Rattle.mw_induct.specs.Pairs.{are_cases_of_pairs, IsLikeFormula};
@@ -31,7 +31,7 @@ pub fn premises_hold(
     requires extras { extras < length marks.now }
     requires premises { All (IsIn heap.old.objects) conclusions.now }
     requires formula { (A : ArityTable) × (is_formula_object A (object_at heap.old.objects f) ≡ true) }
-    ensures grows { Grows heap.old.objects heap.new.objects }
+    ensures objects { heap.new.objects ≡ heap.old.objects }
     ensures answer { IfOk result (λ b. (A : ArityTable) → AreMarks A heap.old.objects marks.now → b ≡ object_is_induction A (object_at heap.old.objects f) (conclusions_object heap.old.objects conclusions.now) (object_at heap.old.objects extras)) }
 {
     // what costs a constant comes first
@@ -64,7 +64,7 @@ fn are_premises(
     requires as_many { length_object (object_at heap.old.objects conditions) ≡ length_object (object_at heap.old.objects cases) }
     requires pairs { are_cases_of_pairs (object_at heap.old.objects cases) ≡ true }
     requires formula { IsLikeFormula (object_at heap.old.objects a) }
-    ensures grows { Grows heap.old.objects heap.new.objects }
+    ensures objects { heap.new.objects ≡ heap.old.objects }
     ensures premises { IfOk result (λ b. b ≡ same_object (conclusions_object heap.old.objects conclusions.now) (premises_object (object_at heap.old.objects a) (object_at heap.old.objects measure) (object_at heap.old.objects conditions) (object_at heap.old.objects cases))) }
 {
     if conclusions.is_empty() {
@@ -94,7 +94,7 @@ fn are_measured(
     requires conclusions_within { All (IsIn heap.old.objects) conclusions.now }
     requires as_many { length_object (object_at heap.old.objects conditions) ≡ length_object (object_at heap.old.objects cases) }
     requires pairs { are_cases_of_pairs (object_at heap.old.objects cases) ≡ true }
-    ensures grows { Grows heap.old.objects heap.new.objects }
+    ensures objects { heap.new.objects ≡ heap.old.objects }
     ensures premises { IfOk result (λ b. b ≡ same_object (conclusions_object heap.old.objects conclusions.now) (Pair (ordinal_object (object_at heap.old.objects measure)) (all_falls_object (object_at heap.old.objects measure) (object_at heap.old.objects conditions) (object_at heap.old.objects cases)))) }
 {
     if conclusions.is_empty() {

@@ -3,7 +3,7 @@ ghost use Rattle.std.specs.Prelude.{◌≡◌, true, All, IfOk};
 ghost use Rattle.mw_model.specs.Object.{Pair, same_object};
 ghost use Rattle.mw_model.specs.Rules.{not_object};
 ghost use Rattle.mw_model.specs.RulesInduction.{length_object, disjunction_object, hypotheses_object, steps_object};
-ghost use Rattle.mw_heap.specs.Objects.{object_at, Grows, IsIn};
+ghost use Rattle.mw_heap.specs.Objects.{object_at, IsIn};
 ghost use Rattle.mw_subst.specs.Pairs.{is_list_of_pairs};
 ghost use Rattle.mw_induct.specs.Conclusions.{Takes};
 ghost use Rattle.mw_induct.specs.Pairs.{are_lists_of_pairs, are_cases_of_pairs, IsLikeFormula};
@@ -26,7 +26,7 @@ pub(crate) fn take_steps(
     requires as_many { length_object (object_at heap.old.objects conditions) ≡ length_object (object_at heap.old.objects cases) }
     requires pairs { are_cases_of_pairs (object_at heap.old.objects cases) ≡ true }
     requires formula { IsLikeFormula (object_at heap.old.objects a) }
-    ensures grows { Grows heap.old.objects heap.new.objects }
+    ensures objects { heap.new.objects ≡ heap.old.objects }
     ensures steps { IfOk result (Takes (steps_object (object_at heap.old.objects a) (object_at heap.old.objects conditions) (object_at heap.old.objects cases)) heap.old.objects conclusions.now) }
 {
     let mut taken = 0;
@@ -63,7 +63,7 @@ fn is_step(
     requires substitutions_within { IsIn heap.old.objects substitutions }
     requires pairs { are_lists_of_pairs (object_at heap.old.objects substitutions) ≡ true }
     requires formula { IsLikeFormula (object_at heap.old.objects a) }
-    ensures grows { Grows heap.old.objects heap.new.objects }
+    ensures objects { heap.new.objects ≡ heap.old.objects }
     ensures step { IfOk result (λ b. b ≡ same_object (object_at heap.old.objects x) (disjunction_object (Pair (object_at heap.old.objects a) (Pair (not_object (object_at heap.old.objects condition)) (hypotheses_object (object_at heap.old.objects a) (object_at heap.old.objects substitutions)))))) }
 {
     let Some((side, others)) = heap.members_after(x, Word::Por) else {
@@ -89,7 +89,7 @@ fn are_hypotheses(
     requires substitutions_within { IsIn heap.old.objects substitutions }
     requires pairs { are_lists_of_pairs (object_at heap.old.objects substitutions) ≡ true }
     requires formula { IsLikeFormula (object_at heap.old.objects a) }
-    ensures grows { Grows heap.old.objects heap.new.objects }
+    ensures objects { heap.new.objects ≡ heap.old.objects }
     ensures hypotheses { IfOk result (λ r. r ≡ same_object (object_at heap.old.objects x) (disjunction_object (Pair (not_object (object_at heap.old.objects b)) (hypotheses_object (object_at heap.old.objects a) (object_at heap.old.objects substitutions))))) }
 {
     let View::Pair(s, more) = heap.view(substitutions) else {

@@ -2,7 +2,7 @@
 use Rattle.std.proofs.Common.{◌≡◌, ◌≤◌, true, length, drop}
 use Rattle.mw_model.specs.Object.{same_object}
 use Rattle.mw_model.specs.RulesInduction.{length_object, all_falls_object}
-use Rattle.mw_heap.specs.Objects.{object_at, IsIn, Grows}
+use Rattle.mw_heap.specs.Objects.{object_at, IsIn}
 use Rattle.mw_induct.specs.Conclusions.{conclusions_object}
 use Rattle.mw_induct.specs.Pairs.{are_cases_of_pairs}
 use Rattle.mw_induct.proofs.falls.are_all_falls.Given as goal
@@ -11,7 +11,7 @@ abbrev pub invariant-loop-condition : goal.invariant-loop-condition
 invariant-loop-condition l =
     let os = l.fn.heap.objects in
     let o = object_at os in
-    Grows os l.heap.objects × IsIn os l.conditions × IsIn os l.cases × (length_object (o l.conditions) ≡ length_object (o l.cases)) × (are_cases_of_pairs (o l.cases) ≡ true) × (l.taken ≤ length l.conclusions)
+    (l.heap.objects ≡ os) × IsIn os l.conditions × IsIn os l.cases × (length_object (o l.conditions) ≡ length_object (o l.cases)) × (are_cases_of_pairs (o l.cases) ≡ true) × (l.taken ≤ length l.conclusions)
     × (same_object (conclusions_object os l.conclusions) (all_falls_object (o l.measure) (o l.fn.conditions) (o l.fn.cases)) ≡ same_object (conclusions_object os (drop l.taken l.conclusions)) (all_falls_object (o l.measure) (o l.conditions) (o l.cases)))
 
 abbrev pub decreases-loop-condition : goal.decreases-loop-condition

@@ -2,7 +2,7 @@
 use Rattle.std.proofs.Common.{◌≡◌, ◌≤◌, true, length, drop}
 use Rattle.mw_model.specs.Object.{Object, same_object}
 use Rattle.mw_model.specs.RulesInduction.{falls_object}
-use Rattle.mw_heap.specs.Objects.{object_at, IsIn, Grows}
+use Rattle.mw_heap.specs.Objects.{object_at, IsIn}
 use Rattle.mw_induct.specs.Conclusions.{conclusions_object}
 use Rattle.mw_induct.specs.Pairs.{are_lists_of_pairs}
 use Rattle.mw_induct.proofs.falls.take_falls.Given as goal
@@ -11,7 +11,7 @@ abbrev pub invariant-loop-s : goal.invariant-loop-s
 invariant-loop-s l =
     let os = l.fn.heap.objects in
     let o = object_at os in
-    Grows os l.heap.objects × IsIn os l.substitutions × (are_lists_of_pairs (o l.substitutions) ≡ true) × (l.taken ≤ length l.conclusions)
+    (l.heap.objects ≡ os) × IsIn os l.substitutions × (are_lists_of_pairs (o l.substitutions) ≡ true) × (l.taken ≤ length l.conclusions)
     × ((rest : Object) → same_object (conclusions_object os l.conclusions) (falls_object (o l.measure) (o l.condition) (o l.fn.substitutions) rest) ≡ same_object (conclusions_object os (drop l.taken l.conclusions)) (falls_object (o l.measure) (o l.condition) (o l.substitutions) rest))
 
 abbrev pub decreases-loop-s : goal.decreases-loop-s

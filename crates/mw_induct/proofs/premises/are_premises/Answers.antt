@@ -1,11 +1,11 @@
 -- The first premise, the steps and the rest make the premises.
-use Rattle.std.proofs.Common.{◌≡◌, ◌&&◌, ◌-◌, All, length, take, drop, sym, ap, ◌∙◌, subst}
+use Rattle.std.proofs.Common.{◌≡◌, ◌&&◌, ◌-◌, length, take, drop, sym, ap, ◌∙◌, subst}
 use Rattle.std.specs.Prelude.{IfOk}
 use Rattle.mw_model.specs.Object.{Pair, same_object}
 use Rattle.mw_model.specs.RulesInduction.{steps_object, ordinal_object, all_falls_object, premises_object}
-use Rattle.mw_heap.specs.Objects.{object_at, IsIn}
+use Rattle.mw_heap.specs.Objects.{object_at}
 use Rattle.mw_induct.specs.Conclusions.{conclusions_object}
-use Rattle.mw_induct.proofs.Rests.{next_conclusion, some_conclusion, All-drop, takes_some, slice_from, same_measured-Grows}
+use Rattle.mw_induct.proofs.Rests.{next_conclusion, some_conclusion, takes_some, slice_from}
 use Rattle.mw_induct.proofs.premises.are_premises.Goals as goal
 
 pub returns-in-Some-clause-premises : goal.returns-in-Some-clause-premises
@@ -21,11 +21,9 @@ returns-in-Some-clause-premises c =
     let later = take (length others - c.in-Some.count) (drop c.in-Some.count others) in
     let measured = Pair (ordinal_object (o c.args.measure)) (all_falls_object (o c.args.measure) q s) in
     let taken = takes_some (steps_object a q s) os others _ c.in-Some.count c.in-Some.is c.in_ok-count.ensures.steps in
-    let others_in = subst (λ l. All (IsIn os) l) (sym (slice_from 1 ps)) (All-drop (IsIn os) 1 ps c.requires.conclusions_within) in
-    let later_in = subst (λ l. All (IsIn os) l) (sym (slice_from c.in-Some.count others)) (All-drop (IsIn os) c.in-Some.count others others_in) in
     let first = ap (λ b. b && same_object (conclusions_object os others) (steps_object a q s measured)) c.if-not-is_disjunction.ensures in
     let whole = ap (λ y. same_object y (premises_object a (o c.args.measure) q s)) (ap (λ l. Pair (o x) (conclusions_object os l)) (slice_from 1 ps) ∙ sym (next_conclusion os ps 0 x (some_conclusion ps (sym c.if-is_empty.ensures)) c.index-conclusions-0.is)) in
     subst (λ z. IfOk c.are_measured.result (λ b. b ≡ z))
-    (same_measured-Grows os c.take_steps.new.heap.objects c.in_ok-count.ensures.grows later c.args.measure c.args.conditions c.args.cases later_in c.requires.measure_within c.requires.conditions_within c.requires.cases_within
+    (ap (λ h. same_object (conclusions_object h later) (Pair (ordinal_object (object_at h c.args.measure)) (all_falls_object (object_at h c.args.measure) (object_at h c.args.conditions) (object_at h c.args.cases)))) c.in_ok-count.ensures.objects
     ∙ (ap (λ l. same_object (conclusions_object os l) measured) (slice_from c.in-Some.count others) ∙ (sym (taken.1 measured) ∙ (first ∙ whole))))
     c.are_measured.ensures.premises

@@ -1,12 +1,9 @@
 -- One step premise after another, over the heap at the start.
-use Rattle.std.proofs.Common.{◌<◌, ◌≤◌, length, sym, ap, ◌∙◌, subst, arith}
-use Rattle.std.proofs.lemmas.Bool.{and_parts}
-use Rattle.mw_model.specs.RulesInduction.{length_object}
-use Rattle.mw_heap.specs.Objects.{object_at, IsIn}
-use Rattle.mw_heap.proofs.Objects.{Grows-trans}
-use Rattle.mw_induct.specs.Pairs.{are_lists_of_pairs, are_cases_of_pairs}
-use Rattle.mw_induct.proofs.Forms.{steps_next, steps_none, steps_other}
-use Rattle.mw_induct.proofs.Rests.{older_pair, next_conclusion, no_conclusion, same_step-Grows}
+use Rattle.std.proofs.Common.{◌<◌, ◌≤◌, length, ◌∙◌, arith}
+use Rattle.mw_heap.specs.Objects.{object_at}
+use Rattle.mw_induct.proofs.Forms.{steps_none}
+use Rattle.mw_induct.proofs.NextCases.{next_case, as_many_left, pairs_left, step_taken, step_refused}
+use Rattle.mw_induct.proofs.Rests.{same_pair, no_conclusion}
 use Rattle.mw_induct.proofs.steps.take_steps.Goals as goal
 
 pub returns-then-taken-conclusions-clause-steps : goal.returns-then-taken-conclusions-clause-steps
@@ -14,47 +11,32 @@ returns-then-taken-conclusions-clause-steps c =
     let os = c.args.heap.now.objects in
     let o = object_at os in
     let i = c.loop-condition.invariant in
-    let condition = older_pair os c.loop-condition.heap.objects c.loop-condition.conditions c.in-Pair.condition c.in-Pair.more i.0 i.1 c.in-Pair.ensures.below.0 c.in-Pair.ensures.below.1 c.in-Pair.ensures.shows.2 in
+    let condition = same_pair os c.loop-condition.heap.objects c.loop-condition.conditions c.in-Pair.condition c.in-Pair.more i.0 c.in-Pair.ensures.shows in
     let none : length c.args.conclusions.now ≤ c.loop-condition.taken = omega arith in
     λ rest. i.6 rest ∙ steps_none (o c.args.a) _ _ _ (o c.loop-condition.conditions) (o c.loop-condition.cases) rest (no_conclusion os c.args.conclusions.now c.loop-condition.taken none) condition.2
 
 pub loop-condition-preserved : goal.loop-condition-preserved
 loop-condition-preserved c =
-    let os = c.args.heap.now.objects in
-    let o = object_at os in
-    let cur = c.loop-condition.heap.objects in
     let i = c.loop-condition.invariant in
-    let q = c.in-Pair.condition in
-    let s = c.in-Pair-view.substitutions in
-    let x = c.index-conclusions-taken.result in
-    let condition = older_pair os cur c.loop-condition.conditions q c.in-Pair.more i.0 i.1 c.in-Pair.ensures.below.0 c.in-Pair.ensures.below.1 c.in-Pair.ensures.shows.2 in
-    let group = older_pair os cur c.loop-condition.cases s c.in-Pair-view.others i.0 i.2 c.in-Pair-view.ensures.below.0 c.in-Pair-view.ensures.below.1 c.in-Pair-view.ensures.shows.2 in
+    let next = next_case c.args.heap.now.objects c.loop-condition.heap.objects i.0 c.loop-condition.conditions c.loop-condition.cases c.in-Pair.condition c.in-Pair.more c.in-Pair-view.substitutions c.in-Pair-view.others in
+    let n = next c.in-Pair.ensures.shows c.in-Pair-view.ensures.shows in
     let within : c.loop-condition.taken < length c.args.conclusions.now = omega arith in
-    let x_in = subst (IsIn os) (sym c.index-conclusions-taken.is) (c.requires.conclusions_within c.loop-condition.taken x within) in
-    let lengths = ap length_object (sym condition.2) ∙ (i.3 ∙ ap length_object group.2) in
-    let pairs = and_parts (are_lists_of_pairs (o s)) (are_cases_of_pairs (o c.in-Pair-view.others)) (ap are_cases_of_pairs (sym group.2) ∙ i.4) in
-    let step = sym (same_step-Grows os cur i.0 x c.args.a q s x_in c.requires.within condition.0 group.0) ∙ (sym c.in_ok-is_step.ensures.step ∙ c.if-not-branch.false) in (
-      Grows-trans os cur c.is_step.new.heap.objects i.0 c.in_ok-is_step.ensures.grows,
-      condition.1,
-      group.1,
+    let lengths = as_many_left c.args.heap.now.objects c.loop-condition.heap.objects i.0 _ _ _ _ _ _ n i.3 in
+    let pairs = pairs_left c.args.heap.now.objects c.loop-condition.heap.objects i.0 _ _ _ _ _ _ n i.4 in
+    let taken = step_taken c.args.heap.now.objects c.loop-condition.heap.objects i.0 _ _ _ _ _ _ n c.args.a c.args.conclusions.now c.loop-condition.taken c.index-conclusions-taken.result within c.index-conclusions-taken.is _ c.in_ok-is_step.ensures.step c.if-not-branch.false in (
+      c.in_ok-is_step.ensures.objects ∙ i.0,
+      n.condition.1,
+      n.group.1,
       omega (arith, lengths),
       pairs.1,
       omega arith,
-      λ rest. i.6 rest ∙ steps_next (o c.args.a) (o x) _ (o q) (o c.in-Pair.more) (o s) (o c.in-Pair-view.others) _ (o c.loop-condition.conditions) (o c.loop-condition.cases) rest (next_conclusion os c.args.conclusions.now c.loop-condition.taken x within c.index-conclusions-taken.is) condition.2 group.2 step,
+      λ rest. i.6 rest ∙ taken rest,
     )
 
 pub returns-then-not-branch-clause-steps : goal.returns-then-not-branch-clause-steps
 returns-then-not-branch-clause-steps c =
-    let os = c.args.heap.now.objects in
-    let o = object_at os in
-    let cur = c.loop-condition.heap.objects in
     let i = c.loop-condition.invariant in
-    let q = c.in-Pair.condition in
-    let s = c.in-Pair-view.substitutions in
-    let x = c.index-conclusions-taken.result in
-    let condition = older_pair os cur c.loop-condition.conditions q c.in-Pair.more i.0 i.1 c.in-Pair.ensures.below.0 c.in-Pair.ensures.below.1 c.in-Pair.ensures.shows.2 in
-    let group = older_pair os cur c.loop-condition.cases s c.in-Pair-view.others i.0 i.2 c.in-Pair-view.ensures.below.0 c.in-Pair-view.ensures.below.1 c.in-Pair-view.ensures.shows.2 in
+    let next = next_case c.args.heap.now.objects c.loop-condition.heap.objects i.0 c.loop-condition.conditions c.loop-condition.cases c.in-Pair.condition c.in-Pair.more c.in-Pair-view.substitutions c.in-Pair-view.others in
+    let n = next c.in-Pair.ensures.shows c.in-Pair-view.ensures.shows in
     let within : c.loop-condition.taken < length c.args.conclusions.now = omega arith in
-    let x_in = subst (IsIn os) (sym c.index-conclusions-taken.is) (c.requires.conclusions_within c.loop-condition.taken x within) in
-    let step = sym (same_step-Grows os cur i.0 x c.args.a q s x_in c.requires.within condition.0 group.0) ∙ (sym c.in_ok-is_step.ensures.step ∙ c.if-not-branch.true) in
-    λ rest. i.6 rest ∙ steps_other (o c.args.a) (o x) _ (o q) (o c.in-Pair.more) (o s) (o c.in-Pair-view.others) _ (o c.loop-condition.conditions) (o c.loop-condition.cases) rest (next_conclusion os c.args.conclusions.now c.loop-condition.taken x within c.index-conclusions-taken.is) condition.2 group.2 step
+    λ rest. i.6 rest ∙ step_refused c.args.heap.now.objects c.loop-condition.heap.objects i.0 _ _ _ _ _ _ n c.args.a c.args.conclusions.now c.loop-condition.taken c.index-conclusions-taken.result within c.index-conclusions-taken.is _ c.in_ok-is_step.ensures.step c.if-not-branch.true rest
