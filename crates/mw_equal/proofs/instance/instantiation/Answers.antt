@@ -1,26 +1,17 @@
--- A substitution is a list of pairs, and on the object of a formula it substitutes in the formula.
-use Rattle.std.proofs.Common.{◌&&◌, sym, ap, ◌∙◌}
-use Rattle.std.proofs.lemmas.Result.{IfOk-weaker}
-use Rattle.mw_model.specs.Object.{same_object}
-use Rattle.mw_model.specs.Rules.{substitute_object, substitute_formula_object}
-use Rattle.mw_model.proofs.SameObject.{same_object-swap}
+-- The objects are those before the looks were taken.
+use Rattle.std.proofs.Common.{◌≡◌, true, IfOk, sym, subst}
+use Rattle.mw_model.specs.Term.{ArityTable}
+use Rattle.mw_model.specs.Rules.{is_formula_object, object_is_instance}
 use Rattle.mw_heap.specs.Objects.{object_at}
-use Rattle.mw_subst.proofs.PairLists.{substitution_pairs}
-use Rattle.mw_subst.proofs.FormulaObjects.{substitute_object-formula}
+use Rattle.mw_term.specs.Marking.{AreMarks}
 use Rattle.mw_equal.proofs.instance.instantiation.Goals as goal
 
-pub sigma_of-requires-clause-pairs : goal.sigma_of-requires-clause-pairs
-sigma_of-requires-clause-pairs c =
-    let marks = c.requires.marks in
-    substitution_pairs marks.0 (object_at c.args.heap.now.objects c.args.s) (sym (c.is_substitution.ensures marks.0 marks.1) ∙ c.if-not-is_substitution.false)
+pub is_formula_under-requires-clause-marks : goal.is_formula_under-requires-clause-marks
+is_formula_under-requires-clause-marks c = (c.requires.marks.0, subst (λ os. AreMarks c.requires.marks.0 os c.args.marks.now) (sym c.in_ok-take_looks_at_members.ensures) c.requires.marks.1)
+
+pub is_formula_under-requires-clause-formula : goal.is_formula_under-requires-clause-formula
+is_formula_under-requires-clause-formula c = (c.requires.formula.0, subst (λ os. is_formula_object c.requires.formula.0 (object_at os c.args.a) ≡ true) (sym c.in_ok-take_looks_at_members.ensures) c.requires.formula.1)
 
 pub returns-clause-answer : goal.returns-clause-answer
 returns-clause-answer c =
-    let o = object_at c.args.heap.now.objects in
-    let formula = c.requires.formula in
-    let instance = ap (λ s. substitute_object s (o c.args.a)) c.in_ok-sigma.ensures.read ∙ substitute_object-formula formula.0 (o c.args.s) (o c.args.a) formula.1 in
-    IfOk-weaker c.is_instance.result _ _
-    (λ b e A marks. e
-    ∙ (same_object-swap _ (o c.args.c)
-    ∙ (ap (same_object (o c.args.c)) instance ∙ ap (λ t. t && same_object (o c.args.c) (substitute_formula_object (o c.args.s) (o c.args.a))) (sym c.if-not-is_substitution.false ∙ c.is_substitution.ensures A marks))))
-    c.is_instance.ensures.instance
+    subst (λ os. IfOk c.is_formula_under.result (λ b. (A : ArityTable) → AreMarks A os c.args.marks.now → b ≡ object_is_instance A (object_at os c.args.c) (object_at os c.args.a) (object_at os c.args.s))) c.in_ok-take_looks_at_members.ensures c.is_formula_under.ensures.answer
