@@ -14,14 +14,16 @@ use Rattle.mw_heap.specs.Objects.{object_at, IsIn, AreDistinct}
 use Rattle.mw_taut.specs.declared.node.Node.{Node}
 use Rattle.mw_taut.specs.declared.node.Node.TheVariants.{Equation, Not, Or}
 use Rattle.mw_taut.specs.Steps.{not_object, or_object}
-use Rattle.mw_taut.specs.Building.{IsAt, IsNew, IsPartOf, IsMade, equations_with, formula_or, here, IsHere, waiting, IsFalling, IsWhole, Covers, IsBuilt, among, gather}
+use Rattle.mw_taut.specs.Building.{IsAt, IsNew, IsPartOf, IsMade, equations_with, formula_or, here, IsHere, waiting, IsFalling, IsWhole, Covers, IsBuilt, among}
 use Rattle.mw_taut.specs.Settling.{IsNode, AreNodes}
 use Rattle.mw_taut.specs.Meaning.{IsNodeOf, AreNodesOf}
 use Rattle.mw_taut.proofs.Equations.{IsEquation}
 use Rattle.mw_taut.proofs.FormulaShapes.{not_shape, or_shape, equation_shape}
 use Rattle.mw_taut.proofs.Elements.{each_more, each_front, at_more, at_end, at_cases, at_map, at_within, each_at}
 use Rattle.mw_taut.proofs.MoreNodes.{nodes_wider, nodes_more, all_valid_wider, all_valid_more}
-use Rattle.mw_taut.proofs.Gathered.{among_left, among_right, among_cases, gather-append, gather-keeps, gather-has, gather-known, gather-all}
+use Rattle.mw_taut.proofs.FirstOccurrences.{formulas}
+use Rattle.mw_term.specs.Occurrences.{gather}
+use Rattle.mw_term.proofs.Gathered.{among_left, among_right, among_cases, gather-append, gather-keeps, gather-has, gather-known, gather-all}
 
 module _ (A : ArityTable) (os : List Object) where
   here_is : (r : ℕ) (G : Formula) → object_at os r ≡ formula_object G → is_formula A G ≡ true → (here A os) r ≡ G
@@ -61,7 +63,7 @@ module _ (A : ArityTable) (os : List Object) where
     many = refl;
     known = λ j r h. cc;
     listed = λ z h. cc;
-    answer = gather-all (all_equations ((here A os) f)) ∙ ap equations (here_is f F e g);
+    answer = gather-all formulas (all_equations ((here A os) f)) ∙ ap equations (here_is f F e g);
     new = ((λ j h. cc), tt);
     falling = (tt, tt);
     whole = here_is f F e g;
@@ -80,12 +82,12 @@ module _ (A : ArityTable) (os : List Object) where
   whole_more F keys (r ∷ rs) x y h = h
 
   -- what was gathered once adds nothing
-  again : (found ys zs : List Formula) → ((z : Formula) → among z ys ≡ true → among z found ≡ true) → gather found (ys ++ zs) ≡ gather found zs
-  again found ys zs h = gather-append found ys zs ∙ ap (λ l. gather l zs) (gather-known found ys h)
+  again : (found ys zs : List Formula) → ((z : Formula) → among z ys ≡ true → among z found ≡ true) → gather among found (ys ++ zs) ≡ gather among found zs
+  again found ys zs h = gather-append formulas found ys zs ∙ ap (λ l. gather among l zs) (gather-known formulas found ys h)
 
-  wanted_first : (found ys zs : List Formula) → gather found (ys ++ (ys ++ zs)) ≡ gather found (ys ++ zs)
+  wanted_first : (found ys zs : List Formula) → gather among found (ys ++ (ys ++ zs)) ≡ gather among found (ys ++ zs)
   wanted_first found ys zs =
-      gather-append found ys (ys ++ zs) ∙ (again (gather found ys) ys zs (gather-has found ys) ∙ sym (gather-append found ys zs))
+      gather-append formulas found ys (ys ++ zs) ∙ (again (gather among found ys) ys zs (gather-has formulas found ys) ∙ sym (gather-append formulas found ys zs))
 
   part_weight : (o u : Object) → u ≡ not_object o → weight o < weight u
   part_weight o u e = omega (arith, ap weight e)
@@ -100,7 +102,7 @@ module _ (A : ArityTable) (os : List Object) where
   pub record IsWanted (keys es : List ℕ) (x y : ℕ) : Type 0 where
     pub seen : (IsHere A os) y
     pub lighter : weight (object_at os y) < weight (object_at os x)
-    pub same : (zs : List Formula) → gather (map (here A os) es) (all_equations ((here A os) y) ++ (all_equations ((here A os) x) ++ zs)) ≡ gather (map (here A os) es) (all_equations ((here A os) x) ++ zs)
+    pub same : (zs : List Formula) → gather among (map (here A os) es) (all_equations ((here A os) y) ++ (all_equations ((here A os) x) ++ zs)) ≡ gather among (map (here A os) es) (all_equations ((here A os) x) ++ zs)
 
   pub wanted : (keys es : List ℕ) (x y : ℕ) → (IsHere A os) x → IsIn os y → ((i r : ℕ) → IsAt keys i r → (Covers A os) es r) → IsPartOf os keys x y → IsWanted keys es x y
   wanted keys es x y h i known (inl e) =
@@ -110,7 +112,7 @@ module _ (A : ArityTable) (os : List Object) where
         lighter = part_weight (object_at os y) (object_at os x) e;
         same = λ zs.
             let E = all_equations ((here A os) y) in
-            subst (λ X. gather (map (here A os) es) (E ++ (all_equations X ++ zs)) ≡ gather (map (here A os) es) (all_equations X ++ zs)) (sym s.0) (wanted_first (map (here A os) es) E zs);
+            subst (λ X. gather among (map (here A os) es) (E ++ (all_equations X ++ zs)) ≡ gather among (map (here A os) es) (all_equations X ++ zs)) (sym s.0) (wanted_first (map (here A os) es) E zs);
       }
   wanted keys es x y h i known (inr (inl k)) =
       let s = or_here x y k.0 h i k.1 k.2 in
@@ -120,8 +122,8 @@ module _ (A : ArityTable) (os : List Object) where
         same = λ zs.
             let E = all_equations ((here A os) y) in
             let G = all_equations ((here A os) k.0) in
-            subst (λ X. gather (map (here A os) es) (E ++ (all_equations X ++ zs)) ≡ gather (map (here A os) es) (all_equations X ++ zs)) (sym s.0)
-            (ap (λ l. gather (map (here A os) es) (E ++ l)) (append_assoc E G zs) ∙ (wanted_first (map (here A os) es) E (G ++ zs) ∙ ap (gather (map (here A os) es)) (sym (append_assoc E G zs))));
+            subst (λ X. gather among (map (here A os) es) (E ++ (all_equations X ++ zs)) ≡ gather among (map (here A os) es) (all_equations X ++ zs)) (sym s.0)
+            (ap (λ l. gather among (map (here A os) es) (E ++ l)) (append_assoc E G zs) ∙ (wanted_first (map (here A os) es) E (G ++ zs) ∙ ap (gather among (map (here A os) es)) (sym (append_assoc E G zs))));
       }
   wanted keys es x y h i known (inr (inr k)) =
       let s = or_here x k.0 y h k.2 i k.4 in
@@ -133,13 +135,13 @@ module _ (A : ArityTable) (os : List Object) where
             let G = all_equations ((here A os) y) in
             let found = map (here A os) es in
             let covered = known k.1 k.0 k.3 in
-            subst (λ X. gather found (G ++ (all_equations X ++ zs)) ≡ gather found (all_equations X ++ zs)) (sym s.0)
-            (ap (λ l. gather found (G ++ l)) (append_assoc E G zs)
-            ∙ (gather-append found G (E ++ (G ++ zs))
-            ∙ (again (gather found G) E (G ++ zs) (λ z m. gather-keeps found G z (covered z m))
-            ∙ (sym (gather-append found G (G ++ zs))
+            subst (λ X. gather among found (G ++ (all_equations X ++ zs)) ≡ gather among found (all_equations X ++ zs)) (sym s.0)
+            (ap (λ l. gather among found (G ++ l)) (append_assoc E G zs)
+            ∙ (gather-append formulas found G (E ++ (G ++ zs))
+            ∙ (again (gather among found G) E (G ++ zs) (λ z m. gather-keeps formulas found G z (covered z m))
+            ∙ (sym (gather-append formulas found G (G ++ zs))
             ∙ (wanted_first found G zs
-            ∙ (sym (again found E (G ++ zs) covered) ∙ ap (gather found) (sym (append_assoc E G zs))))))));
+            ∙ (sym (again found E (G ++ zs) covered) ∙ ap (gather among found) (sym (append_assoc E G zs))))))));
       }
 
   pub built_wants : (F : Formula) (keys : List ℕ) (nodes : List Node) (es rest : List ℕ) (x y : ℕ) → (IsBuilt A os) F keys nodes es (rest ++ x ∷ []) → IsIn os y → IsNew keys y → IsPartOf os keys x y → (IsBuilt A os) F keys nodes es ((rest ++ x ∷ []) ++ y ∷ [])
@@ -155,8 +157,8 @@ module _ (A : ArityTable) (os : List Object) where
         known = h.known;
         listed = h.listed;
         answer =
-            ap (gather (map (here A os) es)) (waiting_more (rest ++ x ∷ []) y ∙ ap (λ l. all_equations ((here A os) y) ++ l) (waiting_more rest x))
-            ∙ (w.same ((waiting A os) rest) ∙ (ap (gather (map (here A os) es)) (sym (waiting_more rest x)) ∙ h.answer));
+            ap (gather among (map (here A os) es)) (waiting_more (rest ++ x ∷ []) y ∙ ap (λ l. all_equations ((here A os) y) ++ l) (waiting_more rest x))
+            ∙ (w.same ((waiting A os) rest) ∙ (ap (gather among (map (here A os) es)) (sym (waiting_more rest x)) ∙ h.answer));
         new = each_more (IsNew keys) (rest ++ x ∷ []) y h.new n;
         falling = falling_more rest x y h.falling w.lighter;
         whole = whole_more F keys rest x y h.whole;
@@ -172,7 +174,7 @@ module _ (A : ArityTable) (os : List Object) where
     covers : (Covers A os) new x
     keeps : (z : Formula) → among z (map (here A os) es) ≡ true → among z (map (here A os) new) ≡ true
     listed : (z : Formula) → among z (map (here A os) new) ≡ true → (among z (map (here A os) es) ≡ true) ⊎ ((here A os) x ≡ z)
-    gathered : gather (map (here A os) es) (all_equations ((here A os) x)) ≡ map (here A os) new
+    gathered : gather among (map (here A os) es) (all_equations ((here A os) x)) ≡ map (here A os) new
 
   lighter_new : (keys rest : List ℕ) (x : ℕ) → (IsFalling A os) (rest ++ x ∷ []) → Each (IsNew keys) rest → Each (IsNew (keys ++ x ∷ [])) rest
   lighter_new keys [] x f h = tt
@@ -212,8 +214,8 @@ module _ (A : ArityTable) (os : List Object) where
           | inr same ↦ (length keys, x, at_end keys x, same)
         ];
         answer =
-            ap (λ l. gather l ((waiting A os) rest)) (sym p.gathered)
-            ∙ (sym (gather-append (map (here A os) es) (all_equations ((here A os) x)) ((waiting A os) rest)) ∙ (ap (gather (map (here A os) es)) (sym (waiting_more rest x)) ∙ h.answer));
+            ap (λ l. gather among l ((waiting A os) rest)) (sym p.gathered)
+            ∙ (sym (gather-append formulas (map (here A os) es) (all_equations ((here A os) x)) ((waiting A os) rest)) ∙ (ap (gather among (map (here A os) es)) (sym (waiting_more rest x)) ∙ h.answer));
         new = lighter_new keys rest x h.falling (each_front (IsNew keys) rest x h.new).0;
         falling = falling_front rest x h.falling;
         whole = whole_front F keys rest x h.whole;
@@ -228,7 +230,7 @@ module _ (A : ArityTable) (os : List Object) where
     covers = covers;
     keeps = λ z m. m;
     listed = λ z m. inl m;
-    gathered = gather-known (map (here A os) es) (all_equations ((here A os) x)) covers;
+    gathered = gather-known formulas (map (here A os) es) (all_equations ((here A os) x)) covers;
   }
     where
       zero_plus : (k : ℕ) → k ≡ 0 + k
@@ -249,7 +251,7 @@ module _ (A : ArityTable) (os : List Object) where
       put_plain F keys nodes es rest x (Or i j) h ((here A os) m.0, (here A os) m.1, at_map (here A os) keys i m.0 m.4, at_map (here A os) keys j m.1 m.5, s.0)
       (omega (arith, at_within keys i m.0 m.4, h.many), omega (arith, at_within keys j m.1 m.5, h.many))
       (subst (λ X. (z : Formula) → among z (all_equations X) ≡ true → among z (map (here A os) es) ≡ true) (sym s.0)
-      (λ z k. elim (among_cases z (all_equations ((here A os) m.0)) (all_equations ((here A os) m.1)) k) [ inl a ↦ h.known i m.0 m.4 z a | inr b ↦ h.known j m.1 m.5 z b ]))
+      (λ z k. elim (among_cases formulas z (all_equations ((here A os) m.0)) (all_equations ((here A os) m.1)) k) [ inl a ↦ h.known i m.0 m.4 z a | inr b ↦ h.known j m.1 m.5 z b ]))
   built_made F keys nodes es rest x (Equation k) distinct h m =
       let front = each_front (IsHere A os) rest x h.path_here in
       let X = (here A os) x in
@@ -268,10 +270,10 @@ module _ (A : ArityTable) (os : List Object) where
         equations_here = each_more (IsHere A os) es x h.equations_here front.1;
         nodes_of = nodes_more (map (here A os) (es ++ x ∷ [])) [] nodes (map (here A os) keys) (Equation k) X (subst (λ l. AreNodesOf l [] nodes (map (here A os) keys)) (sym more) (nodes_wider E [] X nodes (map (here A os) keys) h.nodes_of)) at;
         valid = subst (λ c. AreNodes c 0 (nodes ++ Equation k ∷ [])) (sym count) (all_valid_more (suc (length es)) 0 nodes (Equation k) (all_valid_wider (length es) 0 nodes h.valid) (omega (arith, m.0)));
-        covers = subst (λ l. (z : Formula) → among z l ≡ true → among z (map (here A os) (es ++ x ∷ [])) ≡ true) (sym one) (subst (λ l. (z : Formula) → among z (X ∷ []) ≡ true → among z l ≡ true) (sym more) (λ z a. among_right z E (X ∷ []) a));
-        keeps = subst (λ l. (z : Formula) → among z E ≡ true → among z l ≡ true) (sym more) (λ z a. among_left z E (X ∷ []) a);
-        listed = subst (λ l. (z : Formula) → among z l ≡ true → (among z E ≡ true) ⊎ (X ≡ z)) (sym more) (λ z a. elim (among_cases z E (X ∷ []) a) [ inl b ↦ inl b | inr b ↦ inr (only z b) ]);
-        gathered = ap (gather E) one ∙ (ap (λ b. cond b E (E ++ X ∷ [])) fresh ∙ sym more);
+        covers = subst (λ l. (z : Formula) → among z l ≡ true → among z (map (here A os) (es ++ x ∷ [])) ≡ true) (sym one) (subst (λ l. (z : Formula) → among z (X ∷ []) ≡ true → among z l ≡ true) (sym more) (λ z a. among_right formulas z E (X ∷ []) a));
+        keeps = subst (λ l. (z : Formula) → among z E ≡ true → among z l ≡ true) (sym more) (λ z a. among_left formulas z E (X ∷ []) a);
+        listed = subst (λ l. (z : Formula) → among z l ≡ true → (among z E ≡ true) ⊎ (X ≡ z)) (sym more) (λ z a. elim (among_cases formulas z E (X ∷ []) a) [ inl b ↦ inl b | inr b ↦ inr (only z b) ]);
+        gathered = ap (gather among E) one ∙ (ap (λ b. cond b E (E ++ X ∷ [])) fresh ∙ sym more);
       }
     where
       not_among : (b : Bool) → among ((here A os) x) (map (here A os) es) ≡ b → (among ((here A os) x) (map (here A os) es) ≡ true → ⊥) → among ((here A os) x) (map (here A os) es) ≡ false

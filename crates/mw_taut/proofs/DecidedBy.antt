@@ -15,7 +15,7 @@ use Rattle.mw_taut.specs.Decided.{IsTableOf, IsDecision, at_first, decision_of, 
 use Rattle.mw_taut.proofs.Proved.{schema-good}
 use Rattle.mw_taut.proofs.Falsified.{going_on-nothing}
 use Rattle.mw_taut.proofs.Decides.{Decides, decides}
-use Rattle.mw_taut.proofs.Gathered.{each_first, firsts_apart, are_equations, equations_formed}
+use Rattle.mw_taut.proofs.FirstOccurrences.{each_first, firsts_apart, are_equations, equations_formed}
 
 module _ (A : ArityTable) (F : Formula) (formed : is_formula A F ≡ true) where
   pub decided_from : (os : List Object) (t : Table) → IsTableOf os F t → Decides A F (by_cases (parts_at os t) (map (object_at os) t.equations.items) (at_first (formula_object F))) (falsifying F)

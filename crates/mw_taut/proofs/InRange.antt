@@ -1,5 +1,5 @@
 -- What is made of objects that hold no natural past the range holds none either.
-use Rattle.std.proofs.Common.{◌≡◌, ℕ, zero, suc, Bool, true, false, not, cond, List, [], ◌∷◌, ◌++◌, map, get_or, slice_get, Option, Some, None, refl, sym, ap, ap₂, ◌∙◌, subst}
+use Rattle.std.proofs.Common.{◌≡◌, ℕ, zero, suc, Bool, true, false, not, List, [], ◌∷◌, ◌++◌, get_or, slice_get, Option, Some, None, refl, ap₂}
 use Rattle.std.specs.Prelude.{◌||◌, unwrap_or}
 use Rattle.mw_model.specs.Object.{Name, Object, Pair, Symbol, NIL, named, nil_name, symbol, list1, list2, list3}
 use Rattle.mw_model.specs.Truth.{Each}
@@ -8,7 +8,7 @@ use Rattle.mw_taut.specs.declared.node.Node.{Node}
 use Rattle.mw_taut.specs.declared.node.Node.TheVariants.{Equation, Not, Or}
 use Rattle.mw_taut.specs.Steps.{not_object, or_object, schema, expansion, contraction, associativity, cut, commuted, passed, rotated, inserted, appended, resolved, doubled, left, right, alternatives, without_first, without_either, gathered, neither}
 use Rattle.mw_taut.specs.Settling.{ValueAndProof, settle_not, settle_or, settle_denial, settle_first, settle_second, settle_either, settle, settle_all}
-use Rattle.mw_taut.specs.ByCases.{Parts, Taken, Answer, Proved, Falsified, literal_object, literal_law, widen_one, widen_each, choose_object, assume, concluded, settle_whole, ended, ending, joined, by_cases}
+use Rattle.mw_taut.specs.ByCases.{Parts, Taken, Answer, Proved, Falsified, literal_object, literal_law, widen_each, choose_object, assume, concluded, settle_whole, ended, ending, joined, by_cases}
 use Rattle.mw_taut.proofs.Elements.{each_more}
 
 -- the object holds no such natural

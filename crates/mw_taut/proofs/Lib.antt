@@ -6,7 +6,7 @@ pub mod SettlingAll
 pub mod Widening
 pub mod Falsified
 pub mod Decides
-pub mod Gathered
+pub mod FirstOccurrences
 pub mod Choosing
 pub mod Branches
 pub mod Assumed

@@ -1,12 +1,12 @@
 -- Each formula has a table, and so each that is decided to be a tautology has a proof.
-use Rattle.std.proofs.Common.{◌≡◌, ℕ, zero, suc, ◌+◌, ◌<◌, Bool, true, false, not, ltb, List, [], ◌∷◌, ◌++◌, map, filter, length, slice_get, Option, Some, None, cond, refl, sym, ap, ◌∙◌, subst, arith, append_assoc, length-append}
+use Rattle.std.proofs.Common.{◌≡◌, ℕ, zero, suc, ◌+◌, ◌<◌, Bool, true, false, not, ltb, List, [], ◌∷◌, ◌++◌, map, filter, length, slice_get, Option, Some, None, cond, refl, sym, ap, subst, arith, append_assoc, length-append}
 use Rattle.std.specs.Prelude.{◌||◌, if◌then◌else◌}
 use Rattle.std.proofs.lemmas.List.{append-nil}
 use Rattle.mw_model.specs.Object.{Object}
 use Rattle.mw_model.specs.Term.{Formula, Equal, Not as Denial, Or as Either, formula_object, firsts, ArityTable, is_formula}
 use Rattle.mw_model.specs.Same.{same_formula}
 use Rattle.mw_model.specs.Truth.{Each}
-use Rattle.mw_model.specs.Tautology.{Choice, Decision, Many, FailsUnder, Holds, all_equations, equations, choices, first_against, falsifying, decided, decision, most_equations}
+use Rattle.mw_model.specs.Tautology.{Choice, Many, Holds, all_equations, equations, choices, first_against, falsifying, decided, decision, most_equations}
 use Rattle.mw_model.specs.TautologyBook.{IsPureProof}
 use Rattle.mw_model.proofs.SameTerms.{same_formula-eq}
 use Rattle.mw_taut.specs.declared.node.Node.{Node}
@@ -20,7 +20,7 @@ use Rattle.mw_taut.proofs.Falsified.{going_on-nothing}
 use Rattle.mw_taut.proofs.Decides.{Decides, decides}
 use Rattle.mw_taut.proofs.Elements.{each_more, each_left, at_end, at_within}
 use Rattle.mw_taut.proofs.MoreNodes.{nodes_more, all_valid_more}
-use Rattle.mw_taut.proofs.Gathered.{each_first, firsts_apart, are_equations, equations_formed}
+use Rattle.mw_taut.proofs.FirstOccurrences.{each_first, firsts_apart, are_equations, equations_formed}
 use Rattle.mw_taut.proofs.InRange.{Fits, AnswerFits, by_cases-fits, first-fits}
 
 -- ---- each equation has a place

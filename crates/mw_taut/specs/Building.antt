@@ -7,6 +7,7 @@ use Rattle.mw_model.specs.Reading.{formula_of}
 use Rattle.mw_model.specs.Truth.{Each}
 use Rattle.mw_model.specs.Tautology.{all_equations, equations}
 use Rattle.mw_heap.specs.Objects.{object_at, IsIn}
+use Rattle.mw_term.specs.Occurrences.{gather}
 use Rattle.mw_taut.specs.declared.node.Node.{Node}
 use Rattle.mw_taut.specs.declared.node.Node.TheVariants.{Equation, Not, Or}
 use Rattle.mw_taut.specs.declared.progress.Progress.{Progress}
@@ -48,14 +49,10 @@ abbrev pub formula_or : Option Formula → Formula
 formula_or (Some F) = F
 formula_or None = Equal (Variable nil_name) (Variable nil_name)
 
--- equations gathered one by one
+-- a formula is on a list
 abbrev pub among : Formula → List Formula → Bool
 among E [] = false
 among E (G ∷ Gs) = same_formula E G || among E Gs
-
-abbrev pub gather : List Formula → List Formula → List Formula
-gather found [] = found
-gather found (y ∷ ys) = gather (cond (among y found) found (found ++ y ∷ [])) ys
 
 module _ (A : ArityTable) (os : List Object) where
   -- the formula of a reference
@@ -93,7 +90,7 @@ module _ (A : ArityTable) (os : List Object) where
     pub many : length nodes ≡ length keys
     pub known : (i r : ℕ) → IsAt keys i r → Covers es r
     pub listed : (z : Formula) → among z (map here es) ≡ true → (i : ℕ) × (r : ℕ) × IsAt keys i r × (here r ≡ z)
-    pub answer : gather (map here es) (waiting path) ≡ equations F
+    pub answer : gather among (map here es) (waiting path) ≡ equations F
     pub new : Each (IsNew keys) path
     pub falling : IsFalling path
     pub whole : IsWhole F keys path

@@ -24,7 +24,7 @@ pub record IsTableOf (os : List Object) (F : Formula) (t : Table) : Type 0 where
   pub equations_are : map (object_at os) t.equations.items ≡ map formula_object (equations F)
   pub inside : IsTableIn os t
 
--- the answer is the decision that is due for the formula, or want of memory
+-- the answer is the decision that is due for the formula, or out of memory
 abbrev pub IsDecision : List Object → ArityTable → Formula → Due → Decision → Type 0
 IsDecision os A F due Memory = Unit {0}
 IsDecision os A F ManyDue Many = Unit {0}

@@ -5,8 +5,9 @@ use Rattle.mw_model.specs.Object.{Name, Object, Natural, Symbol, Pair, same_name
 use Rattle.mw_model.specs.Term.{is_among, is_variable, are_variables, are_distinct, are_formals}
 use Rattle.mw_model.specs.Reading.{names_of, and_more}
 use Rattle.mw_model.specs.Primitive.{is_symbol, name_of}
-use Rattle.mw_model.proofs.Names.{same_name-eq, same_name-from, name_differ, name_differ-from}
+use Rattle.mw_model.proofs.Names.{same_name-eq, same_name-from}
 use Rattle.mw_heap.specs.Objects.{object_at, IsIn}
+use Rattle.mw_term.proofs.Gathered.{names, among-append, differ-sym}
 use Rattle.mw_term.specs.Parts.{if_formals, formals_of, is_new_variable, names_at, AreSymbols}
 
 -- the names before those of a list
@@ -53,19 +54,8 @@ variables-append (x ∷ xs) ys = ap (λ b. is_variable x && b) (variables-append
     and_assoc true b c = refl
     and_assoc false b c = refl
 
-pub among-append : (z : Name) (xs ys : List Name) → is_among z (xs ++ ys) ≡ (is_among z xs || is_among z ys)
-among-append z [] ys = refl
-among-append z (x ∷ xs) ys = ap (λ b. same_name z x || b) (among-append z xs ys) ∙ sym (or_assoc (same_name z x) (is_among z xs) (is_among z ys))
-  where
-    or_assoc : (a b c : Bool) → ((a || b) || c) ≡ (a || (b || c))
-    or_assoc true b c = refl
-    or_assoc false b c = refl
-
 variables-refused : (before : List Name) (y : Name) (ys : List Name) → is_variable y ≡ false → are_variables (before ++ y ∷ ys) ≡ false
 variables-refused before y ys h = variables-append before (y ∷ ys) ∙ (ap (λ b. are_variables before && (b && are_variables ys)) h ∙ and_false (are_variables before))
-
-pub differ-sym : (x y : Name) → same_name y x ≡ false → same_name x y ≡ false
-differ-sym x y h = name_differ-from x y (λ e. name_differ y x h (sym e))
 
 pub distinct-refused : (before : List Name) (y : Name) (ys : List Name) → is_among y before ≡ true → are_distinct (before ++ y ∷ ys) ≡ false
 distinct-refused [] y ys h = cc
@@ -73,7 +63,7 @@ distinct-refused (x ∷ xs) y ys h = go (same_name y x) refl (distinct-refused x
   where
     go : (b : Bool) → same_name y x ≡ b → (is_among y xs ≡ true → are_distinct (xs ++ y ∷ ys) ≡ false) → (b || is_among y xs) ≡ true → are_distinct (x ∷ xs ++ y ∷ ys) ≡ false
     go true e rest k =
-        let there : is_among x (xs ++ y ∷ ys) ≡ true = among-append x xs (y ∷ ys) ∙ (ap (λ b. is_among x xs || (b || is_among x ys)) (same_name-from x y (sym (same_name-eq y x e))) ∙ or_true (is_among x xs)) in
+        let there : is_among x (xs ++ y ∷ ys) ≡ true = among-append names x xs (y ∷ ys) ∙ (ap (λ b. is_among x xs || (b || is_among x ys)) (same_name-from x y (sym (same_name-eq y x e))) ∙ or_true (is_among x xs)) in
         ap (λ b. not b && are_distinct (xs ++ y ∷ ys)) there
     go false e rest k = ap (λ b. not (is_among x (xs ++ y ∷ ys)) && b) (rest k) ∙ and_false (not (is_among x (xs ++ y ∷ ys)))
 
@@ -82,7 +72,7 @@ distinct-push [] y d h = refl
 distinct-push (x ∷ xs) y d h =
     let p = and_parts (not (is_among x xs)) (are_distinct xs) d in
     let q = or_parts (same_name y x) (is_among y xs) h in
-    let apart : is_among x (xs ++ y ∷ []) ≡ false = among-append x xs (y ∷ []) ∙ ap₂ (λ a b. a || (b || false)) (not-true (is_among x xs) p.0) (differ-sym x y q.0) in
+    let apart : is_among x (xs ++ y ∷ []) ≡ false = among-append names x xs (y ∷ []) ∙ ap₂ (λ a b. a || (b || false)) (not-true (is_among x xs) p.0) (differ-sym names x y q.0) in
     and_from (not (is_among x (xs ++ y ∷ []))) (are_distinct (xs ++ y ∷ [])) (ap not apart) (distinct-push xs y p.1 q.1)
 
 formals-push : (before : List Name) (y : Name) → are_formals before ≡ true → is_variable y ≡ true → is_among y before ≡ false → are_formals (before ++ y ∷ []) ≡ true

@@ -11,7 +11,7 @@ use Rattle.mw_term.specs.declared.part.Part.TheVariants.{Term, Terms}
 use Rattle.mw_term.specs.Parts.{names_at, AreSymbols}
 use Rattle.mw_term.specs.Occurrences.{object_occurrences, objects_occurrences, object_variables, gather, place, IsPartIn, part_occurrences, waiting_occurrences, AreFound, IsLooked}
 use Rattle.mw_term.proofs.Symbols.{symbol_is}
-use Rattle.mw_term.proofs.Gathered.{among_left, among_right, among_cases, gather-append, gather-keeps, gather-has, gather-known, gather-all}
+use Rattle.mw_term.proofs.Gathered.{names, among_left, among_right, among_cases, gather-append, gather-keeps, gather-has, gather-known, gather-all}
 
 none_in : (p : Part) → Contains [] p → ⊥
 none_in p h = absurd (omega (arith, h.1))
@@ -50,7 +50,7 @@ module _ (os : List Object) where
     pub symbols : AreSymbols os found
     pub inside : (p : Part) → Contains waiting p → IsPartIn os p
     pub looked_inside : (p : Part) → Contains looked p → IsPartIn os p
-    pub answer : gather (names_at os found) (waiting_occurrences os waiting) ≡ object_variables (object_at os term)
+    pub answer : gather is_among (names_at os found) (waiting_occurrences os waiting) ≡ object_variables (object_at os term)
     pub under_way : (p : Part) → Contains looked p → IsUnderWay p found waiting
 
   pub gathering-start : (term : ℕ) (found : List ℕ) (looked waiting : List Part) → IsIn os term → found ≡ [] → looked ≡ [] → waiting ≡ Term term ∷ [] → IsGathering term found looked waiting
@@ -58,7 +58,7 @@ module _ (os : List Object) where
     symbols = subst (AreSymbols os) (sym no_found) tt;
     inside = λ p m. subst (IsPartIn os) (one_of (Term term) p (subst (λ l. Contains l p) one m)) within;
     looked_inside = λ p m. absurd (none_in p (subst (λ l. Contains l p) no_looked m));
-    answer = ap (λ l. gather (names_at os l) (waiting_occurrences os waiting)) no_found ∙ (ap (λ l. gather [] (waiting_occurrences os l)) one ∙ gather-all (part_occurrences os (Term term)));
+    answer = ap (λ l. gather is_among (names_at os l) (waiting_occurrences os waiting)) no_found ∙ (ap (λ l. gather is_among [] (waiting_occurrences os l)) one ∙ gather-all names (part_occurrences os (Term term)));
     under_way = λ p m. absurd (none_in p (subst (λ l. Contains l p) no_looked m));
   }
 
@@ -66,13 +66,13 @@ module _ (os : List Object) where
     -- a variable of the part was found, or waits in its parts
     split : (z : Name) → is_among z (part_occurrences os part) ≡ true → (is_among z (names_at os new) ≡ true) ⊎ (is_among z (waiting_occurrences os l.more) ≡ true)
     split z h =
-        elim (among_cases z l.first (waiting_occurrences os l.more) (subst (λ k. is_among z k ≡ true) l.occurrences h)) [
-          | inl k ↦ inl (subst (λ k. is_among z k ≡ true) (sym l.finds.names) (gather-has (names_at os found) l.first z k))
+        elim (among_cases names z l.first (waiting_occurrences os l.more) (subst (λ k. is_among z k ≡ true) l.occurrences h)) [
+          | inl k ↦ inl (subst (λ k. is_among z k ≡ true) (sym l.finds.names) (gather-has names (names_at os found) l.first z k))
           | inr k ↦ inr k
         ]
 
     keeps : (z : Name) → is_among z (names_at os found) ≡ true → is_among z (names_at os new) ≡ true
-    keeps z h = subst (λ k. is_among z k ≡ true) (sym l.finds.names) (gather-keeps (names_at os found) l.first z h)
+    keeps z h = subst (λ k. is_among z k ≡ true) (sym l.finds.names) (gather-keeps names (names_at os found) l.first z h)
 
     now_under_way : IsUnderWay part new waiting
     now_under_way = record { below = rest; above = l.more; split = l.longer; before = l.before; known = split }
@@ -105,23 +105,23 @@ module _ (os : List Object) where
                     elim (w.known z h) [
                       | inl k ↦ inl (keeps z k)
                       | inr k ↦
-                          elim (among_cases z (part_occurrences os part) (waiting_occurrences os a) (subst (λ m. is_among z m ≡ true) (ap (waiting_occurrences os) half.1 ∙ waiting-append a (part ∷ [])) k)) [
-                            | inl i ↦ elim (split z i) [ inl j ↦ inl j | inr j ↦ inr (to (among_left z (waiting_occurrences os l.more) (waiting_occurrences os a) j)) ]
-                            | inr i ↦ inr (to (among_right z (waiting_occurrences os l.more) (waiting_occurrences os a) i))
+                          elim (among_cases names z (part_occurrences os part) (waiting_occurrences os a) (subst (λ m. is_among z m ≡ true) (ap (waiting_occurrences os) half.1 ∙ waiting-append a (part ∷ [])) k)) [
+                            | inl i ↦ elim (split z i) [ inl j ↦ inl j | inr j ↦ inr (to (among_left names z (waiting_occurrences os l.more) (waiting_occurrences os a) j)) ]
+                            | inr i ↦ inr (to (among_right names z (waiting_occurrences os l.more) (waiting_occurrences os a) i))
                           ]
                     ];
               }
         ]
 
-    same_answer : gather (names_at os new) (waiting_occurrences os waiting) ≡ gather (names_at os found) (waiting_occurrences os (rest ++ part ∷ []))
+    same_answer : gather is_among (names_at os new) (waiting_occurrences os waiting) ≡ gather is_among (names_at os found) (waiting_occurrences os (rest ++ part ∷ []))
     same_answer =
         let W = waiting_occurrences os in
-        ap (λ k. gather (names_at os new) (W k)) l.longer
-        ∙ (ap (gather (names_at os new)) (waiting-append rest l.more)
-        ∙ (ap (λ k. gather k (W l.more ++ W rest)) l.finds.names
-        ∙ (sym (gather-append (names_at os found) l.first (W l.more ++ W rest))
-        ∙ (ap (gather (names_at os found)) (sym (append_assoc l.first (W l.more) (W rest)) ∙ ap (λ k. k ++ W rest) (sym l.occurrences))
-        ∙ ap (gather (names_at os found)) (sym (waiting-append rest (part ∷ [])))))))
+        ap (λ k. gather is_among (names_at os new) (W k)) l.longer
+        ∙ (ap (gather is_among (names_at os new)) (waiting-append rest l.more)
+        ∙ (ap (λ k. gather is_among k (W l.more ++ W rest)) l.finds.names
+        ∙ (sym (gather-append names (names_at os found) l.first (W l.more ++ W rest))
+        ∙ (ap (gather is_among (names_at os found)) (sym (append_assoc l.first (W l.more) (W rest)) ∙ ap (λ k. k ++ W rest) (sym l.occurrences))
+        ∙ ap (gather is_among (names_at os found)) (sym (waiting-append rest (part ∷ [])))))))
 
     -- one more part was looked at
     pub gathering-step : (term : ℕ) (looked looked_new : List Part) → IsGathering term found looked (rest ++ part ∷ []) → ((p : Part) → Contains looked_new p → Contains looked p ⊎ (p ≡ part)) → IsGathering term new looked_new waiting
@@ -147,7 +147,7 @@ module _ (os : List Object) where
     inside = λ p k. absurd (none_in p k);
     before = λ p k. absurd (none_in p k);
     occurrences = sym (append-nil (part_occurrences os part));
-    finds = record { symbols = g.symbols; names = sym (gather-known (names_at os found) (part_occurrences os part) all_known) };
+    finds = record { symbols = g.symbols; names = sym (gather-known names (names_at os found) (part_occurrences os part) all_known) };
   }
     where
       all_known : (z : Name) → is_among z (part_occurrences os part) ≡ true → is_among z (names_at os found) ≡ true

@@ -5,9 +5,9 @@ mod ListMarks
 mod ListLengths
 pub mod Symbols
 mod PartSet
+pub mod Gathered
 pub mod FormalList
 pub mod Heads
-pub mod Gathered
 mod Gathering
 pub mod TermOccurrences
 mod SameArities

@@ -28,10 +28,10 @@ object_variables x = firsts same_name (object_occurrences x)
 abbrev pub is_closed_object : List Name → Object → Bool
 is_closed_object xs x = list_all (λ y. is_among y xs) (object_variables x)
 
--- the names found so far, and after them those of ys that are new
-abbrev pub gather : List Name → List Name → List Name
-gather found [] = found
-gather found (y ∷ ys) = gather (cond (is_among y found) found (found ++ y ∷ [])) ys
+-- those found so far, and after them those of ys that are new; a test tells which were found
+abbrev pub gather : {X : Type 0} → (X → List X → Bool) → List X → List X → List X
+gather among found [] = found
+gather among found (y ∷ ys) = gather among (cond (among y found) found (found ++ y ∷ [])) ys
 
 -- a part's reference
 abbrev pub place : Part → ℕ
@@ -54,7 +54,7 @@ module _ (os : List Object) where
   -- the names of `first` were found, in order
   pub record AreFound (found new : List ℕ) (first : List Name) : Type 0 where
     pub symbols : AreSymbols os new
-    pub names : names_at os new ≡ gather (names_at os found) first
+    pub names : names_at os new ≡ gather is_among (names_at os found) first
 
   -- the first occurrences of a part were found, and its parts, which stand before it, wait
   pub record IsLooked (part : Part) (found new : List ℕ) (waited waiting : List Part) : Type 0 where

@@ -8,7 +8,7 @@ use Rattle.mw_model.specs.Expansion.{without, bound_names, let_actuals, let_term
 use Rattle.mw_model.proofs.Names.{same_name-eq, same_name-refl}
 use Rattle.mw_model.proofs.Closed.{closed_exactly}
 use Rattle.mw_model.proofs.Formed.{Formed, AreFormed, formed}
-use Rattle.mw_term.proofs.FormalList.{among-append}
+use Rattle.mw_term.proofs.Gathered.{names, among-append}
 use Rattle.mw_translate.specs.Meaning.{values_of}
 use Rattle.mw_translate.specs.Lets.{append_terms, let_lambda}
 
@@ -156,7 +156,7 @@ distinct-append : (xs ys : List Name) → ((z : Name) → is_among z xs ≡ true
 distinct-append [] ys h d = d
 distinct-append (x ∷ xs) ys h d =
     ap₂ (λ a b. not a && b)
-    (among-append x xs ys ∙ (ap (λ b. is_among x xs || b) (h x (ap (λ b. b || is_among x xs) (same_name-refl x))) ∙ or_false (is_among x xs)))
+    (among-append names x xs ys ∙ (ap (λ b. is_among x xs || b) (h x (ap (λ b. b || is_among x xs) (same_name-refl x))) ∙ or_false (is_among x xs)))
     (distinct-append xs ys (λ z k. h z (later z k)) d)
   where
     or_false : (a : Bool) → (a || false) ≡ a
@@ -211,7 +211,7 @@ module _ (A : ArityTable) where
           let are : are_variables ys ≡ true = variables-without (variables b) xs (variables-firsts (occurrences b) (occurrences-variables A b (formed A b e))) in
           let once : are_distinct ys ≡ true = distinct-without (variables b) xs (distinct-firsts (occurrences b)) in
           let formals : are_formals (xs ++ ys) ≡ are_formals xs = ap₂ (λ p q. p && q) (variables-append-same xs ys are) (distinct-append xs ys (λ z k. apart-without z (variables b) xs k) once) in
-          let closed : is_closed (xs ++ ys) b ≡ true = (closed_exactly (xs ++ ys) b).1 (λ z k. among-append z xs ys ∙ found z k (is_among z xs) refl) in
+          let closed : is_closed (xs ++ ys) b ≡ true = (closed_exactly (xs ++ ys) b).1 (λ z k. among-append names z xs ys ∙ found z k (is_among z xs) refl) in
           let length_is : length (xs ++ ys) ≡ count (append_terms ts (variable_terms ys)) = omega (arith, length-append xs ys, count-append ts ys, same) in
           all (are_formals (xs ++ ys)) (are_formals xs) (is_closed (xs ++ ys) b) (eqb (length (xs ++ ys)) (count (append_terms ts (variable_terms ys)))) (is_term A b) (are_terms A (append_terms ts (variable_terms ys))) (are_terms A ts) formals closed (eq-eqb (length (xs ++ ys)) (count (append_terms ts (variable_terms ys))) length_is) (terms-append ts ys are)
         where

@@ -10,9 +10,9 @@ returns-clause-made c =
     let old = c.args.heap.now.objects in
     let now = c.first_case.new.heap.objects in
     let first = c.in_ok-first.ensures in
-    let parts = c.args.table.now in
-    let es = parts.equations.items in
-    let same = ap (λ p. by_cases p (map (object_at now) (drop (length c.in_ok-first.first.chosen.items) es)) (taken_at now c.in_ok-first.first)) (parts_kept old now first.grows parts c.requires.table)
-    ∙ (ap (λ k. by_cases (parts_at old parts) (map (object_at now) (drop k es)) (taken_at now c.in_ok-first.first)) first.none
-    ∙ ap₂ (by_cases (parts_at old parts)) (rest_kept old now first.grows parts 0 c.requires.table) first.made) in
+    let formula_table = c.args.table.now in
+    let es = formula_table.equations.items in
+    let same = ap (λ p. by_cases p (map (object_at now) (drop (length c.in_ok-first.first.chosen.items) es)) (taken_at now c.in_ok-first.first)) (parts_kept old now first.grows formula_table c.requires.table)
+    ∙ (ap (λ k. by_cases (parts_at old formula_table) (map (object_at now) (drop k es)) (taken_at now c.in_ok-first.first)) first.none
+    ∙ ap₂ (by_cases (parts_at old formula_table)) (rest_kept old now first.grows formula_table 0 c.requires.table) first.made) in
     subst (λ x. IfOk c.by_cases.result (λ o. answer_at c.by_cases.new.heap.objects o ≡ x)) same c.by_cases.ensures.made
