@@ -1,4 +1,3 @@
-mod OnStack
 mod Gathers
 mod OneMore
 mod Results

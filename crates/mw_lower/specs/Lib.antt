@@ -1,5 +1,4 @@
 pub mod Pieces
-pub mod Stacks
 pub mod Lines
 pub mod Schemes
 pub mod Replacements

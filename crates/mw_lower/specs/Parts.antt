@@ -4,7 +4,7 @@ use Rattle.mw_model.specs.Object.{Object}
 use Rattle.mw_heap.specs.Objects.{object_at}
 use Rattle.mw_proof.specs.Gathered.{IsAmong, AreIn, HasSubproofs, IsMadeOf}
 
--- the proof, its subproofs, theirs and so on, and no others, in the order of their references: so each is behind its subproofs
+-- the proof, its subproofs, theirs and so on, and no others, in the order of their references: so each is after its subproofs
 pub record AreParts (os : List Object) (proof : ℕ) (parts : List ℕ) : Type 0 where
   pub here : IsAmong parts proof
   pub within : AreIn os parts

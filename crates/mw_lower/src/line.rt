@@ -2,7 +2,7 @@
 ghost use Rattle.std.specs.Prelude.{◌≡◌, All, map, get_or, IfOk};
 ghost use Rattle.mw_model.specs.Object.{NIL};
 ghost use Rattle.mw_heap.specs.Objects.{object_at, IsIn, Grows};
-ghost use Rattle.mw_lower.specs.Stacks.{AreIn};
+ghost use Rattle.mw_axioms.specs.Stacks.{AreIn};
 ghost use Rattle.mw_lower.specs.Lines.{line_of, of_two, of_four, last_line};
 
 use crate::machine::{make, take};
@@ -96,7 +96,7 @@ fn make_four(
     make(heap, scheme, &[first, second, third, fourth])
 }
 
-/// The last of the lines, in order, behind the given ones.
+/// The last of the lines, in order, after the given ones.
 pub(crate) fn derive(heap: &mut Heap, lines: &[Line], given: &[Ref]) -> Result<Ref, Memory>
     requires { All (IsIn heap.old.objects) given.now }
     ensures grows { Grows heap.old.objects heap.new.objects }

@@ -2,7 +2,7 @@
 ghost use Rattle.std.specs.Prelude.{◌≡◌, All, [], ◌∷◌, map, get_or, IfOk, OnOk, OnErr};
 ghost use Rattle.mw_model.specs.Object.{NIL, Pair};
 ghost use Rattle.mw_heap.specs.Objects.{object_at, IsIn, Grows};
-ghost use Rattle.mw_lower.specs.Stacks.{stack_of, AreIn};
+ghost use Rattle.mw_axioms.specs.Stacks.{stack_of, AreIn};
 ghost use Rattle.mw_lower.specs.Pieces.{newest, older, gather, step, run, made_of};
 
 use crate::piece::Piece;
@@ -78,7 +78,8 @@ fn take_step(
     ensures made { OnOk result (stack_of heap.new.objects stack.new.items ≡ step (map (object_at heap.old.objects) given.now) piece (stack_of heap.old.objects stack.old.items)) }
 {
     let made = match piece {
-        Piece::Symbol(word) => heap.symbol(word.name())?,
+        Piece::Symbol(word) => heap.word(word)?,
+        Piece::Free(variable) => heap.symbol(variable.name())?,
         Piece::Given(number) => given_at(heap, given, number)?,
         Piece::Pair => return make_pair(heap, stack),
         Piece::List(count) => return make_list(heap, stack, count),

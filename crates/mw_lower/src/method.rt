@@ -44,7 +44,7 @@ pub(crate) fn method_step(
     ensures grows { Grows heap.old.objects heap.new.objects }
     ensures answer { IfOk result (λ o. (A : ArityTable) → AreMarks A heap.old.objects marks.now → IsMethodStep (basis heap.old.objects A axioms.now theorems.now (profile_of profile)) heap.old.objects p step (list_object heap.old.objects proofs.now) heap.new.objects o) }
 {
-    let conclusions = conclusions_of(heap, proofs)?;
+    let conclusions = each_conclusion(heap, proofs)?;
     let follows = step_follows(
         heap,
         step,
@@ -98,8 +98,8 @@ fn step_follows(
     }
 }
 
-// The conclusions of proofs.
-fn conclusions_of(heap: &Heap, proofs: &[Ref]) -> Result<Vec<Ref>, Memory>
+// The conclusion of each of the proofs.
+fn each_conclusion(heap: &Heap, proofs: &[Ref]) -> Result<Vec<Ref>, Memory>
     requires { All (IsIn heap.now.objects) proofs.now }
     ensures within { IfOk result (λ v. All (IsIn heap.now.objects) v.items) }
     ensures conclusions { IfOk result (λ v. AreConclusions heap.now.objects proofs.now v.items) }

@@ -44,7 +44,7 @@ fn add_subproofs(
     Ok(true)
 }
 
-/// The proof, its subproofs, theirs and so on, each once and behind its own; nothing where it is no derivation.
+/// The proof, its subproofs, theirs and so on, each once and after its own; nothing where it is no derivation.
 pub(crate) fn parts(
     heap: &mut Heap,
     proof: Ref,

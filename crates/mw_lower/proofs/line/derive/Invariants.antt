@@ -2,7 +2,7 @@
 use Rattle.std.proofs.Common.{◌≡◌, drop, map}
 use Rattle.mw_model.specs.Object.{NIL}
 use Rattle.mw_heap.specs.Objects.{object_at, IsIn, Grows}
-use Rattle.mw_lower.specs.Stacks.{AreIn}
+use Rattle.mw_axioms.specs.Stacks.{AreIn}
 use Rattle.mw_lower.specs.Lines.{all_lines}
 use Rattle.mw_lower.proofs.line.derive.Given as goal
 

@@ -2,8 +2,8 @@
 use Rattle.std.proofs.Common.{◌∷◌, ap, ap₂, ◌∙◌}
 use Rattle.mw_model.specs.Object.{Pair}
 use Rattle.mw_heap.proofs.Objects.{object_at-Grows}
-use Rattle.mw_lower.specs.Stacks.{stack_of}
-use Rattle.mw_lower.proofs.OnStack.{stack_of-put}
+use Rattle.mw_axioms.specs.Stacks.{stack_of}
+use Rattle.mw_axioms.proofs.OnStack.{stack_of-put}
 use Rattle.mw_lower.specs.Pieces.{newest, older}
 use Rattle.mw_lower.proofs.machine.make_pair.Goals as goal
 

@@ -2,8 +2,8 @@
 use Rattle.std.proofs.Common.{map, ◌∙◌}
 use Rattle.mw_heap.specs.Objects.{object_at}
 use Rattle.mw_heap.proofs.Objects.{Grows-trans}
-use Rattle.mw_lower.specs.Stacks.{stack_of}
-use Rattle.mw_lower.proofs.OnStack.{AreIn-grows, map-grows}
+use Rattle.mw_axioms.specs.Stacks.{stack_of}
+use Rattle.mw_axioms.proofs.OnStack.{AreIn-grows, map-grows}
 use Rattle.mw_lower.proofs.OneMore.{one_more_piece}
 use Rattle.mw_lower.proofs.machine.run.Goals as goal
 

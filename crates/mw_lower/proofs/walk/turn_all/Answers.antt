@@ -1,4 +1,4 @@
--- One after another, each behind its subproofs.
+-- One after another, each after its subproofs.
 use Rattle.std.proofs.Common.{◌<◌, Some, length, get_or, refl, sym, ◌∙◌, subst, arith}
 use Rattle.std.proofs.lemmas.List.{take_all}
 use Rattle.mw_heap.specs.Objects.{object_at, IsIn}

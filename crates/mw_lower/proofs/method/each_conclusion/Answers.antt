@@ -5,8 +5,8 @@ use Rattle.mw_heap.specs.Objects.{object_at}
 use Rattle.mw_proof.specs.Step.{conclusions_object}
 use Rattle.mw_heap.specs.Lists.{list_object}
 use Rattle.mw_lower.proofs.Premises.{Concludes, Concludes-more, Concludes-skip, nothing_left}
-use Rattle.mw_lower.proofs.method.conclusions_of.Goals as goal
-use Rattle.mw_lower.proofs.method.conclusions_of.Goals.{in-Some+in_ok-push, in_default}
+use Rattle.mw_lower.proofs.method.each_conclusion.Goals as goal
+use Rattle.mw_lower.proofs.method.each_conclusion.Goals.{in-Some+in_ok-push, in_default}
 
 pub loop-p-preserved : goal.loop-p-preserved
 loop-p-preserved c =
