@@ -21,9 +21,10 @@ use Rattle.mw_preamble.proofs.CallerLemmas.{block-grows, AreEntries-grows}
 use Rattle.mw_kernel.specs.declared.theory.Theory.{Theory as Kept}
 use Rattle.mw_kernel.specs.Adding.{with_block, MayBeAdded}
 use Rattle.mw_kernel.specs.Defining.{IsNewBlock}
-use Rattle.mw_kernel.specs.Knowledge.{theory_with, parts_of, definitions_of, name_read, meant, with_theorem, put_all, is_first, IsNameIn, IsHeld}
+use Rattle.mw_kernel.specs.Knowledge.{theory_with, parts_of, definitions_of, name_read, meant, with_theorem, put_all, is_first, IsNameIn, HasEquality, IsHeld}
 use Rattle.mw_kernel.proofs.Entered.{blocks-read}
 use Rattle.mw_kernel.specs.Switching.{with_checker}
+use Rattle.mw_kernel.proofs.Equality.{equality-added}
 use Rattle.mw_kernel.proofs.Firsts.{theorem-later, checker-later, block-later}
 use Rattle.mw_kernel.proofs.Held.{known-grow, all-grow, named-grows, meant-grows, held-grows}
 use Rattle.mw_kernel.proofs.Listing.{put_formulas}
@@ -51,6 +52,7 @@ module _ (os : List Object) (t : Kept) (h : IsHeld os t) (formula list : ℕ) (n
         each_theorem_in = All-cons (IsIn new) formula t.known_theorems (IsIn-Grows os new grows formula within) g.each_theorem_in;
         axioms_known = g.axioms_known;
         theorems_known = ap₂ Pair (object_at-Grows os new grows formula within) (known-grow os new grows t.known_theorems h.each_theorem_in ∙ h.theorems_known) ∙ sym made;
+        equality = g.equality;
         arities = g.arities;
         arities_listed = g.arities_listed;
         entered = g.entered;
@@ -79,6 +81,7 @@ module _ (os : List Object) (t : Kept) (h : IsHeld os t) (name level : ℕ) (nam
     each_theorem_in = h.each_theorem_in;
     axioms_known = h.axioms_known;
     theorems_known = h.theorems_known;
+    equality = h.equality;
     arities = h.arities;
     arities_listed = h.arities_listed;
     entered = h.entered;
@@ -138,6 +141,7 @@ module _ (os : List Object) (t : Kept) (h : IsHeld os t) (B : Block) (ds : List 
         each_theorem_in = subst (All (IsIn new)) (sym a.known_theorems) g.each_theorem_in;
         axioms_known = a.axioms_known;
         theorems_known = ap (list_object new) a.known_theorems ∙ (g.theorems_known ∙ ap (object_at new) (sym a.theorems));
+        equality = subst HasEquality (sym a.axioms_are) (equality-added (block_axioms B) (object_at os t.axioms) h.equality);
         arities = a.arities ∙ ap arity_table (sym definitions_are);
         arities_listed = a.arity_list_is;
         entered = subst (λ D. AreEntries new after.entries D.blocks) (sym definitions_are) entered;

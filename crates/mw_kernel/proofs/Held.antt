@@ -20,7 +20,7 @@ use Rattle.mw_code.proofs.CallerLemmas.{stands-grows}
 use Rattle.mw_preamble.specs.Entries.{AreEntries}
 use Rattle.mw_preamble.proofs.CallerLemmas.{AreEntries-grows}
 use Rattle.mw_kernel.specs.declared.theory.Theory.{Theory as Kept}
-use Rattle.mw_kernel.specs.Knowledge.{Knowledge, parts_of, definitions_of, name_read, theory_with, meant, is_first, IsNameIn, IsHeld, IsKernel}
+use Rattle.mw_kernel.specs.Knowledge.{Knowledge, parts_of, definitions_of, name_read, theory_with, meant, is_first, IsNameIn, HasEquality, IsHeld, IsKernel}
 use Rattle.mw_kernel.specs.Defining.{HasOtherCode}
 use Rattle.mw_kernel.proofs.Entered.{blocks-read}
 
@@ -64,6 +64,7 @@ module _ (old new : List Object) (grows : Grows old new) where
       each_theorem_in = all-grow t.known_theorems h.each_theorem_in;
       axioms_known = known-grow t.known_axioms h.each_axiom_in ∙ (h.axioms_known ∙ sym (object_at-Grows old new grows t.axioms h.axioms_in));
       theorems_known = known-grow t.known_theorems h.each_theorem_in ∙ (h.theorems_known ∙ sym (object_at-Grows old new grows t.theorems h.theorems_in));
+      equality = subst HasEquality (sym (object_at-Grows old new grows t.axioms h.axioms_in)) h.equality;
       arities = h.arities ∙ ap arity_table (sym definitions-grow);
       arities_listed = object_at-Grows old new grows t.arity_list h.arity_list_in ∙ h.arities_listed;
       entered = subst (λ D. AreEntries new t.entries D.blocks) (sym definitions-grow) (AreEntries-grows old new grows t.entries (definitions_of old (parts_of t)).blocks h.entered);
@@ -84,6 +85,7 @@ held-recoded os t new h c =
       each_theorem_in = h.each_theorem_in;
       axioms_known = h.axioms_known;
       theorems_known = h.theorems_known;
+      equality = h.equality;
       arities = h.arities;
       arities_listed = h.arities_listed;
       entered = h.entered;

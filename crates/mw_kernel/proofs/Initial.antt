@@ -8,6 +8,7 @@ use Rattle.mw_model.specs.Term.{formula_object, table_object}
 use Rattle.mw_model.specs.Primitive.{Profile}
 use Rattle.mw_model.specs.Definition.{Block, definitions, arity_table, block_axioms}
 use Rattle.mw_model.specs.Axioms.{primitive_axioms}
+use Rattle.mw_model.specs.BuiltIn.{built_in}
 use Rattle.mw_model.specs.Theory.{axioms_of, initial, IsSound}
 use Rattle.mw_model.specs.Fate.{is_one}
 use Rattle.mw_heap.specs.Objects.{object_at, IsIn, Grows}
@@ -19,8 +20,9 @@ use Rattle.mw_preamble.specs.Admitted.{axioms_in_order}
 use Rattle.mw_preamble.specs.Admitted as admitted
 use Rattle.mw_preamble.specs.Entries.{AreEntries}
 use Rattle.mw_kernel.specs.declared.theory.Theory.{Theory as Kept}
-use Rattle.mw_kernel.specs.Knowledge.{theory_with, parts_of, definitions_of, name_read, meant, put_all, is_first, IsNameIn, IsHeld}
+use Rattle.mw_kernel.specs.Knowledge.{theory_with, parts_of, definitions_of, name_read, meant, put_all, is_first, IsNameIn, HasEquality, IsHeld}
 use Rattle.mw_kernel.proofs.Entered.{blocks-read}
+use Rattle.mw_kernel.proofs.Equality.{equality-first}
 use Rattle.mw_kernel.proofs.Firsts.{initial-first}
 use Rattle.mw_kernel.proofs.Held.{all-grow}
 use Rattle.mw_kernel.proofs.Listing.{put_formulas}
@@ -137,6 +139,7 @@ module _ (q : List Object) (t : Kept) (P : Profile) (profile : profile_of t.prof
     axioms_known = known_is;
     theorems_known = ap (list_object q) none ∙ sym (ap (λ t. t.theorems) theory);
     arities_listed = listed ∙ ap table_object (sym arities);
+    equality = subst HasEquality (sym (ap (λ t. t.axioms) theory)) (equality-first P (built_in P));
     arities = arities ∙ ap arity_table (sym definitions_are);
     entered = subst (λ D. AreEntries q t.entries D.blocks) (sym definitions_are) entered;
     coded = subst (StandsFor q t.table.value) (sym definitions_are) coded;

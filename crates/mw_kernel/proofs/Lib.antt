@@ -3,6 +3,7 @@ pub mod BlockPairs
 pub mod Defined
 pub mod Defining
 pub mod Entered
+pub mod Equality
 pub mod Evaluating
 pub mod EventWords
 pub mod Firsts
@@ -14,5 +15,6 @@ pub mod Listing
 pub mod Profiles
 pub mod ProofLists
 pub mod Refusing
+pub mod Rewritten
 pub mod Switching
 pub mod FirstName

@@ -145,11 +145,11 @@ pub put_before-push : (os : List Object) (xs : List ℕ) (x : ℕ) (rest : Objec
 put_before-push os [] x rest = refl
 put_before-push os (y ∷ xs) x rest = ap (Pair (object_at os y)) (put_before-push os xs x rest)
 
-list_object-before : (os : List Object) (xs : List ℕ) → list_object os xs ≡ put_before os xs NIL
+pub list_object-before : (os : List Object) (xs : List ℕ) → list_object os xs ≡ put_before os xs NIL
 list_object-before os [] = refl
 list_object-before os (x ∷ xs) = ap (Pair (object_at os x)) (list_object-before os xs)
 
-list_end : (x : Object) → is_pair x ≡ false → is_list_object x ≡ true → NIL ≡ x
+pub list_end : (x : Object) → is_pair x ≡ false → is_list_object x ≡ true → NIL ≡ x
 list_end (Natural n) h k = cc
 list_end (Symbol s) h k = sym (same_object-eq (Symbol s) NIL k)
 list_end (Pair a b) h k = cc

@@ -1,9 +1,10 @@
 -- What a kernel holds, and its theory.
 use Rattle.std.specs.Prelude.{◌≡◌, ℕ, ◌≤◌, true, Bool, List, [], ◌∷◌, length, take, Option, Some, None, All, IfSome}
-use Rattle.mw_model.specs.Object.{Name, Object, Pair}
-use Rattle.mw_model.specs.Term.{table_object}
+use Rattle.mw_model.specs.Object.{Name, Object, Pair, Member}
+use Rattle.mw_model.specs.Term.{formula_object, table_object}
 use Rattle.mw_model.specs.Primitive.{Profile, is_symbol, name_of}
 use Rattle.mw_model.specs.Definition.{Definitions, definitions, arity_table}
+use Rattle.mw_model.specs.Axioms.{axiom_1, axiom_2}
 use Rattle.mw_model.specs.Theory.{Theory, IsSound}
 use Rattle.mw_model.specs.Fate.{is_initial}
 use Rattle.mw_heap.specs.Objects.{object_at, IsIn}
@@ -72,8 +73,13 @@ is_first t = is_initial t
 abbrev pub IsNameIn : List Object → ℕ → Type 0
 IsNameIn os r = IsIn os r × (is_symbol (object_at os r) ≡ true)
 
+-- the first two axioms of the primitives, of equality, are members of the list
+pub record HasEquality (axioms : Object) : Type 0 where
+  pub first : Member (formula_object axiom_1) axioms
+  pub second : Member (formula_object axiom_2) axioms
+
 -- Over these objects all that is kept of a theory is right: the sets of known formulas, the arity table, the entries and the code are those
--- of the theory, which is sound.
+-- of the theory, which is sound and has the axioms of equality.
 pub record IsHeld (os : List Object) (t : Kept) : Type 0 where
   pub axioms_in : IsIn os t.axioms
   pub theorems_in : IsIn os t.theorems
@@ -82,6 +88,7 @@ pub record IsHeld (os : List Object) (t : Kept) : Type 0 where
   pub each_theorem_in : All (IsIn os) t.known_theorems
   pub axioms_known : list_object os t.known_axioms ≡ object_at os t.axioms
   pub theorems_known : list_object os t.known_theorems ≡ object_at os t.theorems
+  pub equality : HasEquality (object_at os t.axioms)
   pub arities : t.arity ≡ arity_table (definitions_of os (parts_of t))
   pub arities_listed : object_at os t.arity_list ≡ table_object t.arity
   pub entered : AreEntries os t.entries (definitions_of os (parts_of t)).blocks

@@ -8,6 +8,7 @@ ghost use Rattle.mw_model.specs.Theory.{initial, claim, IsSound};
 ghost use Rattle.mw_model.specs.Refusal.{Accepted};
 ghost use Rattle.mw_model.specs.Admission.{add_to_theory};
 ghost use Rattle.mw_model.specs.Fate.{fate, next, eval, profile};
+ghost use Rattle.mw_model.specs.Rewriting.{IsRewritten};
 ghost use Rattle.mw_heap.specs.Objects.{object_at, IsIn, Grows};
 ghost use Rattle.mw_term.specs.Marking.{AreMarks};
 ghost use Rattle.mw_read.specs.Standing.{Stands, IsStanding, Follows, Says, IsLast, HasEndedWith, HasEnded};
@@ -30,6 +31,7 @@ use crate::fate::{accepted, shown};
 use crate::first_name::first_name;
 use crate::mark::later;
 use crate::profile::profile_numbered;
+use crate::rewriting::rewritten;
 use crate::switch::refusal_of_switch;
 use crate::theory::Theory;
 use crate::verify::refusal;
@@ -37,6 +39,7 @@ use mw_define::{Admitted, Draft, admit_witness};
 use mw_heap::{Heap, Mark, Memory, Profile, Ref, Refusal, looks_for};
 use mw_machine::Machine;
 use mw_preamble::Definition;
+use mw_proof::Rewriter;
 use mw_read::{Reader, Step};
 use mw_reflect::reached_sound;
 use mw_term::Marks;
@@ -209,6 +212,22 @@ impl Kernel {
         ensures theory { theory_of self.new ≡ theory_of self.old }
     {
         claim(&mut self.heap, name)
+    }
+
+    /// The event with its proofs rewritten, each to what it turns to, or kept where it turns to nothing: the proof of a VERIFY, each member
+    /// of the list of proofs of a DEFINE or a DEFINE-ALL. The event itself where the theory's checker is not the built-in one, where the
+    /// object is no event with proofs, and where its proofs are no proper list. The theory stays; the objects that are made are gone after
+    /// the next event. The one error is that memory is refused.
+    pub fn rewritten<R: Rewriter>(&mut self, event: Ref, by: &mut R) -> Result<Ref, Memory>
+        requires { IsIn self.old.objects event }
+        ensures grows { Grows self.old.objects self.new.objects }
+        ensures rest { self.new ≡ record self.old { objects = self.new.objects } }
+        ensures theory { theory_of self.new ≡ theory_of self.old }
+        ensures within { IfOk result (λ r. IsIn self.new.objects r) }
+        ensures rewritten { IfOk result (λ r. IsRewritten R.turns (theory_of self.old) (object_at self.old.objects event) (object_at self.new.objects r)) }
+    {
+        self.allow_looks();
+        rewritten(&mut self.heap, event, &self.theory, &mut self.marks, by)
     }
 
     // The fate of the event; what it leaves in the heap is still there.

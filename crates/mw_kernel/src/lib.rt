@@ -19,6 +19,7 @@ mod members;
 mod pairs;
 mod profile;
 mod proofs;
+mod rewriting;
 mod running;
 mod switch;
 mod theory;

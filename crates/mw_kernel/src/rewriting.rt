@@ -1,0 +1,264 @@
+//! Events whose proofs are rewritten.
+ghost use Rattle.std.specs.Prelude.{◌≡◌, true, None, All, IfOk};
+ghost use Rattle.mw_model.specs.Object.{Object};
+ghost use Rattle.mw_model.specs.RulesInduction.{is_list_object};
+ghost use Rattle.mw_model.specs.Rewriting.{TurnsOrStays, EachTurnsOrStays, IsRewritten};
+ghost use Rattle.mw_heap.specs.Objects.{object_at, IsIn, Grows};
+ghost use Rattle.mw_heap.specs.Lists.{list_object};
+ghost use Rattle.mw_define.specs.Blocks.{IsDraftIn};
+ghost use Rattle.mw_term.specs.Marking.{AreMarks};
+ghost use Rattle.mw_kernel.specs.Knowledge.{parts_of, meant, IsHeld};
+ghost use Rattle.mw_kernel.specs.Words.{verify_event, define_event, define_all_event};
+
+use crate::event::{Event, event_of};
+use crate::theory::Theory;
+use mw_define::Draft;
+use mw_heap::{Heap, Memory, Ref, View, form_of, list_of};
+use mw_proof::{Rewriter, Rewritten};
+use mw_term::Marks;
+
+/// The event with its proofs rewritten, each to what it turns to, or kept where it turns to nothing. The event itself where the theory's
+/// checker is not the built-in one, where the object is no event with proofs, and where its proofs are no proper list. The marks, which
+/// are under the theory's arity table, are extended. The one error is that memory is refused.
+pub(crate) fn rewritten<R: Rewriter>(
+    heap: &mut Heap,
+    event: Ref,
+    theory: &Theory,
+    marks: &mut Marks,
+    by: &mut R,
+) -> Result<Ref, Memory>
+    requires within { IsIn heap.old.objects event }
+    requires held { IsHeld heap.old.objects theory.now }
+    requires marked { AreMarks theory.now.arity heap.old.objects marks.old }
+    ensures grows { Grows heap.old.objects heap.new.objects }
+    ensures marked { AreMarks theory.now.arity heap.new.objects marks.new }
+    ensures within { IfOk result (λ r. IsIn heap.new.objects r) }
+    ensures rewritten { IfOk result (λ r. IsRewritten R.turns (meant heap.old.objects (parts_of theory.now)) (object_at heap.old.objects event) (object_at heap.new.objects r)) }
+{
+    match theory.checker {
+        None => by_members(heap, event, theory, marks, by),
+        Some(_) => Ok(event),
+    }
+}
+
+// The same under the built-in checker.
+fn by_members<R: Rewriter>(
+    heap: &mut Heap,
+    event: Ref,
+    theory: &Theory,
+    marks: &mut Marks,
+    by: &mut R,
+) -> Result<Ref, Memory>
+    requires within { IsIn heap.old.objects event }
+    requires held { IsHeld heap.old.objects theory.now }
+    requires built_in { theory.now.checker ≡ None }
+    requires marked { AreMarks theory.now.arity heap.old.objects marks.old }
+    ensures grows { Grows heap.old.objects heap.new.objects }
+    ensures marked { AreMarks theory.now.arity heap.new.objects marks.new }
+    ensures within { IfOk result (λ r. IsIn heap.new.objects r) }
+    ensures rewritten { IfOk result (λ r. IsRewritten R.turns (meant heap.old.objects (parts_of theory.now)) (object_at heap.old.objects event) (object_at heap.new.objects r)) }
+{
+    let Some(members) = event_of(heap, event) else {
+        return Ok(event);
+    };
+    match members {
+        Event::Verify {
+            name,
+            formula,
+            proof,
+        } => with_proof(heap, name, formula, proof, theory, marks, by),
+        Event::Define {
+            name,
+            formals,
+            body,
+            measure,
+            proofs,
+        } => {
+            if !is_list(heap, proofs) {
+                return Ok(event);
+            }
+            let draft = Draft {
+                name,
+                formals,
+                body,
+                measure,
+            };
+            with_proofs(heap, draft, proofs, theory, marks, by)
+        }
+        Event::DefineAll {
+            definitions,
+            proofs,
+        } => {
+            if !is_list(heap, proofs) {
+                return Ok(event);
+            }
+            with_proofs_of_all(heap, definitions, proofs, theory, marks, by)
+        }
+        _ => Ok(event),
+    }
+}
+
+// A VERIFY of these members whose proof is rewritten.
+fn with_proof<R: Rewriter>(
+    heap: &mut Heap,
+    name: Ref,
+    formula: Ref,
+    proof: Ref,
+    theory: &Theory,
+    marks: &mut Marks,
+    by: &mut R,
+) -> Result<Ref, Memory>
+    requires name { IsIn heap.old.objects name }
+    requires formula { IsIn heap.old.objects formula }
+    requires proof { IsIn heap.old.objects proof }
+    requires held { IsHeld heap.old.objects theory.now }
+    requires marked { AreMarks theory.now.arity heap.old.objects marks.old }
+    ensures grows { Grows heap.old.objects heap.new.objects }
+    ensures marked { AreMarks theory.now.arity heap.new.objects marks.new }
+    ensures within { IfOk result (λ r. IsIn heap.new.objects r) }
+    ensures rewritten { IfOk result (λ r. (q : Object) × TurnsOrStays R.turns (meant heap.old.objects (parts_of theory.now)) (object_at heap.old.objects proof) q × (object_at heap.new.objects r ≡ verify_event (object_at heap.old.objects name) (object_at heap.old.objects formula) q)) }
+{
+    let turned = rewritten_proof(heap, proof, theory, marks, by)?;
+    form_of(heap, b"VERIFY", &[name, formula, turned])
+}
+
+// A DEFINE of these members whose proofs are rewritten.
+fn with_proofs<R: Rewriter>(
+    heap: &mut Heap,
+    draft: Draft,
+    proofs: Ref,
+    theory: &Theory,
+    marks: &mut Marks,
+    by: &mut R,
+) -> Result<Ref, Memory>
+    requires draft { IsDraftIn heap.old.objects draft }
+    requires proofs { IsIn heap.old.objects proofs }
+    requires list { is_list_object (object_at heap.old.objects proofs) ≡ true }
+    requires held { IsHeld heap.old.objects theory.now }
+    requires marked { AreMarks theory.now.arity heap.old.objects marks.old }
+    ensures grows { Grows heap.old.objects heap.new.objects }
+    ensures marked { AreMarks theory.now.arity heap.new.objects marks.new }
+    ensures within { IfOk result (λ r. IsIn heap.new.objects r) }
+    ensures rewritten { IfOk result (λ r. (qs : Object) × EachTurnsOrStays R.turns (meant heap.old.objects (parts_of theory.now)) (object_at heap.old.objects proofs) qs × (object_at heap.new.objects r ≡ define_event (object_at heap.old.objects draft.name) (object_at heap.old.objects draft.formals) (object_at heap.old.objects draft.body) (object_at heap.old.objects draft.measure) qs)) }
+{
+    let turned = rewritten_list(heap, proofs, theory, marks, by)?;
+    form_of(
+        heap,
+        b"DEFINE",
+        &[draft.name, draft.formals, draft.body, draft.measure, turned],
+    )
+}
+
+// A DEFINE-ALL of these members whose proofs are rewritten.
+fn with_proofs_of_all<R: Rewriter>(
+    heap: &mut Heap,
+    definitions: Ref,
+    proofs: Ref,
+    theory: &Theory,
+    marks: &mut Marks,
+    by: &mut R,
+) -> Result<Ref, Memory>
+    requires definitions { IsIn heap.old.objects definitions }
+    requires proofs { IsIn heap.old.objects proofs }
+    requires list { is_list_object (object_at heap.old.objects proofs) ≡ true }
+    requires held { IsHeld heap.old.objects theory.now }
+    requires marked { AreMarks theory.now.arity heap.old.objects marks.old }
+    ensures grows { Grows heap.old.objects heap.new.objects }
+    ensures marked { AreMarks theory.now.arity heap.new.objects marks.new }
+    ensures within { IfOk result (λ r. IsIn heap.new.objects r) }
+    ensures rewritten { IfOk result (λ r. (qs : Object) × EachTurnsOrStays R.turns (meant heap.old.objects (parts_of theory.now)) (object_at heap.old.objects proofs) qs × (object_at heap.new.objects r ≡ define_all_event (object_at heap.old.objects definitions) qs)) }
+{
+    let turned = rewritten_list(heap, proofs, theory, marks, by)?;
+    form_of(heap, b"DEFINE-ALL", &[definitions, turned])
+}
+
+// The list of what the members of a proper list of proofs turn to, or of themselves where they turn to nothing.
+fn rewritten_list<R: Rewriter>(
+    heap: &mut Heap,
+    proofs: Ref,
+    theory: &Theory,
+    marks: &mut Marks,
+    by: &mut R,
+) -> Result<Ref, Memory>
+    requires proofs { IsIn heap.old.objects proofs }
+    requires list { is_list_object (object_at heap.old.objects proofs) ≡ true }
+    requires held { IsHeld heap.old.objects theory.now }
+    requires marked { AreMarks theory.now.arity heap.old.objects marks.old }
+    ensures grows { Grows heap.old.objects heap.new.objects }
+    ensures marked { AreMarks theory.now.arity heap.new.objects marks.new }
+    ensures within { IfOk result (λ r. IsIn heap.new.objects r) }
+    ensures turned { IfOk result (λ r. EachTurnsOrStays R.turns (meant heap.old.objects (parts_of theory.now)) (object_at heap.old.objects proofs) (object_at heap.new.objects r)) }
+{
+    let members = rewritten_members(heap, proofs, theory, marks, by)?;
+    list_of(heap, members.as_slice())
+}
+
+// The same, as a vector.
+fn rewritten_members<R: Rewriter>(
+    heap: &mut Heap,
+    proofs: Ref,
+    theory: &Theory,
+    marks: &mut Marks,
+    by: &mut R,
+) -> Result<Vec<Ref>, Memory>
+    requires proofs { IsIn heap.old.objects proofs }
+    requires list { is_list_object (object_at heap.old.objects proofs) ≡ true }
+    requires held { IsHeld heap.old.objects theory.now }
+    requires marked { AreMarks theory.now.arity heap.old.objects marks.old }
+    ensures grows { Grows heap.old.objects heap.new.objects }
+    ensures marked { AreMarks theory.now.arity heap.new.objects marks.new }
+    ensures within { IfOk result (λ members. All (IsIn heap.new.objects) members.items) }
+    ensures turned { IfOk result (λ members. EachTurnsOrStays R.turns (meant heap.old.objects (parts_of theory.now)) (object_at heap.old.objects proofs) (list_object heap.new.objects members.items)) }
+{
+    let mut members = Vec::new(heap.alloc());
+    let mut rest = proofs;
+    while let View::Pair(proof, more) = heap.view(rest) {
+        let turned = rewritten_proof(heap, proof, theory, marks, by)?;
+        members.push(turned)?;
+        rest = more;
+    }
+    Ok(members)
+}
+
+// What the proof turns to, or itself where it turns to nothing.
+fn rewritten_proof<R: Rewriter>(
+    heap: &mut Heap,
+    proof: Ref,
+    theory: &Theory,
+    marks: &mut Marks,
+    by: &mut R,
+) -> Result<Ref, Memory>
+    requires proof { IsIn heap.old.objects proof }
+    requires held { IsHeld heap.old.objects theory.now }
+    requires marked { AreMarks theory.now.arity heap.old.objects marks.old }
+    ensures grows { Grows heap.old.objects heap.new.objects }
+    ensures marked { AreMarks theory.now.arity heap.new.objects marks.new }
+    ensures within { IfOk result (λ r. IsIn heap.new.objects r) }
+    ensures turned { IfOk result (λ r. TurnsOrStays R.turns (meant heap.old.objects (parts_of theory.now)) (object_at heap.old.objects proof) (object_at heap.new.objects r)) }
+{
+    match by.rewrite(
+        heap,
+        proof,
+        &theory.known_axioms,
+        &theory.known_theorems,
+        marks,
+        &theory.arity,
+        theory.profile,
+    ) {
+        Rewritten::Proof(turned) => Ok(turned),
+        Rewritten::Keep => Ok(proof),
+        Rewritten::Memory => Err(Memory),
+    }
+}
+
+// Whether it is a proper list.
+fn is_list(heap: &Heap, list: Ref) -> bool
+    requires { IsIn heap.now.objects list }
+    ensures { result ≡ is_list_object (object_at heap.now.objects list) }
+{
+    let mut rest = list;
+    while let View::Pair(_, more) = heap.view(rest) {
+        rest = more;
+    }
+    heap.is_nil(Some(rest))
+}
