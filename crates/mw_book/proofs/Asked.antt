@@ -1,25 +1,24 @@
 -- Whatever the words ask for, nothing is a part of what is due.
-use Rattle.std.proofs.Common.{List, ℕ, Bool, true, false, cond, Option, Some, None, codes}
+use Rattle.std.proofs.Common.{List, ℕ, Bool, true, false, cond, Option, Some, None, refl, codes}
 use Rattle.clap.specs.Walk.{Text, Row, first_of}
 use Rattle.clap.specs.Simple.{subcommand_of}
 use Rattle.clap.specs.Takes.{takes}
 use Rattle.mw_model.specs.Object.{same_bytes}
-use Rattle.mw_model.specs.Command.{steps_of, events_of, is_help}
+use Rattle.mw_model.specs.Arguments.{steps_of, events_of, is_help}
 use Rattle.mw_model.specs.Commands.{Request, Check, Trial, Taut, Lower, Slice, Flat, Recheck, Help, Usage, asked, help_text, program, request_of, request_with, trial_with, with_number}
 use Rattle.mw_model.specs.Trial.{trial_book}
 use Rattle.mw_model.specs.Grammar.{trees}
 use Rattle.mw_model.specs.Report.{last_line}
 use Rattle.mw_book.specs.Statuses.{IsPartOf}
 use Rattle.mw_book.proofs.Written.{nothing_taken}
-use Rattle.mw_book.proofs.Headlines.{part_none}
-use Rattle.mw_book.proofs.TriedRounds.{Begins}
-use Rattle.mw_book.proofs.TautologyHeadlines.{part_none as no_answers}
+use Rattle.mw_book.proofs.Rounds.{Begins, part_none}
 
 -- some words make the request
 abbrev IsAsked : Request → Type 0
 IsAsked (Check N) = Unit {0}
 IsAsked (Trial m N) = Unit {0}
 IsAsked Taut = Unit {0}
+IsAsked (Lower N) = Unit {0}
 IsAsked Help = Unit {0}
 IsAsked Usage = Unit {0}
 IsAsked _ = ⊥
@@ -32,6 +31,10 @@ check_asked : (steps : Option ℕ) → IsAsked (with_number Check steps)
 check_asked None = tt
 check_asked (Some N) = tt
 
+lower_asked : (steps : Option ℕ) → IsAsked (with_number Lower steps)
+lower_asked None = tt
+lower_asked (Some N) = tt
+
 trial_asked : (events steps : Option ℕ) → IsAsked (trial_with events steps)
 trial_asked None steps = tt
 trial_asked (Some m) None = tt
@@ -40,7 +43,7 @@ trial_asked (Some m) (Some N) = tt
 with_asked : (word : Text) (steps events : Option ℕ) → IsAsked (request_with word steps events)
 with_asked word steps events =
     by_test (same_bytes (codes "check") word) _ _ (check_asked steps)
-    (by_test (same_bytes (codes "trial") word) _ _ (trial_asked events steps) (by_test (same_bytes (codes "taut") word) Taut Usage tt tt))
+    (by_test (same_bytes (codes "trial") word) _ _ (trial_asked events steps) (by_test (same_bytes (codes "taut") word) Taut _ tt (by_test (same_bytes (codes "lower") word) _ Usage (lower_asked steps) tt)))
 
 of_asked : (found : Option (Text × List Row)) → IsAsked (request_of found)
 of_asked None = tt
@@ -50,12 +53,12 @@ asked_is : (words : List Text) → IsAsked (asked words)
 asked_is words = by_test (is_help words) Help _ tt (by_test (takes program words) _ Usage (of_asked (subcommand_of program words)) tt)
 
 none_of : Begins → (q : Request) → IsAsked q → (input sink : Option (List ℕ)) → IsPartOf q input sink sink
-none_of begins (Check N) h input sink = part_none N input sink
+none_of begins (Check N) h input sink = part_none begins (Check N) refl input sink
 none_of begins (Trial m N) h input sink = nothing_taken (last_line (trees (trial_book m)) N) sink
-none_of begins Taut h input sink = no_answers begins input sink
+none_of begins Taut h input sink = part_none begins Taut refl input sink
 none_of begins Help h input sink = nothing_taken help_text sink
 none_of begins Usage h input sink = nothing_taken help_text sink
-none_of begins (Lower N) h input sink = absurd h
+none_of begins (Lower N) h input sink = part_none begins (Lower N) refl input sink
 none_of begins (Slice s N) h input sink = absurd h
 none_of begins (Flat N) h input sink = absurd h
 none_of begins Recheck h input sink = absurd h

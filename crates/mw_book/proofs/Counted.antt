@@ -4,17 +4,18 @@ use Rattle.std.proofs.lemmas.List.{length_push}
 use Rattle.mw_model.specs.Object.{Object}
 use Rattle.mw_model.specs.Pieces.{how_many}
 use Rattle.mw_model.specs.TautologyBook.{OwesTautology, is_proved, tautology_summary}
-use Rattle.mw_book.specs.Answered.{AreAnswers, Answered, Answers}
+use Rattle.mw_model.specs.Commands.{Taut}
+use Rattle.mw_book.specs.Answered.{Answered, IsProving, ProvedFor, lines_of}
+use Rattle.mw_book.specs.Answering.{Answers}
+use Rattle.mw_book.specs.Due.{AreAnswers}
 use Rattle.mw_book.specs.Lines.{formulas_line}
 use Rattle.mw_book.specs.declared.proving.Proving.{Proving}
+use Rattle.mw_book.proofs.Pieces.{how_many-append}
 use Rattle.mw_book.proofs.Promising.{answers_both}
+use Rattle.mw_book.proofs.Proved.{proved_answers}
 
 abbrev pub is_unproved : Object → Bool
 is_unproved x = not (is_proved x)
-
-how_many-append : (test : Object → Bool) (xs : List Object) (y : Object) → how_many test (xs ++ y ∷ []) ≡ how_many test xs + cond (test y) 1 0
-how_many-append test [] y = let e : cond (test y) 1 0 + 0 ≡ 0 + cond (test y) 1 0 = omega arith in e
-how_many-append test (x ∷ xs) y = let h = how_many-append test xs y in let e : cond (test x) 1 0 + how_many test (xs ++ y ∷ []) ≡ (cond (test x) 1 0 + how_many test xs) + cond (test y) 1 0 = omega (arith, h) in e
 
 -- each datum is proved or not
 all_counted : (xs : List Object) → how_many is_proved xs + how_many is_unproved xs ≡ length xs
@@ -36,18 +37,22 @@ pub answers_one : (old new : Proving) (x : Object) (b : Bool) (piece : List ℕ)
     new.lines.items ≡ old.lines.items ++ piece →
     new.formulas ≡ old.formulas + 1 →
     new.unproved ≡ old.unproved + cond b 0 1 →
-    (given : List Object) → Answers old given new (given ++ x ∷ [])
-answers_one old new x b piece owed proved lines counted unproved given = record {
-  answered = λ h. record {
-    counted = counted ∙ ap (λ k. k + 1) h.counted ∙ sym (length_push given x);
-    unproved_counted = unproved ∙ ap₂ (λ k n. k + n) h.unproved_counted (by_value b (is_proved x) proved) ∙ sym (how_many-append is_unproved given x);
-  };
-  lines = λ h written due.
-      let number : old.formulas + 1 ≡ 1 + length given = omega (arith, h.counted) in
-      let one = subst (λ k. OwesTautology (k, x) piece) number owed in
-      subst (AreAnswers (given ++ x ∷ [])) (append_assoc written old.lines.items piece ∙ ap (λ u. written ++ u) (sym lines))
-      (answers_both given (x ∷ []) (written ++ old.lines.items) piece due (piece, [], sym (append-nil piece), one, refl));
-}
+    IsProving new →
+    (given : List Object) → Answers lines_of ProvedFor old given new (given ++ x ∷ [])
+answers_one old new x b piece owed proved lines counted unproved proving given =
+    proved_answers old new given (given ++ x ∷ [])
+    (λ h a. (
+      proving,
+      record {
+        counted = counted ∙ ap (λ k. k + 1) a.counted ∙ sym (length_push given x);
+        unproved_counted = unproved ∙ ap₂ (λ k n. k + n) a.unproved_counted (by_value b (is_proved x) proved) ∙ sym (how_many-append is_unproved given x);
+      },
+    ))
+    (λ h a written due.
+    let number : old.formulas + 1 ≡ 1 + length given = omega (arith, a.counted) in
+    let one = subst (λ k. OwesTautology (k, x) piece) number owed in
+    subst (AreAnswers Taut (given ++ x ∷ [])) (append_assoc written old.lines.items piece ∙ ap (λ u. written ++ u) (sym lines))
+    (answers_both given (x ∷ []) (written ++ old.lines.items) piece due (piece, [], sym (append-nil piece), one, refl)))
   where
     by_value : (c d : Bool) → d ≡ c → ◌≡◌ {A = ℕ} (cond c 0 1) (cond (not d) 1 0)
     by_value true true e = refl

@@ -1,20 +1,15 @@
--- The last line of a report, and its status.
-use Rattle.std.proofs.Common.{◌≡◌, ℕ, suc, ◌+◌, ◌-◌, Bool, true, false, cond, List, [], ◌∷◌, ◌++◌, length, Result, Ok, Err, OnOk, Option, codes, refl, sym, ap, ◌∙◌, arith, true≢false}
-use Rattle.std.specs.Result.{is_err}
+-- The last line of a report.
+use Rattle.std.proofs.Common.{◌≡◌, ℕ, suc, ◌+◌, ◌-◌, Bool, true, false, cond, List, [], ◌∷◌, ◌++◌, length, codes, refl, ap, ◌∙◌, arith}
 use Rattle.mw_model.specs.Object.{Object}
 use Rattle.mw_model.specs.Primitive.{One}
 use Rattle.mw_model.specs.Theory.{Theory, initial}
 use Rattle.mw_model.specs.Fate.{fate, next, after}
 use Rattle.mw_model.specs.Printing.{numeral}
-use Rattle.mw_model.specs.Report.{spaced, is_accepted, accepted_among, refused_among, summary, Status}
+use Rattle.mw_model.specs.Report.{spaced, is_accepted, accepted_among, refused_among, summary}
 use Rattle.mw_kernel.specs.Knowledge.{theory_of}
-use Rattle.mw_book.specs.Books.{TakesSome}
-use Rattle.mw_book.specs.Checks.{Concludes, IsHalt}
 use Rattle.mw_book.specs.Knowing.{Judged}
 use Rattle.mw_book.specs.Lines.{summary_of}
 use Rattle.mw_book.specs.declared.judging.Judging.{Judging}
-use Rattle.mw_book.specs.declared.status.Status.{Status as Ending}
-use Rattle.mw_book.specs.declared.status.Status.TheVariants as ending
 
 -- each event is accepted or refused
 one_more : (b : Bool) (a r n : ℕ) → a + r ≡ n → (cond b 1 0 + a) + (cond b 0 1 + r) ≡ suc n
@@ -25,11 +20,11 @@ pub counts : (t : Theory) (es : List Object) (N : ℕ) → accepted_among t es N
 counts t [] N = refl
 counts t (e ∷ es) N = one_more (is_accepted (fate t e N)) (accepted_among (next t e N) es N) (refused_among (next t e N) es N) (length es) (counts (next t e N) es N)
 
-abbrev text_with : (events accepted refused level : ℕ) → List ℕ
+abbrev pub text_with : (events accepted refused level : ℕ) → List ℕ
 text_with e a r l =
     spaced (codes "events") (spaced (numeral e) (spaced (codes "accepted") (spaced (numeral a) (spaced (codes "refused") (spaced (numeral r) (spaced (codes "level") (numeral l))))))) ++ 10 ∷ []
 
-same_text : (e a r l e' a' r' l' : ℕ) → e ≡ e' → a ≡ a' → r ≡ r' → l ≡ l' → text_with e a r l ≡ text_with e' a' r' l'
+pub same_text : (e a r l e' a' r' l' : ℕ) → e ≡ e' → a ≡ a' → r ≡ r' → l ≡ l' → text_with e a r l ≡ text_with e' a' r' l'
 same_text e a r l e' a' r' l' p q s u =
     ap (λ x. text_with x a r l) p ∙ ap (λ x. text_with e' x r l) q ∙ ap (λ x. text_with e' a' x l) s ∙ ap (λ x. text_with e' a' r' x) u
 
@@ -42,19 +37,3 @@ same_summary t given N events refused level e r l =
 
 pub summary_is : (j : Judging) (N : ℕ) (given : List Object) (level : ℕ) → Judged j N given → level ≡ (theory_of j.kernel).level → summary_of j.events j.refused level ≡ summary given N
 summary_is j N given level h l = same_summary (initial One) given N j.events j.refused level h.counted h.refused_counted (l ∙ ap (λ t. t.level) h.theory)
-
--- a clause on a success, where it was one
-pub on_ok_here : {T E : Type 0} (P : Type 0) (r : Result T E) → is_err r ≡ false → OnOk r P → P
-on_ok_here P (Ok x) h p = p
-on_ok_here P (Err e) h p = absurd (true≢false h)
-
--- a write that stopped
-pub concludes_halt : (e : Ending) (s : Status) (text : List ℕ) (old new : Option (List ℕ)) → IsHalt e → TakesSome old new text → Concludes e s text old new
-concludes_halt ending.WriteFault s text old new h t = t
-concludes_halt ending.Memory s text old new h t = t
-concludes_halt ending.Done s text old new h t = absurd h
-concludes_halt ending.SomeRefused s text old new h t = absurd h
-concludes_halt ending.Help s text old new h t = absurd h
-concludes_halt ending.Usage s text old new h t = absurd h
-concludes_halt (ending.Syntax k o) s text old new h t = absurd h
-concludes_halt ending.ReadFault s text old new h t = absurd h

@@ -1,5 +1,5 @@
 -- What is said of a run by its ending.
-use Rattle.std.proofs.Common.{◌≡◌, ℕ, List, [], Option, IfSome}
+use Rattle.std.proofs.Common.{ℕ, List, [], Option, IfSome}
 use Rattle.mw_model.specs.Commands.{Request, Trial}
 use Rattle.mw_book.specs.Statuses.{report_status, Keeps}
 use Rattle.mw_book.specs.Checks.{BookEnds, TrialEnds, LastReported}

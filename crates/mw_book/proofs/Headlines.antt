@@ -1,26 +1,24 @@
--- The report on a book that was read to its end or its first fault.
-use Rattle.std.proofs.Common.{◌≡◌, ℕ, List, [], ◌++◌, Option, Some, None, refl, sym, ap, ◌∙◌, subst, append_assoc}
-use Rattle.mw_model.specs.Commands.{Check}
-use Rattle.mw_model.specs.Grammar.{Book, book, trees}
-use Rattle.mw_model.specs.Report.{Status, Done, SomeRefused, Syntax, status_of, report_of, report, last_line}
+-- The answers to a book that was read to its end or its first fault.
+use Rattle.std.proofs.Common.{◌≡◌, ℕ, List, [], ◌++◌, Option, Some, None, refl, sym, subst, append_assoc, append-nil}
+use Rattle.mw_model.specs.Object.{Object}
+use Rattle.mw_model.specs.Commands.{Request}
+use Rattle.mw_model.specs.Grammar.{Book, trees}
+use Rattle.mw_model.specs.Report.{Status, Done, SomeRefused, Syntax, status_of}
+use Rattle.mw_model.specs.Headlines.{Promised}
 use Rattle.mw_port.specs.Ports.{Takes}
 use Rattle.mw_read.specs.Piles.{kind_of}
 use Rattle.mw_read.specs.declared.step.SyntaxKind.{SyntaxKind}
-use Rattle.mw_reflect.specs.Laws.{EventsKeep}
+use Rattle.mw_book.specs.Answering.{fault_of, ReadWhole}
 use Rattle.mw_book.specs.Books.{TakesSome}
-use Rattle.mw_book.specs.Taking.{fault_of}
+use Rattle.mw_book.specs.Due.{AreAnswers, last_line_for, refused_for}
 use Rattle.mw_book.specs.Statuses.{Keeps, IsPartOf}
-use Rattle.mw_book.specs.Checks.{BookEnds, SourceCounts, ReadWhole, Concludes}
-use Rattle.mw_book.specs.declared.judging.Judging.{Judging}
+use Rattle.mw_book.specs.Checks.{BookEnds, SourceCounts, Concludes}
 use Rattle.mw_book.specs.declared.status.Status.{Status as Ending}
 use Rattle.mw_book.specs.declared.status.Status.TheVariants as ending
-use Rattle.mw_book.proofs.Written.{nothing_taken, takes_both, takes_then, gives_none, left_of, gives_has}
+use Rattle.mw_book.proofs.Rounds.{begun_part, begun_is_part}
+use Rattle.mw_book.proofs.Written.{takes_both, takes_then}
 
--- nothing was written
-pub part_none : (N : ℕ) (input sink : Option (List ℕ)) → IsPartOf (Check N) input sink sink
-part_none N input sink = (left_of input, gives_has input input [] (gives_none input), nothing_taken (report (left_of input) N).text sink)
-
--- a report that is done is that of a book with no fault
+-- a status that is done is that of a book with no fault
 pub done_none : (f : Option (SyntaxKind × ℕ)) (n : ℕ) → Some Done ≡ Some (status_of (fault_of f) n) → f ≡ None
 done_none None n e = refl
 done_none (Some f) n e = absurd (let h : Some Done ≡ Some (Syntax (kind_of f.0) f.1) = e in cc)
@@ -42,43 +40,45 @@ concludes_reads ending.WriteFault s text a b old new c k = k
 concludes_reads ending.Memory s text a b old new c k = k
 concludes_reads ending.ReadFault s text a b old new c k = absurd (let h : None ≡ Some s = c.0 in cc)
 
-module _ (N : ℕ) (input now first middle : Option (List ℕ)) (f : Option (SyntaxKind × ℕ)) (j : Judging) (w : ReadWhole N input now first middle f j) where
-  abbrev pub read : Book
-  read = book w.given (fault_of f)
+-- that the answers to all data, with the last line, keep the promise
+abbrev pub AreKept : Type 0
+AreKept = (q : Request) (bytes text : List ℕ) → AreAnswers q (trees bytes).events text → Promised q bytes (text ++ last_line_for q (trees bytes).events (trees bytes).fault) (status_of (trees bytes).fault (refused_for q (trees bytes).events))
 
-  pub same_book : read ≡ trees w.bytes
-  same_book = sym w.read
-
+module _ {A : Type 0} {lines : A → List ℕ} {answered : A → Request → List Object → Type 0} {q : Request} {input now first middle : Option (List ℕ)} {f : Option (SyntaxKind × ℕ)} {j : A} (w : ReadWhole lines answered q input now first middle f j) (kept : AreKept) where
   abbrev rest : List ℕ
-  rest = j.lines.items ++ last_line read N
+  rest = lines j ++ last_line_for q w.given (fault_of f)
 
-  whole : w.written ++ rest ≡ (report w.bytes N).text
-  whole =
-      sym (append_assoc w.written j.lines.items (last_line read N))
-      ∙ ap (λ u. u ++ last_line read N) w.lines
-      ∙ ap (λ (b : Book). (report_of b N).text) same_book
+  abbrev due_status : Status
+  due_status = status_of (fault_of f) (refused_for q w.given)
 
-  same_status : (report_of read N).status ≡ (report w.bytes N).status
-  same_status = ap (λ (b : Book). (report_of b N).status) same_book
+  promised : Promised q w.bytes (w.written ++ rest) due_status
+  promised =
+      let due = subst (λ (b : Book). AreAnswers q b.events (w.written ++ lines j)) (sym w.read) w.due in
+      let whole = kept q w.bytes (w.written ++ lines j) due in
+      let same = subst (λ (b : Book). Promised q w.bytes ((w.written ++ lines j) ++ last_line_for q b.events b.fault) (status_of b.fault (refused_for q b.events))) w.read whole in
+      subst (λ u. Promised q w.bytes u due_status) (append_assoc w.written (lines j) (last_line_for q w.given (fault_of f))) same
 
-  reported : EventsKeep → (after : Option (List ℕ)) (s : Status) → s ≡ (report_of read N).status → Takes middle after rest → Keeps (Check N) input first after s
-  reported keeps after s e t = (
+  keeps : (after : Option (List ℕ)) (s : Status) → s ≡ due_status → Takes middle after rest → Keeps q input first after s
+  keeps after s e t = (
     w.bytes,
     w.has,
     w.written ++ rest,
     takes_both first middle after w.written rest w.takes t,
-    record { exact = whole; ends = e ∙ same_status; events_keep = keeps (trees w.bytes).events N },
+    subst (Promised q w.bytes (w.written ++ rest)) (sym e) promised,
   )
 
-  part : (after : Option (List ℕ)) → TakesSome middle after rest → IsPartOf (Check N) input first after
-  part after t = (w.bytes, w.has, subst (λ u. TakesSome first after u) whole (takes_then first middle after w.written rest w.takes t))
+  part : (after : Option (List ℕ)) → TakesSome middle after rest → IsPartOf q input first after
+  part after t =
+      let text = w.written ++ rest in
+      let some = begun_part q w.bytes text first after ([], due_status, subst (λ u. Promised q w.bytes u due_status) (sym (append-nil text)) promised) (takes_then first middle after w.written rest w.takes t) in
+      begun_is_part q w.given (w.written ++ lines j) w.due input first after (w.bytes, w.has, some.0, some.1, some.2)
 
-  pub ends_with : EventsKeep → (e : Ending) (after : Option (List ℕ)) → Concludes e (report_of read N).status rest middle after → BookEnds e (Check N) input now first after
-  ends_with keeps ending.Done after c = (w.ended (done_none f _ c.0), reported keeps after Done (same_some Done (report_of read N).status c.0) c.1)
-  ends_with keeps ending.SomeRefused after c = (w.ended (some_refused_none f _ c.0), reported keeps after SomeRefused (same_some SomeRefused (report_of read N).status c.0) c.1)
-  ends_with keeps (ending.Syntax k o) after c = reported keeps after (Syntax (kind_of k) o) (same_some (Syntax (kind_of k) o) (report_of read N).status c.0) c.1
-  ends_with keeps ending.Help after c = absurd (let h : None ≡ Some (report_of read N).status = c.0 in cc)
-  ends_with keeps ending.Usage after c = absurd (let h : None ≡ Some (report_of read N).status = c.0 in cc)
-  ends_with keeps ending.ReadFault after c = absurd (let h : None ≡ Some (report_of read N).status = c.0 in cc)
-  ends_with keeps ending.WriteFault after c = part after c
-  ends_with keeps ending.Memory after c = part after c
+  pub ends_with : (e : Ending) (after : Option (List ℕ)) → Concludes e due_status rest middle after → BookEnds e q input now first after
+  ends_with ending.Done after c = (w.ended (done_none f _ c.0), keeps after Done (same_some Done due_status c.0) c.1)
+  ends_with ending.SomeRefused after c = (w.ended (some_refused_none f _ c.0), keeps after SomeRefused (same_some SomeRefused due_status c.0) c.1)
+  ends_with (ending.Syntax k o) after c = keeps after (Syntax (kind_of k) o) (same_some (Syntax (kind_of k) o) due_status c.0) c.1
+  ends_with ending.Help after c = absurd (let h : None ≡ Some due_status = c.0 in cc)
+  ends_with ending.Usage after c = absurd (let h : None ≡ Some due_status = c.0 in cc)
+  ends_with ending.ReadFault after c = absurd (let h : None ≡ Some due_status = c.0 in cc)
+  ends_with ending.WriteFault after c = part after c
+  ends_with ending.Memory after c = part after c

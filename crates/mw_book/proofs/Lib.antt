@@ -1,14 +1,14 @@
 pub mod Taken
-pub mod Tried
 pub mod Ended
 pub mod Written
 pub mod Prefixes
 pub mod Rounds
-pub mod TriedRounds
 pub mod Headlines
-pub mod TautologyHeadlines
 pub mod TrialHeadlines
+pub mod Pieces
+pub mod LoweredPieces
 pub mod Promising
+pub mod Proved
 pub mod Counted
 pub mod Owing
 pub mod Asked
@@ -17,6 +17,8 @@ pub mod Appending
 pub mod Showing
 pub mod Symbols
 pub mod OneMore
+pub mod LoweredOne
+pub mod LastLines
 pub mod Summary
 pub mod Sinks
 pub mod Clauses

@@ -1,5 +1,5 @@
--- What judging one event more makes of where the judging stands.
-use Rattle.std.proofs.Common.{◌≡◌, ℕ, ◌+◌, true, cond, List, [], ◌∷◌, ◌++◌, length, sym, ap, ◌∙◌, arith, append_assoc}
+-- What reading more, and judging one event more, makes of where the judging stands.
+use Rattle.std.proofs.Common.{◌≡◌, ℕ, ◌+◌, ◌≤◌, true, cond, List, [], ◌∷◌, ◌++◌, length, refl, sym, ap, ◌∙◌, subst, arith, append_assoc}
 use Rattle.std.proofs.lemmas.List.{length_push}
 use Rattle.mw_model.specs.Object.{Object}
 use Rattle.mw_model.specs.Primitive.{One}
@@ -8,18 +8,22 @@ use Rattle.mw_model.specs.Refusal.{RANGE, Fate, Refused}
 use Rattle.mw_model.specs.Fate.{is_out_of_range, fate, next, after}
 use Rattle.mw_model.specs.Printing.{numeral}
 use Rattle.mw_model.specs.Report.{fate_text, word_text, label_text, line, lines, is_accepted, refused_among}
-use Rattle.mw_kernel.specs.Knowledge.{theory_of}
+use Rattle.mw_kernel.specs.Knowledge.{Knowledge, theory_of}
 use Rattle.mw_book.specs.declared.judging.Judging.{Judging}
-use Rattle.mw_book.specs.Knowing.{Judges}
+use Rattle.mw_model.specs.Commands.{Request, Check, Trial, Taut, Lower, Slice, Flat, Recheck, Help, Usage}
+use Rattle.mw_book.specs.Answering.{Answers, HasAnswered}
+use Rattle.mw_book.specs.Due.{AreAnswers}
+use Rattle.mw_book.specs.Knowing.{Judged, JudgedFor}
 use Rattle.mw_book.specs.Lines.{line_begun}
 use Rattle.mw_book.proofs.Appending.{after-append, refused_among-append, lines-append}
+use Rattle.mw_book.proofs.Ended.{counts}
 use Rattle.mw_book.proofs.Showing.{fate-large, next-large}
 
 joined : (a b c d : List ℕ) → (a ++ 32 ∷ (b ++ 32 ∷ (c ++ 32 ∷ []))) ++ (d ++ 10 ∷ []) ≡ (a ++ 32 ∷ (b ++ 32 ∷ (c ++ 32 ∷ d))) ++ 10 ∷ []
 joined a b c d = simp append_assoc
 
 -- the line of an event, in two parts
-line-parts : (k : ℕ) (y : Object) (f : Fate) → line_begun k y ++ (fate_text f ++ 10 ∷ []) ≡ line k y f
+pub line-parts : (k : ℕ) (y : Object) (f : Fate) → line_begun k y ++ (fate_text f ++ 10 ∷ []) ≡ line k y f
 line-parts k y f = joined (numeral k) (word_text y) (label_text y) (fate_text f)
 
 -- i is the theory at the beginning, t and u those before and after the event y
@@ -54,34 +58,69 @@ module _ (i t u : Theory) (given : List Object) (y : Object) (f : Fate) (n N : �
       ∙ ap (λ v. lines 1 i given N ++ line (1 + length given) y v) fate-here
       ∙ sym (lines-append 1 i given y N)
 
-pub Judges-one : (old new : Judging) (y : Object) (f : Fate) →
+abbrev pub lines_of : Judging → List ℕ
+lines_of j = j.lines.items
+
+pub judged_for : (q : Request) (j : Judging) (given : List Object) → JudgedFor j q given → (N : ℕ) × (q ≡ Check N) × Judged j N given
+judged_for (Check N) j given h = (N, refl, h)
+judged_for (Trial m N) j given h = absurd h
+judged_for Taut j given h = absurd h
+judged_for (Lower N) j given h = absurd h
+judged_for (Slice s N) j given h = absurd h
+judged_for (Flat N) j given h = absurd h
+judged_for Recheck j given h = absurd h
+judged_for Help j given h = absurd h
+judged_for Usage j given h = absurd h
+
+-- from one state to another, where the request is to judge
+pub judged_answers : (old new : Judging) (given more : List Object) →
+    ((N : ℕ) → Judged old N given → Judged new N more) →
+    ((N : ℕ) → Judged old N given → (written : List ℕ) → AreAnswers (Check N) given (written ++ old.lines.items) → AreAnswers (Check N) more (written ++ new.lines.items)) →
+    Answers lines_of JudgedFor old given new more
+judged_answers old new given more f g = record {
+  known = λ q h. let p = judged_for q old given h in subst (λ r. JudgedFor new r more) (sym p.1) (f p.0 p.2);
+  due = λ q h w a. let p = judged_for q old given h in subst (λ r. AreAnswers r more (w ++ new.lines.items)) (sym p.1) (g p.0 p.2 w (subst (λ r. AreAnswers r given (w ++ old.lines.items)) p.1 a));
+}
+
+pub judged_one : (old new : Judging) (y : Object) (f : Fate) →
     f ≡ fate (theory_of old.kernel) y old.kernel.steps →
     theory_of new.kernel ≡ next (theory_of old.kernel) y old.kernel.steps →
     new.kernel.steps ≡ old.kernel.steps →
     new.events ≡ old.events + 1 →
     new.refused ≡ old.refused + cond (is_accepted f) 0 1 →
     new.lines.items ≡ (old.lines.items ++ line_begun (old.events + 1) y) ++ (fate_text f ++ 10 ∷ []) →
-    (given : List Object) → Judges old given new (given ++ y ∷ [])
-Judges-one old new y f comes goes steps counted refused written given = record {
-  judged = λ N h. record {
-    theory = theory-more (initial One) (theory_of old.kernel) (theory_of new.kernel) given y f old.kernel.steps N h.theory h.steps goes comes;
-    steps = steps ∙ h.steps;
-    counted = counted ∙ ap (λ k. k + 1) h.counted ∙ sym (length_push given y);
-    refused_counted = refused-more (initial One) (theory_of old.kernel) (theory_of new.kernel) given y f old.kernel.steps N h.theory h.steps goes comes old.refused new.refused h.refused_counted refused;
-  };
-  lines = λ N h before due. lines-more (initial One) (theory_of old.kernel) (theory_of new.kernel) given y f old.kernel.steps N h.theory h.steps goes comes old.events before old.lines.items new.lines.items h.counted due written;
-}
+    (given : List Object) → Answers lines_of JudgedFor old given new (given ++ y ∷ [])
+judged_one old new y f comes goes steps counted refused written given =
+    judged_answers old new given (given ++ y ∷ [])
+    (λ N h. record {
+      theory = theory-more (initial One) (theory_of old.kernel) (theory_of new.kernel) given y f old.kernel.steps N h.theory h.steps goes comes;
+      steps = steps ∙ h.steps;
+      counted = counted ∙ ap (λ k. k + 1) h.counted ∙ sym (length_push given y);
+      refused_counted = refused-more (initial One) (theory_of old.kernel) (theory_of new.kernel) given y f old.kernel.steps N h.theory h.steps goes comes old.refused new.refused h.refused_counted refused;
+    })
+    (λ N h before due. lines-more (initial One) (theory_of old.kernel) (theory_of new.kernel) given y f old.kernel.steps N h.theory h.steps goes comes old.events before old.lines.items new.lines.items h.counted due written)
 
 -- the same where the event has a natural past the range
-pub Judges-large : (old new : Judging) (y : Object) → is_out_of_range y ≡ true →
+pub judged_large : (old new : Judging) (y : Object) → is_out_of_range y ≡ true →
     new.kernel ≡ old.kernel →
     new.events ≡ old.events + 1 →
     new.refused ≡ old.refused + 1 →
     new.lines.items ≡ (old.lines.items ++ line_begun (old.events + 1) y) ++ (fate_text (Refused RANGE) ++ 10 ∷ []) →
-    (given : List Object) → Judges old given new (given ++ y ∷ [])
-Judges-large old new y large kept counted refused written given =
+    (given : List Object) → Answers lines_of JudgedFor old given new (given ++ y ∷ [])
+judged_large old new y large kept counted refused written given =
     let t = theory_of old.kernel in
     let n = old.kernel.steps in
-    Judges-one old new y (Refused RANGE)
+    judged_one old new y (Refused RANGE)
     (sym (fate-large t y n large)) (ap theory_of kept ∙ sym (next-large t y n large))
     (ap (λ k. k.steps) kept) counted refused written given
+
+-- a kernel that has read more has the same theory
+pub judged_read : (j : Judging) (k : Knowledge) → theory_of k ≡ theory_of j.kernel → k.steps ≡ j.kernel.steps → (given : List Object) → Answers lines_of JudgedFor j given (record j { kernel = k }) given
+judged_read j k t s given =
+    judged_answers j (record j { kernel = k }) given given
+    (λ N h. record { theory = t ∙ h.theory; steps = s ∙ h.steps; counted = h.counted; refused_counted = h.refused_counted })
+    (λ N h w a. a)
+
+-- no more are refused than were judged
+pub known_few : (j : Judging) → HasAnswered JudgedFor j → j.refused ≤ j.events
+known_few j h = let p = judged_for h.0 j h.1 h.2 in omega (arith, counts (initial One) h.1 p.0, p.2.counted, p.2.refused_counted)

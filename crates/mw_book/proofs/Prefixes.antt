@@ -1,18 +1,13 @@
--- The lines of the data that are read first are a prefix of the report on the book, whatever follows.
-use Rattle.std.proofs.Common.{◌≡◌, ℕ, zero, suc, ◌+◌, ◌-◌, ◌≤◌, Bool, true, false, leb, List, [], ◌∷◌, ◌++◌, length, take, Option, Some, None, refl, sym, ap, ◌∙◌, subst, arith, append_assoc, if◌then◌else◌}
+-- The data that are read first are the first of the book, whatever follows.
+use Rattle.std.proofs.Common.{◌≡◌, ℕ, zero, suc, ◌-◌, ◌≤◌, Bool, true, false, leb, List, [], ◌∷◌, ◌++◌, length, take, Option, Some, None, refl, ap, ◌∙◌, subst, arith, if◌then◌else◌}
 use Rattle.mw_model.specs.Object.{Object}
-use Rattle.mw_model.specs.Primitive.{One}
 use Rattle.mw_model.specs.Lexemes.{Fault, Ending, Ends, Goes}
 use Rattle.mw_model.specs.Grammar.{Book, book, reading, limit, cut_short, trees}
-use Rattle.mw_model.specs.Theory.{initial}
-use Rattle.mw_model.specs.Report.{report, last_line}
-use Rattle.mw_model.proofs.LinesGrow.{lines_first}
 use Rattle.mw_read.specs.Parsing.{Fits, meaning_of}
 use Rattle.mw_read.specs.Standing.{Stands, IsFree}
 use Rattle.mw_read.specs.declared.parser.Parser.{Parser}
 use Rattle.mw_read.proofs.Bytes.{onward_book}
 use Rattle.mw_read.proofs.Telling.{fits_any}
-use Rattle.mw_book.specs.Knowing.{lines_of}
 
 take_none : (n : ℕ) → take {A = ℕ} n [] ≡ []
 take_none zero = refl
@@ -51,9 +46,3 @@ first_data os p g given s f rest = go (leb (length (g ++ rest)) limit)
           (meaning_of Goes s.state p x).events,
           ap (λ y. (cut_short (reading Goes y)).events) (take_past g rest limit s.short) ∙ cut_events (reading Goes (g ++ x)) ∙ read Goes x,
         )
-
-pub report_begins : (os : List Object) (p : Parser) (g : List ℕ) (given : List Object) → Stands os p g given → IsFree p → (rest : List ℕ) (N : ℕ) → (tail : List ℕ) × ((report (g ++ rest) N).text ≡ lines_of given N ++ tail)
-report_begins os p g given s f rest N =
-    let d = first_data os p g given s f rest in
-    let b = trees (g ++ rest) in
-    lines_first (initial One) given d.0 b.events N (last_line b N) d.1

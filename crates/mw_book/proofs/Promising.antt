@@ -1,37 +1,37 @@
 -- Whatever was answered first, the answers can go on to the end of the book.
-use Rattle.std.proofs.Common.{◌≡◌, ℕ, suc, ◌+◌, ◌≤◌, Bool, true, false, not, ltb, List, [], ◌∷◌, ◌++◌, length, Some, None, Option, codes, refl, sym, ap, ◌∙◌, subst, arith, append_assoc}
+use Rattle.std.proofs.Common.{◌≡◌, ℕ, suc, ◌+◌, ◌≤◌, true, not, List, [], ◌∷◌, ◌++◌, length, Some, None, Option, codes, refl, sym, ap, ◌∙◌, subst, append_assoc, append-nil}
 use Rattle.mw_model.specs.Object.{Object, symbol, car, second_of, list4}
 use Rattle.mw_model.specs.Term.{ArityTable, Formula, is_formula}
 use Rattle.mw_model.specs.Reading.{formula_of, formula_under, when, that}
-use Rattle.mw_model.specs.Primitive.{is_symbol}
-use Rattle.mw_model.specs.Fate.{longest, is_out_of_range}
-use Rattle.mw_model.specs.Value.{pick}
+use Rattle.mw_model.specs.Primitive.{One, is_symbol}
+use Rattle.mw_model.specs.Fate.{is_out_of_range}
 use Rattle.mw_model.specs.Object.{has_members}
-use Rattle.mw_model.specs.Commands.{Taut}
+use Rattle.mw_model.specs.Commands.{Request, Check, Trial, Taut, Lower, Slice, Flat, Recheck, Help, Usage}
 use Rattle.mw_model.specs.Grammar.{Book, limit, trees}
-use Rattle.mw_model.specs.Printing.{text_of}
-use Rattle.mw_model.specs.Report.{spaced}
-use Rattle.mw_model.specs.Written.{IsLabelled, IsWritten}
+use Rattle.mw_model.specs.Theory.{initial}
+use Rattle.mw_model.specs.Report.{spaced, lines, last_line, report, status_of}
+use Rattle.mw_model.specs.Headline.{Headline}
 use Rattle.mw_model.specs.Pieces.{InOrder, numbered, how_many, comment_ending}
 use Rattle.mw_model.specs.Tautology.{Decision, Many, FailsUnder, Holds, decision, choice_object}
-use Rattle.mw_model.specs.TautologyBook.{IsPureProof, OwesDecided, OwesGiven, OwesTautology, TautologiesWritten, formula_given, initial_arities, is_proved, remark, tautology_status, tautology_summary}
-use Rattle.mw_model.specs.Headlines.{AcceptsAll, TautologyHeadline, IsBegun}
+use Rattle.mw_model.specs.TautologyBook.{IsPureProof, OwesDecided, OwesGiven, OwesTautology, TautologiesWritten, formula_given, initial_arities, is_proved, remark, tautology_summary}
+use Rattle.mw_model.specs.Headlines.{AcceptsAll, Promised, IsBegun}
+use Rattle.mw_model.specs.Truth.{Each}
+use Rattle.mw_model.specs.Fate.{after}
+use Rattle.mw_model.specs.Demand.{happens_under}
+use Rattle.mw_model.specs.DerivationTest.{derived_as}
+use Rattle.mw_model.specs.Transition.{course_from, last_theory, is_acceptance}
+use Rattle.mw_model.specs.Lowering.{OwesLowered, LoweredWritten, course_summary, derived_course}
 use Rattle.mw_model.proofs.ReadBack.{when_some}
-use Rattle.mw_print.specs.Labelling.{labelled_text, labelled_next}
-use Rattle.mw_book.specs.Answered.{AreAnswers}
-
--- ---- pieces one after another
-
-pub in_order_both : {X : Type 0} (P : X → List ℕ → Type 0) (xs ys : List X) (text more : List ℕ) → InOrder P xs text → InOrder P ys more → InOrder P (xs ++ ys) (text ++ more)
-in_order_both P [] ys text more h k = subst (λ t. InOrder P ys (t ++ more)) (sym h) k
-in_order_both P (x ∷ xs) ys text more h k = (h.0, h.1 ++ more, ap (λ t. t ++ more) h.2 ∙ append_assoc h.0 h.1 more, h.3, in_order_both P xs ys h.1 more h.4 k)
-
-pub numbered-append : {X : Type 0} (k : ℕ) (xs ys : List X) → numbered k (xs ++ ys) ≡ numbered k xs ++ numbered (k + length xs) ys
-numbered-append k [] ys = ap (λ n. numbered n ys) (let e : k ≡ k + 0 = omega arith in e)
-numbered-append k (x ∷ xs) ys = ap (λ l. (k, x) ∷ l) (numbered-append (suc k) xs ys ∙ ap (λ n. numbered (suc k) xs ++ numbered n ys) (let e : suc k + length xs ≡ k + suc (length xs) = omega arith in e))
+use Rattle.mw_reflect.specs.Laws.{EventsKeep}
+use Rattle.mw_book.specs.Due.{AreAnswers, last_line_for, refused_for}
+use Rattle.mw_model.proofs.LinesGrow.{lines_first}
+use Rattle.mw_book.proofs.Headlines.{AreKept}
+use Rattle.mw_book.proofs.LoweredPieces.{HasLowered, course-append, each_later, all_lowered}
+use Rattle.mw_book.proofs.Pieces.{LabelledTexts, in_order_both, numbered-append, may_be_written}
+use Rattle.mw_book.proofs.Rounds.{Begins}
 
 -- the answers to these data, and to more after them
-pub answers_both : (given more : List Object) (text next : List ℕ) → AreAnswers given text → InOrder OwesTautology (numbered (1 + length given) more) next → AreAnswers (given ++ more) (text ++ next)
+pub answers_both : (given more : List Object) (text next : List ℕ) → AreAnswers Taut given text → InOrder OwesTautology (numbered (1 + length given) more) next → AreAnswers Taut (given ++ more) (text ++ next)
 answers_both given more text next h k =
     subst (λ l. InOrder OwesTautology l (text ++ next)) (sym (numbered-append 1 given more))
     (in_order_both OwesTautology (numbered 1 given) (numbered (1 + length given) more) text next h k)
@@ -53,27 +53,16 @@ formed_given x F e =
     go (Some G) h = let p = when_some (is_formula initial_arities G) (Some G) F h in ap (is_formula initial_arities) (sym (some G p.1)) ∙ p.0
 
 module _
-    (labelled : (has_label : Object → Bool) (x : Object) (first : ℕ) → IsLabelled x first (labelled_text has_label x first) (labelled_next has_label x first))
+    (labelled : LabelledTexts)
     (provable : (A : ArityTable) (F : Formula) → is_formula A F ≡ true → decision F ≡ Holds → (p : Object) × IsPureProof A p F)
     (accepted : (b : Book) (text : List ℕ) → TautologiesWritten b text → length text ≤ limit → (N : ℕ) → AcceptsAll text N (how_many is_proved b.events))
   where
-    -- each object may be written
-    may_be_written : (x : Object) → (text : List ℕ) × (next : ℕ) × IsWritten x 1 text next
-    may_be_written x = go (ltb longest (length (text_of x)))
-      where
-        none : Object → Bool
-        none y = false
-
-        go : (b : Bool) → (text : List ℕ) × (next : ℕ) × pick b (IsLabelled x 1 text next) ((text ≡ text_of x) × (next ≡ 1))
-        go true = (labelled_text none x 1, labelled_next none x 1, labelled none x 1)
-        go false = (text_of x, 1, (refl, refl))
-
     may_be_decided : (k : ℕ) (x : Object) (F : Formula) → is_formula initial_arities F ≡ true → (d : Decision) → decision F ≡ d → (piece : List ℕ) × OwesDecided k x F d piece
     may_be_decided k x F f Many e = (remark k x (codes "MANY"), refl)
-    may_be_decided k x F f (FailsUnder c) e = let w = may_be_written (choice_object c) in (remark k x (spaced (codes "FALSE") w.0), (w.0, w.1, w.2, refl))
+    may_be_decided k x F f (FailsUnder c) e = let w = may_be_written labelled (choice_object c) in (remark k x (spaced (codes "FALSE") w.0), (w.0, w.1, w.2, refl))
     may_be_decided k x F f Holds e =
         let p = provable initial_arities F f e in
-        let w = may_be_written (list4 (symbol "VERIFY") (car x) (second_of x) p.0) in
+        let w = may_be_written labelled (list4 (symbol "VERIFY") (car x) (second_of x) p.0) in
         (w.0 ++ 10 ∷ [], (p.0, p.1, (w.0, w.1, w.2, refl)))
 
     may_be_given : (k : ℕ) (x : Object) (o : Option Formula) → ((F : Formula) → o ≡ Some F → is_formula initial_arities F ≡ true) → (piece : List ℕ) × OwesGiven k x o piece
@@ -89,13 +78,58 @@ module _
 
     -- ---- what is promised
 
-    pub whole : (bytes written : List ℕ) → TautologiesWritten (trees bytes) written → TautologyHeadline bytes written (tautology_status (trees bytes))
-    whole bytes written h = record { exact = h; ends = refl; again = accepted (trees bytes) written h }
+    module _
+        (true_events : EventsKeep)
+        (lowered : (es : List Object) (N : ℕ) → Each HasLowered (derived_course es N))
+        (lowered_again : (b : Book) (N : ℕ) (text : List ℕ) → LoweredWritten b N text → length text ≤ limit → AcceptsAll text N (how_many is_acceptance (derived_course b.events N)))
+        (same_theory : (b : Book) (N : ℕ) (text : List ℕ) → LoweredWritten b N text → length text ≤ limit → after (initial One) (trees text).events N ≡ last_theory (derived_course b.events N))
+      where
+        reported : (bytes : List ℕ) (N : ℕ) (text : List ℕ) → text ≡ (report bytes N).text → Headline bytes N text (report bytes N).status
+        reported bytes N text e = record { exact = e; ends = refl; events_keep = true_events (trees bytes).events N }
 
-    pub begun : (bytes written : List ℕ) (given more : List Object) → (trees bytes).events ≡ given ++ more → AreAnswers given written → IsBegun Taut bytes written
-    begun bytes written given more e h =
-        let b = trees bytes in
-        let r = all_may_be (1 + length given) more in
-        let last = comment_ending b.fault (tautology_summary b.events) in
-        let body = subst (λ xs. AreAnswers xs (written ++ r.0)) (sym e) (answers_both given more written r.0 h r.1) in
-        (r.0 ++ last, tautology_status b, whole bytes (written ++ (r.0 ++ last)) (written ++ r.0, body, sym (append_assoc written r.0 last)))
+        pub whole : AreKept
+        whole (Check N) bytes text h = reported bytes N (text ++ last_line (trees bytes) N) (ap (λ u. u ++ last_line (trees bytes) N) h)
+        whole Taut bytes text h =
+            let b = trees bytes in
+            let all : TautologiesWritten b (text ++ comment_ending b.fault (tautology_summary b.events)) = (text, h, refl) in
+            record { exact = all; ends = refl; again = accepted b (text ++ comment_ending b.fault (tautology_summary b.events)) all }
+        whole (Trial m N) bytes text h = absurd h
+        whole (Lower N) bytes text h =
+            let b = trees bytes in
+            let written = text ++ comment_ending b.fault (course_summary (derived_course b.events N)) in
+            let all : LoweredWritten b N written = (text, h, refl) in
+            record { exact = all; ends = refl; again = lowered_again b N written all; theory = same_theory b N written all }
+        whole (Slice s N) bytes text h = absurd h
+        whole (Flat N) bytes text h = absurd h
+        whole Recheck bytes text h = absurd h
+        whole Help bytes text h = absurd h
+        whole Usage bytes text h = absurd h
+
+        -- the answers to all data go on from those to the first ones
+        goes_on : (q : Request) (bytes text : List ℕ) (rest : List ℕ) → AreAnswers q (trees bytes).events (text ++ rest) → IsBegun q bytes text
+        goes_on q bytes text rest h =
+            let b = trees bytes in
+            let last = last_line_for q b.events b.fault in
+            let s = status_of b.fault (refused_for q b.events) in
+            (rest ++ last, s, subst (λ u. Promised q bytes u s) (append_assoc text rest last) (whole q bytes (text ++ rest) h))
+
+        pub begun : Begins
+        begun (Check N) bytes text given more e h =
+            let all = (trees bytes).events in
+            let r = lines_first (initial One) given more all N [] e in
+            goes_on (Check N) bytes text r.0 (ap (λ u. u ++ r.0) h ∙ sym r.1 ∙ append-nil (lines 1 (initial One) all N))
+        begun Taut bytes text given more e h =
+            let r = all_may_be (1 + length given) more in
+            goes_on Taut bytes text r.0 (subst (λ xs. AreAnswers Taut xs (text ++ r.0)) (sym e) (answers_both given more text r.0 h r.1))
+        begun (Trial m N) bytes text given more e h = absurd h
+        begun (Lower N) bytes text given more e h =
+            let ss = derived_course given N in
+            let rest = course_from (λ t x. happens_under derived_as t N x) (1 + length given) (last_theory ss) more in
+            let whole_course = ap (λ es. derived_course es N) e ∙ course-append (λ t x. happens_under derived_as t N x) 1 (initial One) given more in
+            let r = all_lowered labelled rest (each_later ss rest (subst (Each HasLowered) whole_course (lowered (trees bytes).events N))) in
+            goes_on (Lower N) bytes text r.0 (subst (λ l. InOrder OwesLowered l (text ++ r.0)) (sym whole_course) (in_order_both OwesLowered ss rest text r.0 h r.1))
+        begun (Slice s N) bytes text given more e h = absurd h
+        begun (Flat N) bytes text given more e h = absurd h
+        begun Recheck bytes text given more e h = absurd h
+        begun Help bytes text given more e h = absurd h
+        begun Usage bytes text given more e h = absurd h

@@ -8,8 +8,8 @@ use Rattle.clap.specs.declared.parser.matches.ArgMatches.TheViews.{out-ArgMatche
 use Rattle.clap.specs.declared.parser.matches.Found.{Found}
 use Rattle.clap.proofs.WalkLemmas.{first_value-rows}
 use Rattle.clap.proofs.OnLiterals.{clap_on_literals}
-use Rattle.mw_model.specs.Command.{events_of, is_help, steps_of}
-use Rattle.mw_model.specs.Commands.{Request, Check, Taut, Help, Usage, asked, program, request_of, request_with, trial_with, with_number}
+use Rattle.mw_model.specs.Arguments.{events_of, is_help, steps_of}
+use Rattle.mw_model.specs.Commands.{Request, Check, Taut, Lower, Help, Usage, asked, program, request_of, request_with, trial_with, with_number}
 use Rattle.mw_model.specs.Object.{same_bytes}
 use Rattle.mw_model.proofs.Names.{same_bytes-eq, same_bytes-refl}
 use Rattle.mw_heap.proofs.NameSet.{pointwise-same_bytes}
@@ -55,17 +55,18 @@ same_bytes-sym x y = go (same_bytes x y) (same_bytes y x) refl refl
 named_so : (name word : Text) → bytes_eq name word ≡ same_bytes word name
 named_so name word = pointwise-same_bytes name word ∙ same_bytes-sym name word
 
-abbrev asked_by : (is_check is_trial is_taut : Bool) → (steps events : Option ℕ) → Request
-asked_by is_check is_trial is_taut steps events = cond is_check (with_number Check steps) (cond is_trial (trial_with events steps) (cond is_taut Taut Usage))
+abbrev asked_by : (is_check is_trial is_taut is_lower : Bool) → (steps events : Option ℕ) → Request
+asked_by is_check is_trial is_taut is_lower steps events = cond is_check (with_number Check steps) (cond is_trial (trial_with events steps) (cond is_taut Taut (cond is_lower (with_number Lower steps) Usage)))
 
 -- what a subcommand of this name asks for
-pub name_asks : (name : Text) (is_check is_trial is_taut : Bool) (steps events : Option ℕ) → is_check ≡ bytes_eq name (codes "check") → is_trial ≡ bytes_eq name (codes "trial") → is_taut ≡ bytes_eq name (codes "taut")
-    → asked_by is_check is_trial is_taut steps events ≡ request_with name steps events
-name_asks name is_check is_trial is_taut steps events b c d =
+pub name_asks : (name : Text) (is_check is_trial is_taut is_lower : Bool) (steps events : Option ℕ) → is_check ≡ bytes_eq name (codes "check") → is_trial ≡ bytes_eq name (codes "trial") → is_taut ≡ bytes_eq name (codes "taut") → is_lower ≡ bytes_eq name (codes "lower")
+    → asked_by is_check is_trial is_taut is_lower steps events ≡ request_with name steps events
+name_asks name is_check is_trial is_taut is_lower steps events b c d e =
     let first = b ∙ named_so name (codes "check") in
     let second = c ∙ named_so name (codes "trial") in
     let third = d ∙ named_so name (codes "taut") in
-    λ i. asked_by (first i) (second i) (third i) steps events
+    let fourth = e ∙ named_so name (codes "lower") in
+    λ i. asked_by (first i) (second i) (third i) (fourth i) steps events
 
 pub found_asks : (m : ArgMatches) (name : Text) (found : Found) → Some name ≡ subcommand_name_of m → Some (rows_of found) ≡ option_map (λ p. p.1) (subcommand_rows_of m)
     → (steps events : Option ℕ) → steps ≡ steps_of (first_value found (codes "steps")) → events ≡ events_of (first_value found (codes "events")) → request_with name steps events ≡ request_of (subcommand_rows_of m)

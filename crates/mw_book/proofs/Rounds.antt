@@ -1,166 +1,205 @@
 -- What is known between two pieces of a book.
-use Rattle.std.proofs.Common.{◌≡◌, ℕ, ◌+◌, ◌*◌, ◌<◌, ◌≤◌, ◌^◌, true, false, List, [], ◌++◌, length, Option, Some, None, sym, ap, ◌∙◌, subst, arith, true≢false, append_assoc, append-nil, length-append}
+use Rattle.std.proofs.Common.{◌≡◌, ℕ, ◌+◌, ◌*◌, ◌<◌, ◌≤◌, ◌^◌, true, false, List, [], ◌++◌, length, Option, Some, None, refl, sym, ap, ◌∙◌, subst, arith, true≢false, append_assoc, append-nil, length-append}
 use Rattle.std.specs.Option.{is_some}
 use Rattle.mw_model.specs.Object.{Object}
-use Rattle.mw_model.specs.Commands.{Request, Check}
+use Rattle.mw_model.specs.Commands.{Request, Check, Trial, Taut, Lower, Slice, Flat, Recheck, Help, Usage}
 use Rattle.mw_model.specs.Lexemes.{Goes}
-use Rattle.mw_model.specs.Grammar.{Book, book, reading}
+use Rattle.mw_model.specs.Grammar.{Book, book, reading, trees}
+use Rattle.mw_model.specs.Report.{Status}
+use Rattle.mw_model.specs.Headlines.{Promised, IsBegun}
 use Rattle.mw_port.specs.Ports.{Gives, Takes as SinkTakes, HasEnded}
 use Rattle.mw_read.specs.Standing.{Stands, IsStanding, IsFree, work}
 use Rattle.mw_read.specs.declared.parser.Parser.{Parser}
 use Rattle.mw_read.specs.declared.step.SyntaxKind.{SyntaxKind}
 use Rattle.mw_read.proofs.Beginning.{weight_small}
 use Rattle.mw_read.proofs.Telling.{stands_goes}
+use Rattle.mw_book.specs.Answering.{Answers, HasAnswered, Takes, Ends, ReadWhole}
 use Rattle.mw_book.specs.Books.{Has, TakesSome}
-use Rattle.mw_book.specs.Knowing.{Judged, Judges, lines_of}
-use Rattle.mw_book.specs.Taking.{Takes, Ends}
+use Rattle.mw_book.specs.Due.{AreAnswers}
 use Rattle.mw_book.specs.Statuses.{IsPartOf}
-use Rattle.mw_book.specs.Checks.{BookEnds, SourceCounts, IsHalt, IsStop, ReadWhole}
-use Rattle.mw_book.specs.declared.judging.Judging.{Judging}
+use Rattle.mw_book.specs.Checks.{BookEnds, SourceCounts, Concludes, IsHalt, IsStop}
 use Rattle.mw_book.specs.declared.status.Status.{Status as Ending}
 use Rattle.mw_book.specs.declared.status.Status.TheVariants as ending
-use Rattle.mw_book.proofs.Prefixes.{free_fits, report_begins}
-use Rattle.mw_book.proofs.Written.{takes_none, takes_both, some_then, takes_some, takes_then, gives_none, gives_both, left_of, gives_has, ended_has, still_ended}
+use Rattle.mw_book.proofs.Prefixes.{free_fits, first_data}
+use Rattle.mw_book.proofs.Written.{takes_none, takes_both, takes_then, gives_none, gives_both, left_of, gives_has, ended_has, still_ended}
 
--- Of the book, these bytes were read, all their data judged, and all lines of these written.
-pub record Between (N : ℕ) (input first : Option (List ℕ)) (j : Judging) (p : Parser) (left sink : Option (List ℕ)) (count : ℕ) : Type 0 where
+-- that what was answered first begins a text that keeps the promise
+abbrev pub Begins : Type 0
+Begins = (q : Request) (bytes text : List ℕ) (given more : List Object) → (trees bytes).events ≡ given ++ more → AreAnswers q given text → IsBegun q bytes text
+
+-- a prefix of what begins such a text begins it too
+pub begun_part : (q : Request) (bytes text : List ℕ) (old new : Option (List ℕ)) → IsBegun q bytes text → TakesSome old new text → (written : List ℕ) × SinkTakes old new written × IsBegun q bytes written
+begun_part q bytes text old new b t = (
+  t.0,
+  t.3,
+  (t.1 ++ b.0, b.1, subst (λ u. Promised q bytes u b.1) (ap (λ u. u ++ b.0) t.2 ∙ append_assoc t.0 t.1 b.0) b.2),
+)
+
+-- what begins such a text is part of what is due, where the request asks for answers
+pub begun_is_part : (q : Request) (given : List Object) (text : List ℕ) → AreAnswers q given text → (input old new : Option (List ℕ)) → (bytes : List ℕ) × Has input bytes × (written : List ℕ) × SinkTakes old new written × IsBegun q bytes written → IsPartOf q input old new
+begun_is_part (Check N) given text a input old new b = b
+begun_is_part Taut given text a input old new b = b
+begun_is_part (Trial m N) given text a input old new b = absurd a
+begun_is_part (Lower N) given text a input old new b = b
+begun_is_part (Slice s N) given text a input old new b = absurd a
+begun_is_part (Flat N) given text a input old new b = absurd a
+begun_is_part Recheck given text a input old new b = absurd a
+begun_is_part Help given text a input old new b = absurd a
+begun_is_part Usage given text a input old new b = absurd a
+
+-- nothing was written
+pub part_none : Begins → (q : Request) → AreAnswers q [] [] → (input sink : Option (List ℕ)) → IsPartOf q input sink sink
+part_none begins q a input sink =
+    begun_is_part q [] [] a input sink sink (left_of input, gives_has input input [] (gives_none input), [], takes_none sink, begins q (left_of input) [] [] (trees (left_of input)).events refl a)
+
+-- Of the book, these bytes were read, all their data answered, and all answers written.
+pub record Between {A : Type 0} (objects : A → List Object) (lines : A → List ℕ) (number : A → ℕ) (answered : A → Request → List Object → Type 0) (q : Request) (input first : Option (List ℕ)) (j : A) (p : Parser) (left sink : Option (List ℕ)) (count : ℕ) : Type 0 where
   pub bytes : List ℕ
   pub given : List Object
   pub gives : Gives input left bytes
-  pub stands : Stands j.kernel.objects p bytes given
+  pub stands : Stands (objects j) p bytes given
   pub free : IsFree p
   pub so_far : reading Goes bytes ≡ book given None
-  pub judged : Judged j N given
-  pub takes : SinkTakes first sink (lines_of given N)
-  pub none_left : j.lines.items ≡ []
+  pub known : answered j q given
+  pub written : List ℕ
+  pub takes : SinkTakes first sink written
+  pub answers : AreAnswers q given written
+  pub none_left : lines j ≡ []
   pub many : count ≤ length bytes
-  pub events : j.events ≤ 3 * length bytes
-  pub few : j.refused ≤ j.events
+  pub amount : number j ≤ 3 * length bytes
 
-pub between_none : (N : ℕ) (input first : Option (List ℕ)) (j : Judging) (p : Parser) → Judged j N [] → j.lines.items ≡ [] → j.refused ≤ j.events → ((os : List Object) → Stands os p [] []) → IsFree p → Between N input first j p input first 0
-between_none N input first j p h l few s f = record {
-  bytes = [];
-  given = [];
-  gives = gives_none input;
-  stands = s j.kernel.objects;
-  free = f;
-  so_far = stands_goes j.kernel.objects p [] [] (s j.kernel.objects) (free_fits p f);
-  judged = h;
-  takes = takes_none first;
-  none_left = l;
-  many = (let e : 0 ≤ 0 = omega arith in e);
-  events = omega (arith, h.counted);
-  few = few;
-}
-
-module _ (N : ℕ) (input first : Option (List ℕ)) (j : Judging) (p : Parser) (left sink : Option (List ℕ)) (count : ℕ) (between : Between N input first j p left sink count) where
-  pub here : IsStanding j.kernel.objects p
-  here = (between.bytes, between.given, between.stands)
-
-  pub count_short : count ≤ 2 ^ 40
-  count_short = omega (arith, between.many, between.stands.short)
-
-  pub room_for : (piece : List ℕ) → length piece ≤ 4096 → j.events + work p piece < 2 ^ 62
-  room_for piece l = omega (arith, between.events, between.stands.short, weight_small p.begun, l)
-
-  -- a read failed
-  pub read_fails : (now : Option (List ℕ)) → now ≡ left → BookEnds ending.ReadFault (Check N) input now first sink
-  read_fails now e = (
-    between.bytes,
-    subst (λ u. Gives input u between.bytes) (sym e) between.gives,
-    ap (λ (b : Book). b.fault) between.so_far,
-    lines_of between.given N,
-    between.takes,
-    ap (λ (b : Book). lines_of b.events N) (sym between.so_far),
-  )
-
-  -- memory was refused: what was written begins the report on any book that goes on so
-  pub part_here : IsPartOf (Check N) input first sink
-  part_here =
-      let rest = left_of left in
-      let t = report_begins j.kernel.objects p between.bytes between.given between.stands between.free rest N in (
-        between.bytes ++ rest,
-        gives_has input left between.bytes between.gives,
-        subst (λ u. TakesSome first sink u) (sym t.1) (some_then first sink (lines_of between.given N) t.0 (takes_some first sink (lines_of between.given N) between.takes)),
-      )
-
-  -- the book has ended
-  pub whole_end : (now : Option (List ℕ)) → Gives left now [] → HasEnded left → (f : Option (SyntaxKind × ℕ)) (new : Judging) → Ends f j between.bytes between.given new → ReadWhole N input now first sink f new
-  whole_end now gives ended f new h = record {
-    bytes = between.bytes;
-    has = ended_has input left between.bytes between.gives ended;
-    ended = λ e. still_ended left now gives ended;
-    given = h.0;
-    read = h.2;
-    judged = h.1.judged N between.judged;
-    written = lines_of between.given N;
-    takes = between.takes;
-    lines = h.1.lines N between.judged (lines_of between.given N) (ap (λ u. lines_of between.given N ++ u) between.none_left ∙ append-nil (lines_of between.given N));
+module _ {A : Type 0} {objects : A → List Object} {lines : A → List ℕ} {number : A → ℕ} {answered : A → Request → List Object → Type 0} {q : Request} {input first : Option (List ℕ)} where
+  pub between_none : (j : A) (p : Parser) → answered j q [] → AreAnswers q [] [] → lines j ≡ [] → number j ≡ 0 → ((os : List Object) → Stands os p [] []) → IsFree p → Between objects lines number answered q input first j p input first 0
+  between_none j p h a l n s f = record {
+    bytes = [];
+    given = [];
+    gives = gives_none input;
+    stands = s (objects j);
+    free = f;
+    so_far = stands_goes (objects j) p [] [] (s (objects j)) (free_fits p f);
+    known = h;
+    written = [];
+    takes = takes_none first;
+    answers = a;
+    none_left = l;
+    many = (let e : 0 ≤ 0 = omega arith in e);
+    amount = (let e : number j ≤ 3 * 0 = omega (arith, n) in e);
   }
 
-  -- a piece was read
-  module _ (piece : List ℕ) (now : Option (List ℕ)) (gives : Gives left now piece) (new : Judging) where
-    all_given : Gives input now (between.bytes ++ piece)
-    all_given = gives_both input left now between.bytes piece between.gives gives
+  module _ {j : A} {p : Parser} {left sink : Option (List ℕ)} {count : ℕ} (between : Between objects lines number answered q input first j p left sink count) where
+    pub here : IsStanding (objects j) p
+    here = (between.bytes, between.given, between.stands)
 
-    lines_more : (more : List Object) → Judges j between.given new more → lines_of between.given N ++ new.lines.items ≡ lines_of more N
-    lines_more more h = h.lines N between.judged (lines_of between.given N) (ap (λ u. lines_of between.given N ++ u) between.none_left ∙ append-nil (lines_of between.given N))
+    pub known_here : HasAnswered answered j
+    known_here = (q, between.given, between.known)
 
-    -- up to a fault
-    pub whole_fault : (f : Option (SyntaxKind × ℕ)) (q : Parser) → is_some f ≡ true → Takes f j between.bytes between.given piece new q → ReadWhole N input now first sink f new
-    whole_fault None q e h = absurd (true≢false (sym e))
-    whole_fault (Some f) q e h = record {
-      bytes = between.bytes ++ (piece ++ left_of now);
-      has = subst (Has input) (append_assoc between.bytes piece (left_of now)) (gives_has input now (between.bytes ++ piece) all_given);
-      ended = λ n. absurd (some_is_not_none f n);
+    pub count_short : count ≤ 2 ^ 40
+    count_short = omega (arith, between.many, between.stands.short)
+
+    pub room_for : (piece : List ℕ) → length piece ≤ 4096 → number j + work p piece < 2 ^ 62
+    room_for piece l = omega (arith, between.amount, between.stands.short, weight_small p.begun, l)
+
+    -- a read failed
+    pub read_fails : (now : Option (List ℕ)) → now ≡ left → BookEnds ending.ReadFault q input now first sink
+    read_fails now e = (
+      between.bytes,
+      subst (λ u. Gives input u between.bytes) (sym e) between.gives,
+      ap (λ (b : Book). b.fault) between.so_far,
+      between.written,
+      between.takes,
+      subst (λ (b : Book). AreAnswers q b.events between.written) (sym between.so_far) between.answers,
+    )
+
+    -- memory was refused: what was written begins a text that is due for any book that goes on so
+    pub part_here : Begins → IsPartOf q input first sink
+    part_here begins =
+        let rest = left_of left in
+        let bytes = between.bytes ++ rest in
+        let d = first_data (objects j) p between.bytes between.given between.stands between.free rest in
+        begun_is_part q between.given between.written between.answers input first sink
+        (bytes, gives_has input left between.bytes between.gives, between.written, between.takes, begins q bytes between.written between.given d.0 d.1 between.answers)
+
+    -- with no lines left, what was written is what is due
+    due_here : AreAnswers q between.given (between.written ++ lines j)
+    due_here = subst (AreAnswers q between.given) (sym (ap (λ u. between.written ++ u) between.none_left ∙ append-nil between.written)) between.answers
+
+    -- the book has ended
+    pub whole_end : (now : Option (List ℕ)) → Gives left now [] → HasEnded left → (f : Option (SyntaxKind × ℕ)) (new : A) → Ends lines answered f j between.bytes between.given new → ReadWhole lines answered q input now first sink f new
+    whole_end now gives ended f new h = record {
+      bytes = between.bytes;
+      has = ended_has input left between.bytes between.gives ended;
+      ended = λ e. still_ended left now gives ended;
       given = h.0;
-      read = h.2 (left_of now);
-      judged = h.1.judged N between.judged;
-      written = lines_of between.given N;
+      read = h.2;
+      known = h.1.known q between.known;
+      written = between.written;
       takes = between.takes;
-      lines = lines_more h.0 h.1;
+      due = h.1.due q between.known between.written due_here;
     }
-      where
-        some_is_not_none : (x : SyntaxKind × ℕ) → Some x ≡ None → ⊥
-        some_is_not_none x e = true≢false (ap is_some e)
 
-    -- all of it
-    pub taken_all : (f : Option (SyntaxKind × ℕ)) (q : Parser) → is_some f ≡ false → Takes f j between.bytes between.given piece new q → Takes None j between.bytes between.given piece new q
-    taken_all None q e h = h
-    taken_all (Some f) q e h = absurd (true≢false e)
+    -- a piece was read
+    module _ (piece : List ℕ) (now : Option (List ℕ)) (gives : Gives left now piece) (new : A) where
+      all_given : Gives input now (between.bytes ++ piece)
+      all_given = gives_both input left now between.bytes piece between.gives gives
 
-    module _ (q : Parser) (h : Takes None j between.bytes between.given piece new q) (after : Option (List ℕ)) where
-      -- a write stopped
-      pub write_stops : TakesSome sink after new.lines.items → IsPartOf (Check N) input first after
-      write_stops t =
-          let rest = left_of now in
-          let r = report_begins new.kernel.objects q (between.bytes ++ piece) h.0 h.2 h.3 rest N in (
-            (between.bytes ++ piece) ++ rest,
-            gives_has input now (between.bytes ++ piece) all_given,
-            subst (λ u. TakesSome first after u) (sym r.1) (some_then first after (lines_of h.0 N) r.0 (subst (λ u. TakesSome first after u) (lines_more h.0 h.1) (takes_then first sink after (lines_of between.given N) new.lines.items between.takes t))),
-          )
+      due_more : (more : List Object) → Answers lines answered j between.given new more → AreAnswers q more (between.written ++ lines new)
+      due_more more h = h.due q between.known between.written due_here
 
-      -- the lines were written
-      pub between_more : 0 < length piece → SinkTakes sink after new.lines.items → new.events ≤ j.events + work p piece → new.refused ≤ new.events →
-          (last : Judging) → last ≡ record new { lines = last.lines } → last.lines.items ≡ [] → Between N input first last q now after (count + 1)
-      between_more some t counted few last e l =
-          let size = length-append between.bytes piece in
-          let k = h.1.judged N between.judged in
-          let same : (record new { lines = last.lines }) ≡ last = sym e in
-          record {
-            bytes = between.bytes ++ piece;
-            given = h.0;
-            gives = all_given;
-            stands = subst (λ (x : Judging). Stands x.kernel.objects q (between.bytes ++ piece) h.0) same h.2;
-            free = h.3;
-            so_far = h.4;
-            judged = subst (λ x. Judged x N h.0) same (record { theory = k.theory; steps = k.steps; counted = k.counted; refused_counted = k.refused_counted });
-            takes = subst (λ u. SinkTakes first after u) (lines_more h.0 h.1) (takes_both first sink after (lines_of between.given N) new.lines.items between.takes t);
-            none_left = l;
-            many = (let m : count + 1 ≤ length (between.bytes ++ piece) = omega (arith, size, some, between.many) in m);
-            events = subst (λ (x : Judging). x.events ≤ 3 * length (between.bytes ++ piece)) same (omega (arith, size, some, counted, weight_small p.begun, between.events));
-            few = subst (λ (x : Judging). x.refused ≤ x.events) same few;
-          }
+      -- up to a fault
+      pub whole_fault : (f : Option (SyntaxKind × ℕ)) (r : Parser) → is_some f ≡ true → Takes objects lines answered f j between.bytes between.given piece new r → ReadWhole lines answered q input now first sink f new
+      whole_fault None r e h = absurd (true≢false (sym e))
+      whole_fault (Some f) r e h = record {
+        bytes = between.bytes ++ (piece ++ left_of now);
+        has = subst (Has input) (append_assoc between.bytes piece (left_of now)) (gives_has input now (between.bytes ++ piece) all_given);
+        ended = λ n. absurd (some_is_not_none f n);
+        given = h.0;
+        read = h.2 (left_of now);
+        known = h.1.known q between.known;
+        written = between.written;
+        takes = between.takes;
+        due = due_more h.0 h.1;
+      }
+        where
+          some_is_not_none : (x : SyntaxKind × ℕ) → Some x ≡ None → ⊥
+          some_is_not_none x e = true≢false (ap is_some e)
+
+      -- all of it
+      pub taken_all : (f : Option (SyntaxKind × ℕ)) (r : Parser) → is_some f ≡ false → Takes objects lines answered f j between.bytes between.given piece new r → Takes objects lines answered None j between.bytes between.given piece new r
+      taken_all None r e h = h
+      taken_all (Some f) r e h = absurd (true≢false e)
+
+      module _ (r : Parser) (h : Takes objects lines answered None j between.bytes between.given piece new r) (after : Option (List ℕ)) where
+        -- a write stopped
+        pub write_stops : Begins → TakesSome sink after (lines new) → IsPartOf q input first after
+        write_stops begins t =
+            let rest = left_of now in
+            let bytes = (between.bytes ++ piece) ++ rest in
+            let d = first_data (objects new) r (between.bytes ++ piece) h.0 h.2 h.3 rest in
+            let text = between.written ++ lines new in
+            let a = due_more h.0 h.1 in
+            let part = begun_part q bytes text first after (begins q bytes text h.0 d.0 d.1 a) (takes_then first sink after between.written (lines new) between.takes t) in
+            begun_is_part q h.0 text a input first after (bytes, gives_has input now (between.bytes ++ piece) all_given, part.0, part.1, part.2)
+
+        -- the lines were written
+        pub between_more : 0 < length piece → SinkTakes sink after (lines new) → number new ≤ number j + work p piece →
+            (last : A) → objects last ≡ objects new → number last ≡ number new → ((given : List Object) → answered new q given → answered last q given) → lines last ≡ [] → Between objects lines number answered q input first last r now after (count + 1)
+        between_more some t counted last same_objects same_number same_known l =
+            let size = length-append between.bytes piece in
+            record {
+              bytes = between.bytes ++ piece;
+              given = h.0;
+              gives = all_given;
+              stands = subst (λ os. Stands os r (between.bytes ++ piece) h.0) (sym same_objects) h.2;
+              free = h.3;
+              so_far = h.4;
+              known = same_known h.0 (h.1.known q between.known);
+              written = between.written ++ lines new;
+              takes = takes_both first sink after between.written (lines new) between.takes t;
+              answers = due_more h.0 h.1;
+              none_left = l;
+              many = (let m : count + 1 ≤ length (between.bytes ++ piece) = omega (arith, size, some, between.many) in m);
+              amount = (let m : number last ≤ 3 * length (between.bytes ++ piece) = omega (arith, size, some, counted, same_number, weight_small p.begun, between.amount) in m);
+            }
 
 -- a write that stopped ends the run so
 pub halt_ends : (q : Request) (input now first after : Option (List ℕ)) (s : Ending) → IsHalt s → IsPartOf q input first after → BookEnds s q input now first after
@@ -192,3 +231,14 @@ halt_stops ending.Help h = absurd h
 halt_stops ending.Usage h = absurd h
 halt_stops (ending.Syntax k o) h = absurd h
 halt_stops ending.ReadFault h = absurd h
+
+-- what a write that stopped took is a prefix
+pub concludes_halt : (e : Ending) (s : Status) (text : List ℕ) (old new : Option (List ℕ)) → IsHalt e → TakesSome old new text → Concludes e s text old new
+concludes_halt ending.WriteFault s text old new h t = t
+concludes_halt ending.Memory s text old new h t = t
+concludes_halt ending.Done s text old new h t = absurd h
+concludes_halt ending.SomeRefused s text old new h t = absurd h
+concludes_halt ending.Help s text old new h t = absurd h
+concludes_halt ending.Usage s text old new h t = absurd h
+concludes_halt (ending.Syntax k o) s text old new h t = absurd h
+concludes_halt ending.ReadFault s text old new h t = absurd h

@@ -9,11 +9,14 @@ use Rattle.mw_read.specs.Piles.{kind_of}
 use Rattle.mw_read.specs.declared.step.SyntaxKind.{SyntaxKind}
 use Rattle.mw_reflect.specs.Laws.{EventsKeep}
 use Rattle.mw_book.specs.Books.{Has, TakesSome}
-use Rattle.mw_book.specs.Checks.{TrialEnds, LastReported, SourceCounts, SinkCounts, ReadWhole, Concludes, IsStop}
+use Rattle.mw_model.specs.Commands.{Check}
+use Rattle.mw_book.specs.Answering.{fault_of, ReadWhole}
+use Rattle.mw_book.specs.Checks.{TrialEnds, LastReported, SourceCounts, SinkCounts, Concludes, IsStop}
+use Rattle.mw_book.specs.Knowing.{JudgedFor}
 use Rattle.mw_book.specs.declared.judging.Judging.{Judging}
 use Rattle.mw_book.specs.declared.status.Status.{Status as Ending}
 use Rattle.mw_book.specs.declared.status.Status.TheVariants as ending
-use Rattle.mw_book.proofs.Headlines.{read, same_book, same_some}
+use Rattle.mw_book.proofs.Headlines.{same_some}
 
 -- what never fails counts no fault
 never_rises : (old new : ℕ) → old ≡ no_faults → new ≡ no_faults → Rises old new → ⊥
@@ -31,14 +34,14 @@ memory_alone ending.Help old new p q h s k = absurd h
 memory_alone ending.Usage old new p q h s k = absurd h
 memory_alone (ending.Syntax x o) old new p q h s k = absurd h
 
-module _ (m N : ℕ) (input now first middle : Option (List ℕ)) (f : Option (SyntaxKind × ℕ)) (j : Judging) (w : ReadWhole N input now first middle f j) (holds : input ≡ Some (trial_book m)) where
+module _ (m : ℕ) {N : ℕ} {input now first middle : Option (List ℕ)} {f : Option (SyntaxKind × ℕ)} {lines : Judging → List ℕ} {j : Judging} (w : ReadWhole lines JudgedFor (Check N) input now first middle f j) (holds : input ≡ Some (trial_book m)) where
   abbrev here : Book
-  here = read N input now first middle f j w
+  here = book w.given (fault_of f)
 
   trial_read : here ≡ trees (trial_book m)
   trial_read =
       let bytes : trial_book m ≡ w.bytes = subst (λ i. Has i w.bytes) holds w.has in
-      same_book N input now first middle f j w ∙ ap (λ b. trees b) (sym bytes)
+      sym w.read ∙ ap (λ b. trees b) (sym bytes)
 
   last : last_line here N ≡ last_line (trees (trial_book m)) N
   last = ap (λ (b : Book). last_line b N) trial_read

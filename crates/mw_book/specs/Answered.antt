@@ -1,20 +1,16 @@
 -- Where the proving of formulas stands.
-use Rattle.std.specs.Prelude.{◌≡◌, ℕ, ◌≤◌, true, false, not, List, ◌++◌, length, Option}
-use Rattle.mw_model.specs.Object.{Object, list2, list4, symbol, car, second_of}
-use Rattle.mw_model.specs.Term.{Formula}
+use Rattle.std.specs.Prelude.{◌≡◌, ℕ, ◌≤◌, true, false, not, List, length, Option}
+use Rattle.mw_model.specs.Object.{Object, list2}
 use Rattle.mw_model.specs.Primitive.{is_symbol}
 use Rattle.mw_model.specs.Fate.{is_out_of_range}
 use Rattle.mw_model.specs.Report.{word_text}
-use Rattle.mw_model.specs.Pieces.{InOrder, numbered, how_many}
-use Rattle.mw_model.specs.TautologyBook.{OwesTautology, initial_arities, is_proved}
+use Rattle.mw_model.specs.Commands.{Request, Taut}
+use Rattle.mw_model.specs.Pieces.{how_many}
+use Rattle.mw_model.specs.TautologyBook.{initial_arities, is_proved}
 use Rattle.mw_heap.specs.Objects.{object_at, IsIn}
 use Rattle.mw_term.specs.Marking.{AreMarks}
 use Rattle.mw_read.specs.Shown.{IsShown, shown_text}
 use Rattle.mw_book.specs.declared.proving.Proving.{Proving}
-
--- for each of these data what is owed, in order
-abbrev pub AreAnswers : List Object → List ℕ → Type 0
-AreAnswers given text = InOrder OwesTautology (numbered 1 given) text
 
 -- The heap has what is kept of it, and the numbers can be those of some data.
 pub record IsProving (p : Proving) : Type 0 where
@@ -28,10 +24,14 @@ pub record Answered (p : Proving) (given : List Object) : Type 0 where
   pub counted : p.formulas ≡ length given
   pub unproved_counted : p.unproved ≡ how_many (λ x. not (is_proved x)) given
 
--- From the data given to more: where those were answered, these are, and after what was written the lines are due.
-pub record Answers (old : Proving) (given : List Object) (new : Proving) (more : List Object) : Type 0 where
-  pub answered : Answered old given → Answered new more
-  pub lines : Answered old given → (written : List ℕ) → AreAnswers given (written ++ old.lines.items) → AreAnswers more (written ++ new.lines.items)
+-- the lines that were not written yet
+abbrev pub lines_of : Proving → List ℕ
+lines_of p = p.lines.items
+
+-- the request is to prove the formulas, and these data were answered
+abbrev pub ProvedFor : Proving → Request → List Object → Type 0
+ProvedFor p Taut given = IsProving p × Answered p given
+ProvedFor p _ given = ⊥
 
 -- the reference is shown as the first member of the datum
 abbrev pub ShowsWord : List Object → Option ℕ → Object → Type 0

@@ -1,21 +1,14 @@
 -- How the judging of a book ends, and what is then true.
-use Rattle.std.specs.Prelude.{◌≡◌, ℕ, List, ◌++◌, Option, Some, None}
-use Rattle.mw_model.specs.Object.{Object}
+use Rattle.std.specs.Prelude.{◌≡◌, ℕ, List, Option, Some}
 use Rattle.mw_model.specs.Commands.{Request}
-use Rattle.mw_model.specs.Grammar.{book, trees}
+use Rattle.mw_model.specs.Grammar.{trees}
 use Rattle.mw_model.specs.Report.{Status, Done, SomeRefused, Syntax, last_line}
 use Rattle.mw_model.specs.Trial.{trial_book}
 use Rattle.mw_model.specs.Headline.{TrialHeadline}
 use Rattle.mw_port.specs.Ports.{Rises, Takes, HasEnded}
 use Rattle.mw_read.specs.Piles.{kind_of}
-use Rattle.mw_read.specs.declared.step.SyntaxKind.{SyntaxKind}
-use Rattle.mw_book.specs.Books.{Has, TakesSome}
-use Rattle.mw_book.specs.Answered.{AreAnswers, Answered}
-use Rattle.mw_book.specs.Knowing.{Judged, lines_of}
+use Rattle.mw_book.specs.Books.{TakesSome}
 use Rattle.mw_book.specs.Statuses.{report_status, Keeps, IsPartOf, WritesSoFar}
-use Rattle.mw_book.specs.Taking.{fault_of}
-use Rattle.mw_book.specs.declared.judging.Judging.{Judging}
-use Rattle.mw_book.specs.declared.proving.Proving.{Proving}
 use Rattle.mw_book.specs.declared.status.Status.{Status as Ending}
 use Rattle.mw_book.specs.declared.status.Status.TheVariants as ending
 
@@ -54,30 +47,6 @@ SourceCounts s old new = new ≡ old
 abbrev pub SinkCounts : Ending → ℕ → ℕ → Type 0
 SinkCounts ending.WriteFault old new = Rises old new
 SinkCounts s old new = new ≡ old
-
--- The book was read to its end or its first fault and its data were judged. After what the sink took the other lines are due.
-pub record ReadWhole (N : ℕ) (old_book new_book old new : Option (List ℕ)) (fault : Option (SyntaxKind × ℕ)) (j : Judging) : Type 0 where
-  pub bytes : List ℕ
-  pub has : Has old_book bytes
-  pub ended : fault ≡ None → HasEnded new_book
-  pub given : List Object
-  pub read : trees bytes ≡ book given (fault_of fault)
-  pub judged : Judged j N given
-  pub written : List ℕ
-  pub takes : Takes old new written
-  pub lines : written ++ j.lines.items ≡ lines_of given N
-
--- The same of a book of formulas, whose data were answered.
-pub record TriedWhole (old_book new_book old new : Option (List ℕ)) (fault : Option (SyntaxKind × ℕ)) (p : Proving) : Type 0 where
-  pub bytes : List ℕ
-  pub has : Has old_book bytes
-  pub ended : fault ≡ None → HasEnded new_book
-  pub given : List Object
-  pub read : trees bytes ≡ book given (fault_of fault)
-  pub answered : Answered p given
-  pub written : List ℕ
-  pub takes : Takes old new written
-  pub lines : AreAnswers given (written ++ p.lines.items)
 
 -- a report with this status ends with this text, of which the sink took all, or a prefix
 abbrev pub Concludes : Ending → Status → List ℕ → Option (List ℕ) → Option (List ℕ) → Type 0

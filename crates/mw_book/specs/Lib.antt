@@ -1,12 +1,13 @@
 pub mod Books
 pub mod Answered
 pub mod Verdicts
+pub mod Due
+pub mod Answering
 pub mod Statuses
 pub mod Numbers
 pub mod Words
 pub mod Lines
 pub mod Knowing
-pub mod Taking
-pub mod Trying
+pub mod Lowered
 pub mod Checks
 pub mod Trials

@@ -1,16 +1,16 @@
 -- How the program ends, and what is then true.
 use Rattle.std.specs.Prelude.{◌≡◌, ℕ, Bool, true, false, List, Option, Some, None}
-use Rattle.mw_model.specs.Commands.{Request, Check, Trial, Taut, Lower, Slice, Flat, Recheck, Help, Usage, asked, help_text}
+use Rattle.mw_model.specs.Commands.{Request, Check, Trial, Taut, Lower, Help, Usage, asked, help_text}
 use Rattle.mw_model.specs.Lexemes.{Goes}
 use Rattle.mw_model.specs.Grammar.{reading, trees}
-use Rattle.mw_model.specs.Report.{Status, Done, SomeRefused, Syntax, lines_so_far, report, last_line}
+use Rattle.mw_model.specs.Report.{Status, Done, SomeRefused, Syntax, last_line}
 use Rattle.mw_model.specs.Trial.{trial_book}
 use Rattle.mw_model.specs.Headlines.{Promised, IsBegun}
 use Rattle.mw_port.specs.Ports.{Gives, Takes}
 use Rattle.mw_read.specs.Piles.{kind_of}
 use Rattle.mw_port.specs.declared.sink.Halt.{Halt}
 use Rattle.mw_port.specs.declared.sink.Halt.TheVariants as halt
-use Rattle.mw_book.specs.Answered.{AreAnswers}
+use Rattle.mw_book.specs.Due.{AreAnswers}
 use Rattle.mw_book.specs.Books.{Has, TakesSome}
 use Rattle.mw_book.specs.declared.status.Status.{Status as Ending}
 use Rattle.mw_book.specs.declared.status.Status.TheVariants as ending
@@ -31,6 +31,7 @@ halted halt.Memory = ending.Memory
 abbrev pub reads_book : Request → Bool
 reads_book (Check N) = true
 reads_book Taut = true
+reads_book (Lower N) = true
 reads_book _ = false
 
 -- What was written, with this status, is what the request promises for the book that the source holds.
@@ -43,7 +44,6 @@ Reports words book old new s = Keeps (asked words) book old new s
 -- The sink took a prefix of what is due: of a text that is promised for the book that the source holds, as the report on it, of the last line of
 -- the report on the trial book, or of the help text.
 abbrev pub IsPartOf : Request → Option (List ℕ) → Option (List ℕ) → Option (List ℕ) → Type 0
-IsPartOf (Check N) book old new = (bytes : List ℕ) × Has book bytes × TakesSome old new (report bytes N).text
 IsPartOf (Trial m N) book old new = TakesSome old new (last_line (trees (trial_book m)) N)
 IsPartOf Help book old new = TakesSome old new help_text
 IsPartOf Usage book old new = TakesSome old new help_text
@@ -52,16 +52,10 @@ IsPartOf request book old new = (bytes : List ℕ) × Has book bytes × (written
 abbrev pub IsCutShort : List (List ℕ) → Option (List ℕ) → Option (List ℕ) → Option (List ℕ) → Type 0
 IsCutShort words book old new = IsPartOf (asked words) book old new
 
--- what is due for the data that are complete in these bytes, of a request that reads a book
-abbrev pub AreLines : Request → List ℕ → List ℕ → Type 0
-AreLines (Check N) given written = written ≡ lines_so_far given N
-AreLines Taut given written = AreAnswers (reading Goes given).events written
-AreLines _ given written = ⊥
-
 -- The bytes that the source gave hold no fault, and what is due was written for all data that are complete in them.
 abbrev pub WritesSoFar : Request → Option (List ℕ) → Option (List ℕ) → Option (List ℕ) → Option (List ℕ) → Type 0
 WritesSoFar request old_book new_book old new =
-    (given : List ℕ) × Gives old_book new_book given × ((reading Goes given).fault ≡ None) × (written : List ℕ) × Takes old new written × AreLines request given written
+    (given : List ℕ) × Gives old_book new_book given × ((reading Goes given).fault ≡ None) × (written : List ℕ) × Takes old new written × AreAnswers request (reading Goes given).events written
 
 abbrev pub ReportsSoFar : List (List ℕ) → Option (List ℕ) → Option (List ℕ) → Option (List ℕ) → Option (List ℕ) → Type 0
 ReportsSoFar words old_book new_book old new = WritesSoFar (asked words) old_book new_book old new

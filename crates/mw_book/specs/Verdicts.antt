@@ -1,5 +1,5 @@
 -- What is found of a datum that may give a formula.
-use Rattle.std.specs.Prelude.{◌≡◌, ℕ, Bool, true, false, List, Some, None}
+use Rattle.std.specs.Prelude.{◌≡◌, Bool, true, false, List, Some, None}
 use Rattle.mw_model.specs.Object.{Object, list4, symbol, car, second_of}
 use Rattle.mw_model.specs.Term.{Formula}
 use Rattle.mw_model.specs.Tautology.{Choice, Many as HasMany, FailsUnder, Holds, decision, choice_object}

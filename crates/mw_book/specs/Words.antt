@@ -1,5 +1,8 @@
 -- What the program makes of the words of the command line.
-use Rattle.mw_model.specs.Commands.{Request, Check, Trial, Taut, Help, Usage}
+use Rattle.std.specs.Prelude.{true, [], ◌∷◌, codes}
+use Rattle.clap.specs.Simple.{App, new_app, on_top}
+use Rattle.mw_model.specs.Arguments.{steps_command, trial_command}
+use Rattle.mw_model.specs.Commands.{with_subcommands, Request, Check, Trial, Taut, Lower, Help, Usage}
 use Rattle.mw_book.specs.declared.words.Request.{Request as Asked}
 use Rattle.mw_book.specs.declared.words.Request.TheVariants as words
 
@@ -7,5 +10,10 @@ abbrev pub meaning_of : Asked → Request
 meaning_of (words.Check steps) = Check steps
 meaning_of (words.Trial events steps) = Trial events steps
 meaning_of words.Taut = Taut
+meaning_of (words.Lower steps) = Lower steps
 meaning_of words.Help = Help
 meaning_of words.Usage = Usage
+
+-- the program's command with the two subcommands that write reports
+abbrev pub judging_program : App
+judging_program = with_subcommands (on_top (λ s. record s { no_binary_name = true }) (new_app (codes "milawa"))) (steps_command "check" ∷ trial_command ∷ [])

@@ -8,6 +8,7 @@ ghost use Rattle.mw_book.specs.Statuses.{report_status, reads_book, Reports, Rep
 
 use crate::Status;
 use crate::check::{check, trial};
+use crate::lower::lower;
 use crate::output::{status_of, write_all};
 use crate::promise::answers_promised;
 use crate::taut::taut;
@@ -17,15 +18,16 @@ use mw_port::{Sink, Source, Text};
 use std::alloc::Global;
 
 // How the program is used: a line for each command.
-const HELP: &[u8] = b"milawa check [--steps N]\nmilawa trial M [--steps N]\nmilawa taut\n";
+const HELP: &[u8] =
+    b"milawa check [--steps N]\nmilawa trial M [--steps N]\nmilawa taut\nmilawa lower [--steps N]\n";
 
 /// Does what the words ask for: judges the book on the source and writes its report to the sink, or judges the trial book and writes
-/// the last line of its report, or proves the formulas of the book on the source and writes the theorems, or writes how the program is
-/// used.
+/// the last line of its report, or proves the formulas of the book on the source and writes the theorems, or judges that book with
+/// derivations as good as proofs and writes its events with proofs in their place, or writes how the program is used.
 ///
 /// `Done`, `SomeRefused` and `Syntax` come where the words ask for a book and its report, or its answers, have that status; the
-/// sink then took these whole, or the last line: what a report calls accepted is true in the standard model, and the theorems that
-/// were written are accepted when they are read again. `Help` comes where the words ask how the program is used, and `Usage` where
+/// sink then took these whole, or the last line: what a report calls accepted is true in the standard model, and the events that
+/// the other two wrote are accepted when they are read again. `Help` comes where the words ask how the program is used, and `Usage` where
 /// they ask for nothing that it does. `ReadFault` and `WriteFault` come where the source, or the sink, counted a fault in this call, and
 /// `Memory` where memory was refused: what the sink took is a prefix of a text that was due, and at a fault in reading what is due
 /// for all data that are complete in the bytes read, which hold no fault of the text.
@@ -51,6 +53,7 @@ pub fn run<S: Source, K: Sink>(
         Ok(Request::Check { steps }) => check(alloc, steps, source, sink),
         Ok(Request::Trial { events, steps }) => judge_trial(alloc, events, steps, sink),
         Ok(Request::Taut) => taut(alloc, source, sink),
+        Ok(Request::Lower { steps }) => lower(alloc, steps, source, sink),
         Ok(Request::Help) => match write_help(sink) {
             Ok(()) => Status::Help,
             Err(status) => status,

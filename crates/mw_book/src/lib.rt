@@ -2,10 +2,14 @@
 #![tactic(auto)]
 
 mod answer;
+mod answering;
+mod book;
 mod check;
 mod command;
 mod judging;
 mod line;
+mod lower;
+mod lowering;
 mod nowhere;
 mod number;
 mod output;
@@ -16,7 +20,6 @@ mod reading;
 mod status;
 mod taut;
 mod trial;
-mod trying;
 mod verdict;
 mod words;
 

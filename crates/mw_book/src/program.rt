@@ -3,27 +3,37 @@ ghost use Rattle.std.specs.Prelude.{◌≡◌, false, IfOk};
 ghost use Rattle.clap.specs.Words.{app_of, shape_of, rule_of};
 ghost use Rattle.clap.specs.declared.builder.command.Command.TheViews.{out-Command as fields_of};
 ghost use Rattle.mw_model.specs.Commands as model;
-ghost use Rattle.mw_model.specs.Command as arguments;
+ghost use Rattle.mw_model.specs.Arguments as arguments;
+ghost use Rattle.mw_book.specs.Words.{judging_program};
 
 use clap::{Arg, ArgAction, Command};
 use std::alloc::{AllocError, Global};
 
-/// The command with its subcommands `check`, `trial` and `taut`.
+/// The command with its subcommands `check`, `trial`, `taut` and `lower`.
 pub(crate) fn program<'a>(alloc: Global) -> Result<Command<'a>, AllocError>
     ensures { IfOk result (λ c. app_of c ≡ model.program) }
+{
+    let lower = lower_command(alloc)?;
+    judging_program(alloc)?
+        .subcommand(taut_command(alloc))?
+        .subcommand(lower)
+}
+
+// The command with the two subcommands that write reports.
+fn judging_program<'a>(alloc: Global) -> Result<Command<'a>, AllocError>
+    ensures { IfOk result (λ c. app_of c ≡ judging_program) }
 {
     let check = check_command(alloc)?;
     let trial = trial_command(alloc)?;
     Command::new(alloc, "milawa")
         .no_binary_name(true)
         .subcommand(check)?
-        .subcommand(trial)?
-        .subcommand(taut_command(alloc))
+        .subcommand(trial)
 }
 
 // check [--steps N]
 fn check_command<'a>(alloc: Global) -> Result<Command<'a>, AllocError>
-    ensures shape { IfOk result (λ c. shape_of c ≡ arguments.check_command) }
+    ensures shape { IfOk result (λ c. shape_of c ≡ arguments.steps_command "check") }
     ensures local { IfOk result (λ c. (fields_of c).has_globals ≡ false) }
 {
     Command::new(alloc, "check").arg(steps_option(alloc))
@@ -45,6 +55,14 @@ fn taut_command<'a>(alloc: Global) -> Command<'a>
     ensures local { (fields_of result).has_globals ≡ false }
 {
     Command::new(alloc, "taut")
+}
+
+// lower [--steps N]
+fn lower_command<'a>(alloc: Global) -> Result<Command<'a>, AllocError>
+    ensures shape { IfOk result (λ c. shape_of c ≡ arguments.steps_command "lower") }
+    ensures local { IfOk result (λ c. (fields_of c).has_globals ≡ false) }
+{
+    Command::new(alloc, "lower").arg(steps_option(alloc))
 }
 
 fn steps_option<'a>(alloc: Global) -> Arg<'a>

@@ -1,31 +1,33 @@
 //! Proving formulas as they are read.
-ghost use Rattle.std.specs.Prelude.{◌≡◌, ◌+◌, ◌<◌, ◌^◌, true, cond, List, [], ◌∷◌, ◌++◌, OnOk, IfOk, length, Bool};
+ghost use Rattle.std.specs.Prelude.{◌≡◌, ◌+◌, ◌<◌, ◌^◌, true, cond, List, [], ◌∷◌, ◌++◌, OnOk, IfOk};
 ghost use Rattle.mw_model.specs.Object.{Object};
-ghost use Rattle.mw_model.specs.Fate.{is_out_of_range};
+ghost use Rattle.mw_model.specs.Commands.{Taut};
 ghost use Rattle.mw_model.specs.TautologyBook.{initial_arities};
-ghost use Rattle.mw_heap.specs.Objects.{object_at, IsIn};
-ghost use Rattle.mw_book.specs.Answered.{IsProving, Answered, Answers, ShowsWord};
+ghost use Rattle.mw_book.specs.Answered.{IsProving, Answered, ProvedFor, ShowsWord, lines_of};
+ghost use Rattle.mw_book.specs.Answering.{Answers};
 ghost use Rattle.mw_book.specs.Verdicts.{IsVerdict, is_theorem};
 
-use crate::answer::write_answer;
+use crate::answer::{write_answer, write_formulas};
+use crate::answering::Answering;
+use crate::line::write_fault;
 use crate::verdict::{Verdict, verdict_on};
 use mw_heap::{Heap, Mark, Memory, Profile, Ref};
 use mw_preamble::admit_all;
-use mw_read::shown;
+use mw_read::{Reader, Step, SyntaxKind, shown};
 use mw_term::{Arity, Marks};
 use std::alloc::Global;
 
 /// What tells the formulas of the initial theory, what was counted, and the lines that were not written yet.
 #[derive(Drop)]
 pub(crate) struct Proving {
-    pub(crate) heap: Heap,
+    heap: Heap,
     // how much of the heap is kept
     kept: Mark,
     arity: Arity,
     marks: Marks,
-    pub(crate) formulas: u64,
-    pub(crate) unproved: u64,
-    pub(crate) lines: Vec<u8>,
+    formulas: u64,
+    unproved: u64,
+    lines: Vec<u8>,
 }
 
 // The arities of the initial theory.
@@ -57,38 +59,12 @@ impl Proving {
         })
     }
 
-    /// Answers a datum: proves its formula, or says why it has no proof.
-    pub(crate) fn prove(&mut self, x: Ref) -> Result<(), Memory>
-        requires within { IsIn self.old.heap.objects x }
-        requires room { self.old.formulas + 1 < 2 ^ 64 }
-        requires proving { IsProving self.old }
-        ensures answers { OnOk result ((given : List Object) → Answers self.old given self.new (given ++ object_at self.old.heap.objects x ∷ [])) }
-        ensures counted { OnOk result (self.new.formulas ≡ self.old.formulas + 1) }
-        ensures proving { OnOk result (IsProving self.new) }
-    {
-        let (word, _) = shown(&self.heap, x);
-        let verdict = verdict_on(&mut self.heap, &self.arity, &mut self.marks, x)?;
-        self.answer(word, &verdict)
-    }
-
-    /// Answers a datum with a natural past the range, of which the reader shows the first member.
-    pub(crate) fn pass_large(&mut self, word: Option<Ref>) -> Result<(), Memory>
-        requires shows { (x : Object) × (is_out_of_range x ≡ true) × ShowsWord self.old.heap.objects word x }
-        requires room { self.old.formulas + 1 < 2 ^ 64 }
-        requires proving { IsProving self.old }
-        ensures answers { OnOk result ((x : Object) → is_out_of_range x ≡ true → ShowsWord self.old.heap.objects word x → (given : List Object) → Answers self.old given self.new (given ++ x ∷ [])) }
-        ensures counted { OnOk result (self.new.formulas ≡ self.old.formulas + 1) }
-        ensures proving { OnOk result (IsProving self.new) }
-    {
-        self.answer(word, &Verdict::Shape)
-    }
-
     // Writes the answer to a datum of which this was found, and counts it.
-    fn answer(&mut self, word: Option<Ref>, verdict: &Verdict) -> Result<(), Memory>
+    fn write(&mut self, word: Option<Ref>, verdict: &Verdict) -> Result<(), Memory>
         requires found { (x : Object) × ShowsWord self.old.heap.objects word x × IsVerdict self.old.heap.objects x verdict.now }
         requires room { self.old.formulas + 1 < 2 ^ 64 }
         requires proving { IsProving self.old }
-        ensures answers { OnOk result ((x : Object) → ShowsWord self.old.heap.objects word x → IsVerdict self.old.heap.objects x verdict.now → (given : List Object) → Answers self.old given self.new (given ++ x ∷ [])) }
+        ensures answers { OnOk result ((x : Object) → ShowsWord self.old.heap.objects word x → IsVerdict self.old.heap.objects x verdict.now → (given : List Object) → Answers lines_of ProvedFor self.old given self.new (given ++ x ∷ [])) }
         ensures counted { OnOk result (self.new.formulas ≡ self.old.formulas + 1) }
         ensures proving { OnOk result (IsProving self.new) }
     {
@@ -122,5 +98,52 @@ impl Proving {
     {
         self.marks.cut(self.kept);
         self.heap.cut_back(self.kept);
+    }
+}
+
+impl Answering for Proving {
+    ghost objects = { λ p. p.heap.objects };
+
+    ghost unwritten = { lines_of };
+
+    ghost count = { λ p. p.formulas };
+
+    ghost request = { λ p. Taut };
+
+    ghost answered = { ProvedFor };
+
+    fn step(&mut self, reader: &mut Reader, piece: &[u8]) -> (Step, usize) {
+        reader.step(&mut self.heap, piece)
+    }
+
+    fn next(&mut self, reader: &mut Reader) -> Step {
+        reader.next(&mut self.heap)
+    }
+
+    fn answer(&mut self, x: Ref) -> Result<(), Memory> {
+        let (word, _) = shown(&self.heap, x);
+        let verdict = verdict_on(&mut self.heap, &self.arity, &mut self.marks, x)?;
+        self.write(word, &verdict)
+    }
+
+    fn answer_large(&mut self, word: Option<Ref>, _label: Option<Ref>) -> Result<(), Memory> {
+        self.write(word, &Verdict::Shape)
+    }
+
+    fn lines(&self) -> &[u8] {
+        &self.lines
+    }
+
+    fn drop_lines(&mut self) {
+        self.lines.clear();
+    }
+
+    fn end(&mut self, fault: Option<(SyntaxKind, u64)>) -> Result<u64, Memory> {
+        self.lines.extend_from_slice(b"; ")?;
+        match fault {
+            Some((kind, offset)) => write_fault(&mut self.lines, kind, offset)?,
+            None => write_formulas(&mut self.lines, self.formulas, self.unproved)?,
+        }
+        Ok(self.unproved)
     }
 }

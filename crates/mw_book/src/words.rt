@@ -2,7 +2,7 @@
 ghost use Rattle.std.specs.Prelude.{◌≡◌, ℕ, IfOk, option_map};
 ghost use Rattle.clap.specs.Words.{subcommand_rows_of};
 ghost use Rattle.mw_model.specs.Commands as model;
-ghost use Rattle.mw_model.specs.Command as numbers;
+ghost use Rattle.mw_model.specs.Arguments as numbers;
 ghost use Rattle.mw_book.specs.Words.{meaning_of};
 
 use crate::number::number_within;
@@ -23,6 +23,8 @@ pub(crate) enum Request {
     Trial { events: u64, steps: u64 },
     /// To prove the formulas that are tautologies.
     Taut,
+    /// To turn the book's derivations to proofs, with this step limit.
+    Lower { steps: u64 },
     /// To show how the program is used.
     Help,
     /// Nothing that the program does.
@@ -86,6 +88,9 @@ fn request_with(name: &str, steps: Option<u64>, events: Option<u64>) -> Request
     if name == "taut" {
         return Request::Taut;
     }
+    if name == "lower" {
+        return lower_with(steps);
+    }
     Request::Usage
 }
 
@@ -95,6 +100,16 @@ fn check_with(steps: Option<u64>) -> Request
 {
     match steps {
         Some(steps) => Request::Check { steps },
+        None => Request::Usage,
+    }
+}
+
+// To lower the book, where there is a step limit.
+fn lower_with(steps: Option<u64>) -> Request
+    ensures { meaning_of result ≡ model.with_number model.Lower steps }
+{
+    match steps {
+        Some(steps) => Request::Lower { steps },
         None => Request::Usage,
     }
 }

@@ -1,24 +1,132 @@
--- What the words of a command line ask for, with `taut`.
+-- What the words of a command line ask for.
 use Rattle.std.proofs.Common.{◌≡◌, [], ◌∷◌, refl, codes}
 use Rattle.clap.proofs.OnLiterals.{clap_on_literals}
 use Rattle.mw_model.specs.BuiltInText.{joined}
-use Rattle.mw_model.specs.Commands.{Check, Trial, Taut, Help, Usage, asked, help_text}
+use Rattle.mw_model.specs.Commands.{Check, Trial, Taut, Lower, Help, Usage, asked, help_text}
 
-check_still : asked (codes "check" ∷ codes "--steps" ∷ codes "5" ∷ []) ≡ Check 5
+no_words : asked [] ≡ Usage
 unfolding clap_on_literals
-check_still = refl
+no_words = refl
 
-trial_still : asked (codes "trial" ∷ codes "2" ∷ []) ≡ Trial 2 10000000
+check_alone : asked (codes "check" ∷ []) ≡ Check 10000000
 unfolding clap_on_literals
-trial_still = refl
+check_alone = refl
+
+steps_after_the_option : asked (codes "check" ∷ codes "--steps" ∷ codes "5" ∷ []) ≡ Check 5
+unfolding clap_on_literals
+steps_after_the_option = refl
+
+steps_in_the_same_word : asked (codes "check" ∷ codes "--steps=5" ∷ []) ≡ Check 5
+unfolding clap_on_literals
+steps_in_the_same_word = refl
+
+two_dashes_alone : asked (codes "check" ∷ codes "--" ∷ []) ≡ Check 10000000
+unfolding clap_on_literals
+two_dashes_alone = refl
+
+leading_zeros : asked (codes "check" ∷ codes "--steps" ∷ codes "0000000000001" ∷ []) ≡ Check 1
+unfolding clap_on_literals
+leading_zeros = refl
+
+fourteen_digits : asked (codes "check" ∷ codes "--steps" ∷ codes "00000000000001" ∷ []) ≡ Usage
+unfolding clap_on_literals
+fourteen_digits = refl
+
+no_steps : asked (codes "check" ∷ codes "--steps" ∷ codes "0" ∷ []) ≡ Usage
+unfolding clap_on_literals
+no_steps = refl
+
+most_steps : asked (codes "check" ∷ codes "--steps" ∷ codes "1000000000000" ∷ []) ≡ Check 1000000000000
+unfolding clap_on_literals
+most_steps = refl
+
+too_many_steps : asked (codes "check" ∷ codes "--steps" ∷ codes "1000000000001" ∷ []) ≡ Usage
+unfolding clap_on_literals
+too_many_steps = refl
+
+negative_steps : asked (codes "check" ∷ codes "--steps" ∷ codes "-1" ∷ []) ≡ Usage
+unfolding clap_on_literals
+negative_steps = refl
+
+no_number : asked (codes "check" ∷ codes "--steps" ∷ codes "x" ∷ []) ≡ Usage
+unfolding clap_on_literals
+no_number = refl
+
+empty_number : asked (codes "check" ∷ codes "--steps=" ∷ []) ≡ Usage
+unfolding clap_on_literals
+empty_number = refl
+
+no_value : asked (codes "check" ∷ codes "--steps" ∷ []) ≡ Usage
+unfolding clap_on_literals
+no_value = refl
+
+steps_twice : asked (codes "check" ∷ codes "--steps" ∷ codes "5" ∷ codes "--steps" ∷ codes "5" ∷ []) ≡ Usage
+unfolding clap_on_literals
+steps_twice = refl
+
+option_before_the_command : asked (codes "--steps" ∷ codes "5" ∷ codes "check" ∷ []) ≡ Usage
+unfolding clap_on_literals
+option_before_the_command = refl
+
+word_after_check : asked (codes "check" ∷ codes "book" ∷ []) ≡ Usage
+unfolding clap_on_literals
+word_after_check = refl
+
+trial_of_two : asked (codes "trial" ∷ codes "2" ∷ []) ≡ Trial 2 10000000
+unfolding clap_on_literals
+trial_of_two = refl
+
+trial_of_none : asked (codes "trial" ∷ codes "0" ∷ []) ≡ Trial 0 10000000
+unfolding clap_on_literals
+trial_of_none = refl
+
+steps_after_the_argument : asked (codes "trial" ∷ codes "2" ∷ codes "--steps" ∷ codes "5" ∷ []) ≡ Trial 2 5
+unfolding clap_on_literals
+steps_after_the_argument = refl
+
+steps_before_the_argument : asked (codes "trial" ∷ codes "--steps" ∷ codes "5" ∷ codes "0002" ∷ []) ≡ Trial 2 5
+unfolding clap_on_literals
+steps_before_the_argument = refl
+
+argument_after_two_dashes : asked (codes "trial" ∷ codes "--" ∷ codes "5" ∷ []) ≡ Trial 5 10000000
+unfolding clap_on_literals
+argument_after_two_dashes = refl
+
+trial_alone : asked (codes "trial" ∷ []) ≡ Usage
+unfolding clap_on_literals
+trial_alone = refl
+
+trial_of_too_many : asked (codes "trial" ∷ codes "1000001" ∷ []) ≡ Usage
+unfolding clap_on_literals
+trial_of_too_many = refl
+
+two_arguments : asked (codes "trial" ∷ codes "2" ∷ codes "3" ∷ []) ≡ Usage
+unfolding clap_on_literals
+two_arguments = refl
 
 help_alone : asked (codes "--help" ∷ []) ≡ Help
 unfolding clap_on_literals
 help_alone = refl
 
-no_words : asked [] ≡ Usage
+help_after_a_command : asked (codes "check" ∷ codes "--help" ∷ []) ≡ Usage
 unfolding clap_on_literals
-no_words = refl
+help_after_a_command = refl
+
+short_help : asked (codes "-h" ∷ []) ≡ Usage
+unfolding clap_on_literals
+short_help = refl
+
+help_as_a_command : asked (codes "help" ∷ []) ≡ Usage
+unfolding clap_on_literals
+help_as_a_command = refl
+
+version : asked (codes "--version" ∷ []) ≡ Usage
+unfolding clap_on_literals
+version = refl
+
+unknown_command : asked (codes "judge" ∷ []) ≡ Usage
+unfolding clap_on_literals
+unknown_command = refl
 
 taut_alone : asked (codes "taut" ∷ []) ≡ Taut
 unfolding clap_on_literals
@@ -28,9 +136,17 @@ taut_with_steps : asked (codes "taut" ∷ codes "--steps" ∷ codes "5" ∷ []) 
 unfolding clap_on_literals
 taut_with_steps = refl
 
-no_such_command : asked (codes "prove" ∷ []) ≡ Usage
+lower_alone : asked (codes "lower" ∷ []) ≡ Lower 10000000
 unfolding clap_on_literals
-no_such_command = refl
+lower_alone = refl
 
-help_text_of_all_commands : help_text ≡ joined ("milawa check [--steps N]" ∷ "milawa trial M [--steps N]" ∷ "milawa taut" ∷ [])
+lower_with_steps : asked (codes "lower" ∷ codes "--steps" ∷ codes "5" ∷ []) ≡ Lower 5
+unfolding clap_on_literals
+lower_with_steps = refl
+
+word_after_lower : asked (codes "lower" ∷ codes "book" ∷ []) ≡ Usage
+unfolding clap_on_literals
+word_after_lower = refl
+
+help_text_of_all_commands : help_text ≡ joined ("milawa check [--steps N]" ∷ "milawa trial M [--steps N]" ∷ "milawa taut" ∷ "milawa lower [--steps N]" ∷ [])
 help_text_of_all_commands = refl

@@ -46,7 +46,7 @@ mod ExamplesProfile
 mod ExamplesText
 mod ExamplesSyntax
 mod ExamplesTrial
-mod ExamplesCommand
+mod ExamplesCommands
 mod ExamplesLong
 pub mod Numerals
 pub mod Lexing
@@ -57,7 +57,6 @@ pub mod CallDepth
 pub mod NewNames
 pub mod CodeStays
 mod ExamplesLogs
-mod ExamplesCommands
 mod ExamplesTautologies
 pub mod Demands
 pub mod Settling

@@ -3,7 +3,7 @@
 use Rattle.std.specs.Prelude.{ℕ, true, cond, List, [], ◌∷◌, ◌++◌, Option, Some, None, codes}
 use Prim.Native.String.{String}
 use Rattle.mw_model.specs.Object.{Name, same_bytes}
-use Rattle.mw_model.specs.Command.{check_command, trial_command, steps_of, events_of, is_help}
+use Rattle.mw_model.specs.Arguments.{steps_command, trial_command, steps_of, events_of, is_help}
 use Rattle.clap.specs.Walk.{Text, Row, first_of}
 use Rattle.clap.specs.Simple.{App, Shape, new_shape, new_app, on_top, with_subcommand, subcommand_of}
 use Rattle.clap.specs.Takes.{takes}
@@ -41,7 +41,7 @@ with_subcommands app (s ∷ ss) = with_subcommands (with_subcommand app s) ss
 abbrev pub program : App
 program =
     with_subcommands (on_top (λ s. record s { no_binary_name = true }) (new_app (codes "milawa")))
-    (check_command ∷ trial_command ∷ plain_command "taut" ∷ [])
+    (steps_command "check" ∷ trial_command ∷ plain_command "taut" ∷ steps_command "lower" ∷ [])
 
 -- ---- the request
 
@@ -60,7 +60,7 @@ request_named (p ∷ ps) word = cond (same_bytes p.0 word) p.1 (request_named ps
 -- what a command asks for that has these matches
 abbrev pub request_with : Text → (steps : Option ℕ) → (events : Option ℕ) → Request
 request_with word steps events =
-    request_named ((codes "check", with_number Check steps) ∷ (codes "trial", trial_with events steps) ∷ (codes "taut", Taut) ∷ []) word
+    request_named ((codes "check", with_number Check steps) ∷ (codes "trial", trial_with events steps) ∷ (codes "taut", Taut) ∷ (codes "lower", with_number Lower steps) ∷ []) word
 
 abbrev pub request_of : Option (Text × List Row) → Request
 request_of None = Usage
@@ -75,4 +75,4 @@ help_lines [] = []
 help_lines (l ∷ ls) = codes l ++ 10 ∷ help_lines ls
 
 abbrev pub help_text : List ℕ
-help_text = help_lines ("milawa check [--steps N]" ∷ "milawa trial M [--steps N]" ∷ "milawa taut" ∷ [])
+help_text = help_lines ("milawa check [--steps N]" ∷ "milawa trial M [--steps N]" ∷ "milawa taut" ∷ "milawa lower [--steps N]" ∷ [])

@@ -1,7 +1,6 @@
 -- The promises of the further commands, for the bytes of a book: what was written, with this status, is what is owed;
 -- and what it is worth when it is read again, which a text past the limit of books cannot be.
 use Rattle.std.specs.Prelude.{◌≡◌, ℕ, ◌≤◌, List, [], ◌∷◌, ◌++◌, length, map, None, Some}
-use Rattle.clap.specs.Walk.{Text}
 use Rattle.mw_model.specs.Object.{Name, Object}
 use Rattle.mw_model.specs.Term.{Formula}
 use Rattle.mw_model.specs.Primitive.{One}
@@ -12,7 +11,7 @@ use Rattle.mw_model.specs.Fate.{event_word, after}
 use Rattle.mw_model.specs.Report.{Status, Done, report, accepted_among}
 use Rattle.mw_model.specs.Keeping.{formulas_of_word}
 use Rattle.mw_model.specs.Headline.{Headline, TrialHeadline}
-use Rattle.mw_model.specs.Commands.{Request, Check, Trial, Taut, Lower, Slice, Flat, Recheck, Help, Usage, asked}
+use Rattle.mw_model.specs.Commands.{Request, Check, Trial, Taut, Lower, Slice, Flat, Recheck, Help, Usage}
 use Rattle.mw_model.specs.Pieces.{how_many}
 use Rattle.mw_model.specs.Transition.{last_theory, last_theory_from, is_acceptance}
 use Rattle.mw_model.specs.TautologyBook.{TautologiesWritten, tautology_status, is_proved}
@@ -94,9 +93,6 @@ Promised (Flat N) bytes written status = FlatHeadline bytes N written status
 Promised Recheck bytes written status = LogHeadline bytes written status
 Promised Help bytes written status = ⊥
 Promised Usage bytes written status = ⊥
-
-abbrev pub PromisedFor : List Text → List ℕ → List ℕ → Status → Type 0
-PromisedFor words bytes written status = Promised (asked words) bytes written status
 
 -- Of a request that judges a book: a prefix of a text that it allows. That is what was written where the program was stopped.
 abbrev pub IsBegun : Request → List ℕ → List ℕ → Type 0

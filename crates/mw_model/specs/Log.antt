@@ -56,9 +56,6 @@ conclusions_after axioms theorems A P (x ∷ xs) Fs = and_conclusions (conclusio
 abbrev pub conclusions : Object → Object → ArityTable → Profile → List Object → Option (List Formula)
 conclusions axioms theorems A P steps = conclusions_after axioms theorems A P steps []
 
-abbrev pub are_flat : Object → Object → ArityTable → Profile → List Object → Bool
-are_flat axioms theorems A P steps = is_present (conclusions axioms theorems A P steps)
-
 -- why an event of a log is refused
 pub data Objection : Type 0 where
   SHAPE STEP ADMIT GOAL : Objection

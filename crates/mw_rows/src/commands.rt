@@ -9,10 +9,11 @@ const BOOK: &str = "(print 1)";
 
 const REPORT: &str = "1 PRINT - accepted 1\nevents 1 accepted 1 refused 0 level 1\n";
 
-const HELP: &str = "milawa check [--steps N]\nmilawa trial M [--steps N]\nmilawa taut\n";
+const HELP: &str =
+    "milawa check [--steps N]\nmilawa trial M [--steps N]\nmilawa taut\nmilawa lower [--steps N]\n";
 
 // Words that ask for nothing that the program does.
-const OTHERS: [&[&str]; 25] = [
+const OTHERS: [&[&str]; 27] = [
     &[],
     &["check", "--steps", "0"],
     &["check", "--steps", "1000000000001"],
@@ -38,6 +39,8 @@ const OTHERS: [&[&str]; 25] = [
     &["Check"],
     &["taut", "x"],
     &["taut", "--steps", "5"],
+    &["lower", "x"],
+    &["lower", "--steps", "0"],
 ];
 
 // Words that ask for a book to be judged.

@@ -30,6 +30,8 @@ mod hostile;
 #[cfg(test)]
 mod induction;
 #[cfg(test)]
+mod lower;
+#[cfg(test)]
 mod pieces;
 #[cfg(test)]
 mod profiles;

@@ -101,7 +101,18 @@ pub(crate) fn add_wrong(
     row: &Row,
     size: usize,
 ) -> Result<(), AllocError> {
-    let answer = answer_to(alloc, row.book, size)?;
+    add_wrong_within(wrong, alloc, &["check"], row, size)
+}
+
+/// The same, of the program that is called with these words.
+pub(crate) fn add_wrong_within(
+    wrong: &mut String,
+    alloc: Global,
+    words: &[&str],
+    row: &Row,
+    size: usize,
+) -> Result<(), AllocError> {
+    let answer = answer_within(alloc, words, row.book, size)?;
     if answer.report.as_str() == row.report && answer.status == row.status {
         return Ok(());
     }

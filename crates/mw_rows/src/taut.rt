@@ -1,5 +1,5 @@
 //! Books of formulas, and what `taut` writes for them.
-use crate::row::{Answer, Row, answer_between, answer_to, answer_within};
+use crate::row::{Answer, Row, add_wrong_within, answer_between, answer_to, answer_within};
 use mw_book::Status;
 use mw_port::{MemSink, MemSource};
 use mw_read::SyntaxKind;
@@ -91,12 +91,7 @@ fn proofs_of(alloc: Global, book: &str, size: usize) -> Result<Answer, AllocErro
 fn wrong_proofs(alloc: Global, rows: &[Row], size: usize) -> Result<String, AllocError> {
     let mut wrong = String::new(alloc);
     for row in rows {
-        let answer = proofs_of(alloc, row.book, size)?;
-        if answer.report.as_str() != row.report || answer.status != row.status {
-            wrong.push_str(row.book)?;
-            wrong.push_str("\n")?;
-            wrong.push_str(answer.report.as_str())?;
-        }
+        add_wrong_within(&mut wrong, alloc, &["taut"], row, size)?;
     }
     Ok(wrong)
 }

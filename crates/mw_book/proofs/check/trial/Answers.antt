@@ -1,12 +1,19 @@
 -- The book was judged and its lines were dropped, or memory was refused.
 use Rattle.std.proofs.Common.{None, ◌∙◌, ap, sym, subst}
+use Rattle.mw_model.specs.Commands.{Check}
 use Rattle.mw_model.specs.Trial.{trial_book}
 use Rattle.mw_model.specs.Grammar.{trees}
 use Rattle.mw_model.specs.Report.{last_line}
-use Rattle.mw_book.specs.Checks.{TrialEnds, ReadWhole}
+use Rattle.mw_book.specs.Answering.{ReadWhole}
+use Rattle.mw_book.specs.Checks.{TrialEnds}
+use Rattle.mw_book.specs.Knowing.{JudgedFor}
+use Rattle.mw_book.proofs.OneMore.{lines_of}
 use Rattle.mw_book.proofs.Written.{nothing_taken}
 use Rattle.mw_book.proofs.TrialHeadlines.{memory_alone, trial_ends}
 use Rattle.mw_book.proofs.check.trial.Goals as goal
+
+pub conclude-requires : goal.conclude-requires
+conclude-requires g c = let w = c.in-Ok-read_all.ensures.whole in record { known = (Check c.deref_mut-judging.result.now.kernel.steps, w.given, c.drop_lines.ensures.answered (Check c.deref_mut-judging.result.now.kernel.steps) w.given w.known) }
 
 pub returns-in-Ok-read_all-clause-ends : goal.returns-in-Ok-read_all-clause-ends
 returns-in-Ok-read_all-clause-ends g c m holds =
@@ -14,11 +21,10 @@ returns-in-Ok-read_all-clause-ends g c m holds =
     let input = g.S.Source.left c.args.source.now in
     let now = g.S.Source.left c.read_all.new.source in
     let f = c.in-Ok-read_all.fault in
-    let j = c.read_all.new.judging in
-    let w = subst (λ n. ReadWhole n input now None None f j) (ap (λ k. k.kernel.steps) c.deref_mut-judging.ensures.value ∙ c.in-Ok.ensures.judged.steps) c.in-Ok-read_all.ensures.whole in
-    let k = w.judged in
-    trial_ends m N input now None None f j w holds c.reached_sound.ensures.events c.end.result c.clear.new.self.items (g.K.Sink.taken c.args.sink.now) (g.K.Sink.taken c.end.new.sink)
-    c.clear.ensures.items (c.end.ensures.concludes N w.given (record { theory = k.theory; steps = k.steps; counted = k.counted; refused_counted = k.refused_counted }))
+    let j = c.read_all.new.answering in
+    let w = subst (λ n. ReadWhole lines_of JudgedFor (Check n) input now None None f j) (ap (λ k. k.kernel.steps) c.deref_mut-judging.ensures.value ∙ c.in-Ok.ensures.judged.steps) c.in-Ok-read_all.ensures.whole in
+    trial_ends m w holds c.reached_sound.ensures.events c.conclude.result c.drop_lines.new.self.lines.items (g.K.Sink.taken c.args.sink.now) (g.K.Sink.taken c.conclude.new.sink)
+    c.drop_lines.ensures.none_left (c.conclude.ensures.concludes (Check N) w.given (c.drop_lines.ensures.answered (Check N) w.given w.known))
 
 pub returns-clause-ends : goal.returns-clause-ends
 returns-clause-ends g c m holds =

@@ -1,9 +1,13 @@
--- The laws of what is written, of tautologies and of proofs, put together.
+-- The laws of what is written, of tautologies, of proofs, of derivations and of truth, put together.
 use Rattle.mw_book.proofs.Promising.{whole, begun}
 use Rattle.mw_book.proofs.promise.answers_promised.Goals as goal
 
 pub returns-clause-whole : goal.returns-clause-whole
-returns-clause-whole c = whole c.labelled_texts_are_read.ensures c.tautologies_have_proofs.ensures c.tautologies_again.ensures
+returns-clause-whole c =
+    whole c.labelled_texts_are_read.ensures c.tautologies_have_proofs.ensures c.tautologies_again.ensures c.reached_sound.ensures.events
+    c.lowerings_possible.ensures.lowered c.lowerings_again.ensures.again c.lowerings_again.ensures.theory
 
 pub returns-clause-begun : goal.returns-clause-begun
-returns-clause-begun c = begun c.labelled_texts_are_read.ensures c.tautologies_have_proofs.ensures c.tautologies_again.ensures
+returns-clause-begun c =
+    begun c.labelled_texts_are_read.ensures c.tautologies_have_proofs.ensures c.tautologies_again.ensures c.reached_sound.ensures.events
+    c.lowerings_possible.ensures.lowered c.lowerings_again.ensures.again c.lowerings_again.ensures.theory

@@ -1,92 +1,96 @@
--- Each event that the end of the book completes, and the end.
+-- Each datum that the end of the book completes, and the end.
 use Rattle.std.proofs.Common.{[], ◌∷◌, ◌++◌, ◌∙◌, true, true≢false, refl, sym, ap, subst, inl, inr}
+use Rattle.mw_model.specs.Fate.{is_out_of_range}
 use Rattle.mw_read.specs.Feeding.{Continues}
 use Rattle.mw_read.specs.declared.step.Step.TheVariants as steps
-use Rattle.mw_book.specs.Knowing.{Judges}
-use Rattle.mw_book.proofs.Taken.{Finishing, finishing_none, standing_last, finishing_more, finishing_next, finished_whole, finished_fault}
+use Rattle.mw_book.specs.Answering.{Answers}
+use Rattle.mw_book.proofs.Taken.{Finishing, finishing_none, standing_last, known_last, finishing_more, finishing_next, finished_whole, finished_fault}
 use Rattle.mw_book.proofs.reading.finish.Goals as goal
 
 pub loop-x-init : goal.loop-x-init
-loop-x-init c = subst (Finishing c.args.judging.now c.args.reader.now.parser c.args.judging.now) (sym c.finish.ensures.finished) (finishing_none c.args.judging.now (record c.args.reader.now { finished = true }) c.requires.awaits.0 refl c.requires.few)
+loop-x-init g c =
+    subst (Finishing g.A.Answering.objects g.A.Answering.unwritten g.A.Answering.count g.A.Answering.answered c.args.answering.now c.args.reader.now.parser c.args.answering.now) (sym c.finish.ensures.finished)
+    (finishing_none c.args.answering.now (record c.args.reader.now { finished = true }) c.requires.awaits.0 refl c.requires.known)
 
 pub next-requires : goal.next-requires
-next-requires c = record {
+next-requires g c = record {
   ready = inl (
-    standing_last c.args.judging.now c.args.reader.now.parser c.loop-x.judging c.loop-x.reader c.loop-x.invariant c.requires.stands,
+    standing_last c.loop-x.invariant c.requires.stands,
     inr (c.loop-x.invariant.all_read, c.loop-x.invariant.finished),
   );
 }
 
-pub judge-requires-clause-within : goal.judge-requires-clause-within
-judge-requires-clause-within c =
-    let s = standing_last c.args.judging.now c.args.reader.now.parser c.loop-x.judging c.loop-x.reader c.loop-x.invariant c.requires.stands in
-    (subst (λ t. Continues c.next.new.self.objects c.loop-x.reader s.0 s.1 t c.next.new.reader) c.in-Datum.is (c.next.ensures.continues s.0 s.1 s.2)).1.0
+pub answer-requires-clause-within : goal.answer-requires-clause-within
+answer-requires-clause-within g c =
+    let s = standing_last c.loop-x.invariant c.requires.stands in
+    (subst (λ t. Continues (g.A.Answering.objects c.next.new.self) c.loop-x.reader s.0 s.1 t c.next.new.reader) c.in-Datum.is (c.next.ensures.continues s.0 s.1 s.2)).1.0
 
-pub refuse_large-requires-clause-shows : goal.refuse_large-requires-clause-shows
-refuse_large-requires-clause-shows c =
-    let s = standing_last c.args.judging.now c.args.reader.now.parser c.loop-x.judging c.loop-x.reader c.loop-x.invariant c.requires.stands in
-    let v = subst (λ t. Continues c.next.new.self.objects c.loop-x.reader s.0 s.1 t c.next.new.reader) c.in-TooBig.is (c.next.ensures.continues s.0 s.1 s.2) in
+pub answer-requires-clause-in_range : goal.answer-requires-clause-in_range
+answer-requires-clause-in_range g c =
+    let s = standing_last c.loop-x.invariant c.requires.stands in
+    let y = subst (λ t. Continues (g.A.Answering.objects c.next.new.self) c.loop-x.reader s.0 s.1 t c.next.new.reader) c.in-Datum.is (c.next.ensures.continues s.0 s.1 s.2) in
+    ap is_out_of_range y.1.1 ∙ y.1.2
+
+pub answer-requires-clause-known : goal.answer-requires-clause-known
+answer-requires-clause-known g c = known_last c.loop-x.invariant c.next.new.self c.next.ensures.kept c.next.ensures.count (steps.Datum c.in-Datum.x) c.next.new.reader
+
+pub answer_large-requires-clause-shows : goal.answer_large-requires-clause-shows
+answer_large-requires-clause-shows g c =
+    let s = standing_last c.loop-x.invariant c.requires.stands in
+    let v = subst (λ t. Continues (g.A.Answering.objects c.next.new.self) c.loop-x.reader s.0 s.1 t c.next.new.reader) c.in-TooBig.is (c.next.ensures.continues s.0 s.1 s.2) in
     (v.0, v.1.0, v.1.1)
 
+pub answer_large-requires-clause-known : goal.answer_large-requires-clause-known
+answer_large-requires-clause-known g c = known_last c.loop-x.invariant c.next.new.self c.next.ensures.kept c.next.ensures.count (steps.TooBig c.in-TooBig.word c.in-TooBig.label) c.next.new.reader
+
 pub unreachable-requires : goal.unreachable-requires
-unreachable-requires c =
-    let s = standing_last c.args.judging.now c.args.reader.now.parser c.loop-x.judging c.loop-x.reader c.loop-x.invariant c.requires.stands in
-    true≢false (sym c.loop-x.invariant.finished ∙ (subst (λ t. Continues c.next.new.self.objects c.loop-x.reader s.0 s.1 t c.next.new.reader) c.in-More.is (c.next.ensures.continues s.0 s.1 s.2)).0)
+unreachable-requires g c =
+    let s = standing_last c.loop-x.invariant c.requires.stands in
+    true≢false (sym c.loop-x.invariant.finished ∙ (subst (λ t. Continues (g.A.Answering.objects c.next.new.self) c.loop-x.reader s.0 s.1 t c.next.new.reader) c.in-More.is (c.next.ensures.continues s.0 s.1 s.2)).0)
 
 pub loop-x-smaller-in-Continue-1 : goal.loop-x-smaller-in-Continue-1
-loop-x-smaller-in-Continue-1 c =
-    let k = c.next.new.self in
-    let q = c.next.new.reader in
-    let p = c.loop-x.reader in
-    finishing_next c.args.judging.now c.args.reader.now.parser c.loop-x.judging p c.loop-x.invariant c.requires.stands k (steps.Datum c.in-Datum.x) q
-    (λ g given s. subst (λ t. Continues k.objects p g given t q) c.in-Datum.is (c.next.ensures.continues g given s))
+loop-x-smaller-in-Continue-1 g c =
+    let k = c.next.ensures in
+    finishing_next c.loop-x.invariant c.next.new.self k.kept k.count (steps.Datum c.in-Datum.x) c.next.new.reader c.requires.stands
+    (λ h given s. subst (λ t. Continues (g.A.Answering.objects c.next.new.self) c.loop-x.reader h given t c.next.new.reader) c.in-Datum.is (k.continues h given s))
 
 pub loop-x-preserved-in-Continue-1 : goal.loop-x-preserved-in-Continue-1
-loop-x-preserved-in-Continue-1 c =
-    let k = c.next.new.self in
-    let q = c.next.new.reader in
-    let p = c.loop-x.reader in
-    let new = c.judge.new.self in
-    let v = c.in_ok-judge-in-Datum.ensures in
-    finishing_more c.args.judging.now c.args.reader.now.parser c.loop-x.judging p c.loop-x.invariant c.requires.stands k (steps.Datum c.in-Datum.x) q new
-    c.next.ensures.theory (ap (λ j. j.steps) c.next.ensures.rest)
-    (λ g given s. subst (λ t. Continues k.objects p g given t q) c.in-Datum.is (c.next.ensures.continues g given s))
-    (λ y h given. subst (λ x. Judges (record c.loop-x.judging { kernel = k }) given new (given ++ x ∷ [])) h.1 (v.judges given))
-    v.counted v.few
+loop-x-preserved-in-Continue-1 g c =
+    let k = c.next.ensures in
+    let new = c.answer.new.self in
+    let v = c.in_ok-answer-in-Datum.ensures in
+    finishing_more c.loop-x.invariant c.next.new.self k.kept k.count (steps.Datum c.in-Datum.x) c.next.new.reader c.requires.stands new
+    (λ h given s. subst (λ t. Continues (g.A.Answering.objects c.next.new.self) c.loop-x.reader h given t c.next.new.reader) c.in-Datum.is (k.continues h given s))
+    (λ y h given. subst (λ x. Answers g.A.Answering.unwritten g.A.Answering.answered c.next.new.self given new (given ++ x ∷ [])) h.1 (v.answers given))
+    v.counted
 
 pub loop-x-smaller : goal.loop-x-smaller
-loop-x-smaller c =
-    let k = c.next.new.self in
-    let q = c.next.new.reader in
-    let p = c.loop-x.reader in
-    finishing_next c.args.judging.now c.args.reader.now.parser c.loop-x.judging p c.loop-x.invariant c.requires.stands k (steps.TooBig c.in-TooBig.word c.in-TooBig.label) q
-    (λ g given s. subst (λ t. Continues k.objects p g given t q) c.in-TooBig.is (c.next.ensures.continues g given s))
+loop-x-smaller g c =
+    let k = c.next.ensures in
+    finishing_next c.loop-x.invariant c.next.new.self k.kept k.count (steps.TooBig c.in-TooBig.word c.in-TooBig.label) c.next.new.reader c.requires.stands
+    (λ h given s. subst (λ t. Continues (g.A.Answering.objects c.next.new.self) c.loop-x.reader h given t c.next.new.reader) c.in-TooBig.is (k.continues h given s))
 
 pub loop-x-preserved : goal.loop-x-preserved
-loop-x-preserved c =
-    let k = c.next.new.self in
-    let q = c.next.new.reader in
-    let p = c.loop-x.reader in
-    let new = c.refuse_large.new.self in
-    let v = c.in_ok-refuse_large-in-TooBig.ensures in
-    finishing_more c.args.judging.now c.args.reader.now.parser c.loop-x.judging p c.loop-x.invariant c.requires.stands k (steps.TooBig c.in-TooBig.word c.in-TooBig.label) q new
-    c.next.ensures.theory (ap (λ j. j.steps) c.next.ensures.rest)
-    (λ g given s. subst (λ t. Continues k.objects p g given t q) c.in-TooBig.is (c.next.ensures.continues g given s))
-    (λ y h given. v.judges y h.0 h.1 given)
-    v.counted v.few
+loop-x-preserved g c =
+    let k = c.next.ensures in
+    let v = c.in_ok-answer_large-in-TooBig.ensures in
+    finishing_more c.loop-x.invariant c.next.new.self k.kept k.count (steps.TooBig c.in-TooBig.word c.in-TooBig.label) c.next.new.reader c.requires.stands c.answer_large.new.self
+    (λ h given s. subst (λ t. Continues (g.A.Answering.objects c.next.new.self) c.loop-x.reader h given t c.next.new.reader) c.in-TooBig.is (k.continues h given s))
+    (λ y h given. v.answers y h.0 h.1 given)
+    v.counted
 
-pub returns-in-End-clause-ends : goal.returns-in-End-clause-ends
-returns-in-End-clause-ends c =
-    let k = c.next.new.self in
-    let q = c.next.new.reader in
-    let p = c.loop-x.reader in
-    finished_whole c.args.judging.now c.args.reader.now.parser c.loop-x.judging p c.loop-x.invariant k q c.next.ensures.theory (ap (λ j. j.steps) c.next.ensures.rest)
-    (λ g given s. subst (λ t. Continues k.objects p g given t q) c.in-End.is (c.next.ensures.continues g given s))
+pub returns-in-End : goal.returns-in-End
+returns-in-End g c =
+    let k = c.next.ensures in
+    record {
+      ends = finished_whole c.loop-x.invariant c.next.new.self k.kept k.count steps.End c.next.new.reader
+          (λ h given s. subst (λ t. Continues (g.A.Answering.objects c.next.new.self) c.loop-x.reader h given t c.next.new.reader) c.in-End.is (k.continues h given s));
+    }
 
-pub returns-in-Syntax-clause-ends : goal.returns-in-Syntax-clause-ends
-returns-in-Syntax-clause-ends c =
-    let k = c.next.new.self in
-    let q = c.next.new.reader in
-    let p = c.loop-x.reader in
-    finished_fault c.args.judging.now c.args.reader.now.parser c.loop-x.judging p c.loop-x.invariant k c.in-Syntax.kind c.in-Syntax.offset q c.next.ensures.theory (ap (λ j. j.steps) c.next.ensures.rest)
-    (λ g given s. subst (λ t. Continues k.objects p g given t q) c.in-Syntax.is (c.next.ensures.continues g given s))
+pub returns-in-Syntax : goal.returns-in-Syntax
+returns-in-Syntax g c =
+    let k = c.next.ensures in
+    record {
+      ends = finished_fault c.loop-x.invariant c.next.new.self k.kept k.count (steps.Syntax c.in-Syntax.kind c.in-Syntax.offset) c.next.new.reader c.in-Syntax.kind c.in-Syntax.offset
+          (λ h given s. subst (λ t. Continues (g.A.Answering.objects c.next.new.self) c.loop-x.reader h given t c.next.new.reader) c.in-Syntax.is (k.continues h given s));
+    }

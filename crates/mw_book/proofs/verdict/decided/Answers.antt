@@ -3,7 +3,7 @@ use Rattle.std.proofs.Common.{subst}
 use Rattle.mw_model.specs.Reading.{formula_under}
 use Rattle.mw_model.specs.Tautology.{decision}
 use Rattle.mw_heap.specs.Objects.{object_at}
-use Rattle.mw_heap.proofs.Objects.{IsIn-Grows, Grows-trans}
+use Rattle.mw_heap.proofs.Objects.{IsIn-Grows}
 use Rattle.mw_taut.specs.Decided.{IsDecision}
 use Rattle.mw_book.proofs.Owing.{present, proof_holds, theorem_found, choice_found, many_found}
 use Rattle.mw_book.proofs.verdict.decided.Goals as goal

@@ -1,6 +1,6 @@
 use Rattle.std.proofs.Common.{◌∙◌, ap}
 use Rattle.clap.specs.Words.{found_of}
-use Rattle.mw_model.specs.Command as numbers
+use Rattle.mw_model.specs.Arguments as numbers
 use Rattle.mw_book.proofs.Requests.{found_asks}
 use Rattle.mw_book.proofs.words.request_by.Goals as goal
 

@@ -3,13 +3,16 @@ use Rattle.mw_book.proofs.Requests.{name_asks}
 use Rattle.mw_book.proofs.words.request_with.Goals as goal
 
 pub returns-then-eq : goal.returns-then-eq
-returns-then-eq c = c.check_with.ensures ∙ name_asks c.args.name.now _ _ _ c.args.steps c.args.events (sym c.if-eq.true ∙ c.eq.ensures) refl refl
+returns-then-eq c = c.check_with.ensures ∙ name_asks c.args.name.now _ _ _ _ c.args.steps c.args.events (sym c.if-eq.true ∙ c.eq.ensures) refl refl refl
 
 pub returns-then-eq-2 : goal.returns-then-eq-2
-returns-then-eq-2 c = c.trial_with.ensures ∙ name_asks c.args.name.now _ _ _ c.args.steps c.args.events (sym c.if-eq.false ∙ c.eq.ensures) (sym c.if-eq-2.true ∙ c.eq-2.ensures) refl
+returns-then-eq-2 c = c.trial_with.ensures ∙ name_asks c.args.name.now _ _ _ _ c.args.steps c.args.events (sym c.if-eq.false ∙ c.eq.ensures) (sym c.if-eq-2.true ∙ c.eq-2.ensures) refl refl
 
 pub returns-then-eq-3 : goal.returns-then-eq-3
-returns-then-eq-3 c = name_asks c.args.name.now _ _ _ c.args.steps c.args.events (sym c.if-eq.false ∙ c.eq.ensures) (sym c.if-eq-2.false ∙ c.eq-2.ensures) (sym c.if-eq-3.true ∙ c.eq-3.ensures)
+returns-then-eq-3 c = name_asks c.args.name.now _ _ _ _ c.args.steps c.args.events (sym c.if-eq.false ∙ c.eq.ensures) (sym c.if-eq-2.false ∙ c.eq-2.ensures) (sym c.if-eq-3.true ∙ c.eq-3.ensures) refl
+
+pub returns-then-eq-4 : goal.returns-then-eq-4
+returns-then-eq-4 c = c.lower_with.ensures ∙ name_asks c.args.name.now _ _ _ _ c.args.steps c.args.events (sym c.if-eq.false ∙ c.eq.ensures) (sym c.if-eq-2.false ∙ c.eq-2.ensures) (sym c.if-eq-3.false ∙ c.eq-3.ensures) (sym c.if-eq-4.true ∙ c.eq-4.ensures)
 
 pub returns : goal.returns
-returns c = name_asks c.args.name.now _ _ _ c.args.steps c.args.events (sym c.if-eq.false ∙ c.eq.ensures) (sym c.if-eq-2.false ∙ c.eq-2.ensures) (sym c.if-eq-3.false ∙ c.eq-3.ensures)
+returns c = name_asks c.args.name.now _ _ _ _ c.args.steps c.args.events (sym c.if-eq.false ∙ c.eq.ensures) (sym c.if-eq-2.false ∙ c.eq-2.ensures) (sym c.if-eq-3.false ∙ c.eq-3.ensures) (sym c.if-eq-4.false ∙ c.eq-4.ensures)

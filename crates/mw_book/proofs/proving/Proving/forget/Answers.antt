@@ -1,6 +1,6 @@
 -- What is kept of the heap keeps its marks.
 use Rattle.std.proofs.Common.{refl}
-use Rattle.mw_book.proofs.Tried.{proving_cut}
+use Rattle.mw_book.proofs.Proved.{proving_cut}
 use Rattle.mw_book.proofs.proving.Proving.forget.Goals as goal
 
 pub returns-clause-proving : goal.returns-clause-proving

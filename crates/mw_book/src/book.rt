@@ -1,0 +1,137 @@
+//! A book from its bytes to the answers to its data.
+ghost use Rattle.std.specs.Prelude.{◌≡◌, ℕ, List, [], ◌++◌, Some, OnOk, OnErr, IfOk, IfErr};
+ghost use Rattle.mw_model.specs.Object.{Object};
+ghost use Rattle.mw_model.specs.Commands.{Request};
+ghost use Rattle.mw_model.specs.Report.{status_of as status_with};
+ghost use Rattle.mw_port.specs.Ports.{Takes};
+ghost use Rattle.mw_book.specs.Books.{TakesSome};
+ghost use Rattle.mw_book.specs.Due.{AreAnswers, last_line_for, refused_for};
+ghost use Rattle.mw_book.specs.Answering.{HasAnswered, ReadWhole, fault_of};
+ghost use Rattle.mw_book.specs.Statuses.{report_status};
+ghost use Rattle.mw_book.specs.Checks.{BookEnds, SourceCounts, SinkCounts, Concludes, IsHalt, IsStop};
+
+use crate::Status;
+use crate::answering::Answering;
+use crate::output::{status_of, write_all};
+use crate::promise::answers_promised;
+use crate::reading::{finish, take_piece};
+use mw_port::{Sink, Source};
+use mw_read::{Reader, SyntaxKind};
+use std::alloc::Global;
+
+// The longest book, in bytes.
+const LIMIT: u64 = 1 << 40;
+
+// How many bytes are read at a time.
+const PIECE: usize = 4096;
+
+/// Answers the book on the source and writes the answers, that to each datum before more is read.
+pub(crate) fn answer_book<A: Answering, S: Source, K: Sink>(
+    alloc: Global,
+    answering: &mut A,
+    source: &mut S,
+    sink: &mut K,
+) -> Status
+    requires answered { A.answered answering.old (A.request answering.old) [] }
+    requires due { AreAnswers (A.request answering.old) [] [] }
+    requires none_left { A.unwritten answering.old ≡ [] }
+    requires count { A.count answering.old ≡ 0 }
+    ensures ends { BookEnds result (A.request answering.old) (S.left source.old) (S.left source.new) (K.taken sink.old) (K.taken sink.new) }
+    ensures source_counts { SourceCounts result (S.faults source.old) (S.faults source.new) }
+    ensures sink_counts { SinkCounts result (K.faults sink.old) (K.faults sink.new) }
+{
+    answers_promised();
+    match read_all(alloc, answering, source, sink) {
+        Ok(fault) => conclude(answering, fault, sink),
+        Err(status) => status,
+    }
+}
+
+/// Reads the book to its end or its first fault, which is answered. All lines but those of the last piece are written.
+pub(crate) fn read_all<A: Answering, S: Source, K: Sink>(
+    alloc: Global,
+    answering: &mut A,
+    source: &mut S,
+    sink: &mut K,
+) -> Result<Option<(SyntaxKind, u64)>, Status>
+    requires answered { A.answered answering.old (A.request answering.old) [] }
+    requires due { AreAnswers (A.request answering.old) [] [] }
+    requires none_left { A.unwritten answering.old ≡ [] }
+    requires count { A.count answering.old ≡ 0 }
+    ensures whole { IfOk result (λ f. ReadWhole A.unwritten A.answered (A.request answering.old) (S.left source.old) (S.left source.new) (K.taken sink.old) (K.taken sink.new) f answering.new) }
+    ensures steady { OnOk result ((S.faults source.new ≡ S.faults source.old) × (K.faults sink.new ≡ K.faults sink.old)) }
+    ensures stops { IfErr result IsStop }
+    ensures ends { IfErr result (λ s. BookEnds s (A.request answering.old) (S.left source.old) (S.left source.new) (K.taken sink.old) (K.taken sink.new)) }
+    ensures source_counts { IfErr result (λ s. SourceCounts s (S.faults source.old) (S.faults source.new)) }
+    ensures sink_counts { IfErr result (λ s. SinkCounts s (K.faults sink.old) (K.faults sink.new)) }
+{
+    answers_promised();
+    let mut reader = Reader::new(alloc);
+    let mut buffer = [0; PIECE];
+    for _ in 0..=LIMIT {
+        let Ok(n) = source.read(&mut buffer) else {
+            return Err(Status::ReadFault);
+        };
+        if n == 0 {
+            let Ok(fault) = finish(answering, &mut reader) else {
+                return Err(Status::Memory);
+            };
+            return Ok(fault);
+        }
+        let Ok(fault) = take_piece(answering, &mut reader, &buffer[..n]) else {
+            return Err(Status::Memory);
+        };
+        if fault.is_some() {
+            return Ok(fault);
+        }
+        write_lines(answering, sink)?;
+    }
+    unreachable!()
+}
+
+// Writes the lines that were not written yet.
+fn write_lines<A: Answering, K: Sink>(answering: &mut A, sink: &mut K) -> Result<(), Status>
+    ensures written { OnOk result (Takes (K.taken sink.old) (K.taken sink.new) (A.unwritten answering.old)) }
+    ensures steady { OnOk result (K.faults sink.new ≡ K.faults sink.old) }
+    ensures some { OnErr result (TakesSome (K.taken sink.old) (K.taken sink.new) (A.unwritten answering.old)) }
+    ensures halt { IfErr result IsHalt }
+    ensures sink_counts { IfErr result (λ s. SinkCounts s (K.faults sink.old) (K.faults sink.new)) }
+    ensures none_left { A.unwritten answering.new ≡ [] }
+    ensures objects { A.objects answering.new ≡ A.objects answering.old }
+    ensures count { A.count answering.new ≡ A.count answering.old }
+    ensures answered { (q : Request) (given : List Object) → A.answered answering.old q given → A.answered answering.new q given }
+{
+    let written = write_all(sink, answering.lines());
+    answering.drop_lines();
+    written.map_err(status_of)
+}
+
+/// Writes the lines that were not written yet and the last line.
+pub(crate) fn conclude<A: Answering, K: Sink>(
+    answering: &mut A,
+    fault: Option<(SyntaxKind, u64)>,
+    sink: &mut K,
+) -> Status
+    requires known { HasAnswered A.answered answering.old }
+    ensures concludes { (q : Request) (given : List Object) → A.answered answering.old q given → Concludes result (status_with (fault_of fault) (refused_for q given)) (A.unwritten answering.old ++ last_line_for q given (fault_of fault)) (K.taken sink.old) (K.taken sink.new) }
+    ensures sink_counts { SinkCounts result (K.faults sink.old) (K.faults sink.new) }
+{
+    let Ok(refused) = answering.end(fault) else {
+        return Status::Memory;
+    };
+    match write_lines(answering, sink) {
+        Ok(()) => status_after(fault, refused),
+        Err(status) => status,
+    }
+}
+
+// How the program ends after a book with this fault, or with none, of whose data so many were refused.
+fn status_after(fault: Option<(SyntaxKind, u64)>, refused: u64) -> Status
+    ensures { report_status result ≡ Some (status_with (fault_of fault) refused) }
+{
+    match fault {
+        Some((kind, offset)) => Status::Syntax(kind, offset),
+        None if refused == 0 => Status::Done,
+        None => Status::SomeRefused,
+    }
+}

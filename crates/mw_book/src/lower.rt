@@ -1,0 +1,42 @@
+//! The command that turns the derivations of a book to proofs.
+ghost use Rattle.std.specs.Prelude.{◌≡◌, [], IfOk};
+ghost use Rattle.mw_model.specs.Commands.{Lower};
+ghost use Rattle.mw_book.specs.Lowered.{Lowered};
+ghost use Rattle.mw_book.specs.Checks.{BookEnds, SourceCounts, SinkCounts};
+
+use crate::Status;
+use crate::book::answer_book;
+use crate::lowering::Lowering;
+use crate::promise::answers_promised;
+use mw_heap::Memory;
+use mw_port::{Sink, Source};
+use std::alloc::Global;
+
+// Nothing was read. It is boxed, so that the proofs of its owner are short.
+fn begin(alloc: Global, steps: u64) -> Result<Box<Lowering>, Memory>
+    ensures lowered { IfOk result (λ b. Lowered b.value steps []) }
+    ensures lines { IfOk result (λ b. b.value.lines.items ≡ []) }
+{
+    let lowering = Lowering::new(alloc, steps)?;
+    Ok(Box::new(alloc, lowering)?)
+}
+
+/// Judges the book on the source, with derivations as good as proofs, and writes each event that is accepted with proofs in their place,
+/// before more is read.
+pub(crate) fn lower<S: Source, K: Sink>(
+    alloc: Global,
+    steps: u64,
+    source: &mut S,
+    sink: &mut K,
+) -> Status
+    ensures ends { BookEnds result (Lower steps) (S.left source.old) (S.left source.new) (K.taken sink.old) (K.taken sink.new) }
+    ensures source_counts { SourceCounts result (S.faults source.old) (S.faults source.new) }
+    ensures sink_counts { SinkCounts result (K.faults sink.old) (K.faults sink.new) }
+{
+    answers_promised();
+    let Ok(mut boxed) = begin(alloc, steps) else {
+        return Status::Memory;
+    };
+    let lowering: &mut Lowering = &mut boxed;
+    answer_book(alloc, lowering, source, sink)
+}

@@ -1,0 +1,49 @@
+-- The options and the arguments of the commands, and the numbers that they give.
+use Rattle.std.specs.Prelude.{ℕ, Bool, true, false, ◌&&◌, cond, leb, List, [], ◌∷◌, length, Option, Some, None, codes}
+use Prim.Native.String.{String}
+use Rattle.mw_model.specs.Object.{same_bytes}
+use Rattle.mw_model.specs.Lexemes.{is_digit, all_are, decimal_value}
+use Rattle.clap.specs.Walk.{Text, Rule}
+use Rattle.clap.specs.Simple.{Shape, new_rule, new_shape}
+use Rattle.clap.specs.declared.builder.action.ArgAction.TheVariants.{Set}
+
+-- the option --steps N
+abbrev pub steps_option : Rule
+steps_option = record (new_rule (codes "steps")) { long = Some (codes "steps"); action = Some Set }
+
+-- the argument M of `trial`
+abbrev pub events_argument : Rule
+events_argument = record (new_rule (codes "events")) { action = Some Set; required = true }
+
+-- a command with that option alone
+abbrev pub steps_command : String → Shape
+steps_command word = record (new_shape (codes word)) { rules = steps_option ∷ [] }
+
+abbrev pub trial_command : Shape
+trial_command = record (new_shape (codes "trial")) { rules = events_argument ∷ steps_option ∷ [] }
+
+-- ---- the numbers, as the program reads them
+
+abbrev pub default_steps : ℕ
+default_steps = 10000000
+
+-- the number that the text is: at most so many decimal digits, and a value from the least to the most
+abbrev pub number_within : (digits least most : ℕ) → Text → Option ℕ
+number_within digits least most text =
+    cond (all_are is_digit text && (leb 1 (length text) && (leb (length text) digits && (leb least (decimal_value text) && leb (decimal_value text) most)))) (Some (decimal_value text)) None
+
+-- the step limit: from 1 to 10^12
+abbrev pub steps_of : Option Text → Option ℕ
+steps_of None = Some default_steps
+steps_of (Some text) = number_within 13 1 1000000000000 text
+
+-- how many events the trial book has: up to 10^6
+abbrev pub events_of : Option Text → Option ℕ
+events_of None = None
+events_of (Some text) = number_within 7 0 1000000 text
+
+-- `--help` alone
+abbrev pub is_help : List Text → Bool
+is_help (word ∷ []) = same_bytes word (codes "--help")
+is_help [] = false
+is_help (word ∷ other ∷ words) = false
