@@ -14,10 +14,10 @@ use Rattle.mw_heap.specs.Objects.{object_at, IsIn, AreDistinct}
 use Rattle.mw_taut.specs.declared.node.Node.{Node}
 use Rattle.mw_taut.specs.declared.node.Node.TheVariants.{Equation, Not, Or}
 use Rattle.mw_taut.specs.Steps.{not_object, or_object}
-use Rattle.mw_taut.specs.Building.{IsAt, IsNew, IsPartOf, IsMade, equations_with, formula_or, here, IsHere, waiting, IsFalling, IsWhole, Covers, IsBuilt, among}
-use Rattle.mw_taut.specs.Settling.{IsNode, AreNodes}
-use Rattle.mw_taut.specs.Meaning.{IsNodeOf, AreNodesOf}
-use Rattle.mw_taut.proofs.Equations.{IsEquation}
+use Rattle.mw_taut.specs.Building.{IsAt, IsNew, IsPartOf, IsMade, equations_with, formula_or, here, IsHere, waiting, IsFalling, IsWhole, Covers, IsBuilt}
+use Rattle.mw_taut.specs.Nodes.{IsNode, AreNodes}
+use Rattle.mw_taut.specs.Meaning.{IsNodeOf, AreNodesOf, among}
+use Rattle.mw_taut.specs.Meaning.{IsEquation}
 use Rattle.mw_taut.proofs.FormulaShapes.{not_shape, or_shape, equation_shape}
 use Rattle.mw_taut.proofs.Elements.{each_more, each_front, at_more, at_end, at_cases, at_map, at_within, each_at}
 use Rattle.mw_taut.proofs.MoreNodes.{nodes_wider, nodes_more, all_valid_wider, all_valid_more}

@@ -3,22 +3,20 @@ use Rattle.std.proofs.Common.{◌≡◌, ℕ, zero, suc, ◌≤◌, arith, Bool,
 use Rattle.mw_model.specs.Object.{Object, Pair, NIL, truth_of}
 use Rattle.mw_heap.specs.Objects.{object_at, IsIn, Grows}
 use Rattle.mw_heap.proofs.Objects.{object_at-Grows, Grows-trans}
-use Rattle.mw_taut.specs.declared.settled.Settled.{Settled}
-use Rattle.mw_taut.specs.Settling.{all_settled_at}
-use Rattle.mw_taut.specs.ByCases.{choice_list, is_true}
-use Rattle.mw_taut.proofs.SettlingAll.{dropped, all_dropped}
+use Rattle.mw_taut.specs.Cases.{choice_list, is_true}
+use Rattle.mw_taut.proofs.Elements.{dropped, all_dropped}
 
 -- the pair of the first equation, of those from k on
-first_listed : (os : List Object) (e : Object) (es : List Object) (ss : List Settled) (k : ℕ) →
-    choice_list (e ∷ es) (all_settled_at os (drop k ss)) ≡ Pair (Pair e (truth_of (is_true (slice_get ss k)))) (choice_list es (all_settled_at os (drop (suc k) ss)))
-first_listed os e es [] zero = refl
-first_listed os e es [] (suc k) = refl
-first_listed os e es (s ∷ ss) zero = refl
-first_listed os e es (s ∷ ss) (suc k) = first_listed os e es ss k
+first_listed : (e : Object) (es : List Object) (bs : List Bool) (k : ℕ) →
+    choice_list (e ∷ es) (drop k bs) ≡ Pair (Pair e (truth_of (is_true (slice_get bs k)))) (choice_list es (drop (suc k) bs))
+first_listed e es [] zero = refl
+first_listed e es [] (suc k) = refl
+first_listed e es (b ∷ bs) zero = refl
+first_listed e es (b ∷ bs) (suc k) = first_listed e es bs k
 
-module _ (start : List Object) (equations : List ℕ) (chosen : List Settled) where
+module _ (start : List Object) (equations : List ℕ) (chosen : List Bool) where
   abbrev listed_from : ℕ → Object
-  listed_from k = choice_list (map (object_at start) (drop k equations)) (all_settled_at start (drop k chosen))
+  listed_from k = choice_list (map (object_at start) (drop k equations)) (drop k chosen)
 
   pub record IsChoosing (os : List Object) (list k : ℕ) : Type 0 where
     pub grows : Grows start os
@@ -31,7 +29,7 @@ module _ (start : List Object) (equations : List ℕ) (chosen : List Settled) wh
     grows = grows;
     within = within;
     few = omega (arith, m);
-    made = made ∙ sym (ap (λ rest. choice_list (map (object_at start) rest) (all_settled_at start (drop k chosen))) (all_dropped equations k (omega (arith, m))));
+    made = made ∙ sym (ap (λ rest. choice_list (map (object_at start) rest) (drop k chosen)) (all_dropped equations k (omega (arith, m))));
   }
 
   pub choosing-more : (os new : List Object) (list next k e : ℕ) (value : Bool) → IsChoosing os list (suc k) → Grows os new → IsIn new next → IsIn start e → e ≡ get_or equations k e → value ≡ is_true (slice_get chosen k) →
@@ -39,8 +37,8 @@ module _ (start : List Object) (equations : List ℕ) (chosen : List Settled) wh
   choosing-more os new list next k e value h grows within in_e is_e is_value made =
       let E = object_at start e in
       let split : listed_from k ≡ Pair (Pair E (truth_of (is_true (slice_get chosen k)))) (listed_from (suc k)) =
-      ap (λ x. choice_list (map (object_at start) x) (all_settled_at start (drop k chosen))) (dropped equations k e (omega (arith, h.few)) is_e)
-      ∙ first_listed start E (map (object_at start) (drop (suc k) equations)) chosen k in
+      ap (λ x. choice_list (map (object_at start) x) (drop k chosen)) (dropped equations k e (omega (arith, h.few)) is_e)
+      ∙ first_listed E (map (object_at start) (drop (suc k) equations)) chosen k in
       record {
         grows = Grows-trans start os new h.grows grows;
         within = within;

@@ -1,5 +1,5 @@
 -- The elements of a list, and of one that is an element longer.
-use Rattle.std.proofs.Common.{◌≡◌, ℕ, zero, suc, ◌<◌, arith, List, [], ◌∷◌, ◌++◌, map, length, slice_get, Some, ◌⊎◌, inl, inr, refl, ap, subst}
+use Rattle.std.proofs.Common.{◌≡◌, ℕ, zero, suc, ◌<◌, ◌≤◌, arith, List, [], ◌∷◌, ◌++◌, map, drop, length, get_or, slice_get, Some, ◌⊎◌, inl, inr, refl, sym, ap, subst}
 use Rattle.mw_model.specs.Truth.{Each}
 
 pub each_more : {X : Type 0} (P : X → Type 0) (xs : List X) (x : X) → Each P xs → P x → Each P (xs ++ x ∷ [])
@@ -49,7 +49,25 @@ each_at P (y ∷ xs) zero x h e = subst P (some e) h.0
     some k = cc
 each_at P (y ∷ xs) (suc i) x h e = each_at P xs i x h.1 e
 
--- of the first elements what holds of all
-pub each_left : {X : Type 0} (P : X → Type 0) (xs ys : List X) → Each P (xs ++ ys) → Each P xs
-each_left P [] ys h = tt
-each_left P (x ∷ xs) ys h = (h.0, each_left P xs ys h.1)
+-- of the first elements, and of the rest, what holds of all
+pub each_parts : {X : Type 0} (P : X → Type 0) (xs ys : List X) → Each P (xs ++ ys) → Each P xs × Each P ys
+each_parts P [] ys h = (tt, h)
+each_parts P (x ∷ xs) ys h = let r = each_parts P xs ys h.1 in ((h.0, r.0), r.1)
+
+-- ---- from a place on
+
+pub dropped : {X : Type 0} (xs : List X) (i : ℕ) (x : X) → i < length xs → x ≡ get_or xs i x → drop i xs ≡ x ∷ drop (suc i) xs
+dropped [] i x h e = absurd (omega (arith, h))
+dropped (y ∷ xs) zero x h e = ap (λ z. z ∷ xs) (sym e)
+dropped (y ∷ xs) (suc i) x h e = dropped xs i x (omega (arith, h)) e
+
+pub all_dropped : {X : Type 0} (xs : List X) (k : ℕ) → length xs ≤ k → drop k xs ≡ []
+all_dropped [] zero m = refl
+all_dropped [] (suc k) m = refl
+all_dropped (x ∷ xs) zero m = absurd (omega (arith, m))
+all_dropped (x ∷ xs) (suc k) m = all_dropped xs k (omega (arith, m))
+
+pub default_free : {X : Type 0} (xs : List X) (i : ℕ) (d e : X) → i < length xs → get_or xs i d ≡ get_or xs i e
+default_free [] i d e h = absurd (omega (arith, h))
+default_free (x ∷ xs) zero d e h = refl
+default_free (x ∷ xs) (suc i) d e h = default_free xs i d e (omega (arith, h))

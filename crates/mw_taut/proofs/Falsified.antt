@@ -1,8 +1,9 @@
 -- The choices of a list, tried in order.
-use Rattle.std.proofs.Common.{◌≡◌, Bool, true, false, cond, List, [], ◌∷◌, ◌++◌, map, Option, Some, None, refl, sym, ap, ap₂, ◌∙◌, append_assoc}
+use Rattle.std.proofs.Common.{◌≡◌, Bool, true, false, cond, List, [], ◌∷◌, ◌++◌, Option, Some, None, refl, sym, ap, ap₂, ◌∙◌, append_assoc}
 use Rattle.std.proofs.lemmas.List.{map-append}
 use Rattle.mw_model.specs.Term.{Formula}
 use Rattle.mw_model.specs.Tautology.{Choice, choosing, choices, value_under, first_against}
+use Rattle.mw_taut.specs.Cases.{going_on}
 
 abbrev pub or_else : Option Choice → Option Choice → Option Choice
 or_else (Some c) o = Some c
@@ -15,10 +16,6 @@ first_of_both (c ∷ cs) ds F = go (value_under c F) (first_of_both cs ds F)
     go : (b : Bool) → first_against (cs ++ ds) F ≡ or_else (first_against cs F) (first_against ds F) → cond b (first_against (cs ++ ds) F) (Some c) ≡ or_else (cond b (first_against cs F) (Some c)) (first_against ds F)
     go true later = later
     go false later = refl
-
--- the choices that go on from a first part
-abbrev pub going_on : Choice → List Choice → List Choice
-going_on c ds = map (λ d. c ++ d) ds
 
 going_on-choosing : (c : Choice) (E : Formula) (b : Bool) (ds : List Choice) → going_on c (choosing E b ds) ≡ going_on (c ++ (E, b) ∷ []) ds
 going_on-choosing c E b [] = refl
@@ -35,6 +32,11 @@ first_by_value c E Es F =
 pub going_on-nothing : (ds : List Choice) → going_on [] ds ≡ ds
 going_on-nothing [] = refl
 going_on-nothing (d ∷ ds) = ap (λ l. d ∷ l) (going_on-nothing ds)
+
+-- two formulas that have one value under each
+pub first_of_same : (c : Choice) (ds : List Choice) (F G : Formula) → ((d : Choice) → value_under (c ++ d) F ≡ value_under (c ++ d) G) → first_against (going_on c ds) F ≡ first_against (going_on c ds) G
+first_of_same c [] F G h = refl
+first_of_same c (d ∷ ds) F G h = ap₂ (λ v o. cond v o (Some (c ++ d))) (h d) (first_of_same c ds F G h)
 
 -- ---- where all choices that go on from a first part give one value
 

@@ -1,5 +1,5 @@
 -- The first occurrences in a list of formulas, and the equations of a formula.
-use Rattle.std.proofs.Common.{◌≡◌, Bool, true, false, not, cond, filter, List, [], ◌∷◌, ◌++◌, refl}
+use Rattle.std.proofs.Common.{◌≡◌, Bool, true, false, ◌||◌, not, cond, filter, List, [], ◌∷◌, ◌++◌, refl, ap, ◌∙◌, subst, append_assoc}
 use Rattle.std.proofs.lemmas.Bool.{and_parts}
 use Rattle.mw_model.specs.Term.{Formula, Equal, Not, Or, firsts, ArityTable, is_formula}
 use Rattle.mw_model.specs.Same.{same_formula}
@@ -7,8 +7,7 @@ use Rattle.mw_model.specs.Truth.{Each}
 use Rattle.mw_model.specs.Tautology.{all_equations}
 use Rattle.mw_model.proofs.SameTerms.{same_formula-eq, same_formula-refl}
 use Rattle.mw_term.proofs.Gathered.{IsListing}
-use Rattle.mw_taut.specs.Building.{among}
-use Rattle.mw_taut.proofs.Equations.{IsEquation, AreApart}
+use Rattle.mw_taut.specs.Meaning.{IsEquation, AreApart, among}
 
 -- the formulas of a list
 pub formulas : IsListing same_formula among
@@ -47,7 +46,7 @@ firsts_apart [] = tt
 firsts_apart (x ∷ xs) = (each_apart x (firsts same_formula xs), filter_apart (λ y. not (same_formula x y)) (firsts same_formula xs) (firsts_apart xs))
 
 -- the equations of a formula
-each_append : (P : Formula → Type 0) (xs ys : List Formula) → Each P xs → Each P ys → Each P (xs ++ ys)
+pub each_append : (P : Formula → Type 0) (xs ys : List Formula) → Each P xs → Each P ys → Each P (xs ++ ys)
 each_append P [] ys h k = k
 each_append P (x ∷ xs) ys h k = (h.0, each_append P xs ys h.1 k)
 
@@ -62,3 +61,31 @@ equations_formed A (Not F) h = equations_formed A F h
 equations_formed A (Or F G) h =
     let both = and_parts (is_formula A F) (is_formula A G) h in
     each_append (λ E. is_formula A E ≡ true) (all_equations F) (all_equations G) (equations_formed A F both.0) (equations_formed A G both.1)
+
+-- what holds of the first of equal ones holds of each
+module _ (P : Formula → Type 0) where
+  of_filtered : (E : Formula) (Fs : List Formula) → P E → Each P (filter (λ y. not (same_formula E y)) Fs) → Each P Fs
+  of_filtered E [] p h = tt
+  of_filtered E (F ∷ Fs) p h = go (same_formula E F) refl h (of_filtered E Fs p)
+    where
+      go : (b : Bool) → same_formula E F ≡ b → Each P (cond (not b) (F ∷ filter (λ y. not (same_formula E y)) Fs) (filter (λ y. not (same_formula E y)) Fs)) → (Each P (filter (λ y. not (same_formula E y)) Fs) → Each P Fs) → P F × Each P Fs
+      go true e k ih = (subst P (same_formula-eq E F e) p, ih k)
+      go false e k ih = (k.0, ih k.1)
+
+  pub of_first : (Fs : List Formula) → Each P (firsts same_formula Fs) → Each P Fs
+  of_first [] h = tt
+  of_first (F ∷ Fs) h = (h.0, of_first Fs (of_filtered F (firsts same_formula Fs) h.0 h.1))
+
+-- ---- what is on a list
+
+or_true : (b : Bool) → (b || true) ≡ true
+or_true true = refl
+or_true false = refl
+
+in_the_middle : (before : List Formula) (E : Formula) (after : List Formula) → among E (before ++ E ∷ after) ≡ true
+in_the_middle [] E after = ap (λ b. b || among E after) (same_formula-refl E)
+in_the_middle (G ∷ before) E after = ap (λ b. same_formula E G || b) (in_the_middle before E after) ∙ or_true (same_formula E G)
+
+pub all_among : (before after : List Formula) → Each (λ E. among E (before ++ after) ≡ true) after
+all_among before [] = tt
+all_among before (E ∷ after) = (in_the_middle before E after, subst (λ l. Each (λ G. among G l ≡ true) after) (append_assoc before (E ∷ []) after) (all_among (before ++ E ∷ []) after))

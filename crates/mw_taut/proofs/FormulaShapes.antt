@@ -5,7 +5,7 @@ use Rattle.mw_model.specs.Object.{Object, symbol, same_object, car, second_of, t
 use Rattle.mw_model.specs.Term.{Formula, Equal, Not as Denial, Or as Either, formula_object}
 use Rattle.mw_model.proofs.Names.{same_object-from}
 use Rattle.mw_taut.specs.Steps.{not_object, or_object}
-use Rattle.mw_taut.proofs.Equations.{IsEquation}
+use Rattle.mw_taut.specs.Meaning.{IsEquation}
 
 pub not_shape : (X : Formula) (o : Object) → formula_object X ≡ not_object o → (Y : Formula) × (X ≡ Denial Y) × (formula_object Y ≡ o)
 not_shape (Equal a b) o e = cc

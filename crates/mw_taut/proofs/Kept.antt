@@ -1,11 +1,15 @@
--- The objects of references, and of what is settled, as the heap grows.
-use Rattle.std.proofs.Common.{◌≡◌, ℕ, suc, suc-le-suc, arith, List, [], ◌∷◌, map, Option, Some, None, refl, ap, ap₂}
-use Rattle.std.specs.Prelude.{All}
+-- The objects of references, and what parts come to, as the heap grows.
+use Rattle.std.proofs.Common.{◌≡◌, ℕ, suc, suc-le-suc, arith, List, [], ◌∷◌, map, Option, Some, None, refl, ap, ap₂, ◌∙◌}
+use Rattle.std.specs.Prelude.{All, IfSome, option_map}
 use Rattle.mw_model.specs.Object.{Object}
 use Rattle.mw_heap.specs.Objects.{object_at, IsIn, Grows}
 use Rattle.mw_heap.proofs.Objects.{IsIn-Grows, object_at-Grows}
-use Rattle.mw_taut.specs.declared.settled.Settled.{Settled}
-use Rattle.mw_taut.specs.Settling.{all_settled_at, if_settled_at, each_at, AreSettledIn, IsSettledIn}
+use Rattle.mw_taut.specs.declared.reduced.Change.{Change}
+use Rattle.mw_taut.specs.declared.reduced.Reduced.{Reduced}
+use Rattle.mw_taut.specs.declared.reduced.Reduced.TheVariants.{Fixed as FixedAt, Changed as ChangedAt}
+use Rattle.mw_taut.specs.declared.table.Table.{Table}
+use Rattle.mw_taut.specs.Reducing.{Fixed, Changed, other_at, form_at, each_at, IsOtherIn, IsFormIn}
+use Rattle.mw_taut.specs.Cases.{IsTableIn}
 
 module _ (old new : List Object) (grows : Grows old new) where
   pub in_kept : (rs : List ℕ) → All (IsIn old) rs → All (IsIn new) rs
@@ -15,26 +19,38 @@ module _ (old new : List Object) (grows : Grows old new) where
   map_kept [] h = refl
   map_kept (r ∷ rs) h = ap₂ ◌∷◌ (object_at-Grows old new grows r (h 0 0 (omega arith))) (map_kept rs (λ k d l. h (suc k) d (suc-le-suc l)))
 
-  pub settled_in_kept : (ss : List Settled) → AreSettledIn old ss → AreSettledIn new ss
-  settled_in_kept ss h = λ k d l. IsIn-Grows old new grows _ (h k d l)
+  denied_in_kept : (o : Option ℕ) → IfSome o (IsIn old) → IfSome o (IsIn new)
+  denied_in_kept None h = h
+  denied_in_kept (Some z) h = IsIn-Grows old new grows z h
 
-  pub settled_kept : (ss : List Settled) → AreSettledIn old ss → all_settled_at new ss ≡ all_settled_at old ss
-  settled_kept [] h = refl
-  settled_kept (s ∷ ss) h = ap₂ ◌∷◌ (ap (λ p. (s.value, p)) (object_at-Grows old new grows s.proof (h 0 s (omega arith)))) (settled_kept ss (λ k d l. h (suc k) d (suc-le-suc l)))
+  denied_kept : (o : Option ℕ) → IfSome o (IsIn old) → option_map (object_at new) o ≡ option_map (object_at old) o
+  denied_kept None h = refl
+  denied_kept (Some z) h = ap Some (object_at-Grows old new grows z h)
 
-  pub if_settled_in_kept : (o : Option Settled) → IsSettledIn old o → IsSettledIn new o
-  if_settled_in_kept None h = h
-  if_settled_in_kept (Some s) h = IsIn-Grows old new grows s.proof h
+  pub other_in_kept : (s : Change) → IsOtherIn old s → IsOtherIn new s
+  other_in_kept s h = record { formula = IsIn-Grows old new grows s.formula h.formula; denied = denied_in_kept s.denied h.denied; from = IsIn-Grows old new grows s.from h.from; to = IsIn-Grows old new grows s.to h.to }
 
-  pub if_settled_kept : (o : Option Settled) → IsSettledIn old o → if_settled_at new o ≡ if_settled_at old o
-  if_settled_kept None h = refl
-  if_settled_kept (Some s) h = ap (λ p. Some (s.value, p)) (object_at-Grows old new grows s.proof h)
+  pub other_kept : (s : Change) → IsOtherIn old s → other_at new s ≡ other_at old s
+  other_kept s h =
+      ap₂ (λ x y. record { formula = x; denied = y; from = object_at new s.from; to = object_at new s.to }) (object_at-Grows old new grows s.formula h.formula) (denied_kept s.denied h.denied)
+      ∙ ap₂ (λ x y. record { formula = object_at old s.formula; denied = option_map (object_at old) s.denied; from = x; to = y }) (object_at-Grows old new grows s.from h.from) (object_at-Grows old new grows s.to h.to)
 
-  pub each_in_kept : (ss : List (Option Settled)) → All (IsSettledIn old) ss → All (IsSettledIn new) ss
-  each_in_kept ss h = λ k d l. if_settled_in_kept _ (h k d l)
+  pub form_in_kept : (r : Reduced) → IsFormIn old r → IsFormIn new r
+  form_in_kept (FixedAt s) h = IsIn-Grows old new grows s.proof h
+  form_in_kept (ChangedAt s) h = other_in_kept s h
 
-  pub each_kept : (ss : List (Option Settled)) → All (IsSettledIn old) ss → each_at new ss ≡ each_at old ss
-  each_kept [] h = refl
-  each_kept (s ∷ ss) h = ap₂ ◌∷◌ (if_settled_kept s (h 0 s (omega arith))) (each_kept ss (λ k d l. h (suc k) d (suc-le-suc l)))
+  pub form_kept : (r : Reduced) → IsFormIn old r → form_at new r ≡ form_at old r
+  form_kept (FixedAt s) h = ap (λ p. Fixed (s.value, p)) (object_at-Grows old new grows s.proof h)
+  form_kept (ChangedAt s) h = ap Changed (other_kept s h)
 
-pub ruleset kept = (in_kept, map_kept, settled_in_kept, settled_kept)
+  pub forms_in_kept : (rs : List Reduced) → All (IsFormIn old) rs → All (IsFormIn new) rs
+  forms_in_kept rs h = λ k d l. form_in_kept _ (h k d l)
+
+  pub forms_kept : (rs : List Reduced) → All (IsFormIn old) rs → each_at new rs ≡ each_at old rs
+  forms_kept [] h = refl
+  forms_kept (r ∷ rs) h = ap₂ ◌∷◌ (form_kept r (h 0 r (omega arith))) (forms_kept rs (λ k d l. h (suc k) d (suc-le-suc l)))
+
+  pub table_in_kept : (t : Table) → IsTableIn old t → IsTableIn new t
+  table_in_kept t h = record { formulas = in_kept t.formulas.items h.formulas; equations = in_kept t.equations.items h.equations; nodes = h.nodes; parts = h.parts; root = h.root }
+
+pub ruleset kept = (in_kept, map_kept, other_in_kept, other_kept, form_in_kept, form_kept)

@@ -4,7 +4,7 @@ use Rattle.std.proofs.lemmas.List.{append-nil}
 use Rattle.mw_model.specs.Term.{Formula}
 use Rattle.mw_taut.specs.declared.node.Node.{Node}
 use Rattle.mw_taut.specs.declared.node.Node.TheVariants.{Equation, Not, Or}
-use Rattle.mw_taut.specs.Settling.{IsNode, AreNodes}
+use Rattle.mw_taut.specs.Nodes.{IsNode, AreNodes}
 use Rattle.mw_taut.specs.Meaning.{IsNodeOf, AreNodesOf}
 use Rattle.mw_taut.proofs.Elements.{at_more}
 

@@ -1,67 +1,23 @@
--- Each formula has a table, and so each that is decided to be a tautology has a proof.
-use Rattle.std.proofs.Common.{◌≡◌, ℕ, zero, suc, ◌+◌, ◌<◌, Bool, true, false, not, ltb, List, [], ◌∷◌, ◌++◌, map, filter, length, slice_get, Option, Some, None, cond, refl, sym, ap, subst, arith, append_assoc, length-append}
-use Rattle.std.specs.Prelude.{◌||◌, if◌then◌else◌}
-use Rattle.std.proofs.lemmas.List.{append-nil}
+-- Each formula that is true whatever is chosen has a proof: by cases over its equations, and in each case part by part.
+use Rattle.std.proofs.Common.{◌≡◌, Bool, true, false, ◌||◌, not, ltb, cond, List, [], ◌∷◌, map, length, Option, Some, None, refl, sym, ap, ◌∙◌, subst}
+use Rattle.std.specs.Prelude.{if◌then◌else◌}
 use Rattle.mw_model.specs.Object.{Object}
-use Rattle.mw_model.specs.Term.{Formula, Equal, Not as Denial, Or as Either, formula_object, firsts, ArityTable, is_formula}
+use Rattle.mw_model.specs.Term.{Formula, Equal, Not, Or, formula_object, ArityTable, is_formula}
 use Rattle.mw_model.specs.Same.{same_formula}
 use Rattle.mw_model.specs.Truth.{Each}
-use Rattle.mw_model.specs.Tautology.{Choice, Many, Holds, all_equations, equations, choices, first_against, falsifying, decided, decision, most_equations}
+use Rattle.mw_model.specs.Tautology.{Choice, Many, Holds, IsTautology, all_equations, equations, chosen, value_under, falsifying, decided, decision, most_equations}
 use Rattle.mw_model.specs.TautologyBook.{IsPureProof}
-use Rattle.mw_model.proofs.SameTerms.{same_formula-eq}
-use Rattle.mw_taut.specs.declared.node.Node.{Node}
-use Rattle.mw_taut.specs.declared.node.Node.TheVariants.{Equation, Not, Or}
-use Rattle.mw_taut.specs.Settling.{IsNode, AreNodes}
-use Rattle.mw_taut.specs.Meaning.{IsNodeOf, AreNodesOf}
-use Rattle.mw_taut.specs.ByCases.{Parts, Taken, Answer, Proved, Falsified, by_cases}
-use Rattle.mw_taut.specs.Decided.{at_first}
-use Rattle.mw_taut.proofs.Proved.{schema-good}
-use Rattle.mw_taut.proofs.Falsified.{going_on-nothing}
-use Rattle.mw_taut.proofs.Decides.{Decides, decides}
-use Rattle.mw_taut.proofs.Elements.{each_more, each_left, at_end, at_within}
-use Rattle.mw_taut.proofs.MoreNodes.{nodes_more, all_valid_more}
-use Rattle.mw_taut.proofs.FirstOccurrences.{each_first, firsts_apart, are_equations, equations_formed}
-use Rattle.mw_taut.proofs.InRange.{Fits, AnswerFits, by_cases-fits, first-fits}
-
--- ---- each equation has a place
-
-abbrev Placed : List Formula → Formula → Type 0
-Placed Es E = (k : ℕ) × (slice_get Es k ≡ Some E)
-
-each_right : {X : Type 0} (P : X → Type 0) (xs ys : List X) → Each P (xs ++ ys) → Each P ys
-each_right P [] ys h = h
-each_right P (x ∷ xs) ys h = each_right P xs ys h.1
-
-each_both : {X : Type 0} (P : X → Type 0) (xs ys : List X) → Each P xs → Each P ys → Each P (xs ++ ys)
-each_both P [] ys h k = k
-each_both P (x ∷ xs) ys h k = (h.0, each_both P xs ys h.1 k)
-
--- what holds of the first of equal ones holds of each
-module _ (P : Formula → Type 0) where
-  of_filtered : (E : Formula) (Fs : List Formula) → P E → Each P (filter (λ y. not (same_formula E y)) Fs) → Each P Fs
-  of_filtered E [] p h = tt
-  of_filtered E (F ∷ Fs) p h = go (same_formula E F) refl h (of_filtered E Fs p)
-    where
-      go : (b : Bool) → same_formula E F ≡ b → Each P (cond (not b) (F ∷ filter (λ y. not (same_formula E y)) Fs) (filter (λ y. not (same_formula E y)) Fs)) → (Each P (filter (λ y. not (same_formula E y)) Fs) → Each P Fs) → P F × Each P Fs
-      go true e k ih = (subst P (same_formula-eq E F e) p, ih k)
-      go false e k ih = (k.0, ih k.1)
-
-  of_first : (Fs : List Formula) → Each P (firsts same_formula Fs) → Each P Fs
-  of_first [] h = tt
-  of_first (F ∷ Fs) h = (h.0, of_first Fs (of_filtered F (firsts same_formula Fs) h.0 h.1))
-
-place : (before : List Formula) (E : Formula) (after : List Formula) → slice_get (before ++ E ∷ after) (length before) ≡ Some E
-place [] E after = refl
-place (F ∷ before) E after = place before E after
-
-all_placed : (before after : List Formula) → Each (Placed (before ++ after)) after
-all_placed before [] = tt
-all_placed before (E ∷ after) = ((length before, place before E after), subst (λ l. Each (Placed l) after) (append_assoc before (E ∷ []) after) (all_placed (before ++ E ∷ []) after))
-
-equations_placed : (F : Formula) → Each (Placed (equations F)) (all_equations F)
-equations_placed F = of_first (Placed (equations F)) (all_equations F) (all_placed [] (equations F))
-
--- ---- what fits
+use Rattle.mw_model.proofs.SameTerms.{same_formula-eq, same_formula-refl}
+use Rattle.mw_model.proofs.Tautologies.{tautology_exact}
+use Rattle.std.proofs.lemmas.Bool.{both_ways}
+use Rattle.mw_taut.proofs.Elements.{each_parts}
+use Rattle.mw_taut.specs.Steps.{schema, inserted, appended, resolved, doubled, left, right, neither}
+use Rattle.mw_taut.specs.Reducing.{literal_law}
+use Rattle.mw_taut.specs.Meaning.{literal, among}
+use Rattle.mw_taut.proofs.Proved.{Good, left_part, right_part, schema-good, inserted-good, appended-good, resolved-good, doubled-good, left-good, right-good, neither-good}
+use Rattle.mw_taut.proofs.FirstOccurrences.{each_append, equations_formed, all_among}
+use Rattle.mw_taut.proofs.Reduces.{law_good, literal_formed}
+use Rattle.mw_taut.proofs.InRange.{Fits, not-fits, or-fits, schema-fits, inserted-fits, appended-fits, resolved-fits, doubled-fits, left-fits, right-fits, neither-fits, law-fits}
 
 neither_is : (a b : Bool) → (a || b) ≡ false → (a ≡ false) × (b ≡ false)
 neither_is true b e = cc
@@ -70,90 +26,191 @@ neither_is false b e = (refl, e)
 abbrev FormulaFits : Formula → Type 0
 FormulaFits F = Fits (formula_object F)
 
-denied_fits : (F : Formula) → FormulaFits (Denial F) → FormulaFits F
+denied_fits : (F : Formula) → FormulaFits (Not F) → FormulaFits F
 denied_fits F h = record { in_range = (neither_is _ _ h.in_range).0 }
 
-both_fit : (F G : Formula) → FormulaFits (Either F G) → FormulaFits F × FormulaFits G
+both_fit : (F G : Formula) → FormulaFits (Or F G) → FormulaFits F × FormulaFits G
 both_fit F G h = let k = neither_is _ _ h.in_range in (record { in_range = k.0 }, record { in_range = (neither_is _ _ k.1).0 })
+
+each_from : {X : Type 0} (P Q : X → Type 0) (xs : List X) → ((x : X) → P x → Q x) → Each P xs → Each Q xs
+each_from P Q [] f h = tt
+each_from P Q (x ∷ xs) f h = (f x h.0, each_from P Q xs f h.1)
 
 equations_fit : (F : Formula) → FormulaFits F → Each FormulaFits (all_equations F)
 equations_fit (Equal a b) h = (h, tt)
-equations_fit (Denial F) h = equations_fit F (denied_fits F h)
-equations_fit (Either F G) h = let k = both_fit F G h in each_both FormulaFits (all_equations F) (all_equations G) (equations_fit F k.0) (equations_fit G k.1)
+equations_fit (Not F) h = equations_fit F (denied_fits F h)
+equations_fit (Or F G) h = let k = both_fit F G h in each_append FormulaFits (all_equations F) (all_equations G) (equations_fit F k.0) (equations_fit G k.1)
 
-objects_fit : (Fs : List Formula) → Each FormulaFits Fs → Each Fits (map formula_object Fs)
-objects_fit [] h = tt
-objects_fit (F ∷ Fs) h = (h.0, objects_fit Fs h.1)
+literal_fit : (b : Bool) (F : Formula) → FormulaFits F → FormulaFits (literal b F)
+literal_fit true F h = h
+literal_fit false F h = not-fits (formula_object F) h
 
--- ---- the table of a formula, each part after its own parts
+same_turned : (F E : Formula) → same_formula F E ≡ false → same_formula E F ≡ false
+same_turned F E h = go (same_formula E F) refl
+  where
+    go : (b : Bool) → same_formula E F ≡ b → same_formula E F ≡ false
+    go true e = absurd (both_ways (same_formula F E) h (ap (λ G. same_formula F G) (same_formula-eq E F e) ∙ same_formula-refl F))
+    go false e = e
 
-at_left : {X : Type 0} (xs ys : List X) (x : X) (i : ℕ) → slice_get xs i ≡ Some x → slice_get (xs ++ ys) i ≡ Some x
-at_left [] ys x i e = cc
-at_left (y ∷ xs) ys x zero e = e
-at_left (y ∷ xs) ys x (suc i) e = at_left xs ys x i e
+-- ---- formulas with proofs, which fit where X holds
 
-nodes_count : (Es before : List Formula) (ns : List Node) (Gs : List Formula) → AreNodesOf Es before ns Gs → length ns ≡ length Gs
-nodes_count Es before [] [] h = refl
-nodes_count Es before [] (G ∷ Gs) h = absurd h
-nodes_count Es before (n ∷ ns) [] h = absurd h
-nodes_count Es before (n ∷ ns) (G ∷ Gs) h = ap suc (nodes_count Es (before ++ G ∷ []) ns Gs h.1)
+module _ (A : ArityTable) (X : Type 0) where
+  record Has (F : Formula) : Type 0 where
+    pub proof : Object
+    pub good : Good A proof F
+    pub fits : X → Fits proof
+    pub shown : X → FormulaFits F
 
-nodes_both : (Es before : List Formula) (ns ms : List Node) (Gs Hs : List Formula) → AreNodesOf Es before ns Gs → AreNodesOf Es (before ++ Gs) ms Hs → AreNodesOf Es before (ns ++ ms) (Gs ++ Hs)
-nodes_both Es before [] ms [] Hs h k = subst (λ l. AreNodesOf Es l ms Hs) (append-nil before) k
-nodes_both Es before [] ms (G ∷ Gs) Hs h k = absurd h
-nodes_both Es before (n ∷ ns) ms [] Hs h k = absurd h
-nodes_both Es before (n ∷ ns) ms (G ∷ Gs) Hs h k = (h.0, nodes_both Es (before ++ G ∷ []) ns ms Gs Hs h.1 (subst (λ l. AreNodesOf Es l ms Hs) (sym (append_assoc before (G ∷ []) Gs)) k))
+  abbrev Holds_in : Formula → Bool → Formula → Type 0
+  Holds_in C b G = Has (Or (literal b G) C)
 
-valid_both : (m p : ℕ) (ns ms : List Node) → AreNodes m p ns → AreNodes m (p + length ns) ms → AreNodes m p (ns ++ ms)
-valid_both m p [] ms h k = subst (λ q. AreNodes m q ms) (let e : p + 0 ≡ p = omega arith in e) k
-valid_both m p (n ∷ ns) ms h k = (h.0, valid_both m (suc p) ns ms h.1 (subst (λ q. AreNodes m q ms) (let e : p + suc (length ns) ≡ suc p + length ns = omega arith in e) k))
+  -- the part itself
+  plain : (C : Formula) (b : Bool) (G : Formula) → Holds_in C b G → (is_formula A G ≡ true) × (X → FormulaFits G)
+  plain C true G h = (left_part A G C h.proof h.good, λ x. (both_fit G C (h.shown x)).0)
+  plain C false G h = (left_part A (Not G) C h.proof h.good, λ x. denied_fits G (both_fit (Not G) C (h.shown x)).0)
 
-record TableAfter (Es before : List Formula) (F : Formula) : Type 0 where
-  pub nodes : List Node
-  pub parts : List Formula
-  pub root : ℕ
-  pub are : AreNodesOf Es before nodes parts
-  pub valid : AreNodes (length Es) (length before) nodes
-  pub at : slice_get (before ++ parts) root ≡ Some F
-  pub fit : FormulaFits F → Each FormulaFits parts
+  denied : (C : Formula) (b : Bool) (G : Formula) → Holds_in C b G → Holds_in C (not b) (Not G)
+  denied C true G h =
+      let parts : X → FormulaFits G × FormulaFits C = λ x. both_fit G C (h.shown x) in
+      let g = formula_object G in
+      let c = formula_object C in
+      record {
+        proof = doubled g c h.proof;
+        good = doubled-good A G C h.proof h.good;
+        fits = λ x. doubled-fits g c h.proof (parts x).0 (parts x).1 (h.fits x);
+        shown = λ x. or-fits _ c (not-fits _ (not-fits g (parts x).0)) (parts x).1;
+      }
+  denied C false G h = h
 
-module _ (Es : List Formula) where
-  root_in : (before : List Formula) (F : Formula) (t : TableAfter Es before F) → t.root < length before + length t.nodes
-  root_in before F t = omega (arith, at_within (before ++ t.parts) t.root F t.at, length-append before t.parts, nodes_count Es before t.nodes t.parts t.are)
+  first_true : (C G K : Formula) → Has (Or G C) → is_formula A K ≡ true → (X → FormulaFits K) → Has (Or (Or G K) C)
+  first_true C G K h formed fit =
+      let parts : X → FormulaFits G × FormulaFits C = λ x. both_fit G C (h.shown x) in
+      let g = formula_object G in
+      let k = formula_object K in
+      let c = formula_object C in
+      record {
+        proof = left g k c h.proof;
+        good = left-good A G K C h.proof formed h.good;
+        fits = λ x. left-fits g k c h.proof (parts x).0 (fit x) (parts x).1 (h.fits x);
+        shown = λ x. or-fits _ c (or-fits g k (parts x).0 (fit x)) (parts x).1;
+      }
 
-  -- one node more, that of F
-  with_node : (before : List Formula) (ns : List Node) (Gs : List Formula) (n : Node) (F : Formula) → AreNodesOf Es before ns Gs → AreNodes (length Es) (length before) ns → IsNodeOf Es (before ++ Gs) n F → IsNode (length Es) (length before + length ns) n → (FormulaFits F → Each FormulaFits Gs) → TableAfter Es before F
-  with_node before ns Gs n F are valid is within fit = record {
-    nodes = ns ++ n ∷ [];
-    parts = Gs ++ F ∷ [];
-    root = length (before ++ Gs);
-    are = nodes_more Es before ns Gs n F are is;
-    valid = all_valid_more (length Es) (length before) ns n valid within;
-    at = subst (λ l. slice_get l (length (before ++ Gs)) ≡ Some F) (append_assoc before Gs (F ∷ [])) (at_end (before ++ Gs) F);
-    fit = λ f. each_more FormulaFits Gs F (fit f) f;
-  }
+  second_true : (C G K : Formula) → Has (Or K C) → is_formula A G ≡ true → (X → FormulaFits G) → Has (Or (Or G K) C)
+  second_true C G K h formed fit =
+      let parts : X → FormulaFits K × FormulaFits C = λ x. both_fit K C (h.shown x) in
+      let g = formula_object G in
+      let k = formula_object K in
+      let c = formula_object C in
+      record {
+        proof = right g k c h.proof;
+        good = right-good A G K C h.proof formed h.good;
+        fits = λ x. right-fits g k c h.proof (fit x) (parts x).0 (parts x).1 (h.fits x);
+        shown = λ x. or-fits _ c (or-fits g k (fit x) (parts x).0) (parts x).1;
+      }
 
-  table_after : (before : List Formula) (F : Formula) → Each (Placed Es) (all_equations F) → TableAfter Es before F
-  table_after before (Equal a b) h = with_node before [] [] (Equation h.0.0) (Equal a b) tt tt h.0.1 (at_within Es h.0.0 (Equal a b) h.0.1) (λ f. tt)
-  table_after before (Denial F) h =
-      let t = table_after before F h in
-      with_node before t.nodes t.parts (Not t.root) (Denial F) t.are t.valid (F, t.at, refl) (root_in before F t) (λ f. t.fit (denied_fits F f))
-  table_after before (Either F G) h =
-      let t = table_after before F (each_left (Placed Es) (all_equations F) (all_equations G) h) in
-      let u = table_after (before ++ t.parts) G (each_right (Placed Es) (all_equations F) (all_equations G) h) in
-      let same = append_assoc before t.parts u.parts in
-      let count = nodes_count Es before t.nodes t.parts t.are in
-      let long = length-append before t.parts in
-      let more = length-append t.nodes u.nodes in
-      let first = root_in before F t in
-      let second = root_in (before ++ t.parts) G u in
-      let valid = subst (λ q. AreNodes (length Es) q u.nodes) (let e : length (before ++ t.parts) ≡ length before + length t.nodes = omega (arith, count, long) in e) u.valid in
-      with_node before (t.nodes ++ u.nodes) (t.parts ++ u.parts) (Or t.root u.root) (Either F G)
-      (nodes_both Es before t.nodes u.nodes t.parts u.parts t.are u.are)
-      (valid_both (length Es) (length before) t.nodes u.nodes t.valid valid)
-      (F, G, subst (λ l. slice_get l t.root ≡ Some F) same (at_left (before ++ t.parts) u.parts F t.root t.at), subst (λ l. slice_get l u.root ≡ Some G) same u.at, refl)
-      (omega (arith, first, more), omega (arith, second, more, count, long))
-      (λ f. let k = both_fit F G f in each_both FormulaFits t.parts u.parts (t.fit k.0) (u.fit k.1))
+  both_false : (C G K : Formula) → Holds_in C false G → Holds_in C false K → Holds_in C false (Or G K)
+  both_false C G K h i =
+      let fit = (plain C false G h).1 in
+      let fit_too = (plain C false K i).1 in
+      let rest : X → FormulaFits C = λ x. (both_fit (Not G) C (h.shown x)).1 in
+      let g = formula_object G in
+      let k = formula_object K in
+      let c = formula_object C in
+      record {
+        proof = neither g k c h.proof i.proof;
+        good = neither-good A G K C h.proof i.proof h.good i.good;
+        fits = λ x. neither-fits g k c h.proof i.proof (fit x) (fit_too x) (rest x) (h.fits x) (i.fits x);
+        shown = λ x. or-fits _ c (not-fits _ (or-fits g k (fit x) (fit_too x))) (rest x);
+      }
+
+  either_holds : (C : Formula) (b d : Bool) (G K : Formula) → Holds_in C b G → Holds_in C d K → Holds_in C (b || d) (Or G K)
+  either_holds C true d G K h i = let k = plain C d K i in first_true C G K h k.0 k.1
+  either_holds C false true G K h i = let g = plain C false G h in second_true C G K i g.0 g.1
+  either_holds C false false G K h i = both_false C G K h i
+
+  -- in a case in which each equation has a value, so has the formula
+  valued : (c : Choice) (C G : Formula) → Each (λ E. Holds_in C (chosen c E) E) (all_equations G) → Holds_in C (value_under c G) G
+  valued c C (Equal a b) h = h.0
+  valued c C (Not G) h = denied C (value_under c G) G (valued c C G h)
+  valued c C (Or G K) h =
+      let parts = each_parts (λ E. Holds_in C (chosen c E) E) (all_equations G) (all_equations K) h in
+      either_holds C (value_under c G) (value_under c K) G K (valued c C G parts.0) (valued c C K parts.1)
+
+  -- ---- one equation more
+
+  wider : (C D G : Formula) → is_formula A D ≡ true → (X → FormulaFits D) → Has (Or G C) → Has (Or G (Or D C))
+  wider C D G formed fit h =
+      let parts : X → FormulaFits G × FormulaFits C = λ x. both_fit G C (h.shown x) in
+      let g = formula_object G in
+      let d = formula_object D in
+      let c = formula_object C in
+      record {
+        proof = inserted g d c h.proof;
+        good = inserted-good A G D C h.proof formed h.good;
+        fits = λ x. inserted-fits g d c h.proof (parts x).0 (fit x) (parts x).1 (h.fits x);
+        shown = λ x. or-fits g _ (parts x).0 (or-fits d c (fit x) (parts x).1);
+      }
+
+  newest : (C E : Formula) (b : Bool) → is_formula A E ≡ true → (X → FormulaFits E) → is_formula A C ≡ true → (X → FormulaFits C) → Holds_in (Or (literal (not b) E) C) b E
+  newest C E b formed fit formed_c fit_c =
+      let l = formula_object (literal b E) in
+      let d = formula_object (literal (not b) E) in
+      let c = formula_object C in
+      let p = literal_law (formula_object E) b in
+      record {
+        proof = appended l d c p;
+        good = appended-good A (literal b E) (literal (not b) E) C p formed_c (law_good A b E formed);
+        fits = λ x. appended-fits l d c p (literal_fit b E (fit x)) (literal_fit (not b) E (fit x)) (fit_c x) (law-fits (formula_object E) b (fit x));
+        shown = λ x. or-fits l _ (literal_fit b E (fit x)) (or-fits d c (literal_fit (not b) E (fit x)) (fit_c x));
+      }
+
+  resolves : (C G : Formula) → Has (Or G C) → Has (Or (Not G) C) → Has C
+  resolves C G h i =
+      let fit : X → FormulaFits C = λ x. (both_fit G C (h.shown x)).1 in
+      let c = formula_object C in
+      record { proof = resolved c h.proof i.proof; good = resolved-good A G C h.proof i.proof h.good i.good; fits = λ x. resolved-fits c h.proof i.proof (fit x) (h.fits x) (i.fits x); shown = fit }
+
+  abbrev keys : Choice → List Formula
+  keys c = map (λ p. p.0) c
+
+  abbrev AreHeld : Formula → Choice → Type 0
+  AreHeld C c = Each (λ p. Holds_in C p.1 p.0) c
+
+  held_at : (C : Formula) (c : Choice) → AreHeld C c → (E : Formula) → among E (keys c) ≡ true → Holds_in C (chosen c E) E
+  held_at C [] h E i = cc
+  held_at C (p ∷ c) h E i = go (same_formula p.0 E) refl (held_at C c h.1 E)
+    where
+      go : (b : Bool) → same_formula p.0 E ≡ b → (among E (keys c) ≡ true → Holds_in C (chosen c E) E) → Holds_in C (chosen (p ∷ c) E) E
+      go true e later = subst (λ b. Holds_in C (cond b p.1 (chosen c E)) E) (sym e) (subst (Holds_in C p.1) (same_formula-eq p.0 E e) h.0)
+      go false e later = subst (λ b. Holds_in C (cond b p.1 (chosen c E)) E) (sym e) (later (ap (λ b. b || among E (keys c)) (sym (same_turned p.0 E e)) ∙ i))
+
+  moved : (a s d : Bool) → (a || (s || d)) ≡ true → ((s || a) || d) ≡ true
+  moved true true d e = refl
+  moved true false d e = refl
+  moved false true d e = refl
+  moved false false d e = e
+
+  or_none : (a : Bool) → (a || false) ≡ true → a ≡ true
+  or_none true e = refl
+  or_none false e = e
+
+  module _ (F : Formula) (tautology : IsTautology F) where
+    by_all : (rest : List Formula) (c : Choice) (C : Formula) → Each (λ E. is_formula A E ≡ true) rest → (X → Each FormulaFits rest) → Each (λ E. (among E (keys c) || among E rest) ≡ true) (all_equations F) → AreHeld C c → Has (Or (Not F) C) → Has C
+    by_all [] c C formed fit cover held denial =
+        let each = each_from (λ E. (among E (keys c) || false) ≡ true) (λ E. Holds_in C (chosen c E) E) (all_equations F) (λ E i. held_at C c held E (or_none (among E (keys c)) i)) cover in
+        resolves C F (subst (λ b. Holds_in C b F) (tautology (chosen c)) (valued c C F each)) denial
+    by_all (E ∷ rest) c C formed fit cover held denial =
+        let formed_c : is_formula A C ≡ true = right_part A (Not F) C denial.proof denial.good in
+        let fit_c : X → FormulaFits C = λ x. (both_fit (Not F) C (denial.shown x)).1 in
+        let covers = each_from (λ G. (among G (keys c) || (same_formula G E || among G rest)) ≡ true) (λ G. ((same_formula G E || among G (keys c)) || among G rest) ≡ true) (all_equations F) (λ G i. moved (among G (keys c)) (same_formula G E) (among G rest) i) cover in
+        let next : (b : Bool) → Has (Or (literal (not b) E) C) = λ b.
+        let D = literal (not b) E in
+        let formed_d = literal_formed A (not b) E formed.0 in
+        let fit_d : X → FormulaFits D = λ x. literal_fit (not b) E (fit x).0 in
+        by_all rest ((E, b) ∷ c) (Or D C) formed.1 (λ x. (fit x).1) covers
+        (newest C E b formed.0 (λ x. (fit x).0) formed_c fit_c, each_from (λ p. Holds_in C p.1 p.0) (λ p. Holds_in (Or D C) p.1 p.0) c (λ p h. wider C D (literal p.1 p.0) formed_d fit_d h) held)
+        (wider C D (Not F) formed_d fit_d denial) in
+        resolves C E (next false) (next true)
 
 -- ---- the proof
 
@@ -166,37 +223,9 @@ no_choice F e = go (ltb most_equations (length (equations F))) (falsifying F) e
     go false (Some c) h = cc
 
 pub has_pure_proof : (A : ArityTable) (F : Formula) → is_formula A F ≡ true → decision F ≡ Holds → (p : Object) × IsPureProof A p F
-has_pure_proof A F formed holds = go (by_cases parts (map formula_object Es) first) due fits
-  where
-    Es : List Formula
-    Es = equations F
-
-    t : TableAfter Es [] F
-    t = table_after Es [] F (equations_placed F)
-
-    parts : Parts
-    parts = record { nodes = t.nodes; formulas = map formula_object t.parts; equations = map formula_object Es; root = t.root }
-
-    first : Taken
-    first = at_first (formula_object F)
-
-    in_form : Each (λ E. is_formula A E ≡ true) Es
-    in_form = each_first (λ E. is_formula A E ≡ true) (all_equations F) (equations_formed A F formed)
-
-    due : Decides A F (by_cases parts (map formula_object Es) first) None
-    due =
-        let within = root_in Es [] F t in
-        let root : t.root < length t.nodes = omega (arith, within) in
-        let all = decides A F Es t.parts parts t.are t.at refl refl (firsts_apart (all_equations F)) (each_first _ (all_equations F) (are_equations F)) in_form t.valid root
-        [] Es F first refl in_form (record { context = refl; denial = schema-good A F formed; literals = tt }) in
-        subst (Decides A F (by_cases parts (map formula_object Es) first)) (no_choice F holds)
-        (subst (λ cs. Decides A F (by_cases parts (map formula_object Es) first) (first_against cs F)) (going_on-nothing (choices Es)) all)
-
-    fits : FormulaFits F → AnswerFits (by_cases parts (map formula_object Es) first)
-    fits h =
-        let es = objects_fit Es (each_first FormulaFits (all_equations F) (equations_fit F h)) in
-        by_cases-fits parts (objects_fit t.parts (t.fit h)) es (map formula_object Es) first es (first-fits (formula_object F) h)
-
-    go : (a : Answer) → Decides A F a None → (FormulaFits F → AnswerFits a) → (p : Object) × IsPureProof A p F
-    go (Proved p) h f = (p, record { proves = h; in_range = λ k. (f (record { in_range = k })).in_range })
-    go (Falsified x) h f = absurd h
+has_pure_proof A F formed holds =
+    let f = formula_object F in
+    let all = all_equations F in
+    let denial : Has A (FormulaFits F) (Or (Not F) F) = record { proof = schema f; good = schema-good A F formed; fits = λ x. schema-fits f x; shown = λ x. or-fits _ f (not-fits f x) x } in
+    let h = by_all A (FormulaFits F) F ((tautology_exact F).0 (no_choice F holds)) all [] F (equations_formed A F formed) (equations_fit F) (all_among [] all) tt denial in
+    (h.proof, record { proves = h.good; in_range = λ k. (h.fits (record { in_range = k })).in_range })

@@ -2,7 +2,6 @@
 use Rattle.std.specs.Prelude.{◌≡◌, ℕ, zero, suc, ◌+◌, ◌*◌, eqb, ◌<◌, Bool, true, false, ◌||◌, cond, List, [], ◌∷◌, ◌++◌, length, map, Option, Some, None, slice_get, ◌⊎◌}
 use Rattle.mw_model.specs.Object.{Object, nil_name, same_object, weight}
 use Rattle.mw_model.specs.Term.{Formula, Equal, Variable, formula_object, ArityTable, is_formula}
-use Rattle.mw_model.specs.Same.{same_formula}
 use Rattle.mw_model.specs.Reading.{formula_of}
 use Rattle.mw_model.specs.Truth.{Each}
 use Rattle.mw_model.specs.Tautology.{all_equations, equations}
@@ -13,8 +12,8 @@ use Rattle.mw_taut.specs.declared.node.Node.TheVariants.{Equation, Not, Or}
 use Rattle.mw_taut.specs.declared.progress.Progress.{Progress}
 use Rattle.mw_taut.specs.declared.progress.Progress.TheVariants.{Made, Wants}
 use Rattle.mw_taut.specs.Steps.{not_object, or_object}
-use Rattle.mw_taut.specs.Settling.{AreNodes}
-use Rattle.mw_taut.specs.Meaning.{AreNodesOf}
+use Rattle.mw_taut.specs.Nodes.{AreNodes}
+use Rattle.mw_taut.specs.Meaning.{AreNodesOf, among}
 
 abbrev pub IsAt : List ℕ → ℕ → ℕ → Type 0
 IsAt keys i r = slice_get keys i ≡ Some r
@@ -48,11 +47,6 @@ equations_with (Or i j) es x = es
 abbrev pub formula_or : Option Formula → Formula
 formula_or (Some F) = F
 formula_or None = Equal (Variable nil_name) (Variable nil_name)
-
--- a formula is on a list
-abbrev pub among : Formula → List Formula → Bool
-among E [] = false
-among E (G ∷ Gs) = same_formula E G || among E Gs
 
 module _ (A : ArityTable) (os : List Object) where
   -- the formula of a reference

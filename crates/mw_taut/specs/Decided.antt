@@ -12,8 +12,7 @@ use Rattle.mw_taut.specs.declared.deciding.Decision.TheVariants.{Proof, Choice, 
 use Rattle.mw_taut.specs.Meaning.{AreNodesOf}
 use Rattle.mw_taut.specs.declared.case.Outcome.{Outcome}
 use Rattle.mw_taut.specs.declared.case.Outcome.TheVariants.{Proof as Proven, Against}
-use Rattle.mw_taut.specs.Steps.{schema}
-use Rattle.mw_taut.specs.ByCases.{Taken, IsTableIn}
+use Rattle.mw_taut.specs.Cases.{IsTableIn}
 
 -- the table is that of the formula
 pub record IsTableOf (os : List Object) (F : Formula) (t : Table) : Type 0 where
@@ -36,10 +35,6 @@ IsDecision os A F (FailsUnder c) (Choice r) = IsIn os r × (object_at os r ≡ c
 IsDecision os A F Holds Many = ⊥
 IsDecision os A F Holds (Proof r) = IsIn os r × IsPureProof A (object_at os r) F
 IsDecision os A F Holds (Choice r) = ⊥
-
--- the case in which nothing is chosen
-abbrev pub at_first : Object → Taken
-at_first x = record { context = x; denial = schema x; chosen = [] }
 
 -- the answer for an outcome
 abbrev pub decision_of : Outcome → Decision

@@ -1,18 +1,18 @@
 //! Whether a formula is a tautology.
-ghost use Rattle.std.specs.Prelude.{◌≡◌, true, Some, length, map, IfOk};
+ghost use Rattle.std.specs.Prelude.{◌≡◌, true, Some, [], IfOk};
 ghost use Rattle.mw_model.specs.Term.{Formula, formula_object, is_formula};
 ghost use Rattle.mw_model.specs.Reading.{formula_under};
 ghost use Rattle.mw_model.specs.Rules.{is_formula_object};
-ghost use Rattle.mw_model.specs.Tautology.{decision};
+ghost use Rattle.mw_model.specs.Tautology.{decision, equations};
 ghost use Rattle.mw_heap.specs.Objects.{object_at, IsIn, Grows};
-ghost use Rattle.mw_taut.specs.ByCases.{by_cases, parts_at, taken_at, answer_at, IsTableIn, IsCaseIn, IsOutcomeIn};
-ghost use Rattle.mw_taut.specs.Decided.{IsDecision, at_first, decision_of, IsInRange};
+ghost use Rattle.mw_taut.specs.Cases.{Decides, answer_at, IsOutcomeIn};
+ghost use Rattle.mw_taut.specs.Decided.{IsTableOf, IsDecision, decision_of, IsInRange};
 
-use crate::case::{Case, Outcome};
+use crate::case::Outcome;
 use crate::cases::by_cases;
 use crate::compile::table_of;
-use crate::steps::schema;
 use crate::table::Table;
+use indexmap::IndexMap;
 use mw_heap::{Heap, Memory, Ref};
 use mw_term::Arity;
 
@@ -32,32 +32,17 @@ pub enum Decision {
 // Formulas with more equations than this are not decided.
 const MOST_EQUATIONS: usize = 12;
 
-// The case in which nothing is chosen: the context is the formula alone.
-fn first_case(heap: &mut Heap, f: Ref) -> Result<Case, Memory>
-    requires { IsIn heap.old.objects f }
-    ensures grows { Grows heap.old.objects heap.new.objects }
-    ensures within { IfOk result (λ c. IsCaseIn heap.new.objects c) }
-    ensures none { IfOk result (λ c. length c.chosen.items ≡ 0) }
-    ensures made { IfOk result (λ c. taken_at heap.new.objects c ≡ at_first (object_at heap.old.objects f)) }
-{
-    let denial = schema(heap, f)?;
-    Ok(Case {
-        context: f,
-        denial,
-        chosen: Vec::new(heap.alloc()),
-    })
-}
-
 // What comes of the proof by cases.
-fn outcome(heap: &mut Heap, f: Ref, table: &Table) -> Result<Outcome, Memory>
+fn outcome(heap: &mut Heap, f: Ref, table: &Table, arity: &Arity) -> Result<Outcome, Memory>
     requires within { IsIn heap.old.objects f }
-    requires table { IsTableIn heap.old.objects table.now }
+    requires formula { (F : Formula) × (object_at heap.old.objects f ≡ formula_object F) × (is_formula arity.now F ≡ true) × IsTableOf heap.old.objects F table.now }
     ensures grows { Grows heap.old.objects heap.new.objects }
     ensures within { IfOk result (λ o. IsOutcomeIn heap.new.objects o) }
-    ensures made { IfOk result (λ o. answer_at heap.new.objects o ≡ by_cases (parts_at heap.old.objects table.now) (map (object_at heap.old.objects) table.now.equations.items) (at_first (object_at heap.old.objects f))) }
+    ensures decides { IfOk result (λ o. (F : Formula) → object_at heap.old.objects f ≡ formula_object F → is_formula arity.now F ≡ true → IsTableOf heap.old.objects F table.now → Decides arity.now [] (equations F) F (answer_at heap.new.objects o)) }
 {
-    let first = first_case(heap, f)?;
-    by_cases(heap, table, &first)
+    let mut proved = IndexMap::new(heap.alloc());
+    let equations = table.equations.as_slice();
+    by_cases(heap, &mut proved, equations, &[], f, arity)
 }
 
 // The answer for an outcome. That all objects of the heap are in range is seen at the proof.
@@ -82,12 +67,11 @@ fn decided(heap: &mut Heap, f: Ref, arity: &Arity) -> Result<Decision, Memory>
     ensures grows { Grows heap.old.objects heap.new.objects }
     ensures decided { IfOk result (λ d. (F : Formula) → object_at heap.old.objects f ≡ formula_object F → is_formula arity.now F ≡ true → IsDecision heap.new.objects arity.now F (decision F) d) }
 {
-    let _ = arity;
     let table = table_of(heap, f)?;
     if table.equations.len() > MOST_EQUATIONS {
         return Ok(Decision::Many);
     }
-    let outcome = outcome(heap, f, &table)?;
+    let outcome = outcome(heap, f, &table, arity)?;
     Ok(answer(heap, outcome))
 }
 

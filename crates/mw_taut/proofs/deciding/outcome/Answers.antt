@@ -1,18 +1,31 @@
--- At first no equation is chosen.
-use Rattle.std.proofs.Common.{◌≡◌, IfOk, map, drop, length, ap, ap₂, ◌∙◌, subst}
-use Rattle.mw_heap.specs.Objects.{object_at}
-use Rattle.mw_taut.specs.ByCases.{by_cases, parts_at, taken_at, answer_at}
-use Rattle.mw_taut.proofs.Branches.{parts_kept, rest_kept}
+-- At first nothing is chosen and nothing is proved.
+use Rattle.std.proofs.Common.{[], sym, subst}
+use Rattle.std.specs.Prelude.{All}
+use Rattle.mw_model.specs.Tautology.{equations}
+use Rattle.mw_heap.specs.Objects.{IsIn}
+use Rattle.mw_taut.specs.Cases.{IsPosed}
+use Rattle.mw_taut.proofs.Entering.{if_ok}
+use Rattle.mw_taut.proofs.Posed.{none_proved}
+use Rattle.mw_taut.proofs.DecidedBy.{first_posed}
 use Rattle.mw_taut.proofs.deciding.outcome.Goals as goal
 
-pub returns-clause-made : goal.returns-clause-made
-returns-clause-made c =
-    let old = c.args.heap.now.objects in
-    let now = c.first_case.new.heap.objects in
-    let first = c.in_ok-first.ensures in
-    let formula_table = c.args.table.now in
-    let es = formula_table.equations.items in
-    let same = ap (λ p. by_cases p (map (object_at now) (drop (length c.in_ok-first.first.chosen.items) es)) (taken_at now c.in_ok-first.first)) (parts_kept old now first.grows formula_table c.requires.table)
-    ∙ (ap (λ k. by_cases (parts_at old formula_table) (map (object_at now) (drop k es)) (taken_at now c.in_ok-first.first)) first.none
-    ∙ ap₂ (by_cases (parts_at old formula_table)) (rest_kept old now first.grows formula_table 0 c.requires.table) first.made) in
-    subst (λ x. IfOk c.by_cases.result (λ o. answer_at c.by_cases.new.heap.objects o ≡ x)) same c.by_cases.ensures.made
+pub by_cases-requires : goal.by_cases-requires
+by_cases-requires c =
+    let A = c.args.arity.now in
+    let os = c.args.heap.now.objects in
+    let t = c.args.table.now in
+    let w = c.requires.formula in
+    let same = sym c.as_slice-equations.ensures.value in
+    record {
+      f_in = c.requires.within;
+      equations_in = subst (All (IsIn os)) same w.3.inside.equations;
+      proved = none_proved A os c.new-proved.result c.new-proved.ensures.empty;
+      posed = (w.0, [], equations w.0, subst (λ es. IsPosed A os es [] c.args.f w.0 [] (equations w.0)) same (first_posed A os c.args.f w.0 t w.1 w.2 w.3));
+    }
+
+pub returns-clause-decides : goal.returns-clause-decides
+returns-clause-decides c =
+    let A = c.args.arity.now in
+    let os = c.args.heap.now.objects in
+    let same = sym c.as_slice-equations.ensures.value in
+    if_ok _ _ c.by_cases.result c.by_cases.ensures.decides (λ o h F e f t. h F [] (equations F) (subst (λ es. IsPosed A os es [] c.args.f F [] (equations F)) same (first_posed A os c.args.f F c.args.table.now e f t)))

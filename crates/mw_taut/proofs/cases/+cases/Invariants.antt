@@ -1,0 +1,9 @@
+-- Each call of by_cases from branch has one equation less to choose.
+use Rattle.std.proofs.Common.{◌+◌, ◌-◌, ◌*◌, length}
+use Rattle.mw_taut.proofs.cases.+cases.Given as goal
+
+abbrev pub decreases-branch : goal.decreases-branch
+decreases-branch l = 2 * (length l.equations.now - length l.chosen.now)
+
+abbrev pub decreases-by_cases : goal.decreases-by_cases
+decreases-by_cases l = 2 * (length l.equations.now - length l.chosen.now) + 1
