@@ -3,9 +3,10 @@ use Rattle.std.proofs.Common.{List, ℕ, Bool, true, false, cond, Option, Some, 
 use Rattle.clap.specs.Walk.{Text, Row, first_of}
 use Rattle.clap.specs.Simple.{subcommand_of}
 use Rattle.clap.specs.Takes.{takes}
-use Rattle.mw_model.specs.Object.{same_bytes}
-use Rattle.mw_model.specs.Arguments.{steps_of, events_of, is_help}
-use Rattle.mw_model.specs.Commands.{Request, Check, Trial, Taut, Lower, Slice, Flat, Recheck, Help, Usage, asked, help_text, program, request_of, request_with, trial_with, with_number}
+use Rattle.mw_model.specs.Object.{Name, same_bytes}
+use Rattle.mw_book.specs.Arguments.{steps_of, events_of, name_of, is_help}
+use Rattle.mw_model.specs.Request.{Request, Check, Trial, Taut, Lower, Slice, Flat, Recheck, Help, Usage}
+use Rattle.mw_book.specs.Commands.{asked, help_text, program, request_of, request_with, slice_with, trial_with, with_number}
 use Rattle.mw_model.specs.Trial.{trial_book}
 use Rattle.mw_model.specs.Grammar.{trees}
 use Rattle.mw_model.specs.Report.{last_line}
@@ -19,6 +20,7 @@ IsAsked (Check N) = Unit {0}
 IsAsked (Trial m N) = Unit {0}
 IsAsked Taut = Unit {0}
 IsAsked (Lower N) = Unit {0}
+IsAsked (Slice name N) = Unit {0}
 IsAsked Help = Unit {0}
 IsAsked Usage = Unit {0}
 IsAsked _ = ⊥
@@ -40,14 +42,21 @@ trial_asked None steps = tt
 trial_asked (Some m) None = tt
 trial_asked (Some m) (Some N) = tt
 
-with_asked : (word : Text) (steps events : Option ℕ) → IsAsked (request_with word steps events)
-with_asked word steps events =
+slice_asked : (theorem : Option Name) (steps : Option ℕ) → IsAsked (slice_with theorem steps)
+slice_asked None steps = tt
+slice_asked (Some name) None = tt
+slice_asked (Some name) (Some N) = tt
+
+with_asked : (word : Text) (steps events : Option ℕ) (theorem : Option Name) → IsAsked (request_with word steps events theorem)
+with_asked word steps events theorem =
     by_test (same_bytes (codes "check") word) _ _ (check_asked steps)
-    (by_test (same_bytes (codes "trial") word) _ _ (trial_asked events steps) (by_test (same_bytes (codes "taut") word) Taut _ tt (by_test (same_bytes (codes "lower") word) _ Usage (lower_asked steps) tt)))
+    (by_test (same_bytes (codes "trial") word) _ _ (trial_asked events steps)
+    (by_test (same_bytes (codes "taut") word) Taut _ tt
+    (by_test (same_bytes (codes "lower") word) _ _ (lower_asked steps) (by_test (same_bytes (codes "slice") word) _ Usage (slice_asked theorem steps) tt))))
 
 of_asked : (found : Option (Text × List Row)) → IsAsked (request_of found)
 of_asked None = tt
-of_asked (Some found) = with_asked found.0 (steps_of (first_of (codes "steps") found.1)) (events_of (first_of (codes "events") found.1))
+of_asked (Some found) = with_asked found.0 (steps_of (first_of (codes "steps") found.1)) (events_of (first_of (codes "events") found.1)) (name_of (first_of (codes "name") found.1))
 
 asked_is : (words : List Text) → IsAsked (asked words)
 asked_is words = by_test (is_help words) Help _ tt (by_test (takes program words) _ Usage (of_asked (subcommand_of program words)) tt)
@@ -59,7 +68,7 @@ none_of begins Taut h input sink = part_none begins Taut refl input sink
 none_of begins Help h input sink = nothing_taken help_text sink
 none_of begins Usage h input sink = nothing_taken help_text sink
 none_of begins (Lower N) h input sink = part_none begins (Lower N) refl input sink
-none_of begins (Slice s N) h input sink = absurd h
+none_of begins (Slice name N) h input sink = part_none begins (Slice name N) refl input sink
 none_of begins (Flat N) h input sink = absurd h
 none_of begins Recheck h input sink = absurd h
 

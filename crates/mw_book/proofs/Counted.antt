@@ -4,7 +4,7 @@ use Rattle.std.proofs.lemmas.List.{length_push}
 use Rattle.mw_model.specs.Object.{Object}
 use Rattle.mw_model.specs.Pieces.{how_many}
 use Rattle.mw_model.specs.TautologyBook.{OwesTautology, is_proved, tautology_summary}
-use Rattle.mw_model.specs.Commands.{Taut}
+use Rattle.mw_model.specs.Request.{Taut}
 use Rattle.mw_book.specs.Answered.{Answered, IsProving, ProvedFor, lines_of}
 use Rattle.mw_book.specs.Answering.{Answers}
 use Rattle.mw_book.specs.Due.{AreAnswers}
@@ -12,7 +12,7 @@ use Rattle.mw_book.specs.Lines.{formulas_line}
 use Rattle.mw_book.specs.declared.proving.Proving.{Proving}
 use Rattle.mw_book.proofs.Pieces.{how_many-append}
 use Rattle.mw_book.proofs.Promising.{answers_both}
-use Rattle.mw_book.proofs.Proved.{proved_answers}
+use Rattle.mw_book.proofs.Proved.{proved_by}
 
 abbrev pub is_unproved : Object → Bool
 is_unproved x = not (is_proved x)
@@ -40,7 +40,7 @@ pub answers_one : (old new : Proving) (x : Object) (b : Bool) (piece : List ℕ)
     IsProving new →
     (given : List Object) → Answers lines_of ProvedFor old given new (given ++ x ∷ [])
 answers_one old new x b piece owed proved lines counted unproved proving given =
-    proved_answers old new given (given ++ x ∷ [])
+    proved_by old new given (given ++ x ∷ [])
     (λ h a. (
       proving,
       record {

@@ -1,6 +1,6 @@
 -- What is said of a run by its ending.
 use Rattle.std.proofs.Common.{ℕ, List, [], Option, IfSome}
-use Rattle.mw_model.specs.Commands.{Request, Trial}
+use Rattle.mw_model.specs.Request.{Request, Trial}
 use Rattle.mw_book.specs.Statuses.{report_status, Keeps}
 use Rattle.mw_book.specs.Checks.{BookEnds, TrialEnds, LastReported}
 use Rattle.mw_model.specs.Report.{Status}

@@ -1,60 +1,58 @@
 -- The last lines, and how many of the data were refused.
 use Rattle.std.proofs.Common.{◌≡◌, ℕ, ◌-◌, List, ◌++◌, Some, None, codes, refl, sym, ap, subst}
 use Rattle.mw_model.specs.Object.{Object}
-use Rattle.mw_model.specs.Commands.{Request}
+use Rattle.mw_model.specs.Request.{Request, Check, Taut, Lower}
 use Rattle.mw_kernel.specs.Knowledge.{theory_of}
 use Rattle.mw_read.specs.Piles.{kind_of}
 use Rattle.mw_read.specs.declared.step.SyntaxKind.{SyntaxKind}
-use Rattle.mw_book.specs.Answered.{ProvedFor}
+use Rattle.mw_book.specs.Answered.{Answered, IsProving, ProvedFor}
 use Rattle.mw_book.specs.Answering.{fault_of}
-use Rattle.mw_book.specs.Due.{last_line_for, refused_for}
-use Rattle.mw_book.specs.Knowing.{JudgedFor}
+use Rattle.mw_book.specs.Due.{IsLastText, refused_for}
+use Rattle.mw_book.specs.Knowing.{Judged, JudgedFor}
 use Rattle.mw_book.specs.Lines.{fault_line, formulas_line, summary_of}
-use Rattle.mw_book.specs.Lowered.{LoweredFor}
+use Rattle.mw_book.specs.Lowered.{Lowered, LoweredFor}
 use Rattle.mw_book.specs.declared.judging.Judging.{Judging}
 use Rattle.mw_book.specs.declared.lowering.Lowering.{Lowering}
 use Rattle.mw_book.specs.declared.proving.Proving.{Proving}
+use Rattle.mw_book.proofs.AnsweredBy.{last_by, refused_by}
 use Rattle.mw_book.proofs.Counted.{summary_is as formulas_are}
 use Rattle.mw_book.proofs.Ended.{summary_is}
-use Rattle.mw_book.proofs.LoweredOne.{lowered_for, summary_is as course_is}
-use Rattle.mw_book.proofs.OneMore.{judged_for}
-use Rattle.mw_book.proofs.Proved.{proved_for}
+use Rattle.mw_book.proofs.LoweredOne.{summary_is as course_is}
 
 -- ---- a report
 
 pub judged_refused : (j : Judging) (q : Request) (given : List Object) → JudgedFor j q given → j.refused ≡ refused_for q given
-judged_refused j q given h = let p = judged_for q j given h in subst (λ r. j.refused ≡ refused_for r given) (sym p.1) p.2.refused_counted
+judged_refused j q given h = refused_by Check (Judged j) q given h j.refused (λ N k. k.refused_counted)
 
-pub judged_fault : (j : Judging) (kind : SyntaxKind) (offset : ℕ) (q : Request) (given : List Object) → JudgedFor j q given → fault_line (kind_of kind) offset ≡ last_line_for q given (fault_of (Some (kind, offset)))
-judged_fault j kind offset q given h = let p = judged_for q j given h in subst (λ r. fault_line (kind_of kind) offset ≡ last_line_for r given (fault_of (Some (kind, offset)))) (sym p.1) refl
+pub judged_fault : (j : Judging) (kind : SyntaxKind) (offset : ℕ) (q : Request) (given : List Object) → JudgedFor j q given → IsLastText q given (fault_of (Some (kind, offset))) (fault_line (kind_of kind) offset)
+judged_fault j kind offset q given h = last_by Check (Judged j) q given h (fault_of (Some (kind, offset))) (fault_line (kind_of kind) offset) (λ N k. refl)
 
-pub judged_summary : (j : Judging) (level : ℕ) → level ≡ (theory_of j.kernel).level → (q : Request) (given : List Object) → JudgedFor j q given → summary_of j.events j.refused level ≡ last_line_for q given None
-judged_summary j level e q given h =
-    let p = judged_for q j given h in
-    subst (λ r. summary_of j.events j.refused level ≡ last_line_for r given None) (sym p.1) (summary_is j p.0 given level p.2 e)
+pub judged_summary : (j : Judging) (level : ℕ) → level ≡ (theory_of j.kernel).level → (q : Request) (given : List Object) → JudgedFor j q given → IsLastText q given None (summary_of j.events j.refused level)
+judged_summary j level e q given h = last_by Check (Judged j) q given h None (summary_of j.events j.refused level) (λ N k. summary_is j N given level k e)
 
 -- ---- the answers to formulas
 
+abbrev pub AreProved : Proving → Unit {0} → List Object → Type 0
+AreProved p u given = IsProving p × Answered p given
+
 pub proved_refused : (p : Proving) (q : Request) (given : List Object) → ProvedFor p q given → p.unproved ≡ refused_for q given
-proved_refused p q given h = let k = proved_for q p given h in subst (λ r. p.unproved ≡ refused_for r given) (sym k.0) k.2.unproved_counted
+proved_refused p q given h = refused_by (λ u. Taut) (AreProved p) q given h p.unproved (λ u k. k.1.unproved_counted)
 
-pub proved_fault : (p : Proving) (kind : SyntaxKind) (offset : ℕ) (q : Request) (given : List Object) → ProvedFor p q given → codes "; " ++ fault_line (kind_of kind) offset ≡ last_line_for q given (fault_of (Some (kind, offset)))
-proved_fault p kind offset q given h = let k = proved_for q p given h in subst (λ r. codes "; " ++ fault_line (kind_of kind) offset ≡ last_line_for r given (fault_of (Some (kind, offset)))) (sym k.0) refl
+pub proved_fault : (p : Proving) (kind : SyntaxKind) (offset : ℕ) (q : Request) (given : List Object) → ProvedFor p q given → IsLastText q given (fault_of (Some (kind, offset))) (codes "; " ++ fault_line (kind_of kind) offset)
+proved_fault p kind offset q given h = last_by (λ u. Taut) (AreProved p) q given h (fault_of (Some (kind, offset))) (codes "; " ++ fault_line (kind_of kind) offset) (λ u k. refl)
 
-pub proved_summary : (p : Proving) (q : Request) (given : List Object) → ProvedFor p q given → codes "; " ++ formulas_line p.formulas (p.formulas - p.unproved) ≡ last_line_for q given None
+pub proved_summary : (p : Proving) (q : Request) (given : List Object) → ProvedFor p q given → IsLastText q given None (codes "; " ++ formulas_line p.formulas (p.formulas - p.unproved))
 proved_summary p q given h =
-    let k = proved_for q p given h in
-    subst (λ r. codes "; " ++ formulas_line p.formulas (p.formulas - p.unproved) ≡ last_line_for r given None) (sym k.0) (ap (λ u. codes "; " ++ u) (formulas_are p given k.2))
+    last_by (λ u. Taut) (AreProved p) q given h None (codes "; " ++ formulas_line p.formulas (p.formulas - p.unproved)) (λ u k. ap (λ u. codes "; " ++ u) (formulas_are p given k.1))
 
 -- ---- a lowered book
 
 pub lowered_refused : (l : Lowering) (q : Request) (given : List Object) → LoweredFor l q given → l.refused ≡ refused_for q given
-lowered_refused l q given h = let p = lowered_for q l given h in subst (λ r. l.refused ≡ refused_for r given) (sym p.1) p.2.refused_counted
+lowered_refused l q given h = refused_by Lower (Lowered l) q given h l.refused (λ N k. k.refused_counted)
 
-pub lowered_fault : (l : Lowering) (kind : SyntaxKind) (offset : ℕ) (q : Request) (given : List Object) → LoweredFor l q given → codes "; " ++ fault_line (kind_of kind) offset ≡ last_line_for q given (fault_of (Some (kind, offset)))
-lowered_fault l kind offset q given h = let p = lowered_for q l given h in subst (λ r. codes "; " ++ fault_line (kind_of kind) offset ≡ last_line_for r given (fault_of (Some (kind, offset)))) (sym p.1) refl
+pub lowered_fault : (l : Lowering) (kind : SyntaxKind) (offset : ℕ) (q : Request) (given : List Object) → LoweredFor l q given → IsLastText q given (fault_of (Some (kind, offset))) (codes "; " ++ fault_line (kind_of kind) offset)
+lowered_fault l kind offset q given h = last_by Lower (Lowered l) q given h (fault_of (Some (kind, offset))) (codes "; " ++ fault_line (kind_of kind) offset) (λ N k. refl)
 
-pub lowered_summary : (l : Lowering) (level : ℕ) → level ≡ (theory_of l.kernel).level → (q : Request) (given : List Object) → LoweredFor l q given → codes "; " ++ summary_of l.events l.refused level ≡ last_line_for q given None
+pub lowered_summary : (l : Lowering) (level : ℕ) → level ≡ (theory_of l.kernel).level → (q : Request) (given : List Object) → LoweredFor l q given → IsLastText q given None (codes "; " ++ summary_of l.events l.refused level)
 lowered_summary l level e q given h =
-    let p = lowered_for q l given h in
-    subst (λ r. codes "; " ++ summary_of l.events l.refused level ≡ last_line_for r given None) (sym p.1) (ap (λ u. codes "; " ++ u) (course_is l p.0 given level p.2 e))
+    last_by Lower (Lowered l) q given h None (codes "; " ++ summary_of l.events l.refused level) (λ N k. ap (λ u. codes "; " ++ u) (course_is l N given level k e))

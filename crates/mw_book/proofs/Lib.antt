@@ -1,12 +1,16 @@
+pub mod ExamplesCommands
+pub mod AnsweredBy
 pub mod Taken
 pub mod Ended
 pub mod Written
 pub mod Prefixes
+pub mod OneDatum
 pub mod Rounds
 pub mod Headlines
 pub mod TrialHeadlines
 pub mod Pieces
 pub mod LoweredPieces
+pub mod SlicedTexts
 pub mod Promising
 pub mod Proved
 pub mod Counted
@@ -18,6 +22,8 @@ pub mod Showing
 pub mod Symbols
 pub mod OneMore
 pub mod LoweredOne
+pub mod SlicedOne
+pub mod SlicedPlaces
 pub mod LastLines
 pub mod Summary
 pub mod Sinks

@@ -4,7 +4,7 @@ use Rattle.std.proofs.lemmas.List.{length_push}
 use Rattle.mw_model.specs.Object.{Object, Member}
 use Rattle.mw_model.specs.Term.{formula_object}
 use Rattle.mw_model.specs.Axioms.{axiom_1, axiom_2}
-use Rattle.mw_model.specs.Commands.{Request, Check, Trial, Taut, Lower, Slice, Flat, Recheck, Help, Usage}
+use Rattle.mw_model.specs.Request.{Lower}
 use Rattle.mw_model.specs.Theory.{Theory, initial}
 use Rattle.mw_model.specs.Primitive.{One}
 use Rattle.mw_model.specs.Refusal.{Refusal, RANGE, EVENT, Fate, Accepted, Refused, refuse, need}
@@ -21,10 +21,10 @@ use Rattle.mw_model.specs.Transition.{Transition, Effect, last_theory, is_accept
 use Rattle.mw_model.specs.Lowering.{IsLoweredBy, OwesByFate, OwesLowered, derived_course, refused_in, course_summary}
 use Rattle.mw_kernel.specs.Knowledge.{Knowledge, theory_of}
 use Rattle.mw_book.specs.Answering.{Answers, HasAnswered}
-use Rattle.mw_book.specs.Due.{AreAnswers}
 use Rattle.mw_book.specs.Lines.{line_begun, summary_of}
 use Rattle.mw_book.specs.Lowered.{Lowered, LoweredFor}
 use Rattle.mw_book.specs.declared.lowering.Lowering.{Lowering}
+use Rattle.mw_book.proofs.AnsweredBy.{answers_by}
 use Rattle.mw_book.proofs.LoweredPieces.{course-append, last-append, length-course}
 use Rattle.mw_book.proofs.Ended.{same_text}
 use Rattle.mw_book.proofs.OneMore.{line-parts}
@@ -36,31 +36,10 @@ lines_of l = l.lines.items
 abbrev pub derived : ℕ → Effect
 derived N t e = happens_under derived_as t N e
 
-pub lowered_for : (q : Request) (l : Lowering) (given : List Object) → LoweredFor l q given → (N : ℕ) × (q ≡ Lower N) × Lowered l N given
-lowered_for (Lower N) l given h = (N, refl, h)
-lowered_for (Check N) l given h = absurd h
-lowered_for (Trial m N) l given h = absurd h
-lowered_for Taut l given h = absurd h
-lowered_for (Slice s N) l given h = absurd h
-lowered_for (Flat N) l given h = absurd h
-lowered_for Recheck l given h = absurd h
-lowered_for Help l given h = absurd h
-lowered_for Usage l given h = absurd h
-
--- from one state to another, where the request is to lower
-pub lowered_answers : (old new : Lowering) (given more : List Object) →
-    ((N : ℕ) → Lowered old N given → Lowered new N more) →
-    ((N : ℕ) → Lowered old N given → (written : List ℕ) → AreAnswers (Lower N) given (written ++ old.lines.items) → AreAnswers (Lower N) more (written ++ new.lines.items)) →
-    Answers lines_of LoweredFor old given new more
-lowered_answers old new given more f g = record {
-  known = λ q h. let p = lowered_for q old given h in subst (λ r. LoweredFor new r more) (sym p.1) (f p.0 p.2);
-  due = λ q h w a. let p = lowered_for q old given h in subst (λ r. AreAnswers r more (w ++ new.lines.items)) (sym p.1) (g p.0 p.2 w (subst (λ r. AreAnswers r given (w ++ old.lines.items)) p.1 a));
-}
-
 -- a kernel that has read more has the same theory
 pub lowered_read : (l : Lowering) (k : Knowledge) → theory_of k ≡ theory_of l.kernel → k.steps ≡ l.kernel.steps → (given : List Object) → Answers lines_of LoweredFor l given (record l { kernel = k }) given
 lowered_read l k t s given =
-    lowered_answers l (record l { kernel = k }) given given
+    answers_by Lower lines_of Lowered l (record l { kernel = k }) given given
     (λ N h. record { theory = t ∙ h.theory; steps = s ∙ h.steps; counted = h.counted; refused_counted = h.refused_counted })
     (λ N h w a. a)
 
@@ -80,7 +59,7 @@ pub lowered_one : (old new : Lowering) (y : Object) (f : Fate) (piece : List ℕ
     new.lines.items ≡ old.lines.items ++ piece →
     (given : List Object) → Answers lines_of LoweredFor old given new (given ++ y ∷ [])
 lowered_one old new y f piece comes steps counted refused lines given =
-    lowered_answers old new given (given ++ y ∷ [])
+    answers_by Lower lines_of Lowered old new given (given ++ y ∷ [])
     (λ N h.
     let ss = derived_course given N in
     let s = transition N given y in
@@ -196,6 +175,6 @@ summary_is l N given level h e =
 -- no more are refused than were judged
 pub lowered_few : (l : Lowering) → HasAnswered LoweredFor l → l.refused ≤ l.events
 lowered_few l h =
-    let p = lowered_for h.0 l h.1 h.2 in
+    let p = h.2 in
     let ss = derived_course h.1 p.0 in
     omega (arith, course_counts ss, p.2.counted, p.2.refused_counted, length-course (derived p.0) 1 (initial One) h.1)

@@ -10,11 +10,11 @@ use Rattle.mw_model.specs.Printing.{numeral}
 use Rattle.mw_model.specs.Report.{fate_text, word_text, label_text, line, lines, is_accepted, refused_among}
 use Rattle.mw_kernel.specs.Knowledge.{Knowledge, theory_of}
 use Rattle.mw_book.specs.declared.judging.Judging.{Judging}
-use Rattle.mw_model.specs.Commands.{Request, Check, Trial, Taut, Lower, Slice, Flat, Recheck, Help, Usage}
+use Rattle.mw_model.specs.Request.{Check}
 use Rattle.mw_book.specs.Answering.{Answers, HasAnswered}
-use Rattle.mw_book.specs.Due.{AreAnswers}
 use Rattle.mw_book.specs.Knowing.{Judged, JudgedFor}
 use Rattle.mw_book.specs.Lines.{line_begun}
+use Rattle.mw_book.proofs.AnsweredBy.{answers_by}
 use Rattle.mw_book.proofs.Appending.{after-append, refused_among-append, lines-append}
 use Rattle.mw_book.proofs.Ended.{counts}
 use Rattle.mw_book.proofs.Showing.{fate-large, next-large}
@@ -61,27 +61,6 @@ module _ (i t u : Theory) (given : List Object) (y : Object) (f : Fate) (n N : �
 abbrev pub lines_of : Judging → List ℕ
 lines_of j = j.lines.items
 
-pub judged_for : (q : Request) (j : Judging) (given : List Object) → JudgedFor j q given → (N : ℕ) × (q ≡ Check N) × Judged j N given
-judged_for (Check N) j given h = (N, refl, h)
-judged_for (Trial m N) j given h = absurd h
-judged_for Taut j given h = absurd h
-judged_for (Lower N) j given h = absurd h
-judged_for (Slice s N) j given h = absurd h
-judged_for (Flat N) j given h = absurd h
-judged_for Recheck j given h = absurd h
-judged_for Help j given h = absurd h
-judged_for Usage j given h = absurd h
-
--- from one state to another, where the request is to judge
-pub judged_answers : (old new : Judging) (given more : List Object) →
-    ((N : ℕ) → Judged old N given → Judged new N more) →
-    ((N : ℕ) → Judged old N given → (written : List ℕ) → AreAnswers (Check N) given (written ++ old.lines.items) → AreAnswers (Check N) more (written ++ new.lines.items)) →
-    Answers lines_of JudgedFor old given new more
-judged_answers old new given more f g = record {
-  known = λ q h. let p = judged_for q old given h in subst (λ r. JudgedFor new r more) (sym p.1) (f p.0 p.2);
-  due = λ q h w a. let p = judged_for q old given h in subst (λ r. AreAnswers r more (w ++ new.lines.items)) (sym p.1) (g p.0 p.2 w (subst (λ r. AreAnswers r given (w ++ old.lines.items)) p.1 a));
-}
-
 pub judged_one : (old new : Judging) (y : Object) (f : Fate) →
     f ≡ fate (theory_of old.kernel) y old.kernel.steps →
     theory_of new.kernel ≡ next (theory_of old.kernel) y old.kernel.steps →
@@ -91,7 +70,7 @@ pub judged_one : (old new : Judging) (y : Object) (f : Fate) →
     new.lines.items ≡ (old.lines.items ++ line_begun (old.events + 1) y) ++ (fate_text f ++ 10 ∷ []) →
     (given : List Object) → Answers lines_of JudgedFor old given new (given ++ y ∷ [])
 judged_one old new y f comes goes steps counted refused written given =
-    judged_answers old new given (given ++ y ∷ [])
+    answers_by Check lines_of Judged old new given (given ++ y ∷ [])
     (λ N h. record {
       theory = theory-more (initial One) (theory_of old.kernel) (theory_of new.kernel) given y f old.kernel.steps N h.theory h.steps goes comes;
       steps = steps ∙ h.steps;
@@ -117,10 +96,10 @@ judged_large old new y large kept counted refused written given =
 -- a kernel that has read more has the same theory
 pub judged_read : (j : Judging) (k : Knowledge) → theory_of k ≡ theory_of j.kernel → k.steps ≡ j.kernel.steps → (given : List Object) → Answers lines_of JudgedFor j given (record j { kernel = k }) given
 judged_read j k t s given =
-    judged_answers j (record j { kernel = k }) given given
+    answers_by Check lines_of Judged j (record j { kernel = k }) given given
     (λ N h. record { theory = t ∙ h.theory; steps = s ∙ h.steps; counted = h.counted; refused_counted = h.refused_counted })
     (λ N h w a. a)
 
 -- no more are refused than were judged
 pub known_few : (j : Judging) → HasAnswered JudgedFor j → j.refused ≤ j.events
-known_few j h = let p = judged_for h.0 j h.1 h.2 in omega (arith, counts (initial One) h.1 p.0, p.2.counted, p.2.refused_counted)
+known_few j h = let p = h.2 in omega (arith, counts (initial One) h.1 p.0, p.2.counted, p.2.refused_counted)

@@ -1,13 +1,14 @@
 -- The data that are read first are the first of the book, whatever follows.
-use Rattle.std.proofs.Common.{◌≡◌, ℕ, zero, suc, ◌-◌, ◌≤◌, Bool, true, false, leb, List, [], ◌∷◌, ◌++◌, length, take, Option, Some, None, refl, ap, ◌∙◌, subst, arith, if◌then◌else◌}
+use Rattle.std.proofs.Common.{◌≡◌, ℕ, zero, suc, ◌-◌, ◌≤◌, Bool, true, false, leb, leb-true, List, [], ◌∷◌, ◌++◌, length, length-append, append-nil, take, Option, Some, None, refl, ap, ◌∙◌, subst, arith, if◌then◌else◌}
+use Rattle.std.proofs.lemmas.List.{take_all}
 use Rattle.mw_model.specs.Object.{Object}
 use Rattle.mw_model.specs.Lexemes.{Fault, Ending, Ends, Goes}
 use Rattle.mw_model.specs.Grammar.{Book, book, reading, limit, cut_short, trees}
 use Rattle.mw_read.specs.Parsing.{Fits, meaning_of}
-use Rattle.mw_read.specs.Standing.{Stands, IsFree}
+use Rattle.mw_read.specs.Standing.{Stands, IsFree, Follows}
 use Rattle.mw_read.specs.declared.parser.Parser.{Parser}
 use Rattle.mw_read.proofs.Bytes.{onward_book}
-use Rattle.mw_read.proofs.Telling.{fits_any}
+use Rattle.mw_read.proofs.Scanning.{fits_more}
 
 take_none : (n : ℕ) → take {A = ℕ} n [] ≡ []
 take_none zero = refl
@@ -29,20 +30,26 @@ cut_events b = go b.events b.fault
     go xs None = refl
     go xs (Some f) = refl
 
--- the data of what was read are the first of the book
-pub first_data : (os : List Object) (p : Parser) (g : List ℕ) (given : List Object) → Stands os p g given → IsFree p → (rest : List ℕ) → (more : List Object) × ((trees (g ++ rest)).events ≡ given ++ more)
-first_data os p g given s f rest = go (leb (length (g ++ rest)) limit)
+-- the data of what was read are the first of the book, where the rest may follow
+pub first_data : (os : List Object) (p : Parser) (g : List ℕ) (given : List Object) → Stands os p g given → (rest : List ℕ) → Follows p rest → (more : List Object) × ((trees (g ++ rest)).events ≡ given ++ more)
+first_data os p g given s rest f = go (leb (length (g ++ rest)) limit) refl
   where
-    fits : (e : Ending) (x : List ℕ) → Fits p.begun e x
-    fits e x = fits_any p.begun e x (free_fits p f)
+    read : (e : Ending) (x : List ℕ) → Fits p.begun e x → (reading e (g ++ x)).events ≡ given ++ (meaning_of e s.state p x).events
+    read e x fits = let b = meaning_of e s.state p x in ap (λ y. y.events) (s.means e x fits ∙ onward_book given b.events b.fault)
 
-    read : (e : Ending) (x : List ℕ) → (reading e (g ++ x)).events ≡ given ++ (meaning_of e s.state p x).events
-    read e x = let b = meaning_of e s.state p x in ap (λ y. y.events) (s.means e x (fits e x) ∙ onward_book given b.events b.fault)
+    room : Fits p.begun Goes (take (limit - length g) rest)
+    room = subst (λ n. Fits p.begun Goes (take (limit - n) rest)) s.offset f
 
-    go : (v : Bool) → (more : List Object) × ((if v then reading Ends (g ++ rest) else cut_short (reading Goes (take limit (g ++ rest)))).events ≡ given ++ more)
-    go true = ((meaning_of Ends s.state p rest).events, read Ends rest)
-    go false =
+    whole : leb (length (g ++ rest)) limit ≡ true → Fits p.begun Ends rest
+    whole l =
+        let size = length-append g rest in
+        let few : length rest ≤ limit - length g = (let k = leb-true (length (g ++ rest)) limit l in omega (arith, k, size)) in
+        subst (Fits p.begun Ends) (append-nil rest) (fits_more p.begun Ends rest [] (subst (Fits p.begun Goes) (take_all (limit - length g) rest few) room))
+
+    go : (v : Bool) → leb (length (g ++ rest)) limit ≡ v → (more : List Object) × ((if v then reading Ends (g ++ rest) else cut_short (reading Goes (take limit (g ++ rest)))).events ≡ given ++ more)
+    go true l = ((meaning_of Ends s.state p rest).events, read Ends rest (whole l))
+    go false l =
         let x = take (limit - length g) rest in (
           (meaning_of Goes s.state p x).events,
-          ap (λ y. (cut_short (reading Goes y)).events) (take_past g rest limit s.short) ∙ cut_events (reading Goes (g ++ x)) ∙ read Goes x,
+          ap (λ y. (cut_short (reading Goes y)).events) (take_past g rest limit s.short) ∙ cut_events (reading Goes (g ++ x)) ∙ read Goes x room,
         )

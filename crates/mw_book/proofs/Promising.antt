@@ -1,12 +1,12 @@
 -- Whatever was answered first, the answers can go on to the end of the book.
-use Rattle.std.proofs.Common.{◌≡◌, ℕ, suc, ◌+◌, ◌≤◌, true, not, List, [], ◌∷◌, ◌++◌, length, Some, None, Option, codes, refl, sym, ap, ◌∙◌, subst, append_assoc, append-nil}
+use Rattle.std.proofs.Common.{◌≡◌, ℕ, suc, ◌+◌, ◌≤◌, true, not, List, [], ◌∷◌, ◌++◌, length, Some, None, Option, codes, refl, sym, ap, ap₂, ◌∙◌, subst, append_assoc, append-nil}
 use Rattle.mw_model.specs.Object.{Object, symbol, car, second_of, list4}
 use Rattle.mw_model.specs.Term.{ArityTable, Formula, is_formula}
 use Rattle.mw_model.specs.Reading.{formula_of, formula_under, when, that}
 use Rattle.mw_model.specs.Primitive.{One, is_symbol}
 use Rattle.mw_model.specs.Fate.{is_out_of_range}
 use Rattle.mw_model.specs.Object.{has_members}
-use Rattle.mw_model.specs.Commands.{Request, Check, Trial, Taut, Lower, Slice, Flat, Recheck, Help, Usage}
+use Rattle.mw_model.specs.Request.{Request, Check, Trial, Taut, Lower, Slice, Flat, Recheck, Help, Usage}
 use Rattle.mw_model.specs.Grammar.{Book, limit, trees}
 use Rattle.mw_model.specs.Theory.{initial}
 use Rattle.mw_model.specs.Report.{spaced, lines, last_line, report, status_of}
@@ -14,7 +14,9 @@ use Rattle.mw_model.specs.Headline.{Headline}
 use Rattle.mw_model.specs.Pieces.{InOrder, numbered, how_many, comment_ending}
 use Rattle.mw_model.specs.Tautology.{Decision, Many, FailsUnder, Holds, decision, choice_object}
 use Rattle.mw_model.specs.TautologyBook.{IsPureProof, OwesDecided, OwesGiven, OwesTautology, TautologiesWritten, formula_given, initial_arities, is_proved, remark, tautology_summary}
-use Rattle.mw_model.specs.Headlines.{AcceptsAll, Promised, IsBegun}
+use Rattle.mw_model.specs.Slice.{target}
+use Rattle.mw_model.specs.Slicing.{accepted_events, SliceWritten}
+use Rattle.mw_model.specs.Headlines.{AcceptsAll, SliceHeadline, Promised, IsBegun}
 use Rattle.mw_model.specs.Truth.{Each}
 use Rattle.mw_model.specs.Fate.{after}
 use Rattle.mw_model.specs.Demand.{happens_under}
@@ -23,12 +25,13 @@ use Rattle.mw_model.specs.Transition.{course_from, last_theory, is_acceptance}
 use Rattle.mw_model.specs.Lowering.{OwesLowered, LoweredWritten, course_summary, derived_course}
 use Rattle.mw_model.proofs.ReadBack.{when_some}
 use Rattle.mw_reflect.specs.Laws.{EventsKeep}
-use Rattle.mw_book.specs.Due.{AreAnswers, last_line_for, refused_for}
+use Rattle.mw_book.specs.Due.{AreAnswers, IsLastText, refused_for}
 use Rattle.mw_model.proofs.LinesGrow.{lines_first}
 use Rattle.mw_book.proofs.Headlines.{AreKept}
 use Rattle.mw_book.proofs.LoweredPieces.{HasLowered, course-append, each_later, all_lowered}
 use Rattle.mw_book.proofs.Pieces.{LabelledTexts, in_order_both, numbered-append, may_be_written}
 use Rattle.mw_book.proofs.Rounds.{Begins}
+use Rattle.mw_book.proofs.SlicedTexts.{HasSlices, SlicesAgain, sliced_status, some_slice}
 
 -- the answers to these data, and to more after them
 pub answers_both : (given more : List Object) (text next : List ℕ) → AreAnswers Taut given text → InOrder OwesTautology (numbered (1 + length given) more) next → AreAnswers Taut (given ++ more) (text ++ next)
@@ -82,53 +85,63 @@ module _
         (true_events : EventsKeep)
         (lowered : (es : List Object) (N : ℕ) → Each HasLowered (derived_course es N))
         (lowered_again : (b : Book) (N : ℕ) (text : List ℕ) → LoweredWritten b N text → length text ≤ limit → AcceptsAll text N (how_many is_acceptance (derived_course b.events N)))
+        (has_slices : HasSlices)
+        (sliced_again : SlicesAgain)
         (same_theory : (b : Book) (N : ℕ) (text : List ℕ) → LoweredWritten b N text → length text ≤ limit → after (initial One) (trees text).events N ≡ last_theory (derived_course b.events N))
       where
         reported : (bytes : List ℕ) (N : ℕ) (text : List ℕ) → text ≡ (report bytes N).text → Headline bytes N text (report bytes N).status
         reported bytes N text e = record { exact = e; ends = refl; events_keep = true_events (trees bytes).events N }
 
         pub whole : AreKept
-        whole (Check N) bytes text h = reported bytes N (text ++ last_line (trees bytes) N) (ap (λ u. u ++ last_line (trees bytes) N) h)
-        whole Taut bytes text h =
+        whole (Check N) bytes text last h l = reported bytes N (text ++ last) (ap₂ (λ u v. u ++ v) h l)
+        whole Taut bytes text last h l =
             let b = trees bytes in
-            let all : TautologiesWritten b (text ++ comment_ending b.fault (tautology_summary b.events)) = (text, h, refl) in
-            record { exact = all; ends = refl; again = accepted b (text ++ comment_ending b.fault (tautology_summary b.events)) all }
-        whole (Trial m N) bytes text h = absurd h
-        whole (Lower N) bytes text h =
+            let all : TautologiesWritten b (text ++ last) = (text, h, ap (λ u. text ++ u) l) in
+            record { exact = all; ends = refl; again = accepted b (text ++ last) all }
+        whole (Trial m N) bytes text last h l = absurd h
+        whole (Lower N) bytes text last h l =
             let b = trees bytes in
-            let written = text ++ comment_ending b.fault (course_summary (derived_course b.events N)) in
-            let all : LoweredWritten b N written = (text, h, refl) in
-            record { exact = all; ends = refl; again = lowered_again b N written all; theory = same_theory b N written all }
-        whole (Slice s N) bytes text h = absurd h
-        whole (Flat N) bytes text h = absurd h
-        whole Recheck bytes text h = absurd h
-        whole Help bytes text h = absurd h
-        whole Usage bytes text h = absurd h
+            let all : LoweredWritten b N (text ++ last) = (text, h, ap (λ u. text ++ u) l) in
+            record { exact = all; ends = refl; again = lowered_again b N (text ++ last) all; theory = same_theory b N (text ++ last) all }
+        whole (Slice name N) bytes text last h l =
+            let b = trees bytes in
+            let owed : (written : List ℕ) → written ≡ last → SliceHeadline bytes N name written (status_of b.fault (refused_for (Slice name N) b.events)) = λ written e.
+            let all : SliceWritten b N name written = subst (SliceWritten b N name) (sym e) l in
+            let status = sliced_status b.fault (target (accepted_events b.events N) name) in
+            record { exact = all; ends = status; again = λ done. sliced_again b N name written all (sym status ∙ done) } in
+            owed (text ++ last) (ap (λ u. u ++ last) h)
+        whole (Flat N) bytes text last h l = absurd h
+        whole Recheck bytes text last h l = absurd h
+        whole Help bytes text last h l = absurd h
+        whole Usage bytes text last h l = absurd h
 
         -- the answers to all data go on from those to the first ones
-        goes_on : (q : Request) (bytes text : List ℕ) (rest : List ℕ) → AreAnswers q (trees bytes).events (text ++ rest) → IsBegun q bytes text
-        goes_on q bytes text rest h =
+        goes_on : (q : Request) (bytes text rest last : List ℕ) → AreAnswers q (trees bytes).events (text ++ rest) → IsLastText q (trees bytes).events (trees bytes).fault last → IsBegun q bytes text
+        goes_on q bytes text rest last h l =
             let b = trees bytes in
-            let last = last_line_for q b.events b.fault in
             let s = status_of b.fault (refused_for q b.events) in
-            (rest ++ last, s, subst (λ u. Promised q bytes u s) (append_assoc text rest last) (whole q bytes (text ++ rest) h))
+            (rest ++ last, s, subst (λ u. Promised q bytes u s) (append_assoc text rest last) (whole q bytes (text ++ rest) last h l))
 
         pub begun : Begins
         begun (Check N) bytes text given more e h =
             let all = (trees bytes).events in
             let r = lines_first (initial One) given more all N [] e in
-            goes_on (Check N) bytes text r.0 (ap (λ u. u ++ r.0) h ∙ sym r.1 ∙ append-nil (lines 1 (initial One) all N))
+            goes_on (Check N) bytes text r.0 (last_line (trees bytes) N) (ap (λ u. u ++ r.0) h ∙ sym r.1 ∙ append-nil (lines 1 (initial One) all N)) refl
         begun Taut bytes text given more e h =
             let r = all_may_be (1 + length given) more in
-            goes_on Taut bytes text r.0 (subst (λ xs. AreAnswers Taut xs (text ++ r.0)) (sym e) (answers_both given more text r.0 h r.1))
+            goes_on Taut bytes text r.0 (comment_ending (trees bytes).fault (tautology_summary (trees bytes).events)) (subst (λ xs. AreAnswers Taut xs (text ++ r.0)) (sym e) (answers_both given more text r.0 h r.1)) refl
         begun (Trial m N) bytes text given more e h = absurd h
         begun (Lower N) bytes text given more e h =
             let ss = derived_course given N in
             let rest = course_from (λ t x. happens_under derived_as t N x) (1 + length given) (last_theory ss) more in
             let whole_course = ap (λ es. derived_course es N) e ∙ course-append (λ t x. happens_under derived_as t N x) 1 (initial One) given more in
             let r = all_lowered labelled rest (each_later ss rest (subst (Each HasLowered) whole_course (lowered (trees bytes).events N))) in
-            goes_on (Lower N) bytes text r.0 (subst (λ l. InOrder OwesLowered l (text ++ r.0)) (sym whole_course) (in_order_both OwesLowered ss rest text r.0 h r.1))
-        begun (Slice s N) bytes text given more e h = absurd h
+            goes_on (Lower N) bytes text r.0 (comment_ending (trees bytes).fault (course_summary (derived_course (trees bytes).events N))) (subst (λ l. InOrder OwesLowered l (text ++ r.0)) (sym whole_course) (in_order_both OwesLowered ss rest text r.0 h r.1)) refl
+        begun (Slice name N) bytes text given more e h =
+            let b = trees bytes in
+            let accepted = accepted_events b.events N in
+            let r = some_slice labelled has_slices b.fault (target accepted name) b.events accepted in
+            goes_on (Slice name N) bytes text [] r.0 (ap (λ u. u ++ []) h) r.1
         begun (Flat N) bytes text given more e h = absurd h
         begun Recheck bytes text given more e h = absurd h
         begun Help bytes text given more e h = absurd h

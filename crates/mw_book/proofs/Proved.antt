@@ -6,7 +6,7 @@ use Rattle.mw_model.specs.Object.{Object}
 use Rattle.mw_model.specs.Term.{ArityTable}
 use Rattle.mw_model.specs.Primitive.{is_symbol}
 use Rattle.mw_model.specs.Report.{symbol_text}
-use Rattle.mw_model.specs.Commands.{Request, Check, Trial, Taut, Lower, Slice, Flat, Recheck, Help, Usage}
+use Rattle.mw_model.specs.Request.{Taut}
 use Rattle.mw_heap.specs.Contents.{Contents}
 use Rattle.mw_heap.specs.Objects.{Grows}
 use Rattle.mw_heap.proofs.Objects.{length-Grows, IsIn-Grows, object_at-Grows}
@@ -16,31 +16,18 @@ use Rattle.mw_term.specs.declared.cell_mark.CellMark.{CellMark}
 use Rattle.mw_book.specs.Answered.{Answered, IsProving, ProvedFor, ShowsWord, lines_of}
 use Rattle.mw_book.specs.Answering.{Answers, HasAnswered}
 use Rattle.mw_book.specs.Due.{AreAnswers}
+use Rattle.mw_book.proofs.AnsweredBy.{answers_by}
 use Rattle.mw_book.specs.declared.proving.Proving.{Proving}
 
-pub proved_for : (q : Request) (p : Proving) (given : List Object) → ProvedFor p q given → (q ≡ Taut) × IsProving p × Answered p given
-proved_for Taut p given h = (refl, h.0, h.1)
-proved_for (Check N) p given h = absurd h
-proved_for (Trial m N) p given h = absurd h
-proved_for (Lower N) p given h = absurd h
-proved_for (Slice s N) p given h = absurd h
-proved_for (Flat N) p given h = absurd h
-proved_for Recheck p given h = absurd h
-proved_for Help p given h = absurd h
-proved_for Usage p given h = absurd h
-
 pub known_proving : (p : Proving) → HasAnswered ProvedFor p → IsProving p
-known_proving p h = (proved_for h.0 p h.1 h.2).1
+known_proving p h = h.2.2.0
 
--- from one state to another, where the request is to prove
-pub proved_answers : (old new : Proving) (given more : List Object) →
+-- from one state to another
+pub proved_by : (old new : Proving) (given more : List Object) →
     (IsProving old → Answered old given → IsProving new × Answered new more) →
     (IsProving old → Answered old given → (written : List ℕ) → AreAnswers Taut given (written ++ old.lines.items) → AreAnswers Taut more (written ++ new.lines.items)) →
     Answers lines_of ProvedFor old given new more
-proved_answers old new given more f g = record {
-  known = λ q h. let p = proved_for q old given h in subst (λ r. ProvedFor new r more) (sym p.0) (f p.1 p.2);
-  due = λ q h w a. let p = proved_for q old given h in subst (λ r. AreAnswers r more (w ++ new.lines.items)) (sym p.0) (g p.1 p.2 w (subst (λ r. AreAnswers r given (w ++ old.lines.items)) p.0 a));
-}
+proved_by old new given more f g = answers_by {P = Unit {0}} (λ u. Taut) lines_of (λ p u xs. IsProving p × Answered p xs) old new given more (λ u h. f h.0 h.1) (λ u h. g h.0 h.1)
 
 pub proving_marked : (old : Proving) (k : Contents) (marks : List CellMark) → Grows old.heap.objects k.objects → AreMarks old.arity k.objects marks → IsProving old → IsProving (record old { heap = k; marks = marks })
 proving_marked old k marks g m h = record {
@@ -53,7 +40,7 @@ proving_marked old k marks g m h = record {
 -- more was made, and perhaps marked
 pub proved_grows : (old : Proving) (k : Contents) (marks : List CellMark) → Grows old.heap.objects k.objects → (IsProving old → AreMarks old.arity k.objects marks) → (given : List Object) → Answers lines_of ProvedFor old given (record old { heap = k; marks = marks }) given
 proved_grows old k marks g m given =
-    proved_answers old (record old { heap = k; marks = marks }) given given
+    proved_by old (record old { heap = k; marks = marks }) given given
     (λ h a. (proving_marked old k marks g (m h) h, record { counted = a.counted; unproved_counted = a.unproved_counted }))
     (λ h a w d. d)
 

@@ -1,8 +1,8 @@
 -- What is known between two pieces of a book.
-use Rattle.std.proofs.Common.{◌≡◌, ℕ, ◌+◌, ◌*◌, ◌<◌, ◌≤◌, ◌^◌, true, false, List, [], ◌++◌, length, Option, Some, None, refl, sym, ap, ◌∙◌, subst, arith, true≢false, append_assoc, append-nil, length-append}
+use Rattle.std.proofs.Common.{◌≡◌, ℕ, ◌+◌, ◌*◌, ◌<◌, ◌≤◌, ◌^◌, true, false, List, [], ◌++◌, length, Option, Some, None, inl, inr, refl, sym, ap, ◌∙◌, subst, arith, true≢false, append_assoc, append-nil, length-append}
 use Rattle.std.specs.Option.{is_some}
 use Rattle.mw_model.specs.Object.{Object}
-use Rattle.mw_model.specs.Commands.{Request, Check, Trial, Taut, Lower, Slice, Flat, Recheck, Help, Usage}
+use Rattle.mw_model.specs.Request.{Request, Check, Trial, Taut, Lower, Slice, Flat, Recheck, Help, Usage}
 use Rattle.mw_model.specs.Lexemes.{Goes}
 use Rattle.mw_model.specs.Grammar.{Book, book, reading, trees}
 use Rattle.mw_model.specs.Report.{Status}
@@ -16,8 +16,8 @@ use Rattle.mw_read.proofs.Telling.{stands_goes}
 use Rattle.mw_book.specs.Answering.{Answers, HasAnswered, Takes, Ends, ReadWhole}
 use Rattle.mw_book.specs.Books.{Has, TakesSome}
 use Rattle.mw_book.specs.Due.{AreAnswers}
-use Rattle.mw_book.specs.Statuses.{IsPartOf}
-use Rattle.mw_book.specs.Checks.{BookEnds, SourceCounts, Concludes, IsHalt, IsStop}
+use Rattle.mw_book.specs.Statuses.{report_status, IsPartOf}
+use Rattle.mw_book.specs.Checks.{BookEnds, SourceCounts, ConcludesWith, IsHalt, IsStop}
 use Rattle.mw_book.specs.declared.status.Status.{Status as Ending}
 use Rattle.mw_book.specs.declared.status.Status.TheVariants as ending
 use Rattle.mw_book.proofs.Prefixes.{free_fits, first_data}
@@ -41,7 +41,7 @@ begun_is_part (Check N) given text a input old new b = b
 begun_is_part Taut given text a input old new b = b
 begun_is_part (Trial m N) given text a input old new b = absurd a
 begun_is_part (Lower N) given text a input old new b = b
-begun_is_part (Slice s N) given text a input old new b = absurd a
+begun_is_part (Slice s N) given text a input old new b = b
 begun_is_part (Flat N) given text a input old new b = absurd a
 begun_is_part Recheck given text a input old new b = absurd a
 begun_is_part Help given text a input old new b = absurd a
@@ -115,7 +115,7 @@ module _ {A : Type 0} {objects : A → List Object} {lines : A → List ℕ} {nu
     part_here begins =
         let rest = left_of left in
         let bytes = between.bytes ++ rest in
-        let d = first_data (objects j) p between.bytes between.given between.stands between.free rest in
+        let d = first_data (objects j) p between.bytes between.given between.stands rest (between.free rest) in
         begun_is_part q between.given between.written between.answers input first sink
         (bytes, gives_has input left between.bytes between.gives, between.written, between.takes, begins q bytes between.written between.given d.0 d.1 between.answers)
 
@@ -174,7 +174,7 @@ module _ {A : Type 0} {objects : A → List Object} {lines : A → List ℕ} {nu
         write_stops begins t =
             let rest = left_of now in
             let bytes = (between.bytes ++ piece) ++ rest in
-            let d = first_data (objects new) r (between.bytes ++ piece) h.0 h.2 h.3 rest in
+            let d = first_data (objects new) r (between.bytes ++ piece) h.0 h.2 rest (h.3 rest) in
             let text = between.written ++ lines new in
             let a = due_more h.0 h.1 in
             let part = begun_part q bytes text first after (begins q bytes text h.0 d.0 d.1 a) (takes_then first sink after between.written (lines new) between.takes t) in
@@ -232,13 +232,24 @@ halt_stops ending.Usage h = absurd h
 halt_stops (ending.Syntax k o) h = absurd h
 halt_stops ending.ReadFault h = absurd h
 
--- what a write that stopped took is a prefix
-pub concludes_halt : (e : Ending) (s : Status) (text : List ℕ) (old new : Option (List ℕ)) → IsHalt e → TakesSome old new text → Concludes e s text old new
-concludes_halt ending.WriteFault s text old new h t = t
-concludes_halt ending.Memory s text old new h t = t
-concludes_halt ending.Done s text old new h t = absurd h
-concludes_halt ending.SomeRefused s text old new h t = absurd h
-concludes_halt ending.Help s text old new h t = absurd h
-concludes_halt ending.Usage s text old new h t = absurd h
-concludes_halt (ending.Syntax k o) s text old new h t = absurd h
-concludes_halt ending.ReadFault s text old new h t = absurd h
+-- a write that stopped took a prefix
+pub concludes_with_halt : (e : Ending) (s : Status) (lines : List ℕ) (IsLast : List ℕ → Type 0) (old new : Option (List ℕ)) → IsHalt e → (last : List ℕ) → IsLast last → TakesSome old new (lines ++ last) → ConcludesWith e s lines IsLast old new
+concludes_with_halt ending.WriteFault s lines IsLast old new h last l t = (last, l, t)
+concludes_with_halt ending.Memory s lines IsLast old new h last l t = inr (last, l, t)
+concludes_with_halt ending.Done s lines IsLast old new h last l t = absurd h
+concludes_with_halt ending.SomeRefused s lines IsLast old new h last l t = absurd h
+concludes_with_halt ending.Help s lines IsLast old new h last l t = absurd h
+concludes_with_halt ending.Usage s lines IsLast old new h last l t = absurd h
+concludes_with_halt (ending.Syntax k o) s lines IsLast old new h last l t = absurd h
+concludes_with_halt ending.ReadFault s lines IsLast old new h last l t = absurd h
+
+-- a whole text was taken
+pub concludes_with_all : (e : Ending) (s : Status) (lines : List ℕ) (IsLast : List ℕ → Type 0) (old new : Option (List ℕ)) → report_status e ≡ Some s → (last : List ℕ) → IsLast last → SinkTakes old new (lines ++ last) → ConcludesWith e s lines IsLast old new
+concludes_with_all ending.Done s lines IsLast old new e last l t = (last, l, (e, t))
+concludes_with_all ending.SomeRefused s lines IsLast old new e last l t = (last, l, (e, t))
+concludes_with_all (ending.Syntax k o) s lines IsLast old new e last l t = (last, l, (e, t))
+concludes_with_all ending.WriteFault s lines IsLast old new e last l t = absurd (let h : None ≡ Some s = e in cc)
+concludes_with_all ending.Memory s lines IsLast old new e last l t = absurd (let h : None ≡ Some s = e in cc)
+concludes_with_all ending.Help s lines IsLast old new e last l t = absurd (let h : None ≡ Some s = e in cc)
+concludes_with_all ending.Usage s lines IsLast old new e last l t = absurd (let h : None ≡ Some s = e in cc)
+concludes_with_all ending.ReadFault s lines IsLast old new e last l t = absurd (let h : None ≡ Some s = e in cc)

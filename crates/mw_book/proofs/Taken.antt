@@ -5,7 +5,7 @@ use Rattle.std.proofs.Math.Seq.{take-add}
 use Rattle.mw_model.specs.Object.{Object}
 use Rattle.mw_model.specs.Lexemes.{Goes}
 use Rattle.mw_model.specs.Grammar.{book, reading, trees}
-use Rattle.mw_model.specs.Commands.{Request}
+use Rattle.mw_model.specs.Request.{Request}
 use Rattle.mw_read.specs.Standing.{Stands, IsStanding, IsFree, Follows, Gives, GivesBehind, Says, work}
 use Rattle.mw_read.specs.Feeding.{GivesNext, Continues}
 use Rattle.mw_read.specs.declared.parser.Parser.{Parser}

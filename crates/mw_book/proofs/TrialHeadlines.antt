@@ -9,14 +9,15 @@ use Rattle.mw_read.specs.Piles.{kind_of}
 use Rattle.mw_read.specs.declared.step.SyntaxKind.{SyntaxKind}
 use Rattle.mw_reflect.specs.Laws.{EventsKeep}
 use Rattle.mw_book.specs.Books.{Has, TakesSome}
-use Rattle.mw_model.specs.Commands.{Check}
+use Rattle.mw_model.specs.Request.{Check}
 use Rattle.mw_book.specs.Answering.{fault_of, ReadWhole}
-use Rattle.mw_book.specs.Checks.{TrialEnds, LastReported, SourceCounts, SinkCounts, Concludes, IsStop}
+use Rattle.mw_book.specs.Checks.{TrialEnds, LastReported, SourceCounts, SinkCounts, ConcludesWith, IsStop}
 use Rattle.mw_book.specs.Knowing.{JudgedFor}
 use Rattle.mw_book.specs.declared.judging.Judging.{Judging}
 use Rattle.mw_book.specs.declared.status.Status.{Status as Ending}
 use Rattle.mw_book.specs.declared.status.Status.TheVariants as ending
 use Rattle.mw_book.proofs.Headlines.{same_some}
+use Rattle.mw_book.proofs.Written.{some_then}
 
 -- what never fails counts no fault
 never_rises : (old new : ℕ) → old ≡ no_faults → new ≡ no_faults → Rises old new → ⊥
@@ -53,16 +54,25 @@ module _ (m : ℕ) {N : ℕ} {input now first middle : Option (List ℕ)} {f : O
     record { exact = last; ends = e ∙ ap (λ (b : Book). (report_of b N).status) trial_read; events_keep = keeps (trees (trial_book m)).events N },
   )
 
-  concluded : EventsKeep → (e : Ending) (old new : Option (List ℕ)) → Concludes e (report_of here N).status (last_line here N) old new → TrialEnds e m N old new
-  concluded keeps ending.Done old new c = reported keeps old new Done (same_some Done (report_of here N).status c.0) c.1
-  concluded keeps ending.SomeRefused old new c = reported keeps old new SomeRefused (same_some SomeRefused (report_of here N).status c.0) c.1
-  concluded keeps (ending.Syntax k o) old new c = reported keeps old new (Syntax (kind_of k) o) (same_some (Syntax (kind_of k) o) (report_of here N).status c.0) c.1
-  concluded keeps ending.Help old new c = absurd (let h : None ≡ Some (report_of here N).status = c.0 in cc)
-  concluded keeps ending.Usage old new c = absurd (let h : None ≡ Some (report_of here N).status = c.0 in cc)
-  concluded keeps ending.ReadFault old new c = absurd (let h : None ≡ Some (report_of here N).status = c.0 in cc)
-  concluded keeps ending.WriteFault old new c = subst (λ u. TakesSome old new u) last c
-  concluded keeps ending.Memory old new c = subst (λ u. TakesSome old new u) last c
+  -- this was written last
+  module _ (text : List ℕ) (same : text ≡ last_line here N) where
+    whole : EventsKeep → (old new : Option (List ℕ)) (s : Status) → s ≡ (report_of here N).status → Takes old new text → LastReported m N old new s
+    whole keeps old new s e t = reported keeps old new s e (subst (Takes old new) same t)
+
+    begun : (old new : Option (List ℕ)) → TakesSome old new text → TakesSome old new (last_line (trees (trial_book m)) N)
+    begun old new t = subst (TakesSome old new) (same ∙ last) t
+
+  concluded : EventsKeep → (e : Ending) (old new : Option (List ℕ)) → ConcludesWith e (report_of here N).status [] (λ text. text ≡ last_line here N) old new → TrialEnds e m N old new
+  concluded keeps ending.Done old new c = whole c.0 c.1 keeps old new Done (same_some Done (report_of here N).status c.2.0) c.2.1
+  concluded keeps ending.SomeRefused old new c = whole c.0 c.1 keeps old new SomeRefused (same_some SomeRefused (report_of here N).status c.2.0) c.2.1
+  concluded keeps (ending.Syntax k o) old new c = whole c.0 c.1 keeps old new (Syntax (kind_of k) o) (same_some (Syntax (kind_of k) o) (report_of here N).status c.2.0) c.2.1
+  concluded keeps ending.Help old new c = absurd (let h : None ≡ Some (report_of here N).status = c.2.0 in cc)
+  concluded keeps ending.Usage old new c = absurd (let h : None ≡ Some (report_of here N).status = c.2.0 in cc)
+  concluded keeps ending.ReadFault old new c = absurd (let h : None ≡ Some (report_of here N).status = c.2.0 in cc)
+  concluded keeps ending.WriteFault old new c = begun c.0 c.1 old new c.2
+  concluded keeps ending.Memory old new (inl t) = some_then old new [] (last_line (trees (trial_book m)) N) t
+  concluded keeps ending.Memory old new (inr c) = begun c.0 c.1 old new c.2
 
   -- where no other lines are left
-  pub trial_ends : EventsKeep → (e : Ending) (lines : List ℕ) (old new : Option (List ℕ)) → lines ≡ [] → Concludes e (report_of here N).status (lines ++ last_line here N) old new → TrialEnds e m N old new
-  trial_ends keeps e lines old new none c = concluded keeps e old new (subst (λ l. Concludes e (report_of here N).status (l ++ last_line here N) old new) none c)
+  pub trial_ends : EventsKeep → (e : Ending) (lines : List ℕ) (old new : Option (List ℕ)) → lines ≡ [] → ConcludesWith e (report_of here N).status lines (λ text. text ≡ last_line here N) old new → TrialEnds e m N old new
+  trial_ends keeps e lines old new none c = concluded keeps e old new (subst (λ l. ConcludesWith e (report_of here N).status l (λ text. text ≡ last_line here N) old new) none c)

@@ -4,12 +4,13 @@ use Rattle.mw_model.specs.Object.{Object, list2}
 use Rattle.mw_model.specs.Primitive.{is_symbol}
 use Rattle.mw_model.specs.Fate.{is_out_of_range}
 use Rattle.mw_model.specs.Report.{word_text}
-use Rattle.mw_model.specs.Commands.{Request, Taut}
+use Rattle.mw_model.specs.Request.{Request, Taut}
 use Rattle.mw_model.specs.Pieces.{how_many}
 use Rattle.mw_model.specs.TautologyBook.{initial_arities, is_proved}
 use Rattle.mw_heap.specs.Objects.{object_at, IsIn}
 use Rattle.mw_term.specs.Marking.{AreMarks}
 use Rattle.mw_read.specs.Shown.{IsShown, shown_text}
+use Rattle.mw_book.specs.Answering.{AnsweredBy}
 use Rattle.mw_book.specs.declared.proving.Proving.{Proving}
 
 -- The heap has what is kept of it, and the numbers can be those of some data.
@@ -30,8 +31,7 @@ lines_of p = p.lines.items
 
 -- the request is to prove the formulas, and these data were answered
 abbrev pub ProvedFor : Proving → Request → List Object → Type 0
-ProvedFor p Taut given = IsProving p × Answered p given
-ProvedFor p _ given = ⊥
+ProvedFor p = AnsweredBy {P = Unit {0}} (λ u. Taut) (λ u given. IsProving p × Answered p given)
 
 -- the reference is shown as the first member of the datum
 abbrev pub ShowsWord : List Object → Option ℕ → Object → Type 0

@@ -3,7 +3,7 @@ use Rattle.std.specs.Prelude.{◌≡◌, ℕ, List, ◌++◌, Option, Some, None
 use Rattle.mw_model.specs.Object.{Object}
 use Rattle.mw_model.specs.Lexemes.{Fault, fault, Goes}
 use Rattle.mw_model.specs.Grammar.{book, reading, trees}
-use Rattle.mw_model.specs.Commands.{Request}
+use Rattle.mw_model.specs.Request.{Request}
 use Rattle.mw_port.specs.Ports.{Takes as SinkTakes, HasEnded}
 use Rattle.mw_read.specs.Piles.{kind_of}
 use Rattle.mw_read.specs.Standing.{Stands, IsFree}
@@ -16,6 +16,10 @@ use Rattle.mw_book.specs.Due.{AreAnswers}
 pub record Answers {A : Type 0} (lines : A → List ℕ) (answered : A → Request → List Object → Type 0) (old : A) (given : List Object) (new : A) (more : List Object) : Type 0 where
   pub known : (q : Request) → answered old q given → answered new q more
   pub due : (q : Request) → answered old q given → (written : List ℕ) → AreAnswers q given (written ++ lines old) → AreAnswers q more (written ++ lines new)
+
+-- The request is one that these make, and what holds there holds of the data: a way to say for which request data were answered.
+abbrev pub AnsweredBy : {P : Type 0} → (P → Request) → (P → List Object → Type 0) → Request → List Object → Type 0
+AnsweredBy {P} make holds q given = (p : P) × (q ≡ make p) × holds p given
 
 -- data were answered for some request
 abbrev pub HasAnswered : {A : Type 0} → (A → Request → List Object → Type 0) → A → Type 0

@@ -1,6 +1,6 @@
 -- How the judging of a book ends, and what is then true.
-use Rattle.std.specs.Prelude.{◌≡◌, ℕ, List, Option, Some}
-use Rattle.mw_model.specs.Commands.{Request}
+use Rattle.std.specs.Prelude.{◌≡◌, ℕ, List, ◌++◌, Option, Some, ◌⊎◌}
+use Rattle.mw_model.specs.Request.{Request}
 use Rattle.mw_model.specs.Grammar.{trees}
 use Rattle.mw_model.specs.Report.{Status, Done, SomeRefused, Syntax, last_line}
 use Rattle.mw_model.specs.Trial.{trial_book}
@@ -53,6 +53,11 @@ abbrev pub Concludes : Ending → Status → List ℕ → Option (List ℕ) → 
 Concludes ending.WriteFault s text old new = TakesSome old new text
 Concludes ending.Memory s text old new = TakesSome old new text
 Concludes e s text old new = (report_status e ≡ Some s) × Takes old new text
+
+-- The same of a last text, one of those that are due: before it these lines are written. Where memory is refused there may be none yet.
+abbrev pub ConcludesWith : Ending → Status → List ℕ → (List ℕ → Type 0) → Option (List ℕ) → Option (List ℕ) → Type 0
+ConcludesWith ending.Memory s lines IsLast old new = TakesSome old new lines ⊎ ((last : List ℕ) × IsLast last × TakesSome old new (lines ++ last))
+ConcludesWith e s lines IsLast old new = (last : List ℕ) × IsLast last × Concludes e s (lines ++ last) old new
 
 -- a write stopped
 abbrev pub IsHalt : Ending → Type 0

@@ -1,33 +1,39 @@
 -- What is due for the data of a book, by what was asked for.
-use Rattle.std.specs.Prelude.{◌≡◌, ℕ, not, List, [], Option}
+use Rattle.std.specs.Prelude.{◌≡◌, ℕ, not, cond, List, [], Option}
 use Rattle.mw_model.specs.Object.{Object}
 use Rattle.mw_model.specs.Primitive.{One}
 use Rattle.mw_model.specs.Lexemes.{Fault}
 use Rattle.mw_model.specs.Grammar.{book}
 use Rattle.mw_model.specs.Theory.{initial}
+use Rattle.mw_model.specs.Definition.{is_present}
 use Rattle.mw_model.specs.Report.{lines, last_line, refused_among}
-use Rattle.mw_model.specs.Commands.{Request, Check, Taut, Lower}
+use Rattle.mw_model.specs.Request.{Request, Check, Taut, Lower, Slice}
 use Rattle.mw_model.specs.Pieces.{InOrder, numbered, how_many, comment_ending}
 use Rattle.mw_model.specs.TautologyBook.{OwesTautology, is_proved, tautology_summary}
 use Rattle.mw_model.specs.Lowering.{OwesLowered, course_summary, derived_course, refused_in}
+use Rattle.mw_model.specs.Slice.{target}
+use Rattle.mw_model.specs.Slicing.{accepted_events, SliceOwed}
 
 -- the text of the answers to these data, in order
 abbrev pub AreAnswers : Request → List Object → List ℕ → Type 0
 AreAnswers (Check N) given text = text ≡ lines 1 (initial One) given N
 AreAnswers Taut given text = InOrder OwesTautology (numbered 1 given) text
 AreAnswers (Lower N) given text = InOrder OwesLowered (derived_course given N) text
+AreAnswers (Slice name N) given text = text ≡ []
 AreAnswers _ given text = ⊥
 
--- the last line, after the answers to all data of a book with this fault, or with none
-abbrev pub last_line_for : Request → List Object → Option Fault → List ℕ
-last_line_for (Check N) given fault = last_line (book given fault) N
-last_line_for Taut given fault = comment_ending fault (tautology_summary given)
-last_line_for (Lower N) given fault = comment_ending fault (course_summary (derived_course given N))
-last_line_for _ given fault = []
+-- the text after the answers to all data of a book with this fault, or with none: the last line, and for a slice the events that are kept before it
+abbrev pub IsLastText : Request → List Object → Option Fault → List ℕ → Type 0
+IsLastText (Check N) given fault text = text ≡ last_line (book given fault) N
+IsLastText Taut given fault text = text ≡ comment_ending fault (tautology_summary given)
+IsLastText (Lower N) given fault text = text ≡ comment_ending fault (course_summary (derived_course given N))
+IsLastText (Slice name N) given fault text = let accepted = accepted_events given N in SliceOwed fault (target accepted name) given accepted text
+IsLastText _ given fault text = ⊥
 
--- how many of the data are refused, or not proved
+-- how many of the data are refused, or not proved; of a slice whether its theorem is missing
 abbrev pub refused_for : Request → List Object → ℕ
 refused_for (Check N) given = refused_among (initial One) given N
 refused_for Taut given = how_many (λ x. not (is_proved x)) given
 refused_for (Lower N) given = refused_in (derived_course given N)
+refused_for (Slice name N) given = cond (is_present (target (accepted_events given N) name)) 0 1
 refused_for _ given = 0

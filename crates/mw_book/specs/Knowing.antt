@@ -1,12 +1,13 @@
 -- Where the judging of a book stands.
 use Rattle.std.specs.Prelude.{◌≡◌, ℕ, List, length}
 use Rattle.mw_model.specs.Object.{Object}
-use Rattle.mw_model.specs.Commands.{Request, Check}
+use Rattle.mw_model.specs.Request.{Request, Check}
 use Rattle.mw_model.specs.Primitive.{One}
 use Rattle.mw_model.specs.Theory.{initial}
 use Rattle.mw_model.specs.Fate.{after}
 use Rattle.mw_model.specs.Report.{refused_among}
 use Rattle.mw_kernel.specs.Knowledge.{theory_of}
+use Rattle.mw_book.specs.Answering.{AnsweredBy}
 use Rattle.mw_book.specs.declared.judging.Judging.{Judging}
 
 -- These data were judged: the kernel has the theory that they lead to, and the numbers count them.
@@ -18,5 +19,4 @@ pub record Judged (j : Judging) (N : ℕ) (given : List Object) : Type 0 where
 
 -- the request is to judge the book, and these data were judged
 abbrev pub JudgedFor : Judging → Request → List Object → Type 0
-JudgedFor j (Check N) given = Judged j N given
-JudgedFor j _ given = ⊥
+JudgedFor j = AnsweredBy Check (Judged j)

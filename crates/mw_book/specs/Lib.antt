@@ -1,3 +1,5 @@
+pub mod Commands
+pub mod Arguments
 pub mod Books
 pub mod Answered
 pub mod Verdicts
@@ -9,5 +11,6 @@ pub mod Words
 pub mod Lines
 pub mod Knowing
 pub mod Lowered
+pub mod Sliced
 pub mod Checks
 pub mod Trials

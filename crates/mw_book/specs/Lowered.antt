@@ -1,10 +1,11 @@
 -- Where the lowering of a book stands.
 use Rattle.std.specs.Prelude.{◌≡◌, ℕ, List, length}
 use Rattle.mw_model.specs.Object.{Object}
-use Rattle.mw_model.specs.Commands.{Request, Lower}
+use Rattle.mw_model.specs.Request.{Request, Lower}
 use Rattle.mw_model.specs.Transition.{last_theory}
 use Rattle.mw_model.specs.Lowering.{derived_course, refused_in}
 use Rattle.mw_kernel.specs.Knowledge.{theory_of}
+use Rattle.mw_book.specs.Answering.{AnsweredBy}
 use Rattle.mw_book.specs.declared.lowering.Lowering.{Lowering}
 
 -- These data were judged, with derivations as good as proofs: the kernel has the theory that they lead to, and the numbers count them.
@@ -16,5 +17,4 @@ pub record Lowered (l : Lowering) (N : ℕ) (given : List Object) : Type 0 where
 
 -- the request is to lower the book, and these data were judged so
 abbrev pub LoweredFor : Lowering → Request → List Object → Type 0
-LoweredFor l (Lower N) given = Lowered l N given
-LoweredFor l _ given = ⊥
+LoweredFor l = AnsweredBy Lower (Lowered l)

@@ -1,8 +1,10 @@
 -- What the program makes of the words of the command line.
 use Rattle.std.specs.Prelude.{true, [], ◌∷◌, codes}
 use Rattle.clap.specs.Simple.{App, new_app, on_top}
-use Rattle.mw_model.specs.Arguments.{steps_command, trial_command}
-use Rattle.mw_model.specs.Commands.{with_subcommands, Request, Check, Trial, Taut, Lower, Help, Usage}
+use Rattle.mw_book.specs.Arguments.{steps_command, trial_command}
+use Rattle.mw_model.specs.Object.{name_of_bytes}
+use Rattle.mw_model.specs.Request.{Request, Check, Trial, Taut, Lower, Slice, Help, Usage}
+use Rattle.mw_book.specs.Commands.{with_subcommands}
 use Rattle.mw_book.specs.declared.words.Request.{Request as Asked}
 use Rattle.mw_book.specs.declared.words.Request.TheVariants as words
 
@@ -11,6 +13,7 @@ meaning_of (words.Check steps) = Check steps
 meaning_of (words.Trial events steps) = Trial events steps
 meaning_of words.Taut = Taut
 meaning_of (words.Lower steps) = Lower steps
+meaning_of (words.Slice name steps) = Slice (name_of_bytes name) steps
 meaning_of words.Help = Help
 meaning_of words.Usage = Usage
 

@@ -51,8 +51,8 @@ fn write_remark(
     Ok(())
 }
 
-// Writes the datum of a reference and a line end.
-fn write_line(lines: &mut Vec<u8>, heap: &Heap, x: Ref) -> Result<(), Memory>
+/// Writes the datum of a reference and a line end.
+pub(crate) fn write_line(lines: &mut Vec<u8>, heap: &Heap, x: Ref) -> Result<(), Memory>
     requires within { IsIn heap.now.objects x }
     ensures { OnOk result ((text : List ℕ) × (next : ℕ) × IsWritten (object_at heap.now.objects x) 1 text next × (lines.new.items ≡ lines.old.items ++ (text ++ 10 ∷ []))) }
 {

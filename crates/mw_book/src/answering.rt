@@ -1,13 +1,13 @@
 //! Answering the data of a book as they are read.
-ghost use Rattle.std.specs.Prelude.{◌≡◌, ℕ, ◌+◌, ◌<◌, ◌≤◌, ◌^◌, true, false, List, [], ◌∷◌, ◌++◌, length, IfOk, OnOk};
+ghost use Rattle.std.specs.Prelude.{◌≡◌, ℕ, ◌+◌, ◌<◌, ◌≤◌, ◌^◌, true, false, List, [], ◌∷◌, ◌++◌, length, None, IfOk, OnOk};
 ghost use Rattle.mw_model.specs.Object.{Object};
 ghost use Rattle.mw_model.specs.Fate.{is_out_of_range};
-ghost use Rattle.mw_model.specs.Commands.{Request};
+ghost use Rattle.mw_model.specs.Request.{Request};
 ghost use Rattle.mw_heap.specs.Objects.{object_at, IsIn};
 ghost use Rattle.mw_read.specs.Standing.{Stands, IsStanding, Follows, Says};
 ghost use Rattle.mw_read.specs.Feeding.{IsAwaiting, IsReady, Continues};
 ghost use Rattle.mw_read.specs.Shown.{ShowsEvent};
-ghost use Rattle.mw_book.specs.Due.{last_line_for, refused_for};
+ghost use Rattle.mw_book.specs.Due.{IsLastText, refused_for};
 ghost use Rattle.mw_book.specs.Answering.{Answers, HasAnswered, fault_of};
 
 use mw_heap::{Memory, Ref};
@@ -76,10 +76,10 @@ pub(crate) trait Answering {
         ensures count { count self.new ≡ count self.old }
         ensures answered { (q : Request) (given : List Object) → answered self.old q given → answered self.new q given };
 
-    /// Puts the last line after those that were not written yet, for a book with this fault or with none. Answers how many data were
-    /// refused, or not proved.
+    /// Puts the last text after the lines that were not written yet, for a book with this fault or with none. Answers how many data were
+    /// refused, or not proved, or how many theorems are missing.
     fn end(&mut self, fault: Option<(SyntaxKind, u64)>) -> Result<u64, Memory>
         requires known { HasAnswered answered self.old }
-        ensures refused { IfOk result (λ n. (q : Request) (given : List Object) → answered self.old q given → n ≡ refused_for q given) }
-        ensures last { OnOk result ((q : Request) (given : List Object) → answered self.old q given → unwritten self.new ≡ unwritten self.old ++ last_line_for q given (fault_of fault)) };
+        ensures refused { fault ≡ None → IfOk result (λ n. (q : Request) (given : List Object) → answered self.old q given → n ≡ refused_for q given) }
+        ensures last { OnOk result ((q : Request) (given : List Object) → answered self.old q given → (text : List ℕ) × IsLastText q given (fault_of fault) text × (unwritten self.new ≡ unwritten self.old ++ text)) };
 }

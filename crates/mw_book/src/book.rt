@@ -1,14 +1,14 @@
 //! A book from its bytes to the answers to its data.
 ghost use Rattle.std.specs.Prelude.{◌≡◌, ℕ, List, [], ◌++◌, Some, OnOk, OnErr, IfOk, IfErr};
 ghost use Rattle.mw_model.specs.Object.{Object};
-ghost use Rattle.mw_model.specs.Commands.{Request};
+ghost use Rattle.mw_model.specs.Request.{Request};
 ghost use Rattle.mw_model.specs.Report.{status_of as status_with};
 ghost use Rattle.mw_port.specs.Ports.{Takes};
 ghost use Rattle.mw_book.specs.Books.{TakesSome};
-ghost use Rattle.mw_book.specs.Due.{AreAnswers, last_line_for, refused_for};
+ghost use Rattle.mw_book.specs.Due.{AreAnswers, IsLastText, refused_for};
 ghost use Rattle.mw_book.specs.Answering.{HasAnswered, ReadWhole, fault_of};
 ghost use Rattle.mw_book.specs.Statuses.{report_status};
-ghost use Rattle.mw_book.specs.Checks.{BookEnds, SourceCounts, SinkCounts, Concludes, IsHalt, IsStop};
+ghost use Rattle.mw_book.specs.Checks.{BookEnds, SourceCounts, SinkCounts, ConcludesWith, IsHalt, IsStop};
 
 use crate::Status;
 use crate::answering::Answering;
@@ -106,14 +106,14 @@ fn write_lines<A: Answering, K: Sink>(answering: &mut A, sink: &mut K) -> Result
     written.map_err(status_of)
 }
 
-/// Writes the lines that were not written yet and the last line.
+/// Writes the lines that were not written yet and the last text.
 pub(crate) fn conclude<A: Answering, K: Sink>(
     answering: &mut A,
     fault: Option<(SyntaxKind, u64)>,
     sink: &mut K,
 ) -> Status
     requires known { HasAnswered A.answered answering.old }
-    ensures concludes { (q : Request) (given : List Object) → A.answered answering.old q given → Concludes result (status_with (fault_of fault) (refused_for q given)) (A.unwritten answering.old ++ last_line_for q given (fault_of fault)) (K.taken sink.old) (K.taken sink.new) }
+    ensures concludes { (q : Request) (given : List Object) → A.answered answering.old q given → ConcludesWith result (status_with (fault_of fault) (refused_for q given)) (A.unwritten answering.old) (IsLastText q given (fault_of fault)) (K.taken sink.old) (K.taken sink.new) }
     ensures sink_counts { SinkCounts result (K.faults sink.old) (K.faults sink.new) }
 {
     let Ok(refused) = answering.end(fault) else {

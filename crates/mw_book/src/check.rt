@@ -1,6 +1,6 @@
 //! The commands that judge a book.
 ghost use Rattle.std.specs.Prelude.{◌≡◌, ℕ, [], Some, IfOk};
-ghost use Rattle.mw_model.specs.Commands.{Check};
+ghost use Rattle.mw_model.specs.Request.{Check};
 ghost use Rattle.mw_model.specs.Trial.{trial_book};
 ghost use Rattle.mw_port.specs.Memories.{no_faults};
 ghost use Rattle.mw_book.specs.Knowing.{Judged};

@@ -1,6 +1,7 @@
 //! The program, but for its words, its source and its sink, which it is handed.
 ghost use Rattle.std.specs.Prelude.{◌≡◌, ◌≢◌, ◌⊎◌, true, false, IfSome, IfErr, OnOk, OnErr};
-ghost use Rattle.mw_model.specs.Commands.{Help, Usage, asked, help_text};
+ghost use Rattle.mw_model.specs.Request.{Help, Usage};
+ghost use Rattle.mw_book.specs.Commands.{asked, help_text};
 ghost use Rattle.mw_port.specs.Ports.{Rises, Takes, HasEnded};
 ghost use Rattle.mw_book.specs.Books.{TakesSome};
 ghost use Rattle.mw_book.specs.Checks.{TrialEnds, SinkCounts, IsHalt};
@@ -11,6 +12,7 @@ use crate::check::{check, trial};
 use crate::lower::lower;
 use crate::output::{status_of, write_all};
 use crate::promise::answers_promised;
+use crate::slice::slice;
 use crate::taut::taut;
 use crate::trial::TrialSource;
 use crate::words::{Request, request_of};
@@ -19,15 +21,16 @@ use std::alloc::Global;
 
 // How the program is used: a line for each command.
 const HELP: &[u8] =
-    b"milawa check [--steps N]\nmilawa trial M [--steps N]\nmilawa taut\nmilawa lower [--steps N]\n";
+    b"milawa check [--steps N]\nmilawa trial M [--steps N]\nmilawa taut\nmilawa lower [--steps N]\nmilawa slice NAME [--steps N]\n";
 
 /// Does what the words ask for: judges the book on the source and writes its report to the sink, or judges the trial book and writes
 /// the last line of its report, or proves the formulas of the book on the source and writes the theorems, or judges that book with
-/// derivations as good as proofs and writes its events with proofs in their place, or writes how the program is used.
+/// derivations as good as proofs and writes its events with proofs in their place, or judges that book and writes the events that one of its
+/// theorems rests on, or writes how the program is used.
 ///
 /// `Done`, `SomeRefused` and `Syntax` come where the words ask for a book and its report, or its answers, have that status; the
 /// sink then took these whole, or the last line: what a report calls accepted is true in the standard model, and the events that
-/// the other two wrote are accepted when they are read again. `Help` comes where the words ask how the program is used, and `Usage` where
+/// the other three wrote are accepted when they are read again. `Help` comes where the words ask how the program is used, and `Usage` where
 /// they ask for nothing that it does. `ReadFault` and `WriteFault` come where the source, or the sink, counted a fault in this call, and
 /// `Memory` where memory was refused: what the sink took is a prefix of a text that was due, and at a fault in reading what is due
 /// for all data that are complete in the bytes read, which hold no fault of the text.
@@ -54,6 +57,7 @@ pub fn run<S: Source, K: Sink>(
         Ok(Request::Trial { events, steps }) => judge_trial(alloc, events, steps, sink),
         Ok(Request::Taut) => taut(alloc, source, sink),
         Ok(Request::Lower { steps }) => lower(alloc, steps, source, sink),
+        Ok(Request::Slice { name, steps }) => slice(alloc, name, steps, source, sink),
         Ok(Request::Help) => match write_help(sink) {
             Ok(()) => Status::Help,
             Err(status) => status,

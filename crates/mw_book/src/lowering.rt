@@ -1,7 +1,7 @@
 //! Judging events whose derivations are turned to proofs, as they are read.
 ghost use Rattle.std.specs.Prelude.{◌≡◌, ◌+◌, ◌<◌, ◌^◌, cond, [], ◌∷◌, ◌++◌, codes, OnOk, IfOk};
 ghost use Rattle.mw_model.specs.Object.{Object};
-ghost use Rattle.mw_model.specs.Commands.{Lower as ToLower};
+ghost use Rattle.mw_model.specs.Request.{Lower as ToLower};
 ghost use Rattle.mw_model.specs.Derivation.{Turns};
 ghost use Rattle.mw_model.specs.Rewriting.{IsRewritten};
 ghost use Rattle.mw_model.specs.Report.{fate_text, is_accepted};

@@ -1,7 +1,7 @@
 //! The numbers among the words of the command line.
 ghost use Rattle.std.specs.Prelude.{◌≡◌, ◌≤◌, Some, None, length, cond};
 ghost use Rattle.mw_model.specs.Lexemes.{all_are, is_digit, decimal_value};
-ghost use Rattle.mw_model.specs.Arguments as model;
+ghost use Rattle.mw_book.specs.Arguments as model;
 
 /// The number that the text is: at most so many decimal digits, and a value from the least to the most.
 pub(crate) fn number_within(text: &str, digits: usize, least: u64, most: u64) -> Option<u64>

@@ -2,21 +2,23 @@
 ghost use Rattle.std.specs.Prelude.{◌≡◌, false, IfOk};
 ghost use Rattle.clap.specs.Words.{app_of, shape_of, rule_of};
 ghost use Rattle.clap.specs.declared.builder.command.Command.TheViews.{out-Command as fields_of};
-ghost use Rattle.mw_model.specs.Commands as model;
-ghost use Rattle.mw_model.specs.Arguments as arguments;
+ghost use Rattle.mw_book.specs.Commands as commands;
+ghost use Rattle.mw_book.specs.Arguments as arguments;
 ghost use Rattle.mw_book.specs.Words.{judging_program};
 
 use clap::{Arg, ArgAction, Command};
 use std::alloc::{AllocError, Global};
 
-/// The command with its subcommands `check`, `trial`, `taut` and `lower`.
+/// The command with its subcommands `check`, `trial`, `taut`, `lower` and `slice`.
 pub(crate) fn program<'a>(alloc: Global) -> Result<Command<'a>, AllocError>
-    ensures { IfOk result (λ c. app_of c ≡ model.program) }
+    ensures { IfOk result (λ c. app_of c ≡ commands.program) }
 {
     let lower = lower_command(alloc)?;
+    let slice = slice_command(alloc)?;
     judging_program(alloc)?
         .subcommand(taut_command(alloc))?
-        .subcommand(lower)
+        .subcommand(lower)?
+        .subcommand(slice)
 }
 
 // The command with the two subcommands that write reports.
@@ -51,7 +53,7 @@ fn trial_command<'a>(alloc: Global) -> Result<Command<'a>, AllocError>
 
 // taut
 fn taut_command<'a>(alloc: Global) -> Command<'a>
-    ensures shape { shape_of result ≡ model.plain_command "taut" }
+    ensures shape { shape_of result ≡ commands.plain_command "taut" }
     ensures local { (fields_of result).has_globals ≡ false }
 {
     Command::new(alloc, "taut")
@@ -65,6 +67,16 @@ fn lower_command<'a>(alloc: Global) -> Result<Command<'a>, AllocError>
     Command::new(alloc, "lower").arg(steps_option(alloc))
 }
 
+// slice NAME [--steps N]
+fn slice_command<'a>(alloc: Global) -> Result<Command<'a>, AllocError>
+    ensures shape { IfOk result (λ c. shape_of c ≡ arguments.slice_command) }
+    ensures local { IfOk result (λ c. (fields_of c).has_globals ≡ false) }
+{
+    Command::new(alloc, "slice")
+        .arg(name_argument(alloc))?
+        .arg(steps_option(alloc))
+}
+
 fn steps_option<'a>(alloc: Global) -> Arg<'a>
     ensures rule { rule_of result ≡ arguments.steps_option }
     ensures local { result.global ≡ false }
@@ -72,6 +84,15 @@ fn steps_option<'a>(alloc: Global) -> Arg<'a>
     Arg::new(alloc, "steps")
         .long("steps")
         .action(ArgAction::Set)
+}
+
+fn name_argument<'a>(alloc: Global) -> Arg<'a>
+    ensures rule { rule_of result ≡ arguments.name_argument }
+    ensures local { result.global ≡ false }
+{
+    Arg::new(alloc, "name")
+        .action(ArgAction::Set)
+        .required(true)
 }
 
 fn events_argument<'a>(alloc: Global) -> Arg<'a>

@@ -1,28 +1,31 @@
 //! What the commands write keeps their promises.
 ghost use Rattle.std.specs.Prelude.{◌≡◌, ℕ, List, ◌++◌};
 ghost use Rattle.mw_model.specs.Object.{Object};
-ghost use Rattle.mw_model.specs.Commands.{Request};
+ghost use Rattle.mw_model.specs.Request.{Request};
 ghost use Rattle.mw_model.specs.Grammar.{trees};
 ghost use Rattle.mw_model.specs.Report.{status_of};
 ghost use Rattle.mw_model.specs.Headlines.{Promised, IsBegun};
-ghost use Rattle.mw_book.specs.Due.{AreAnswers, last_line_for, refused_for};
+ghost use Rattle.mw_book.specs.Due.{AreAnswers, IsLastText, refused_for};
 
-use mw_model::commands::tautologies_again;
+use mw_model::commands::{slices, tautologies_again};
 use mw_model::lowering::{lowerings_again, lowerings_possible};
+use mw_model::slicing::slices_again;
 use mw_print::labelled_texts_are_read;
 use mw_reflect::reached_sound;
 use mw_taut::tautologies_have_proofs;
 
-/// The answers to all data of a book, with the last line, keep the promise of the request; those to the first data begin a text that
+/// The answers to all data of a book, with the last text, keep the promise of the request; those to the first data begin a text that
 /// keeps it, since an answer to each of the other data may be written.
 pub(crate) fn answers_promised()
-    ensures whole { (q : Request) (bytes text : List ℕ) → AreAnswers q (trees bytes).events text → Promised q bytes (text ++ last_line_for q (trees bytes).events (trees bytes).fault) (status_of (trees bytes).fault (refused_for q (trees bytes).events)) }
+    ensures whole { (q : Request) (bytes text last : List ℕ) → AreAnswers q (trees bytes).events text → IsLastText q (trees bytes).events (trees bytes).fault last → Promised q bytes (text ++ last) (status_of (trees bytes).fault (refused_for q (trees bytes).events)) }
     ensures begun { (q : Request) (bytes text : List ℕ) (given more : List Object) → (trees bytes).events ≡ given ++ more → AreAnswers q given text → IsBegun q bytes text }
 {
     reached_sound();
     tautologies_again();
     lowerings_possible();
     lowerings_again();
+    slices();
+    slices_again();
     labelled_texts_are_read();
     tautologies_have_proofs();
 }

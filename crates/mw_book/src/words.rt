@@ -1,12 +1,15 @@
 //! The words of the command line.
 ghost use Rattle.std.specs.Prelude.{◌≡◌, ℕ, IfOk, option_map};
 ghost use Rattle.clap.specs.Words.{subcommand_rows_of};
-ghost use Rattle.mw_model.specs.Commands as model;
-ghost use Rattle.mw_model.specs.Arguments as numbers;
+ghost use Rattle.mw_model.specs.Object.{name_of_bytes};
+ghost use Rattle.mw_model.specs.Request.{Check, Lower};
+ghost use Rattle.mw_book.specs.Commands as commands;
+ghost use Rattle.mw_book.specs.Arguments as numbers;
 ghost use Rattle.mw_book.specs.Words.{meaning_of};
 
 use crate::number::number_within;
 use crate::program::program;
+use crate::theorem_name::{TheoremName, name_of};
 use clap::ArgMatches;
 use clap::error::ErrorKind;
 use mw_heap::Memory;
@@ -15,7 +18,7 @@ use std::alloc::Global;
 use std::convert::AsStr;
 
 /// What the words of the command line ask for.
-#[derive(Clone, Copy, Debug, PartialEq, Eq)]
+#[derive(Drop)]
 pub(crate) enum Request {
     /// To judge the book, with this step limit.
     Check { steps: u64 },
@@ -25,6 +28,8 @@ pub(crate) enum Request {
     Taut,
     /// To turn the book's derivations to proofs, with this step limit.
     Lower { steps: u64 },
+    /// To keep what the theorem of this name rests on, with this step limit.
+    Slice { name: TheoremName, steps: u64 },
     /// To show how the program is used.
     Help,
     /// Nothing that the program does.
@@ -36,14 +41,14 @@ const DEFAULT_STEPS: u64 = 10_000_000;
 
 /// What the words ask for, as `clap` reads them and with numbers in range.
 pub(crate) fn request_of(alloc: Global, words: &[Text]) -> Result<Request, Memory>
-    ensures { IfOk result (λ r. meaning_of r ≡ model.asked words.now) }
+    ensures { IfOk result (λ r. meaning_of r ≡ commands.asked words.now) }
 {
     if is_help(words) {
         return Ok(Request::Help);
     }
     let program = program(alloc)?;
     match program.try_get_matches_from(words) {
-        Ok(matches) => Ok(request_by(&matches)),
+        Ok(matches) => request_by(alloc, &matches),
         Err(error) => match error.kind() {
             ErrorKind::OutOfMemory => Err(Memory),
             _ => Ok(Request::Usage),
@@ -62,41 +67,50 @@ fn is_help(words: &[Text]) -> bool
 }
 
 // What the subcommand asks for that `clap` found.
-fn request_by(matches: &ArgMatches<'_>) -> Request
-    ensures { meaning_of result ≡ model.request_of (subcommand_rows_of matches.now) }
+fn request_by(alloc: Global, matches: &ArgMatches<'_>) -> Result<Request, Memory>
+    ensures { IfOk result (λ r. meaning_of r ≡ commands.request_of (subcommand_rows_of matches.now)) }
 {
     match matches.subcommand() {
-        Some((name, found)) => request_with(
-            name,
-            steps_of(found.get_str("steps")),
-            events_of(found.get_str("events")),
-        ),
-        None => Request::Usage,
+        Some((word, found)) => {
+            let steps = steps_of(found.get_str("steps"));
+            let events = events_of(found.get_str("events"));
+            let name = theorem_of(alloc, found.get_str("name"))?;
+            Ok(request_with(word, steps, events, name))
+        }
+        None => Ok(Request::Usage),
     }
 }
 
-// What a subcommand of this name asks for, with these numbers.
-fn request_with(name: &str, steps: Option<u64>, events: Option<u64>) -> Request
-    ensures { meaning_of result ≡ model.request_with name.now steps events }
+// What a subcommand of this name asks for, with these numbers and this name.
+fn request_with(
+    word: &str,
+    steps: Option<u64>,
+    events: Option<u64>,
+    name: Option<TheoremName>,
+) -> Request
+    ensures { meaning_of result ≡ commands.request_with word.now steps events (option_map name_of_bytes name) }
 {
-    if name == "check" {
+    if word == "check" {
         return check_with(steps);
     }
-    if name == "trial" {
+    if word == "trial" {
         return trial_with(events, steps);
     }
-    if name == "taut" {
+    if word == "taut" {
         return Request::Taut;
     }
-    if name == "lower" {
+    if word == "lower" {
         return lower_with(steps);
+    }
+    if word == "slice" {
+        return slice_with(name, steps);
     }
     Request::Usage
 }
 
 // To judge the book, where there is a step limit.
 fn check_with(steps: Option<u64>) -> Request
-    ensures { meaning_of result ≡ model.with_number model.Check steps }
+    ensures { meaning_of result ≡ commands.with_number Check steps }
 {
     match steps {
         Some(steps) => Request::Check { steps },
@@ -106,7 +120,7 @@ fn check_with(steps: Option<u64>) -> Request
 
 // To lower the book, where there is a step limit.
 fn lower_with(steps: Option<u64>) -> Request
-    ensures { meaning_of result ≡ model.with_number model.Lower steps }
+    ensures { meaning_of result ≡ commands.with_number Lower steps }
 {
     match steps {
         Some(steps) => Request::Lower { steps },
@@ -116,7 +130,7 @@ fn lower_with(steps: Option<u64>) -> Request
 
 // To judge the trial book, where there are both numbers.
 fn trial_with(events: Option<u64>, steps: Option<u64>) -> Request
-    ensures { meaning_of result ≡ model.trial_with events steps }
+    ensures { meaning_of result ≡ commands.trial_with events steps }
 {
     let Some(events) = events else {
         return Request::Usage;
@@ -124,6 +138,29 @@ fn trial_with(events: Option<u64>, steps: Option<u64>) -> Request
     match steps {
         Some(steps) => Request::Trial { events, steps },
         None => Request::Usage,
+    }
+}
+
+// To slice the book, where there are a name and a step limit.
+fn slice_with(name: Option<TheoremName>, steps: Option<u64>) -> Request
+    ensures { meaning_of result ≡ commands.slice_with (option_map name_of_bytes name) steps }
+{
+    let Some(name) = name else {
+        return Request::Usage;
+    };
+    match steps {
+        Some(steps) => Request::Slice { name, steps },
+        None => Request::Usage,
+    }
+}
+
+// The name of a theorem, where the text spells one.
+fn theorem_of(alloc: Global, text: Option<&str>) -> Result<Option<TheoremName>, Memory>
+    ensures { IfOk result (λ o. option_map name_of_bytes o ≡ numbers.name_of (option_map (λ s. s.now) text.entry)) }
+{
+    match text {
+        Some(text) => name_of(alloc, text),
+        None => Ok(None),
     }
 }
 

@@ -10,14 +10,16 @@ use crate::members::{five_members, four_members, one_member, three_members, two_
 use crate::word::{Word, word_of};
 use mw_heap::{Heap, Ref, View};
 
-/// An event and its members.
+/// An event, by its members after its word, in order.
 #[derive(Clone, Copy)]
-pub(crate) enum Event {
+pub enum Event {
+    /// A theorem with its proof.
     Verify {
         name: Ref,
         formula: Ref,
         proof: Ref,
     },
+    /// A function, with the proofs of its obligations.
     Define {
         name: Ref,
         formals: Ref,
@@ -25,19 +27,25 @@ pub(crate) enum Event {
         measure: Ref,
         proofs: Ref,
     },
+    /// A witness.
     Skolem {
         name: Ref,
         bound: Ref,
         free: Ref,
         body: Ref,
     },
+    /// A switch to the checker of this name.
     Switch(Ref),
+    /// A term to be evaluated.
     Eval(Ref),
+    /// An object to be shown.
     Print(Ref),
+    /// Functions that may call each other, with the proofs of their obligations.
     DefineAll {
         definitions: Ref,
         proofs: Ref,
     },
+    /// A profile, by its number.
     Profile(Ref),
 }
 
@@ -88,8 +96,8 @@ fn event_with(heap: &Heap, word: Word, members: Ref) -> Option<Event>
     }
 }
 
-/// The event that an object is; nothing of what is none.
-pub(crate) fn event_of(heap: &Heap, x: Ref) -> Option<Event>
+/// The event that an object is, by its word and as many members as that has; nothing of what is none.
+pub fn event_of(heap: &Heap, x: Ref) -> Option<Event>
     requires { IsIn heap.now.objects x }
     ensures event { MatchOption result (event_word (object_at heap.now.objects x) ≡ None) (IsEvent heap.now.objects x) }
     ensures in_range { is_out_of_range (object_at heap.now.objects x) ≡ false }

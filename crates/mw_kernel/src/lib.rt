@@ -26,5 +26,6 @@ mod theory;
 mod verify;
 mod word;
 
+pub use event::{Event, event_of};
 pub use fate::Fate;
 pub use kernel::Kernel;

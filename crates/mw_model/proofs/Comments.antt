@@ -12,7 +12,7 @@ use Rattle.mw_model.proofs.OneLine.{spaced_line, numeral_line, kind_line}
 pub comment_reads : (xs : List Object) (c text : List ℕ) → no_newline c ≡ true → IsBookText xs text → IsBookText xs (comment c ++ text)
 comment_reads xs c text h r = subst (IsBookText xs) (ap (λ z. 59 ∷ 32 ∷ z) (sym (append_assoc c (10 ∷ []) text))) (comment_line xs (32 ∷ c) text h r)
 
-last_comment : (c : List ℕ) → no_newline c ≡ true → IsBookText [] (comment c)
+pub last_comment : (c : List ℕ) → no_newline c ≡ true → IsBookText [] (comment c)
 last_comment c h = subst (IsBookText []) (ap (λ z. 59 ∷ 32 ∷ z) (append-nil (c ++ 10 ∷ []))) (comment_reads [] c [] h no_lines)
 
 pub ending_reads : (fault : Option Fault) (summary : List ℕ) → no_newline summary ≡ true → IsBookText [] (comment_ending fault summary)

@@ -1,5 +1,5 @@
 -- Logs of books: what is owed where a book is turned to one.
-use Rattle.std.proofs.Common.{◌≡◌, ℕ, true, List, [], ◌∷◌, ◌++◌, refl}
+use Rattle.std.proofs.Common.{◌≡◌, ℕ, List, [], ◌∷◌, ◌++◌, refl}
 use Prim.Native.String.{String}
 use Rattle.mw_model.specs.Refusal.{need, must, unless}
 use Rattle.mw_model.specs.BuiltInText.{joined}
@@ -10,14 +10,14 @@ use Rattle.mw_model.specs.Pieces.{comment_ending}
 use Rattle.mw_model.specs.LogReport.{log_report}
 use Rattle.mw_model.specs.Flattening.{plain_course, flat_events, flat_summary, FlatWritten, flattening_status}
 use Rattle.mw_model.proofs.Examples.{says}
-use Rattle.mw_model.proofs.FlatData.{joined_by, all_pass, flat_text, is_flat_short, flat_owed}
+use Rattle.mw_model.proofs.FlatData.{joined_by, flat_text, flat_owed}
 
 -- what is written for the book, and the status
 abbrev pub flat : List String → List String → Status → Type 0
 flat book text status = FlatWritten (trees (joined book)) 10000000 (joined text) × (flattening_status (trees (joined book)) 10000000 ≡ status)
 
-owes : (b : Book) (text : List ℕ) → all_pass is_flat_short (flat_events (plain_course b.events 10000000)) ≡ true → text ≡ joined_by flat_text (flat_events (plain_course b.events 10000000)) ++ comment_ending b.fault (flat_summary (plain_course b.events 10000000)) → FlatWritten b 10000000 text
-owes b text h e = (joined_by flat_text (flat_events (plain_course b.events 10000000)), flat_owed (flat_events (plain_course b.events 10000000)) h, e)
+owes : (b : Book) (text : List ℕ) → text ≡ joined_by flat_text (flat_events (plain_course b.events 10000000)) ++ comment_ending b.fault (flat_summary (plain_course b.events 10000000)) → FlatWritten b 10000000 text
+owes b text e = (joined_by flat_text (flat_events (plain_course b.events 10000000)), flat_owed (flat_events (plain_course b.events 10000000)), e)
 
 abbrev claim_and_definition_before_a_switch_book : List String
 claim_and_definition_before_a_switch_book = "(define never (x axioms thms atbl) nil nil ())" ∷ "(verify claim" ∷ "#1=(por* #2=(pequal* (never x axioms thms atbl) 'nil)" ∷ "#3=(pnot* (pequal* (logic.provablep (logic.conclusion x) axioms thms atbl) 'nil)))" ∷ "(cut #1# ((expansion (por* #3# #2#) ((axiom #2#)))" ∷ "(propositional-schema (por* (pnot* #3#) #3#)))))" ∷ "(switch never)" ∷ "(verify refl (pequal* x x) (axiom (pequal* x x)))" ∷ []
@@ -27,7 +27,7 @@ claim_and_definition_before_a_switch_text = "(DEFINE NEVER (X AXIOMS THMS ATBL) 
 
 claim_and_definition_before_a_switch : flat claim_and_definition_before_a_switch_book claim_and_definition_before_a_switch_text SomeRefused
 unfolding need must unless
-claim_and_definition_before_a_switch = (owes (trees (joined claim_and_definition_before_a_switch_book)) _ refl refl, refl)
+claim_and_definition_before_a_switch = (owes (trees (joined claim_and_definition_before_a_switch_book)) _ refl, refl)
 
 claim_and_definition_before_a_switch_again : log_report (joined claim_and_definition_before_a_switch_text) ≡ says ("1 DEFINE NEVER yes" ∷ "2 VERIFY CLAIM yes" ∷ "events 2 yes 2 no 0 left 0" ∷ []) Done
 unfolding need must unless
@@ -41,7 +41,7 @@ theorem_is_one_step_text = "(STEP 1 AXIOM (PEQUAL* X X) NIL NIL)" ∷ "(VERIFY R
 
 pub theorem_is_one_step : flat theorem_is_one_step_book theorem_is_one_step_text Done
 unfolding need must unless
-theorem_is_one_step = (owes (trees (joined theorem_is_one_step_book)) _ refl refl, refl)
+theorem_is_one_step = (owes (trees (joined theorem_is_one_step_book)) _ refl, refl)
 
 theorem_is_one_step_again : log_report (joined theorem_is_one_step_text) ≡ says ("1 VERIFY REFL yes" ∷ "events 1 yes 1 no 0 left 0" ∷ []) Done
 unfolding need must unless
@@ -58,7 +58,7 @@ repeated_subproof_is_one_step_text = "(STEP 1 AXIOM (PEQUAL* X X) NIL NIL)" ∷ 
 
 repeated_subproof_is_one_step : flat repeated_subproof_is_one_step_book repeated_subproof_is_one_step_text SomeRefused
 unfolding need must unless
-repeated_subproof_is_one_step = (owes (trees (joined repeated_subproof_is_one_step_book)) _ refl refl, refl)
+repeated_subproof_is_one_step = (owes (trees (joined repeated_subproof_is_one_step_book)) _ refl, refl)
 
 repeated_subproof_is_one_step_again : log_report (joined repeated_subproof_is_one_step_text) ≡ says ("1 VERIFY TWICE yes" ∷ "2 VERIFY BOTH yes" ∷ "events 2 yes 2 no 0 left 0" ∷ []) Done
 unfolding need must unless
@@ -73,7 +73,7 @@ what_a_log_has_no_word_for_text = "(PROFILE 1)" ∷ "(SKOLEM W Y NIL Y)" ∷ "(S
 
 what_a_log_has_no_word_for : flat what_a_log_has_no_word_for_book what_a_log_has_no_word_for_text SomeRefused
 unfolding need must unless
-what_a_log_has_no_word_for = (owes (trees (joined what_a_log_has_no_word_for_book)) _ refl refl, refl)
+what_a_log_has_no_word_for = (owes (trees (joined what_a_log_has_no_word_for_book)) _ refl, refl)
 
 what_a_log_has_no_word_for_again : log_report (joined what_a_log_has_no_word_for_text) ≡ says ("1 PROFILE - yes" ∷ "2 SKOLEM W yes" ∷ "3 VERIFY REFL yes" ∷ "events 3 yes 3 no 0 left 0" ∷ []) Done
 unfolding need must unless
@@ -87,7 +87,7 @@ fault_of_a_book_for_a_log_text = "(SKOLEM W Y NIL Y)" ∷ "; syntax TOKEN at 18"
 
 fault_of_a_book_for_a_log : flat fault_of_a_book_for_a_log_book fault_of_a_book_for_a_log_text (Syntax TOKEN 18)
 unfolding need must unless
-fault_of_a_book_for_a_log = (owes (trees (joined fault_of_a_book_for_a_log_book)) _ refl refl, refl)
+fault_of_a_book_for_a_log = (owes (trees (joined fault_of_a_book_for_a_log_book)) _ refl, refl)
 
 fault_of_a_book_for_a_log_again : log_report (joined fault_of_a_book_for_a_log_text) ≡ says ("1 SKOLEM W yes" ∷ "events 1 yes 1 no 0 left 0" ∷ []) Done
 unfolding need must unless

@@ -2,7 +2,7 @@
 use Rattle.std.proofs.Common.{◌≡◌, ℕ, suc, ◌+◌, ◌<◌, ◌≤◌, Bool, true, false, ◌&&◌, ◌||◌, not, cond, eqb, List, [], ◌∷◌, ◌++◌, length, map, filter, Option, Some, None, ◌⊎◌, inl, inr, refl, sym, ap, ap₂, ◌∙◌, subst, arith, append_assoc, append-nil, length-append}
 use Rattle.std.proofs.lemmas.Bool.{true≢false, and_parts, and_from, or_cases, or_left, or_right, not-true, lt-ltb, eq-eqb}
 use Rattle.mw_model.specs.Object.{Object, Natural, Symbol, Pair, symbol, same_object, NIL, car, second_of, third_of, fourth_of, has_members, list1, list2, list3, list4}
-use Rattle.mw_model.specs.Term.{Formula, formula_object, ArityTable, is_formula, IsFormula, firsts}
+use Rattle.mw_model.specs.Term.{Formula, formula_object, ArityTable, is_formula, firsts}
 use Rattle.mw_model.specs.Reading.{formula_of, when, and_more}
 use Rattle.mw_model.specs.Primitive.{Profile}
 use Rattle.mw_model.specs.Definition.{arity_table, is_present}
@@ -23,7 +23,10 @@ use Rattle.mw_model.specs.Log.{naturals_of, formula_numbered, formulas_numbered,
 use Rattle.mw_model.specs.Flattening.{number_among, numbers_among, step_datum, flat_event_by, flat_event, is_logged_word}
 use Rattle.mw_model.proofs.Names.{same_object-eq, same_object-refl}
 use Rattle.mw_model.proofs.SameTerms.{same_formula-refl}
-use Rattle.mw_model.proofs.Read.{formula_read, formula_object-one}
+use Rattle.mw_model.proofs.Read.{formula_read}
+use Rattle.mw_model.proofs.Readable.{ReadableFormula, formula_readable, formula_object-one}
+use Rattle.mw_model.proofs.ObligationsReadable.{each_of_firsts}
+use Rattle.mw_model.proofs.WantedFormulas.{wanted_readable}
 use Rattle.mw_model.proofs.ReadBack.{some_one, and_more-back, when_some}
 use Rattle.mw_model.proofs.Judging.{method_back, row_holds, judge_good, good_judge, goods_judge}
 use Rattle.mw_model.proofs.Demands.{as_before}
@@ -154,18 +157,6 @@ each_both : {X : Type 0} (P : X → Type 0) (xs ys : List X) → Each P xs → E
 each_both P [] ys h k = k
 each_both P (x ∷ xs) ys h k = (h.0, each_both P xs ys h.1 k)
 
-each_filtered : (P : Object → Type 0) (x : Object) (ys : List Object) → Each P ys → Each P (filter (λ y. not (same_object x y)) ys)
-each_filtered P x [] h = tt
-each_filtered P x (y ∷ ys) h = go (same_object x y) (each_filtered P x ys h.1)
-  where
-    go : (b : Bool) → Each P (filter (λ y. not (same_object x y)) ys) → Each P (cond (not b) (y ∷ filter (λ y. not (same_object x y)) ys) (filter (λ y. not (same_object x y)) ys))
-    go true k = k
-    go false k = (h.0, k)
-
-each_first : (P : Object → Type 0) (ys : List Object) → Each P ys → Each P (firsts same_object ys)
-each_first P [] h = tt
-each_first P (y ∷ ys) h = (h.0, each_filtered P y (firsts same_object ys) (each_first P ys h.1))
-
 module _ (ax th : Object) (A : ArityTable) (P : Profile) where
   -- a proof, with its formula, that an event may hold
   record IsProof (p : Object) : Type 0 where
@@ -212,7 +203,7 @@ module _ (ax th : Object) (A : ArityTable) (P : Profile) where
         each_both IsProof (proofs_within p) (each_within qs) (within_proofs p F g (car_in_range (Pair p qs) h)) (each_proofs qs Gs gs (cdr_in_range (Pair p qs) h))
 
   distinct_are_proofs : (ps : Object) (Fs : List Formula) → ProveEach ax th A P ps Fs → is_out_of_range ps ≡ false → Each IsProof (distinct_proofs ps)
-  distinct_are_proofs ps Fs g h = each_first IsProof (each_within ps) (each_proofs ps Fs g h)
+  distinct_are_proofs ps Fs g h = each_of_firsts IsProof same_object (each_within ps) (each_proofs ps Fs g h)
 
   formulas : (ps : List Object) → Each IsProof ps → List Formula
   formulas [] h = []
@@ -381,23 +372,23 @@ module _ (t : Theory) (N : ℕ) (built_in : t.checker ≡ None) where
   abbrev Good : Object → Formula → Type 0
   Good p F = Proves t.axioms t.theorems A t.definitions.profile p F
 
-  judged_good : (p : Object) (F : Formula) → IsFormula A F → judged_as t N F p ≡ None → Good p F
+  judged_good : (p : Object) (F : Formula) → ReadableFormula F → judged_as t N F p ≡ None → Good p F
   judged_good p F i h =
       let a = no_conclusion (same_object (second_of p) (formula_object F)) (judged_by t.checker t p N) h in
       let b = some_formula (judge t.axioms t.theorems A t.definitions.profile p) (sym (ap (λ f. judged_by f t p N) built_in) ∙ a.1) in
       let g = judge_good t.axioms t.theorems A t.definitions.profile p b.0 b.1 in
       let j = (good_judge t.axioms t.theorems A t.definitions.profile p b.0 g).0 in
-      let e : b.0 ≡ F = formula_object-one A A b.0 F j i (sym (conclusion_is t.axioms t.theorems A t.definitions.profile p b.0 g) ∙ same_object-eq (second_of p) (formula_object F) a.0) in
+      let e : b.0 ≡ F = formula_object-one b.0 F (formula_readable A b.0 j) i (sym (conclusion_is t.axioms t.theorems A t.definitions.profile p b.0 g) ∙ same_object-eq (second_of p) (formula_object F) a.0) in
       subst (Good p) e g
 
-  all_good : (Fs : List Formula) (ps : Object) → Each (IsFormula A) Fs → has_members (length Fs) ps ≡ true → each_judged judged_as t N Fs ps ≡ None → ProveEach t.axioms t.theorems A t.definitions.profile ps Fs
+  all_good : (Fs : List Formula) (ps : Object) → Each ReadableFormula Fs → has_members (length Fs) ps ≡ true → each_judged judged_as t N Fs ps ≡ None → ProveEach t.axioms t.theorems A t.definitions.profile ps Fs
   all_good [] ps i m h = subst (λ z. ProveEach t.axioms t.theorems A t.definitions.profile z []) (sym (same_object-eq ps NIL m)) no_proofs
   all_good (F ∷ Fs) (Pair p ps) i m h =
       let a = or_none (judged_as t N F p) (each_judged judged_as t N Fs ps) h in more_proofs p ps F Fs (judged_good p F i.0 a.0) (all_good Fs ps i.1 m a.1)
   all_good (F ∷ Fs) (Natural n) i m h = cc
   all_good (F ∷ Fs) (Symbol s) i m h = cc
 
-  by_settling : (w : EventWord) (e : Object) → is_logged_word (Some w) ≡ true → happens_by_under judged_as w t N e ≡ settled judged_as t N (proofs_of w e) (demand w t e)
+  pub by_settling : (w : EventWord) (e : Object) → is_logged_word (Some w) ≡ true → happens_by_under judged_as w t N e ≡ settled judged_as t N (proofs_of w e) (demand w t e)
   by_settling Verify e h = refl
   by_settling Define e h = refl
   by_settling DefineAll e h = refl
@@ -438,10 +429,10 @@ are_those Fs (n ∷ ns) wanted h =
     subst (λ z. are_concluded Fs (n ∷ ns) z ≡ true) (sym b.4)
     (and_from (is_that_formula (formula_numbered Fs n) b.0) (are_concluded Fs ns b.1) (ap (λ o. is_that_formula o b.0) b.2 ∙ same_formula-refl b.0) (are_those Fs ns b.1 b.3))
 
--- An event that the built-in checker accepts, where what it wants are formulas, gets a yes after its steps.
-pub flat_is_logged : (t next : Theory) (N : ℕ) (e : Object) (w : EventWord) → t.checker ≡ None → event_word e ≡ Some w → is_logged_word (Some w) ≡ true → happens t N e ≡ accept next → ((Fs : List Formula) (new : Theory) → demand w t e ≡ Wants Fs new → Each (IsFormula (arity_table t.definitions)) Fs) → length (distinct_proofs (proofs_of w e)) < range → logged t (map (step_datum (distinct_proofs (proofs_of w e))) (numbered 1 (distinct_proofs (proofs_of w e)))) (flat_event e) ≡ (Yes, next)
+-- An event that the built-in checker accepts gets a yes after its steps.
+pub flat_is_logged : (t next : Theory) (N : ℕ) (e : Object) (w : EventWord) → t.checker ≡ None → event_word e ≡ Some w → is_logged_word (Some w) ≡ true → happens t N e ≡ accept next → length (distinct_proofs (proofs_of w e)) < range → logged t (map (step_datum (distinct_proofs (proofs_of w e))) (numbered 1 (distinct_proofs (proofs_of w e)))) (flat_event e) ≡ (Yes, next)
 unfolding formulas
-flat_is_logged t next N e w c word logged_word h formed few =
+flat_is_logged t next N e w c word logged_word h few =
     let ax = t.axioms in
     let th = t.theorems in
     let A = arity_table t.definitions in
@@ -454,7 +445,7 @@ flat_is_logged t next N e w c word logged_word h formed few =
     let in_range : is_out_of_range e ≡ false = not-true (is_out_of_range e) (when_some (not (is_out_of_range e)) (Some e) r.0 r.1).0 in
     let settles : happens_by_under judged_as w t N e ≡ accept next = sym (happens_as t N e w in_range word) ∙ h in
     let s = settled_accepts t next N ps (demand w t e) (sym (by_settling t N c w e logged_word) ∙ settles) in
-    let good = all_good t N c s.wanted ps (formed s.wanted next s.wants) s.many s.judged_all in
+    let good = all_good t N c s.wanted ps (wanted_readable t w e s.wanted next s.wants) s.many s.judged_all in
     let proofs = distinct_are_proofs ax th A P ps s.wanted good (proofs_in_range t N c w e in_range) in
     let Fs = formulas ax th A P qs proofs in
     let steps : conclusions ax th A P (map (step_datum qs) (numbered 1 qs)) ≡ Some Fs = steps_good ax th A P [] qs tt proofs (omega arith) (distinct_ordered ps) in

@@ -5,7 +5,7 @@ use Rattle.mw_model.specs.Term.{Formula, ArityTable}
 use Rattle.mw_model.specs.Primitive.{Profile}
 use Rattle.mw_model.specs.Proof.{Method, Follows, by_axiom, by_theorem, by_schema, by_equality, by_if_equality, by_beta, by_base, by_base_if, by_expansion, by_contraction, by_associativity, by_cut, by_instantiation, by_induction, Proves, proof, ProveEach, no_proofs, more_proofs}
 
-no_member : (x : Object) → Member x NIL → ⊥
+pub no_member : (x : Object) → Member x NIL → ⊥
 no_member x h = elim h [ ]
 
 module _ (ax th : Object) (A : ArityTable) (P : Profile) where

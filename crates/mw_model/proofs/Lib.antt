@@ -46,10 +46,10 @@ mod ExamplesProfile
 mod ExamplesText
 mod ExamplesSyntax
 mod ExamplesTrial
-mod ExamplesCommands
 mod ExamplesLong
 pub mod Numerals
 pub mod Lexing
+pub mod AtomText
 pub mod TextReadBack
 pub mod Acyclic
 pub mod Finite
@@ -66,6 +66,7 @@ pub mod WrittenData
 mod ExamplesSlices
 pub mod TurnsTest
 mod ExamplesDerivations
+pub mod TextWritten
 pub mod FlatData
 mod ExamplesFlattening
 pub mod Tautologies
@@ -74,10 +75,21 @@ pub mod Logs
 mod ExamplesHeadlines
 pub mod LogAccepted
 pub mod Lowered
+pub mod ObligationsReadable
+pub mod Leading
+pub mod WantedFormulas
 pub mod FlatLogged
 pub mod Locality
+pub mod LexingPieces
 pub mod LexingLines
 pub mod WrittenRead
+pub mod LabelsBefore
+pub mod WrittenMembers
+pub mod StepLines
+pub mod FlatRead
+pub mod FlatOutcomes
+pub mod FlatCourse
+pub mod FlatteningsAgain
 pub mod LexemesGrow
 pub mod ReadingGrows
 pub mod LinesGrow
@@ -90,3 +102,22 @@ pub mod FirstAxioms
 pub mod LoweredEvent
 pub mod LoweredAccepted
 pub mod LoweringsAgain
+pub mod SameArities
+pub mod SameExpansion
+pub mod Within
+pub mod ProvedAgain
+pub mod EventParts
+pub mod BlockNames
+pub mod Changes
+pub mod DefinedAgain
+pub mod DemandAgain
+pub mod EventAgain
+pub mod InFront
+pub mod SliceCourse
+pub mod AllAccepted
+pub mod SliceStep
+pub mod SliceWalk
+pub mod SliceIdle
+pub mod ChosenPlaces
+pub mod SliceKept
+pub mod SlicesAgain

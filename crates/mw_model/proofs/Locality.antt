@@ -56,14 +56,14 @@ pub record Taken (p : Part) (ls : Labels) (L : List Lexeme) (x : Object) (after 
 got_one : {x y : Object} {ls ms : Labels} {r s : List Lexeme} → Got x ls r ≡ Got y ms s → (x ≡ y) × (ls ≡ ms) × (r ≡ s)
 got_one h = (cc, cc, cc)
 
-record Then (m : Read) (f : Object → Labels → List Lexeme → Read) (y : Object) (ms : Labels) (s : List Lexeme) : Type 0 where
-  x : Object
-  ls : Labels
-  r : List Lexeme
-  is : m ≡ Got x ls r
-  next : f x ls r ≡ Got y ms s
+pub record Then (m : Read) (f : Object → Labels → List Lexeme → Read) (y : Object) (ms : Labels) (s : List Lexeme) : Type 0 where
+  pub x : Object
+  pub ls : Labels
+  pub r : List Lexeme
+  pub is : m ≡ Got x ls r
+  pub next : f x ls r ≡ Got y ms s
 
-then_got : (m : Read) (f : Object → Labels → List Lexeme → Read) (y : Object) (ms : Labels) (s : List Lexeme) → and_then m f ≡ Got y ms s → Then m f y ms s
+pub then_got : (m : Read) (f : Object → Labels → List Lexeme → Read) (y : Object) (ms : Labels) (s : List Lexeme) → and_then m f ≡ Got y ms s → Then m f y ms s
 then_got (Got x ls r) f y ms s h = record { x = x; ls = ls; r = r; is = refl; next = h }
 then_got (Stop s') f y ms s h = cc
 
@@ -93,7 +93,7 @@ then_taken p q ls ms l L x y after last r c t f = record { front = l ∷ t.front
 -- ---- the parts of a list
 
 -- neither the end of a list nor, in a tail, its dot
-abbrev MayBegin : Part → Lexeme → Type 0
+abbrev pub MayBegin : Part → Lexeme → Type 0
 MayBegin First (Close o) = ⊥
 MayBegin Tail (Close o) = ⊥
 MayBegin Tail (Dot o) = ⊥
@@ -129,7 +129,7 @@ first_read : (k : ℕ) (ls : Labels) (l : Lexeme) (L : List Lexeme) → MayBegin
 first_read k ls (Close o) L b = absurd b
 first_read k ls _ L b = refl
 
-tail_read : (k : ℕ) (ls : Labels) (l : Lexeme) (L : List Lexeme) → MayBegin Tail l → read (suc k) Tail ls (l ∷ L) ≡ and_then (read k Datum ls (l ∷ L)) (and_tail (read k Tail))
+pub tail_read : (k : ℕ) (ls : Labels) (l : Lexeme) (L : List Lexeme) → MayBegin Tail l → read (suc k) Tail ls (l ∷ L) ≡ and_then (read k Datum ls (l ∷ L)) (and_tail (read k Tail))
 tail_read k ls (Close o) L b = absurd b
 tail_read k ls (Dot o) L b = absurd b
 tail_read k ls _ L b = refl
@@ -139,11 +139,11 @@ last_read k ls (Close o) L b = absurd b
 last_read k ls _ L b = refl
 
 -- what is alike a list that begins so begins so
-record Begun (p : Part) (other : List Lexeme) : Type 0 where
-  l : Lexeme
-  rest : List Lexeme
-  is : other ≡ l ∷ rest
-  may : MayBegin p l
+pub record Begun (p : Part) (other : List Lexeme) : Type 0 where
+  pub l : Lexeme
+  pub rest : List Lexeme
+  pub is : other ≡ l ∷ rest
+  pub may : MayBegin p l
 
 begun : (p : Part) (l : Lexeme) (L r front other : List Lexeme) → MayBegin p l → l ∷ L ≡ front ++ r → 0 < length front → AllAlike front other → Begun p other
 begun p l L r front other b e s none_alike = absurd (omega arith)
@@ -184,13 +184,13 @@ list_taken p k ls l L y ms s b open_up t1 t2 h =
         ∙ (ap (λ u. and_then u (pairing x)) two ∙ ap (λ u. Got u ms M) q)))
 
 -- a datum after a dot, and the closing
-record Closed (x : Object) (ls : Labels) (r : List Lexeme) (y : Object) (ms : Labels) (s : List Lexeme) : Type 0 where
-  o : ℕ
-  is : r ≡ Close o ∷ s
-  same_object : x ≡ y
-  same_labels : ls ≡ ms
+pub record Closed (x : Object) (ls : Labels) (r : List Lexeme) (y : Object) (ms : Labels) (s : List Lexeme) : Type 0 where
+  pub o : ℕ
+  pub is : r ≡ Close o ∷ s
+  pub same_object : x ≡ y
+  pub same_labels : ls ≡ ms
 
-closed : (x : Object) (ls : Labels) (r : List Lexeme) (y : Object) (ms : Labels) (s : List Lexeme) → closing x ls r ≡ Got y ms s → Closed x ls r y ms s
+pub closed : (x : Object) (ls : Labels) (r : List Lexeme) (y : Object) (ms : Labels) (s : List Lexeme) → closing x ls r ≡ Got y ms s → Closed x ls r y ms s
 closed x ls [] y ms s h = cc
 closed x ls (Close o ∷ r) y ms s h = let g = got_one h in record { o = o; is = ap (λ z. Close o ∷ z) g.2; same_object = g.0; same_labels = g.1 }
 closed x ls (_ ∷ r) y ms s h = cc

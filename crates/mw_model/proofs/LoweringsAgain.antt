@@ -18,7 +18,8 @@ use Rattle.mw_model.specs.Headlines.{AcceptsAll}
 use Rattle.mw_model.proofs.LexingLines.{no_newline}
 use Rattle.mw_model.proofs.OneLine.{spaced_line, numeral_line, word_line, label_line, reason_line}
 use Rattle.mw_model.proofs.Comments.{comment_reads, ending_reads}
-use Rattle.mw_model.proofs.WrittenRead.{within_limit, text_is_read}
+use Rattle.mw_model.proofs.TextReadBack.{within_limit}
+use Rattle.mw_model.proofs.WrittenRead.{text_is_read}
 use Rattle.mw_model.proofs.Unchanged.{unchanged_under}
 use Rattle.mw_model.proofs.FirstAxioms.{HasFirst, initial_first, first_stay}
 use Rattle.mw_model.proofs.LoweredAccepted.{lowered_happens}

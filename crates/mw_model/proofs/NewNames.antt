@@ -45,7 +45,7 @@ add_none : (B : List Function) (A : ArityTable) (f : Name) → arity_of (add_fun
 add_none [] A f h = h
 add_none (g ∷ B) A f h = (cond_none (same_name g.name f) (length g.formals) (arity_of A f) (add_none B ((g.name, length g.formals) ∷ A) f h)).1
 
-none_below : (P : Profile) (D : List Block) (f : Name) → arity_of (arities P D) f ≡ None → arity_of (primitive_arities P) f ≡ None
+pub none_below : (P : Profile) (D : List Block) (f : Name) → arity_of (arities P D) f ≡ None → arity_of (primitive_arities P) f ≡ None
 none_below P [] f h = h
 none_below P (Functions B ∷ D) f h = none_below P D f (add_none B (arities P D) f h)
 none_below P (Choice g y xs b ∷ D) f h = none_below P D f (cond_none (same_name g f) (length xs) (arity_of (arities P D) f) h).1

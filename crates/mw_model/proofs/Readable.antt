@@ -114,7 +114,7 @@ substitute_formula-readable s h (Equal a b) i = (substitute-readable s h a i.0, 
 substitute_formula-readable s h (Not F) i = substitute_formula-readable s h F i
 substitute_formula-readable s h (Or F G) i = (substitute_formula-readable s h F i.0, substitute_formula-readable s h G i.1)
 
-image-readable : (p : Name × Term) (s : Substitution) (x : Name) → Readable p.1 → Readable (image s x) → Readable (image (p ∷ s) x)
+pub image-readable : (p : Name × Term) (s : Substitution) (x : Name) → Readable p.1 → Readable (image s x) → Readable (image (p ∷ s) x)
 image-readable p s x i j = go (same_name p.0 x)
   where
     go : (b : Bool) → Readable (cond b p.1 (image s x))

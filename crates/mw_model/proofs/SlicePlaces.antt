@@ -31,7 +31,7 @@ slice_places es goal = places_by es goal (some_passes (begins_with "SWITCH") (ta
 -- ---- lists of places
 
 -- what passes is a member
-passing : (test : ℕ → Bool) (xs : List ℕ) → some_passes test xs ≡ true → (i : ℕ) × (among xs i ≡ true) × (test i ≡ true)
+pub passing : (test : ℕ → Bool) (xs : List ℕ) → some_passes test xs ≡ true → (i : ℕ) × (among xs i ≡ true) × (test i ≡ true)
 passing test [] h = cc
 passing test (x ∷ xs) h = go (or_cases (test x) (some_passes test xs) h) (passing test xs)
   where
@@ -52,11 +52,11 @@ ascending_from : (n : ℕ) (xs : List ℕ) → is_ascending xs ≡ true → ((j 
 ascending_from n [] h g = refl
 ascending_from n (x ∷ xs) h g = and_from (ltb n x) (is_ascending (x ∷ xs)) (lt-ltb n x (g x (or_left (eqb x x) (among xs x) (eq-eqb x x refl)))) h
 
-rest_ascending : (x : ℕ) (xs : List ℕ) → is_ascending (x ∷ xs) ≡ true → is_ascending xs ≡ true
+pub rest_ascending : (x : ℕ) (xs : List ℕ) → is_ascending (x ∷ xs) ≡ true → is_ascending xs ≡ true
 rest_ascending x [] h = refl
 rest_ascending x (y ∷ ys) h = (and_parts (ltb x y) (is_ascending (y ∷ ys)) h).1
 
-first_least : (x : ℕ) (xs : List ℕ) → is_ascending (x ∷ xs) ≡ true → (j : ℕ) → among xs j ≡ true → x < j
+pub first_least : (x : ℕ) (xs : List ℕ) → is_ascending (x ∷ xs) ≡ true → (j : ℕ) → among xs j ≡ true → x < j
 first_least x [] h j k = cc
 first_least x (y ∷ ys) h j k =
     let p = and_parts (ltb x y) (is_ascending (y ∷ ys)) h in

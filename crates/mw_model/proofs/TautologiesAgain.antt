@@ -20,7 +20,8 @@ use Rattle.mw_model.specs.Headlines.{AcceptsAll}
 use Rattle.mw_model.proofs.ReadBack.{when_some, formula_back}
 use Rattle.mw_model.proofs.Logs.{car_in_range, second_in_range, pair_in_range}
 use Rattle.mw_model.proofs.LexingLines.{no_newline}
-use Rattle.mw_model.proofs.WrittenRead.{within_limit, text_is_read}
+use Rattle.mw_model.proofs.TextReadBack.{within_limit}
+use Rattle.mw_model.proofs.WrittenRead.{text_is_read}
 use Rattle.mw_model.proofs.OneLine.{spaced_line, numeral_line, written_line, word_line}
 use Rattle.mw_model.proofs.Comments.{comment_reads, ending_reads}
 use Rattle.mw_model.proofs.Theorems.{IsTheorem, all_accepted, none_refused}

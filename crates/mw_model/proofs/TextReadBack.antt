@@ -1,56 +1,16 @@
 -- What is printed is read again: the lexemes of a text are read as its object, whatever comes after them.
-use Rattle.std.proofs.Common.{◌≡◌, ℕ, zero, suc, ◌+◌, ◌≤◌, ◌<◌, Bool, true, false, ◌&&◌, ◌||◌, not, List, [], ◌∷◌, ◌++◌, length, Option, None, refl, sym, ap, ◌∙◌, subst, if◌then◌else◌, arith, append_assoc, append-nil, le-leb, length-append, take}
-use Rattle.std.proofs.lemmas.Bool.{and_parts, and_from, or_left, both_ways}
-use Rattle.mw_model.specs.Object.{Object, Natural, Symbol, Pair, Name, NIL, nil_name, is_name, same_name}
-use Rattle.mw_model.specs.Lexemes.{Lexeme, Atom, Open, Close, Dot, End, Fault, unfinished, Ending, Ends, Goes, lexemes_from, all_are, is_digit, is_constituent, is_small, is_capital, is_mark, token_form_else, TokenForm, Whole, Point, Bad, token_form, decimal_value}
+use Rattle.std.proofs.Common.{◌≡◌, ℕ, zero, suc, ◌+◌, ◌≤◌, ◌<◌, Bool, true, false, List, [], ◌∷◌, ◌++◌, length, Option, None, refl, sym, ap, ◌∙◌, subst, if◌then◌else◌, arith, append_assoc, append-nil, le-leb, length-append, take}
+use Rattle.mw_model.specs.Object.{Object, Natural, Symbol, Pair, Name, NIL, nil_name, same_name}
+use Rattle.mw_model.specs.Lexemes.{Lexeme, Atom, Open, Close, Dot, Mark, End, Fault, unfinished, Ending, Ends, Goes, lexemes_from}
 use Rattle.mw_model.specs.Grammar.{Labels, Unused, Got, and_then, and_tail, Datum, First, Tail, read, book, pairing, and_data, and_events, enough, data_of, reading, trees, limit, cut_short}
-use Rattle.mw_model.specs.Printing.{text_of, tail_text, numeral, is_bare, name_text, end_text, is_read_as, text_lines}
-use Rattle.mw_model.proofs.Names.{same_object-eq, same_name-eq}
-use Rattle.mw_model.proofs.Numerals.{IsNumeral, numeral_is}
-use Rattle.mw_model.proofs.Lexing.{Delimits, lexemes_from-token, lexemes_from-bars}
-
--- the text of an atom is one lexeme
-abbrev IsAtom : Object → List ℕ → Type 0
-IsAtom x t = (e : Ending) (o : ℕ) (z : List ℕ) → Delimits e z → lexemes_from e o 0 (t ++ z) ≡ Atom o x ∷ lexemes_from e (o + length t) 0 z
-
-read_as-form : (x : Object) (f : TokenForm) → is_read_as x f ≡ true → f ≡ Whole x
-read_as-form x (Whole y) h = ap Whole (same_object-eq y x h)
-read_as-form x Point h = cc
-read_as-form x Bad h = cc
-
-bare_atom : (s : Name) (n : List ℕ) → s.bytes ≡ n → is_bare s ≡ true → IsAtom (Symbol s) n
-bare_atom s [] q h e o z d = absurd (both_ways (is_name s.bytes) (ap is_name q) s.valid)
-bare_atom s (c ∷ n) q h e o z d =
-    let a = and_parts (all_are is_constituent s.bytes) (all_are (λ b. not (is_small b)) s.bytes && is_read_as (Symbol s) (token_form s.bytes)) h in
-    let b = and_parts (all_are (λ b. not (is_small b)) s.bytes) (is_read_as (Symbol s) (token_form s.bytes)) a.1 in
-    lexemes_from-token e o c n z (Symbol s) (ap (all_are is_constituent) (sym q) ∙ a.0) (ap token_form (sym q) ∙ read_as-form (Symbol s) (token_form s.bytes) b.1) d
-
-name_atom : (s : Name) → IsAtom (Symbol s) (name_text s)
-name_atom s = go (is_bare s) refl
-  where
-    go : (v : Bool) → is_bare s ≡ v → IsAtom (Symbol s) (if v then s.bytes else 124 ∷ (s.bytes ++ 124 ∷ []))
-    go true h = bare_atom s s.bytes refl h
-    go false h = λ e o z d. lexemes_from-bars e o s s.bytes z refl d
-
-digits_are_constituents : (t : List ℕ) → all_are is_digit t ≡ true → all_are is_constituent t ≡ true
-digits_are_constituents [] h = refl
-digits_are_constituents (c ∷ t) h =
-    let a = and_parts (is_digit c) (all_are is_digit t) h in
-    and_from (is_constituent c) (all_are is_constituent t) (or_left (is_digit c) (is_capital c || (is_small c || is_mark c)) a.0) (digits_are_constituents t a.1)
-
-token_form-digits : (t : List ℕ) → all_are is_digit t ≡ true → token_form t ≡ Whole (Natural (decimal_value t))
-token_form-digits t h = ap (λ v. if v then Whole (Natural (decimal_value t)) else token_form_else t) h
-
-digits_atom : (m : ℕ) (ds : List ℕ) → IsNumeral m ds → IsAtom (Natural m) ds
-digits_atom m [] h e o z d = absurd (omega (arith, h.2))
-digits_atom m (c ∷ n) h e o z d =
-    lexemes_from-token e o c n z (Natural m) (digits_are_constituents (c ∷ n) h.0) (token_form-digits (c ∷ n) h.0 ∙ ap (λ k. Whole (Natural k)) h.1) d
-
-natural_atom : (n : ℕ) → IsAtom (Natural n) (numeral n)
-natural_atom n = digits_atom n (numeral n) (numeral_is n)
+use Rattle.mw_model.specs.Printing.{text_of, tail_text, numeral, name_text, end_text, text_lines}
+use Rattle.mw_model.specs.Written.{labels_begun}
+use Rattle.mw_model.proofs.Names.{same_name-eq}
+use Rattle.mw_model.proofs.Lexing.{Delimits}
+use Rattle.mw_model.proofs.AtomText.{IsAtom, name_atom, natural_atom}
 
 -- these lexemes begin a datum, and do not close a list
-abbrev BeginsDatum : List Lexeme → Type 0
+abbrev pub BeginsDatum : List Lexeme → Type 0
 BeginsDatum [] = ⊥
 BeginsDatum (Atom o x ∷ L) = Unit {0}
 BeginsDatum (Open o ∷ L) = Unit {0}
@@ -85,20 +45,22 @@ data_of-begins k (Open o ∷ L) b = refl
 data_of-begins k (_ ∷ L) b = absurd b
 
 -- The text of a datum, before what ends a token, has lexemes L, and with two steps for each L is read as x.
-record Prints (x : Object) (t : List ℕ) (e : Ending) (o : ℕ) (z : List ℕ) : Type 0 where
-  lexed : List Lexeme
-  cut : lexemes_from e o 0 (t ++ z) ≡ lexed ++ lexemes_from e (o + length t) 0 z
-  begins : BeginsDatum lexed
-  reads : (k : ℕ) (ls : Labels) (r : List Lexeme) → length lexed + length lexed ≤ k → read k Datum ls (lexed ++ r) ≡ Got x ls r
+pub record Prints (x : Object) (t : List ℕ) (e : Ending) (o : ℕ) (z : List ℕ) : Type 0 where
+  pub lexed : List Lexeme
+  pub cut : lexemes_from e o 0 (t ++ z) ≡ lexed ++ lexemes_from e (o + length t) 0 z
+  pub begins : BeginsDatum lexed
+  pub plain : labels_begun lexed ≡ []
+  pub reads : (k : ℕ) (ls : Labels) (r : List Lexeme) → length lexed + length lexed ≤ k → read k Datum ls (lexed ++ r) ≡ Got x ls r
 
 -- so too the text of a list's tail, its closing included
 record Ends_list (d : Object) (t : List ℕ) (e : Ending) (o : ℕ) (z : List ℕ) : Type 0 where
   lexed : List Lexeme
   cut : lexemes_from e o 0 (t ++ z) ≡ lexed ++ lexemes_from e (o + length t) 0 z
   some : 0 < length lexed
+  plain : labels_begun lexed ≡ []
   reads : (k : ℕ) (ls : Labels) (r : List Lexeme) → length lexed + length lexed ≤ k → read k Tail ls (lexed ++ r) ≡ Got d ls r
 
-abbrev PrintsAll : Object → List ℕ → Type 0
+abbrev pub PrintsAll : Object → List ℕ → Type 0
 PrintsAll x t = (e : Ending) (o : ℕ) (z : List ℕ) → Delimits e z → Prints x t e o z
 
 abbrev EndsAll : Object → List ℕ → Type 0
@@ -109,7 +71,7 @@ read_atom x o zero ls r h = absurd (omega arith)
 read_atom x o (suc k) ls r h = refl
 
 prints_atom : (x : Object) (t : List ℕ) → IsAtom x t → PrintsAll x t
-prints_atom x t h e o z d = record { lexed = Atom o x ∷ []; cut = h e o z d; begins = tt; reads = λ k ls r l. read_atom x o k ls r (omega arith) }
+prints_atom x t h e o z d = record { lexed = Atom o x ∷ []; cut = h e o z d; begins = tt; plain = refl; reads = λ k ls r l. read_atom x o k ls r (omega arith) }
 
 -- what follows the first member of a list begins with a delimiter
 tail_delimits : (d : Object) (e : Ending) (z : List ℕ) → Delimits e (tail_text d ++ z)
@@ -131,7 +93,7 @@ read_close o zero ls r h = absurd (omega arith)
 read_close o (suc k) ls r h = refl
 
 ends_nil : (t : List ℕ) → EndsAll NIL (end_text true t)
-ends_nil t e o z = record { lexed = Close o ∷ []; cut = ap (λ n. Close o ∷ lexemes_from e n 0 z) (omega arith); some = omega arith; reads = λ k ls r l. read_close o k ls r (omega arith) }
+ends_nil t e o z = record { lexed = Close o ∷ []; cut = ap (λ n. Close o ∷ lexemes_from e n 0 z) (omega arith); some = omega arith; plain = refl; reads = λ k ls r l. read_close o k ls r (omega arith) }
 
 -- a tail that is an atom, after a dot
 read_last : (x : Object) (p q o k : ℕ) (ls : Labels) (r : List Lexeme) → 3 ≤ k → read k Tail ls (Dot p ∷ Atom q x ∷ Close o ∷ r) ≡ Got x ls r
@@ -152,6 +114,7 @@ ends_atom x t h e o z =
           ∙ ap (λ u. Dot (suc o) ∷ u) (h e p (41 ∷ z) (close_delimits e z))
           ∙ ap (λ k. Dot (suc o) ∷ Atom p x ∷ Close (p + length t) ∷ lexemes_from e k 0 z) (omega (arith, length-append t (41 ∷ [])));
       some = omega arith;
+      plain = refl;
       reads = λ k ls r l. read_last x (suc o) p (p + length t) k ls r (omega arith);
     }
 
@@ -187,13 +150,18 @@ read_pair x d o L M r (suc (suc k)) ls b h i l =
     ∙ after_member x d L M r k ls (h k ls (M ++ r) (omega arith)) (i k ls r (omega arith))
 
 -- two texts, one after the other
-cut_both : (e : Ending) (o : ℕ) (t u z : List ℕ) (L M : List Lexeme) →
+pub cut_both : (e : Ending) (o : ℕ) (t u z : List ℕ) (L M : List Lexeme) →
     lexemes_from e o 0 (t ++ (u ++ z)) ≡ L ++ lexemes_from e (o + length t) 0 (u ++ z) →
     lexemes_from e (o + length t) 0 (u ++ z) ≡ M ++ lexemes_from e (o + length t + length u) 0 z →
     lexemes_from e o 0 ((t ++ u) ++ z) ≡ (L ++ M) ++ lexemes_from e (o + length (t ++ u)) 0 z
 cut_both e o t u z L M h i =
     ap (lexemes_from e o 0) (append_assoc t u z) ∙ h ∙ ap (λ r. L ++ r) i ∙ sym (append_assoc L M (lexemes_from e (o + length t + length u) 0 z))
     ∙ ap (λ k. (L ++ M) ++ lexemes_from e k 0 z) (omega (arith, length-append t u))
+
+pub plain_both : (L M : List Lexeme) → labels_begun L ≡ [] → labels_begun M ≡ [] → labels_begun (L ++ M) ≡ []
+plain_both [] M h k = k
+plain_both (Mark o n ∷ L) M h k = cc
+plain_both (_ ∷ L) M h k = plain_both L M h k
 
 ends_pair : (a d : Object) (t u : List ℕ) → PrintsAll a t → EndsAll d u → ((e : Ending) (z : List ℕ) → Delimits e (u ++ z)) → EndsAll (Pair a d) (32 ∷ (t ++ u))
 ends_pair a d t u ha hd del e o z =
@@ -202,6 +170,7 @@ ends_pair a d t u ha hd del e o z =
       lexed = p.lexed ++ q.lexed;
       cut = cut_both e (suc o) t u z p.lexed q.lexed p.cut q.cut ∙ ap (λ k. (p.lexed ++ q.lexed) ++ lexemes_from e k 0 z) (omega arith);
       some = omega (arith, q.some, length-append p.lexed q.lexed);
+      plain = plain_both p.lexed q.lexed p.plain q.plain;
       reads = λ k ls r l. read_member a d p.lexed q.lexed r k ls p.begins q.some p.reads q.reads l;
     }
 
@@ -212,6 +181,7 @@ prints_pair a d t u ha hd del e o z _ =
       lexed = Open o ∷ (p.lexed ++ q.lexed);
       cut = ap (λ r. Open o ∷ r) (cut_both e (suc o) t u z p.lexed q.lexed p.cut q.cut ∙ ap (λ k. (p.lexed ++ q.lexed) ++ lexemes_from e k 0 z) (omega arith));
       begins = tt;
+      plain = plain_both p.lexed q.lexed p.plain q.plain;
       reads = λ k ls r l. read_pair a d o p.lexed q.lexed r k ls p.begins p.reads q.reads l;
     }
 
@@ -223,7 +193,7 @@ ends_name s = go (same_name s nil_name) refl
     go false q = ends_atom (Symbol s) (name_text s) (name_atom s)
 
 mutual
-  prints : (x : Object) → PrintsAll x (text_of x)
+  pub prints : (x : Object) → PrintsAll x (text_of x)
   prints (Natural n) = prints_atom (Natural n) (numeral n) (natural_atom n)
   prints (Symbol s) = prints_atom (Symbol s) (name_text s) (name_atom s)
   prints (Pair a d) = prints_pair a d (text_of a) (tail_text d) (prints a) (tails d) (tail_delimits d)
@@ -246,7 +216,7 @@ lexed_some (l ∷ L) r b = omega (arith, enough-longer L r)
     enough-longer [] r = omega arith
     enough-longer (l ∷ L) r = let h = enough-longer L r in omega arith
 
-data_of-datum : (k : ℕ) (x : Object) (L r : List Lexeme) → BeginsDatum L →
+pub data_of-datum : (k : ℕ) (x : Object) (L r : List Lexeme) → BeginsDatum L →
     ((k : ℕ) (ls : Labels) (r : List Lexeme) → length L + length L ≤ k → read k Datum ls (L ++ r) ≡ Got x ls r) →
     data_of (suc k) (L ++ r) ≡ and_events x (data_of k r)
 data_of-datum k x L r b h =
@@ -273,12 +243,13 @@ lines_read (x ∷ xs) o (suc k) h =
     ∙ data_of-datum k x p.lexed (lexemes_from Ends (suc (o + length (text_of x))) 0 (text_lines xs)) p.begins p.reads
     ∙ ap (and_events x) (lines_read xs (suc (o + length (text_of x))) k (omega arith))
 
-trees-short : (bytes : List ℕ) → length bytes ≤ limit → trees bytes ≡ reading Ends bytes
-trees-short bytes l = ap (λ v. if v then reading Ends bytes else cut_short (reading Goes (take limit bytes))) (le-leb (length bytes) limit l)
+-- a text within the limit is read whole
+pub within_limit : (text : List ℕ) → length text ≤ limit → trees text ≡ reading Ends text
+within_limit text l = ap (λ v. if v then reading Ends text else cut_short (reading Goes (take limit text))) (le-leb (length text) limit l)
 
 -- objects that are written one on each line are read as just these objects
 pub trees-text_lines : (xs : List Object) → length (text_lines xs) ≤ limit → trees (text_lines xs) ≡ book xs None
-trees-text_lines xs l = trees-short (text_lines xs) l ∙ lines_read xs 0 (enough (lexemes_from Ends 0 0 (text_lines xs))) (lines_some xs 0)
+trees-text_lines xs l = within_limit (text_lines xs) l ∙ lines_read xs 0 (enough (lexemes_from Ends 0 0 (text_lines xs))) (lines_some xs 0)
 
 -- an object that is written with nothing after it
 last_reads : (s : Option Fault) (x : Object) (L : List Lexeme) → BeginsDatum L →
@@ -287,10 +258,12 @@ last_reads : (s : Option Fault) (x : Object) (L : List Lexeme) → BeginsDatum L
 last_reads s x [] b h = absurd b
 last_reads s x (l ∷ L) b h = data_of-datum (suc (enough (L ++ End s ∷ []))) x (l ∷ L) (End s ∷ []) b h
 
-pub trees-text_of : (x : Object) → length (text_of x) ≤ limit → trees (text_of x) ≡ book (x ∷ []) None
-trees-text_of x l =
+pub reading-text_of : (x : Object) → reading Ends (text_of x) ≡ book (x ∷ []) None
+reading-text_of x =
     let p = prints x Ends 0 [] tt in
-    trees-short (text_of x) l
-    ∙ ap (λ t. data_of (enough (lexemes_from Ends 0 0 t)) (lexemes_from Ends 0 0 t)) (sym (append-nil (text_of x)))
+    ap (λ t. data_of (enough (lexemes_from Ends 0 0 t)) (lexemes_from Ends 0 0 t)) (sym (append-nil (text_of x)))
     ∙ ap (λ r. data_of (enough r) r) p.cut
     ∙ last_reads (unfinished Ends (0 + length (text_of x))) x p.lexed p.begins p.reads
+
+pub trees-text_of : (x : Object) → length (text_of x) ≤ limit → trees (text_of x) ≡ book (x ∷ []) None
+trees-text_of x l = within_limit (text_of x) l ∙ reading-text_of x

@@ -1,17 +1,18 @@
 -- Data that are written, one on each line, perhaps with comments between, are read as just these data.
-use Rattle.std.proofs.Common.{◌≡◌, ℕ, zero, suc, ◌+◌, ◌≤◌, ◌<◌, Bool, true, false, ltb, List, [], ◌∷◌, ◌++◌, length, Option, Some, None, ◌⊎◌, inl, inr, refl, sym, ap, ap₂, ◌∙◌, subst, arith, append_assoc, length-append, take, le-leb, ltb-false, zero-le, if◌then◌else◌}
+use Rattle.std.proofs.Common.{◌≡◌, ℕ, zero, suc, ◌+◌, ◌≤◌, ◌<◌, Bool, true, false, ltb, List, [], ◌∷◌, ◌++◌, length, Option, Some, None, ◌⊎◌, inl, inr, refl, sym, ap, ap₂, ◌∙◌, subst, arith, append_assoc, length-append, zero-le, if◌then◌else◌}
+use Rattle.std.proofs.lemmas.Bool.{and_right}
 use Rattle.mw_model.specs.Object.{Object, Pair}
 use Rattle.mw_model.specs.Value.{pick}
 use Rattle.mw_model.specs.Fate.{longest}
-use Rattle.mw_model.specs.Lexemes.{Lexeme, LABEL, Atom, Open, Close, Dot, Quote, Mark, Ref, Wrong, Stray, End, Fault, Ends, Goes, lexemes, lexemes_from, class, piece, extent, is_inside_comment}
-use Rattle.mw_model.specs.Grammar.{limit, cut_short, Labels, Label, Unused, Read, Got, Stop, and_then, quoting, labelling, pairing, and_tail, halt, closing, reference, Part, Datum, First, Tail, Last, read, labelled, is_begun, Book, book, and_events, enough, and_data, data_of, reading, trees}
+use Rattle.mw_model.specs.Lexemes.{Lexeme, LABEL, Atom, Open, Close, Dot, Quote, Mark, Ref, Wrong, Stray, End, Fault, Ends, lexemes, lexemes_from, class, piece, extent, is_inside_comment}
+use Rattle.mw_model.specs.Grammar.{Labels, Label, Unused, Read, Got, Stop, and_then, quoting, labelling, pairing, and_tail, halt, closing, reference, Part, Datum, First, Tail, Last, read, labelled, is_begun, Book, book, and_events, enough, and_data, data_of, reading}
 use Rattle.mw_model.specs.Printing.{text_of}
 use Rattle.mw_model.specs.Written.{IsLabelled, IsWritten, IsDatumLine, IsBookText, no_lines, datum_line, comment_line}
 use Rattle.mw_model.specs.Pieces.{InOrder}
 use Rattle.mw_model.proofs.Locality.{Alike, atoms, opens, closes, dots, quotes, marks, refs, AllAlike, none_alike, more_alike, Taken, taken}
-use Rattle.mw_model.proofs.TextReadBack.{trees-text_of}
+use Rattle.mw_model.proofs.TextReadBack.{reading-text_of}
 use Rattle.mw_model.proofs.Lexing.{run_of-append, lexemes_from-taken}
-use Rattle.mw_model.proofs.LexingLines.{no_newline, NoEnd, piece_no_end, line}
+use Rattle.mw_model.proofs.LexingLines.{no_newline, NoEnd, piece_no_end, has_comment, line}
 
 -- each fault is said, and there is one end
 abbrev IsFinal : List Lexeme → Type 0
@@ -135,7 +136,7 @@ final (b ∷ t) o zero = said_final (piece (class b) Ends o b t) (lexemes_from E
 
 -- ---- data
 
-enough_is : (L : List Lexeme) → enough L ≡ suc (length L + length L)
+pub enough_is : (L : List Lexeme) → enough L ≡ suc (length L + length L)
 enough_is [] = refl
 enough_is (l ∷ L) = let e = enough_is L in omega arith
 
@@ -154,10 +155,10 @@ ends_alone (suc k) (End (Some g) ∷ []) f n h = (Some g, refl)
 ends_alone (suc k) (End (Some g) ∷ (l ∷ L)) f n h = absurd f
 ends_alone (suc k) (l ∷ L) f n h = absurd (stopped_alone (enough (l ∷ L)) (l ∷ L) f (omega (arith, enough_is L)) (read (enough (l ∷ L)) Datum Unused (l ∷ L)) refl (data_of k) h)
 
-record OneDatum (L : List Lexeme) (x : Object) : Type 0 where
-  after : Labels
-  s : Option Fault
-  one : Taken Datum Unused L x after (End s ∷ [])
+pub record OneDatum (L : List Lexeme) (x : Object) : Type 0 where
+  pub after : Labels
+  pub s : Option Fault
+  pub one : Taken Datum Unused L x after (End s ∷ [])
 
 read_one : (k : ℕ) (L : List Lexeme) (x : Object) → IsFinal L → length L ≤ suc k → (m : Read) → read (enough L) Datum Unused L ≡ m → and_data (data_of k) m ≡ book (x ∷ []) None → OneDatum L x
 read_one k L x f n (Got y ls r) e h =
@@ -177,7 +178,7 @@ one_datum (suc k) (l ∷ L) x f n h = read_one k (l ∷ L) x f n (read (enough (
 
 -- ---- lines
 
-alike_length : (L M : List Lexeme) → AllAlike L M → length M ≡ length L
+pub alike_length : (L M : List Lexeme) → AllAlike L M → length M ≡ length L
 alike_length L M none_alike = refl
 alike_length L M (more_alike l m L' M' a h) = ap suc (alike_length L' M' h)
 
@@ -195,7 +196,7 @@ data_alike k L K N none_alike s = absurd (omega arith)
 data_alike k L K N (more_alike l m L' K' a h) s = data_begin k l m (K' ++ N) a
 
 -- these lexemes, with enough steps, are read as just these data
-abbrev ReadAs : List Lexeme → List Object → Type 0
+abbrev pub ReadAs : List Lexeme → List Object → Type 0
 ReadAs L xs = (k : ℕ) → length L ≤ k → data_of k L ≡ book xs None
 
 before_others : (k : ℕ) (x : Object) (xs : List Object) (L K N : List Lexeme) (after : Labels) (r : List Lexeme) → Taken Datum Unused L x after r → (front : List Lexeme) → AllAlike front K → 0 < length front → read (enough (K ++ N)) Datum Unused (K ++ N) ≡ Got x after N → ReadAs N xs → length (K ++ N) ≤ k → data_of k (K ++ N) ≡ book (x ∷ xs) None
@@ -203,31 +204,38 @@ before_others zero x xs L K N after r t front a s e h n = absurd (omega (arith, 
 before_others (suc k) x xs L K N after r t front a s e h n =
     data_alike k front K N a s ∙ (ap (and_data (data_of k)) e ∙ ap (and_events x) (h k (omega (arith, length-append K N, alike_length front K a))))
 
-line_read : (x : Object) (xs : List Object) (t rest : List ℕ) → reading Ends t ≡ book (x ∷ []) None → ((o : ℕ) → ReadAs (lexemes_from Ends o 0 rest) xs) → (o : ℕ) → ReadAs (lexemes_from Ends o 0 (t ++ 10 ∷ rest)) (x ∷ xs)
-line_read x xs t rest h more o k n =
-    let L = lexemes Ends t in
-    let d = one_datum (enough L) L x (final t 0 0) (omega (arith, enough_is L)) h in
-    let l = line t rest 0 o 0 d.one.front d.s zero-le d.one.is d.one.clean in
-    let N = lexemes_from Ends (suc (o + length t)) 0 rest in
-    let e : read (enough (l.lexed ++ N)) Datum Unused (l.lexed ++ N) ≡ Got x d.after N =
-    d.one.reads (enough (l.lexed ++ N)) l.lexed N l.alike (omega (arith, enough_is (l.lexed ++ N), length-append l.lexed N, alike_length d.one.front l.lexed l.alike)) in
-    ap (data_of k) l.cut
-    ∙ before_others k x xs L l.lexed N d.after (End d.s ∷ []) d.one d.one.front l.alike d.one.some e (more (suc (o + length t))) (subst (λ z. length z ≤ k) l.cut n)
+-- the one datum of a text, from its bytes
+pub datum_read : (x : Object) (t : List ℕ) → reading Ends t ≡ book (x ∷ []) None → OneDatum (lexemes Ends t) x
+datum_read x t h = let L = lexemes Ends t in one_datum (enough L) L x (final t 0 0) (omega (arith, enough_is L)) h
+
+-- lexemes alike those of a datum are read as it, and then comes what is read of the others
+pub datum_first : (x : Object) (xs : List Object) (L : List Lexeme) (d : OneDatum L x) (K N : List Lexeme) → AllAlike d.one.front K → ReadAs N xs → ReadAs (K ++ N) (x ∷ xs)
+datum_first x xs L d K N a more k n =
+    before_others k x xs L K N d.after (End d.s ∷ []) d.one d.one.front a d.one.some
+    (d.one.reads (enough (K ++ N)) K N a (omega (arith, enough_is (K ++ N), length-append K N, alike_length d.one.front K a))) more n
+
+pub nothing_read : (s : Option Fault) → ReadAs (End s ∷ []) []
+nothing_read s zero n = absurd (omega arith)
+nothing_read s (suc k) n = refl
+
+pub line_read : (x : Object) (xs : List Object) (t rest : List ℕ) → reading Ends t ≡ book (x ∷ []) None → ((o : ℕ) → ReadAs (lexemes_from Ends o 0 rest) xs) → (o : ℕ) → ReadAs (lexemes_from Ends o 0 (t ++ 10 ∷ rest)) (x ∷ xs)
+line_read x xs t rest h more o =
+    let d = datum_read x t h in
+    let l = line 10 (refl, refl) rest t 0 o 0 d.one.front d.s zero-le (and_right (has_comment 0 t) false refl) d.one.is d.one.clean in
+    subst (λ z. ReadAs z (x ∷ xs)) (sym l.cut) (datum_first x xs (lexemes Ends t) d l.lexed (lexemes_from Ends (suc (o + length t)) 0 rest) l.alike (more (suc (o + length t))))
 
 -- what is written for a datum is read as just this
--- a text within the limit is read whole
-pub within_limit : (text : List ℕ) → length text ≤ limit → trees text ≡ reading Ends text
-within_limit text l = ap (λ v. if v then reading Ends text else cut_short (reading Goes (take limit text))) (le-leb (length text) limit l)
-
-plain_read : (x : Object) → length (text_of x) ≤ limit → reading Ends (text_of x) ≡ book (x ∷ []) None
-plain_read x l = sym (within_limit (text_of x) l) ∙ trees-text_of x l
-
 pub written_is_read : (x : Object) (first next : ℕ) (t : List ℕ) → IsWritten x first t next → reading Ends t ≡ book (x ∷ []) None
-written_is_read x first next t h = go (ltb longest (length (text_of x))) refl h
+written_is_read x first next t h = go (ltb longest (length (text_of x))) h
   where
-    go : (b : Bool) → ltb longest (length (text_of x)) ≡ b → pick b (IsLabelled x first t next) ((t ≡ text_of x) × (next ≡ first)) → reading Ends t ≡ book (x ∷ []) None
-    go true e l = l.reads
-    go false e p = let m : length (text_of x) ≤ longest = ltb-false longest (length (text_of x)) e in ap (reading Ends) p.0 ∙ plain_read x (omega arith)
+    go : (b : Bool) → pick b (IsLabelled x first t next) ((t ≡ text_of x) × (next ≡ first)) → reading Ends t ≡ book (x ∷ []) None
+    go true l = l.reads
+    go false p = ap (reading Ends) p.0 ∙ reading-text_of x
+
+pub datum_line_read : (x : Object) (xs : List Object) (line rest : List ℕ) → IsDatumLine x line → ((o : ℕ) → ReadAs (lexemes_from Ends o 0 rest) xs) → (o : ℕ) → ReadAs (lexemes_from Ends o 0 (line ++ rest)) (x ∷ xs)
+datum_line_read x xs line rest l more o =
+    let is : line ++ rest ≡ l.0 ++ 10 ∷ rest = ap (λ z. z ++ rest) l.3 ∙ append_assoc l.0 (10 ∷ []) rest in
+    subst (λ z. ReadAs (lexemes_from Ends o 0 z) (x ∷ xs)) (sym is) (line_read x xs l.0 rest (written_is_read x 1 l.1 l.0 l.2) more o)
 
 comment_read : (xs : List Object) (c rest : List ℕ) → no_newline c ≡ true → ((o : ℕ) → ReadAs (lexemes_from Ends o 0 rest) xs) → (o : ℕ) → ReadAs (lexemes_from Ends o 0 (59 ∷ (c ++ 10 ∷ rest))) xs
 comment_read xs c rest h more o =
@@ -235,20 +243,17 @@ comment_read xs c rest h more o =
     ap (λ z. lexemes_from Ends (suc o) (length z) (c ++ 10 ∷ rest)) (run_of-append is_inside_comment c (10 ∷ rest) h refl) ∙ lexemes_from-taken Ends c (10 ∷ rest) (suc o) in
     subst (λ z. ReadAs z xs) (sym cut) (more (suc (suc o + length c)))
 
-text_read : (xs : List Object) (text : List ℕ) → IsBookText xs text → (o : ℕ) → ReadAs (lexemes_from Ends o 0 text) xs
-text_read xs text no_lines o = nothing
-  where
-    nothing : (k : ℕ) → 1 ≤ k → data_of k (lexemes_from Ends o 0 []) ≡ book [] None
-    nothing zero n = absurd (omega arith)
-    nothing (suc k) n = refl
-text_read xs text (datum_line x ys line rest l w) o =
-    let is : line ++ rest ≡ l.0 ++ 10 ∷ rest = ap (λ z. z ++ rest) l.3 ∙ append_assoc l.0 (10 ∷ []) rest in
-    subst (λ z. ReadAs (lexemes_from Ends o 0 z) (x ∷ ys)) (sym is) (line_read x ys l.0 rest (written_is_read x 1 l.1 l.0 l.2) (text_read ys rest w) o)
+pub text_read : (xs : List Object) (text : List ℕ) → IsBookText xs text → (o : ℕ) → ReadAs (lexemes_from Ends o 0 text) xs
+text_read xs text no_lines o = nothing_read _
+text_read xs text (datum_line x ys line rest l w) o = datum_line_read x ys line rest l (text_read ys rest w) o
 text_read xs text (comment_line ys c rest h w) o = comment_read ys c rest h (text_read ys rest w) o
+
+pub whole_read : (xs : List Object) (text : List ℕ) → ((o : ℕ) → ReadAs (lexemes_from Ends o 0 text) xs) → reading Ends text ≡ book xs None
+whole_read xs text h = h 0 (enough (lexemes Ends text)) (omega (arith, enough_is (lexemes Ends text)))
 
 -- a text of data and comments is read as just these data
 pub text_is_read : (xs : List Object) (text : List ℕ) → IsBookText xs text → reading Ends text ≡ book xs None
-text_is_read xs text w = text_read xs text w 0 (enough (lexemes Ends text)) (omega (arith, enough_is (lexemes Ends text)))
+text_is_read xs text w = whole_read xs text (text_read xs text w)
 
 -- data alone
 pub lines_are_text : (xs : List Object) (text : List ℕ) → InOrder IsDatumLine xs text → IsBookText xs text

@@ -11,7 +11,7 @@ use Rattle.mw_model.specs.Fate.{event_word, after}
 use Rattle.mw_model.specs.Report.{Status, Done, report, accepted_among}
 use Rattle.mw_model.specs.Keeping.{formulas_of_word}
 use Rattle.mw_model.specs.Headline.{Headline, TrialHeadline}
-use Rattle.mw_model.specs.Commands.{Request, Check, Trial, Taut, Lower, Slice, Flat, Recheck, Help, Usage}
+use Rattle.mw_model.specs.Request.{Request, Check, Trial, Taut, Lower, Slice, Flat, Recheck, Help, Usage}
 use Rattle.mw_model.specs.Pieces.{how_many}
 use Rattle.mw_model.specs.Transition.{last_theory, last_theory_from, is_acceptance}
 use Rattle.mw_model.specs.TautologyBook.{TautologiesWritten, tautology_status, is_proved}
@@ -66,14 +66,15 @@ pub record FlatHeadline (bytes : List ℕ) (N : ℕ) (written : List ℕ) (statu
   pub ends : status ≡ flattening_status (trees bytes) N
   pub again : length written ≤ limit → LogAccepted (map flat_event (flat_events (plain_course (trees bytes).events N))) (last_theory_from (initial One) (before_switch (plain_course (trees bytes).events N))) written
 
-abbrev pub formulas_answered : Answer → Entered → List Formula
-formulas_answered Yes s = formulas_of_word (event_word s.event) s.next s.event
-formulas_answered (No o) s = []
+-- the formulas that an event of a log brings, with the theory after it
+abbrev pub formulas_answered : Answer → Theory → Object → List Formula
+formulas_answered Yes after e = formulas_of_word (event_word e) after e
+formulas_answered (No o) after e = []
 
 -- what holds of each event of a log
 pub record EntryKeeps (s : Entered) : Type 0 where
   -- each formula with a yes, and each axiom that it adds, is true in the standard model of the definitions then admitted
-  pub true_formulas : AreTrueIn s.next.definitions (formulas_answered s.answer s)
+  pub true_formulas : AreTrueIn s.next.definitions (formulas_answered s.answer s.next s.event)
   pub unchanged : (o : Objection) → s.answer ≡ No o → s.next ≡ s.before
   pub sound : IsSound s.next
 

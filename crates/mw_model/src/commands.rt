@@ -1,9 +1,8 @@
 //! Laws on what `taut` owes, and what the commands that are still to come will.
 ghost use Rattle.std.specs.Prelude.{◌≡◌, ◌↔◌, ℕ, ◌≤◌, ◌<◌, Bool, false, true, List, [], ◌∷◌, ◌++◌, length, map, Some, None};
 ghost use Rattle.mw_model.specs.Object.{Object, Member};
-ghost use Rattle.mw_model.specs.Term.{ArityTable, Formula, IsFormula, formula_object};
+ghost use Rattle.mw_model.specs.Term.{ArityTable, Formula, formula_object};
 ghost use Rattle.mw_model.specs.Primitive.{Profile};
-ghost use Rattle.mw_model.specs.Definition.{arity_table};
 ghost use Rattle.mw_model.specs.Truth.{Each};
 ghost use Rattle.mw_model.specs.Evaluation.{range};
 ghost use Rattle.mw_model.specs.Proof.{Proves};
@@ -18,7 +17,7 @@ ghost use Rattle.mw_model.specs.Grammar.{Book, book, limit, reading};
 ghost use Rattle.mw_model.specs.Written.{IsBookText, IsDatumLine, IsWritten};
 ghost use Rattle.mw_model.specs.Tautology.{Choice, IsTautology, choices, equations, falsifying, value_under};
 ghost use Rattle.mw_model.specs.TautologyBook.{TautologiesWritten, is_proved};
-ghost use Rattle.mw_model.specs.Demand.{Wants, demand, happens_under, proofs_of, with_proofs};
+ghost use Rattle.mw_model.specs.Demand.{happens_under, proofs_of, with_proofs};
 ghost use Rattle.mw_model.specs.Pieces.{InOrder, how_many, numbered};
 ghost use Rattle.mw_model.specs.Subproofs.{distinct_proofs};
 ghost use Rattle.mw_model.specs.Derivation.{IsDerivation, Turns};
@@ -77,8 +76,8 @@ pub fn logs()
     ensures no { (t : Theory) (members : List Object) (e : Object) (o : Objection) → (logged t members e).0 ≡ No o → (logged t members e).1 ≡ t }
 {}
 
-/// An event that the built-in checker accepts, where what it wants are formulas, gets a yes in a log after the steps of its
-/// distinct proofs, where these are fewer than the naturals in the range, and leads to the same theory.
+/// An event that the built-in checker accepts gets a yes in a log after the steps of its distinct proofs, where these are fewer
+/// than the naturals in the range, and leads to the same theory.
 pub fn flattening()
-    ensures { (t next : Theory) (N : ℕ) (e : Object) (w : EventWord) → t.checker ≡ None → event_word e ≡ Some w → is_logged_word (Some w) ≡ true → happens t N e ≡ accept next → ((Fs : List Formula) (new : Theory) → demand w t e ≡ Wants Fs new → Each (IsFormula (arity_table t.definitions)) Fs) → length (distinct_proofs (proofs_of w e)) < range → logged t (map (step_datum (distinct_proofs (proofs_of w e))) (numbered 1 (distinct_proofs (proofs_of w e)))) (flat_event e) ≡ (Yes, next) }
+    ensures { (t next : Theory) (N : ℕ) (e : Object) (w : EventWord) → t.checker ≡ None → event_word e ≡ Some w → is_logged_word (Some w) ≡ true → happens t N e ≡ accept next → length (distinct_proofs (proofs_of w e)) < range → logged t (map (step_datum (distinct_proofs (proofs_of w e))) (numbered 1 (distinct_proofs (proofs_of w e)))) (flat_event e) ≡ (Yes, next) }
 {}

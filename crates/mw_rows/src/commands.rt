@@ -10,10 +10,10 @@ const BOOK: &str = "(print 1)";
 const REPORT: &str = "1 PRINT - accepted 1\nevents 1 accepted 1 refused 0 level 1\n";
 
 const HELP: &str =
-    "milawa check [--steps N]\nmilawa trial M [--steps N]\nmilawa taut\nmilawa lower [--steps N]\n";
+    "milawa check [--steps N]\nmilawa trial M [--steps N]\nmilawa taut\nmilawa lower [--steps N]\nmilawa slice NAME [--steps N]\n";
 
 // Words that ask for nothing that the program does.
-const OTHERS: [&[&str]; 27] = [
+const OTHERS: [&[&str]; 33] = [
     &[],
     &["check", "--steps", "0"],
     &["check", "--steps", "1000000000001"],
@@ -41,6 +41,12 @@ const OTHERS: [&[&str]; 27] = [
     &["taut", "--steps", "5"],
     &["lower", "x"],
     &["lower", "--steps", "0"],
+    &["slice"],
+    &["slice", "12"],
+    &["slice", "(use)"],
+    &["slice", "a b"],
+    &["slice", "|use"],
+    &["slice", "a", "b"],
 ];
 
 // Words that ask for a book to be judged.

@@ -42,6 +42,8 @@ mod row;
 #[cfg(test)]
 mod shared;
 #[cfg(test)]
+mod slice;
+#[cfg(test)]
 mod switches;
 #[cfg(test)]
 mod taut;

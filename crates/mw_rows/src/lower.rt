@@ -1,7 +1,6 @@
 //! Books of derivations, and what `lower` writes for them.
-use crate::row::{Answer, Row, add_wrong_within, answer_between, answer_to, answer_within};
+use crate::row::{Answer, Row, add_wrong_within, answer_to, answer_with_faults, answer_within};
 use mw_book::Status;
-use mw_port::{MemSink, MemSource};
 use mw_read::SyntaxKind;
 use std::alloc::{AllocError, Global};
 use std::test::Fail;
@@ -86,12 +85,8 @@ fn wrong_books(alloc: Global, size: usize) -> Result<String, AllocError> {
 
 // What it answers where the reads and the writes of these numbers fail.
 fn lowered_with_faults(alloc: Global, reads: &[u64], writes: &[u64]) -> Result<Answer, AllocError> {
-    let bytes = Vec::from_slice(alloc, b"(print a) (print b) (shout)")?;
-    let pieces = vec![in alloc; 11; 27]?;
-    let mut source = MemSource::new(bytes, pieces, Vec::from_slice(alloc, reads)?);
-    let taken = vec![in alloc; 3; 100]?;
-    let mut sink = MemSink::with_cuts(alloc, taken, Vec::from_slice(alloc, writes)?);
-    answer_between(alloc, &["lower"], &mut source, &mut sink)
+    let book = "(print a) (print b) (shout)";
+    answer_with_faults(alloc, &["lower"], book, reads, writes)
 }
 
 #[test]
@@ -151,7 +146,7 @@ fn what_is_refused_has_a_comment_after_what_was_written(rt: HostRuntime) -> Resu
 
 #[test]
 fn what_was_written_first_stays_where_a_read_fails(rt: HostRuntime) -> Result<(), Fail> {
-    let answer = lowered_with_faults(rt.alloc(), &[2], &[])?;
+    let answer = lowered_with_faults(rt.alloc(), &[3], &[])?;
     assert_eq!(rt; answer.status, Status::ReadFault);
     assert_eq!(rt; answer.report.as_str(), "(PRINT A)\n");
     Ok(())

@@ -68,6 +68,23 @@ pub(crate) fn answer_between(
     Ok(Answer { report, status })
 }
 
+/// The same where the source gives pieces of seven bytes and the sink takes three at a time, and where the reads and the writes of these numbers
+/// fail.
+pub(crate) fn answer_with_faults(
+    alloc: Global,
+    words: &[&str],
+    book: &str,
+    reads: &[u64],
+    writes: &[u64],
+) -> Result<Answer, AllocError> {
+    let bytes = Vec::from_slice(alloc, book.as_bytes())?;
+    let pieces = vec![in alloc; 7; book.len()]?;
+    let mut source = MemSource::new(bytes, pieces, Vec::from_slice(alloc, reads)?);
+    let taken = vec![in alloc; 3; 100]?;
+    let mut sink = MemSink::with_cuts(alloc, taken, Vec::from_slice(alloc, writes)?);
+    answer_between(alloc, words, &mut source, &mut sink)
+}
+
 /// The report on a book within so many units, where it does not begin with what is due.
 pub(crate) fn other_report(
     alloc: Global,

@@ -1,7 +1,6 @@
 //! Books of formulas, and what `taut` writes for them.
-use crate::row::{Answer, Row, add_wrong_within, answer_between, answer_to, answer_within};
+use crate::row::{Answer, Row, add_wrong_within, answer_to, answer_with_faults, answer_within};
 use mw_book::Status;
-use mw_port::{MemSink, MemSource};
 use mw_read::SyntaxKind;
 use std::alloc::{AllocError, Global};
 use std::test::Fail;
@@ -98,12 +97,8 @@ fn wrong_proofs(alloc: Global, rows: &[Row], size: usize) -> Result<String, Allo
 
 // What it answers where the reads and the writes of these numbers fail.
 fn proofs_with_faults(alloc: Global, reads: &[u64], writes: &[u64]) -> Result<Answer, AllocError> {
-    let bytes = Vec::from_slice(alloc, b"(a) (b (pequal* x y)) 7")?;
-    let pieces = vec![in alloc; 5; 23]?;
-    let mut source = MemSource::new(bytes, pieces, Vec::from_slice(alloc, reads)?);
-    let taken = vec![in alloc; 3; 100]?;
-    let mut sink = MemSink::with_cuts(alloc, taken, Vec::from_slice(alloc, writes)?);
-    answer_between(alloc, &["taut"], &mut source, &mut sink)
+    let book = "(a) (b (pequal* x y)) 7";
+    answer_with_faults(alloc, &["taut"], book, reads, writes)
 }
 
 #[test]

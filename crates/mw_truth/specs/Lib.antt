@@ -1,3 +1,4 @@
 pub mod Methods
 pub mod Admitted
 pub mod Reached
+pub mod Logged

@@ -1,6 +1,6 @@
 -- The book was judged and its lines were dropped, or memory was refused.
 use Rattle.std.proofs.Common.{None, ◌∙◌, ap, sym, subst}
-use Rattle.mw_model.specs.Commands.{Check}
+use Rattle.mw_model.specs.Request.{Check}
 use Rattle.mw_model.specs.Trial.{trial_book}
 use Rattle.mw_model.specs.Grammar.{trees}
 use Rattle.mw_model.specs.Report.{last_line}

@@ -1,6 +1,9 @@
-use Rattle.std.proofs.Common.{◌∙◌, sym}
+use Rattle.std.proofs.Common.{◌≡◌, ◌∙◌, sym}
 use Rattle.std.proofs.lemmas.List.{map-id}
+use Rattle.std.proofs.lemmas.Result.{IfOk-weaker}
 use Rattle.clap.specs.Words.{app_of, subcommand_rows_of}
+use Rattle.mw_book.specs.Commands.{asked}
+use Rattle.mw_book.specs.Words.{meaning_of}
 use Rattle.mw_book.proofs.Requests.{free, simple, taken_words, refused_words}
 use Rattle.mw_book.proofs.words.request_of.Goals as goal
 
@@ -12,7 +15,7 @@ returns-in-Ok c =
     let no_help = sym c.is_help.ensures ∙ c.if-is_help.false in
     let found = (c.in-Ok.ensures.matches (simple app words _ is (map-id words) no_help)).1 in
     let none = c.in-Ok.ensures.kinds (free app words _ is (map-id words) no_help) in
-    c.request_by.ensures ∙ taken_words app words _ is (map-id words) no_help (subcommand_rows_of c.in-Ok.matches) found none
+    IfOk-weaker c.request_by.result _ (λ r. meaning_of r ≡ asked words) (λ r e. e ∙ taken_words app words _ is (map-id words) no_help (subcommand_rows_of c.in-Ok.matches) found none) c.request_by.ensures
 
 pub returns : goal.returns
 returns c =

@@ -1,8 +1,8 @@
 -- The last line of the answers.
-use Rattle.std.proofs.Common.{◌≡◌, ◌-◌, ◌++◌, codes, sym, ap, ◌∙◌, subst, append_assoc}
+use Rattle.std.proofs.Common.{◌≡◌, ℕ, List, ◌-◌, ◌++◌, codes, sym, ap, ◌∙◌, subst, append_assoc}
 use Rattle.mw_read.specs.Piles.{kind_of}
 use Rattle.mw_book.specs.Answering.{fault_of}
-use Rattle.mw_book.specs.Due.{last_line_for}
+use Rattle.mw_book.specs.Due.{IsLastText}
 use Rattle.mw_book.specs.Lines.{fault_line, formulas_line}
 use Rattle.mw_book.specs.declared.proving.Proving.{Proving}
 use Rattle.mw_book.proofs.LastLines.{proved_fault, proved_summary}
@@ -14,16 +14,20 @@ returns-clause-last c = λ q given h.
     let old = c.args.self.now in
     let before = old.lines.items in
     let mark = c.in_ok-extend_from_slice.ensures.items in
-    let Last : Proving → Type 0 = λ p. p.lines.items ≡ before ++ last_line_for q given (fault_of c.args.fault) in
+    let Last : Proving → Type 0 = λ p. (text : List ℕ) × IsLastText q given (fault_of c.args.fault) text × (p.lines.items ≡ before ++ text) in
     elim c.match-fault.branch as (λ b. Last c.match-fault.self) [
       | in-Some+in_ok-write_fault-in-Some w ↦
           let text = fault_line (kind_of w.in-Some.kind) w.in-Some.offset in
-          subst Last (sym w.self-is)
-          (w.in_ok-write_fault-in-Some.ensures ∙ ap (λ u. u ++ text) mark ∙ append_assoc before (codes "; ") text
-          ∙ ap (λ u. before ++ u) (proved_fault old w.in-Some.kind w.in-Some.offset q given h ∙ ap (λ f. last_line_for q given (fault_of f)) (sym w.in-Some.is)))
+          subst Last (sym w.self-is) (
+            codes "; " ++ text,
+            subst (λ f. IsLastText q given (fault_of f) (codes "; " ++ text)) (sym w.in-Some.is) (proved_fault old w.in-Some.kind w.in-Some.offset q given h),
+            w.in_ok-write_fault-in-Some.ensures ∙ ap (λ u. u ++ text) mark ∙ append_assoc before (codes "; ") text,
+          )
       | in-None+in_ok-write_formulas-in-None w ↦
           let text = formulas_line old.formulas (old.formulas - old.unproved) in
-          subst Last (sym w.self-is)
-          (w.in_ok-write_formulas-in-None.ensures ∙ ap (λ u. u ++ text) mark ∙ append_assoc before (codes "; ") text
-          ∙ ap (λ u. before ++ u) (proved_summary old q given h ∙ ap (λ f. last_line_for q given (fault_of f)) (sym w.in-None.is)))
+          subst Last (sym w.self-is) (
+            codes "; " ++ text,
+            subst (λ f. IsLastText q given (fault_of f) (codes "; " ++ text)) (sym w.in-None.is) (proved_summary old q given h),
+            w.in_ok-write_formulas-in-None.ensures ∙ ap (λ u. u ++ text) mark ∙ append_assoc before (codes "; ") text,
+          )
     ]

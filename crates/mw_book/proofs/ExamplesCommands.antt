@@ -2,7 +2,9 @@
 use Rattle.std.proofs.Common.{◌≡◌, [], ◌∷◌, refl, codes}
 use Rattle.clap.proofs.OnLiterals.{clap_on_literals}
 use Rattle.mw_model.specs.BuiltInText.{joined}
-use Rattle.mw_model.specs.Commands.{Check, Trial, Taut, Lower, Help, Usage, asked, help_text}
+use Rattle.mw_model.specs.Object.{named}
+use Rattle.mw_model.specs.Request.{Check, Trial, Taut, Lower, Slice, Help, Usage}
+use Rattle.mw_book.specs.Commands.{asked, help_text}
 
 no_words : asked [] ≡ Usage
 unfolding clap_on_literals
@@ -148,5 +150,45 @@ word_after_lower : asked (codes "lower" ∷ codes "book" ∷ []) ≡ Usage
 unfolding clap_on_literals
 word_after_lower = refl
 
-help_text_of_all_commands : help_text ≡ joined ("milawa check [--steps N]" ∷ "milawa trial M [--steps N]" ∷ "milawa taut" ∷ "milawa lower [--steps N]" ∷ [])
+slice_of_a_theorem : asked (codes "slice" ∷ codes "use" ∷ []) ≡ Slice (named "USE") 10000000
+unfolding clap_on_literals
+slice_of_a_theorem = refl
+
+name_between_bars : asked (codes "slice" ∷ codes "|a b|" ∷ []) ≡ Slice (named "a b") 10000000
+unfolding clap_on_literals
+name_between_bars = refl
+
+name_with_a_comment : asked (codes "slice" ∷ codes " use ; its last line" ∷ []) ≡ Slice (named "USE") 10000000
+unfolding clap_on_literals
+name_with_a_comment = refl
+
+slice_with_steps : asked (codes "slice" ∷ codes "use" ∷ codes "--steps" ∷ codes "5" ∷ []) ≡ Slice (named "USE") 5
+unfolding clap_on_literals
+slice_with_steps = refl
+
+slice_alone : asked (codes "slice" ∷ []) ≡ Usage
+unfolding clap_on_literals
+slice_alone = refl
+
+slice_of_a_number : asked (codes "slice" ∷ codes "12" ∷ []) ≡ Usage
+unfolding clap_on_literals
+slice_of_a_number = refl
+
+slice_of_a_list : asked (codes "slice" ∷ codes "(use)" ∷ []) ≡ Usage
+unfolding clap_on_literals
+slice_of_a_list = refl
+
+slice_of_two_names_in_a_word : asked (codes "slice" ∷ codes "a b" ∷ []) ≡ Usage
+unfolding clap_on_literals
+slice_of_two_names_in_a_word = refl
+
+slice_of_two_words : asked (codes "slice" ∷ codes "a" ∷ codes "b" ∷ []) ≡ Usage
+unfolding clap_on_literals
+slice_of_two_words = refl
+
+slice_of_a_fault : asked (codes "slice" ∷ codes "|use" ∷ []) ≡ Usage
+unfolding clap_on_literals
+slice_of_a_fault = refl
+
+help_text_of_all_commands : help_text ≡ joined ("milawa check [--steps N]" ∷ "milawa trial M [--steps N]" ∷ "milawa taut" ∷ "milawa lower [--steps N]" ∷ "milawa slice NAME [--steps N]" ∷ [])
 help_text_of_all_commands = refl

@@ -1,32 +1,12 @@
--- What the words of the command line ask for. How `clap` reads their options, and the numbers among them, is in Command. Requests that no words make
--- yet are those of commands that are still to come.
+-- What the words of the command line ask for. How `clap` reads their options, and the numbers and the name among them, is in Arguments.
 use Rattle.std.specs.Prelude.{ℕ, true, cond, List, [], ◌∷◌, ◌++◌, Option, Some, None, codes}
 use Prim.Native.String.{String}
 use Rattle.mw_model.specs.Object.{Name, same_bytes}
-use Rattle.mw_model.specs.Arguments.{steps_command, trial_command, steps_of, events_of, is_help}
+use Rattle.mw_model.specs.Request.{Request, Check, Trial, Taut, Lower, Slice, Help, Usage}
+use Rattle.mw_book.specs.Arguments.{steps_command, trial_command, slice_command, steps_of, events_of, name_of, is_help}
 use Rattle.clap.specs.Walk.{Text, Row, first_of}
 use Rattle.clap.specs.Simple.{App, Shape, new_shape, new_app, on_top, with_subcommand, subcommand_of}
 use Rattle.clap.specs.Takes.{takes}
-
-pub data Request : Type 0 where
-  -- judge the book, with this step limit
-  Check : (steps : ℕ) → Request
-  -- judge the trial book of so many events, with this step limit
-  Trial : (events steps : ℕ) → Request
-  -- prove the formulas of the book that are tautologies
-  Taut : Request
-  -- turn the book's derivations to proofs, with this step limit
-  Lower : (steps : ℕ) → Request
-  -- keep what the theorem of this name rests on, with this step limit
-  Slice : (name : Name) → (steps : ℕ) → Request
-  -- turn the book to a log, with this step limit
-  Flat : (steps : ℕ) → Request
-  -- judge the log
-  Recheck : Request
-  -- show how the program is used
-  Help : Request
-  -- the words ask for nothing that the program does
-  Usage : Request
 
 -- ---- the commands, as `clap` reads them
 
@@ -41,7 +21,7 @@ with_subcommands app (s ∷ ss) = with_subcommands (with_subcommand app s) ss
 abbrev pub program : App
 program =
     with_subcommands (on_top (λ s. record s { no_binary_name = true }) (new_app (codes "milawa")))
-    (steps_command "check" ∷ trial_command ∷ plain_command "taut" ∷ steps_command "lower" ∷ [])
+    (steps_command "check" ∷ trial_command ∷ plain_command "taut" ∷ steps_command "lower" ∷ slice_command ∷ [])
 
 -- ---- the request
 
@@ -53,18 +33,24 @@ abbrev pub trial_with : Option ℕ → Option ℕ → Request
 trial_with None steps = Usage
 trial_with (Some m) steps = with_number (Trial m) steps
 
+abbrev pub slice_with : Option Name → Option ℕ → Request
+slice_with None steps = Usage
+slice_with (Some name) steps = with_number (Slice name) steps
+
 abbrev pub request_named : List (List ℕ × Request) → Text → Request
 request_named [] word = Usage
 request_named (p ∷ ps) word = cond (same_bytes p.0 word) p.1 (request_named ps word)
 
 -- what a command asks for that has these matches
-abbrev pub request_with : Text → (steps : Option ℕ) → (events : Option ℕ) → Request
-request_with word steps events =
-    request_named ((codes "check", with_number Check steps) ∷ (codes "trial", trial_with events steps) ∷ (codes "taut", Taut) ∷ (codes "lower", with_number Lower steps) ∷ []) word
+abbrev pub request_with : Text → (steps : Option ℕ) → (events : Option ℕ) → (name : Option Name) → Request
+request_with word steps events name =
+    request_named
+    ((codes "check", with_number Check steps) ∷ (codes "trial", trial_with events steps) ∷ (codes "taut", Taut) ∷ (codes "lower", with_number Lower steps) ∷ (codes "slice", slice_with name steps) ∷ [])
+    word
 
 abbrev pub request_of : Option (Text × List Row) → Request
 request_of None = Usage
-request_of (Some found) = request_with found.0 (steps_of (first_of (codes "steps") found.1)) (events_of (first_of (codes "events") found.1))
+request_of (Some found) = request_with found.0 (steps_of (first_of (codes "steps") found.1)) (events_of (first_of (codes "events") found.1)) (name_of (first_of (codes "name") found.1))
 
 abbrev pub asked : List Text → Request
 asked words = cond (is_help words) Help (cond (takes program words) (request_of (subcommand_of program words)) Usage)
@@ -75,4 +61,4 @@ help_lines [] = []
 help_lines (l ∷ ls) = codes l ++ 10 ∷ help_lines ls
 
 abbrev pub help_text : List ℕ
-help_text = help_lines ("milawa check [--steps N]" ∷ "milawa trial M [--steps N]" ∷ "milawa taut" ∷ "milawa lower [--steps N]" ∷ [])
+help_text = help_lines ("milawa check [--steps N]" ∷ "milawa trial M [--steps N]" ∷ "milawa taut" ∷ "milawa lower [--steps N]" ∷ "milawa slice NAME [--steps N]" ∷ [])

@@ -1,8 +1,9 @@
--- The options and the arguments of the commands, and the numbers that they give.
-use Rattle.std.specs.Prelude.{ℕ, Bool, true, false, ◌&&◌, cond, leb, List, [], ◌∷◌, length, Option, Some, None, codes}
+-- The options and the arguments of the commands, and the numbers and the name that they give.
+use Rattle.std.specs.Prelude.{ℕ, Bool, true, false, ◌&&◌, cond, leb, List, [], ◌∷◌, ◌++◌, length, Option, Some, None, codes}
 use Prim.Native.String.{String}
-use Rattle.mw_model.specs.Object.{same_bytes}
-use Rattle.mw_model.specs.Lexemes.{is_digit, all_are, decimal_value}
+use Rattle.mw_model.specs.Object.{Name, Object, Symbol, same_bytes}
+use Rattle.mw_model.specs.Lexemes.{Fault, is_digit, all_are, decimal_value}
+use Rattle.mw_model.specs.Grammar.{trees}
 use Rattle.clap.specs.Walk.{Text, Rule}
 use Rattle.clap.specs.Simple.{Shape, new_rule, new_shape}
 use Rattle.clap.specs.declared.builder.action.ArgAction.TheVariants.{Set}
@@ -15,6 +16,10 @@ steps_option = record (new_rule (codes "steps")) { long = Some (codes "steps"); 
 abbrev pub events_argument : Rule
 events_argument = record (new_rule (codes "events")) { action = Some Set; required = true }
 
+-- the argument NAME of `slice`
+abbrev pub name_argument : Rule
+name_argument = record (new_rule (codes "name")) { action = Some Set; required = true }
+
 -- a command with that option alone
 abbrev pub steps_command : String → Shape
 steps_command word = record (new_shape (codes word)) { rules = steps_option ∷ [] }
@@ -22,7 +27,10 @@ steps_command word = record (new_shape (codes word)) { rules = steps_option ∷ 
 abbrev pub trial_command : Shape
 trial_command = record (new_shape (codes "trial")) { rules = events_argument ∷ steps_option ∷ [] }
 
--- ---- the numbers, as the program reads them
+abbrev pub slice_command : Shape
+slice_command = record (new_shape (codes "slice")) { rules = name_argument ∷ steps_option ∷ [] }
+
+-- ---- the numbers and the name, as the program reads them
 
 abbrev pub default_steps : ℕ
 default_steps = 10000000
@@ -41,6 +49,16 @@ steps_of (Some text) = number_within 13 1 1000000000000 text
 abbrev pub events_of : Option Text → Option ℕ
 events_of None = None
 events_of (Some text) = number_within 7 0 1000000 text
+
+-- the symbol that a book is, where it is one datum without a fault
+abbrev pub symbol_among : List Object → Option Fault → Option Name
+symbol_among (Symbol s ∷ []) None = Some s
+symbol_among _ _ = None
+
+-- the name of a theorem, as a book would spell it on a line of its own
+abbrev pub name_of : Option Text → Option Name
+name_of None = None
+name_of (Some text) = let b = trees (text ++ 10 ∷ []) in symbol_among b.events b.fault
 
 -- `--help` alone
 abbrev pub is_help : List Text → Bool

@@ -1,0 +1,25 @@
+-- What follows for each request from what holds for those that are made.
+use Rattle.std.proofs.Common.{◌≡◌, ℕ, List, ◌++◌, Option, refl, sym, subst}
+use Rattle.mw_model.specs.Object.{Object}
+use Rattle.mw_model.specs.Lexemes.{Fault}
+use Rattle.mw_model.specs.Request.{Request}
+use Rattle.mw_book.specs.Answering.{Answers, AnsweredBy}
+use Rattle.mw_book.specs.Due.{AreAnswers, IsLastText, refused_for}
+
+module _ {P : Type 0} (make : P → Request) where
+  -- from one state to another
+  pub answers_by : {A : Type 0} (lines : A → List ℕ) (holds : A → P → List Object → Type 0) (old new : A) (given more : List Object) →
+      ((p : P) → holds old p given → holds new p more) →
+      ((p : P) → holds old p given → (written : List ℕ) → AreAnswers (make p) given (written ++ lines old) → AreAnswers (make p) more (written ++ lines new)) →
+      Answers lines (λ a. AnsweredBy make (holds a)) old given new more
+  answers_by lines holds old new given more f g = record {
+    known = λ q h. (h.0, h.1, f h.0 h.2);
+    due = λ q h w a. subst (λ r. AreAnswers r more (w ++ lines new)) (sym h.1) (g h.0 h.2 w (subst (λ r. AreAnswers r given (w ++ lines old)) h.1 a));
+  }
+
+  module _ (holds : P → List Object → Type 0) (q : Request) (given : List Object) (h : AnsweredBy make holds q given) where
+    pub last_by : (fault : Option Fault) (text : List ℕ) → ((p : P) → holds p given → IsLastText (make p) given fault text) → IsLastText q given fault text
+    last_by fault text f = subst (λ r. IsLastText r given fault text) (sym h.1) (f h.0 h.2)
+
+    pub refused_by : (n : ℕ) → ((p : P) → holds p given → n ≡ refused_for (make p) given) → n ≡ refused_for q given
+    refused_by n f = subst (λ r. n ≡ refused_for r given) (sym h.1) (f h.0 h.2)

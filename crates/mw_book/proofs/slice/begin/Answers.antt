@@ -1,0 +1,8 @@
+-- What was boxed is what was made.
+use Rattle.std.proofs.Common.{[], sym, subst}
+use Rattle.mw_model.specs.Object.{name_of_bytes}
+use Rattle.mw_book.specs.Sliced.{Sliced}
+use Rattle.mw_book.proofs.slice.begin.Goals as goal
+
+pub returns-clause-sliced : goal.returns-clause-sliced
+returns-clause-sliced c = subst (λ s. Sliced s (name_of_bytes c.args.name) c.args.steps []) (sym c.in_ok-new.ensures.ok) c.in_ok-slicing.ensures.sliced

@@ -1,0 +1,28 @@
+-- Where the slicing of a book stands.
+use Rattle.std.specs.Prelude.{◌≡◌, ℕ, List, length}
+use Rattle.mw_model.specs.Object.{Name, Object, name_of_bytes}
+use Rattle.mw_model.specs.Primitive.{One}
+use Rattle.mw_model.specs.Request.{Request, Slice}
+use Rattle.mw_model.specs.Theory.{initial}
+use Rattle.mw_model.specs.Fate.{after}
+use Rattle.mw_model.specs.Slicing.{accepted_events}
+use Rattle.mw_kernel.specs.Knowledge.{theory_of}
+use Rattle.mw_slice.specs.Slices.{events_of}
+use Rattle.mw_book.specs.Answering.{AnsweredBy}
+use Rattle.mw_book.specs.declared.slicing.Slicing.{Slicing}
+
+-- the name of the theorem that is asked for
+abbrev pub name_asked : Slicing → Name
+name_asked s = name_of_bytes s.name
+
+-- These data were judged: the kernel has the theory that they lead to, the slicer has those that were accepted, and the number counts them.
+pub record Sliced (s : Slicing) (name : Name) (N : ℕ) (given : List Object) : Type 0 where
+  pub named : name_asked s ≡ name
+  pub theory : theory_of s.kernel ≡ after (initial One) given N
+  pub steps : s.kernel.steps ≡ N
+  pub counted : s.events ≡ length given
+  pub accepted : events_of s.slicer ≡ accepted_events given N
+
+-- the request is to slice the book for this theorem, and these data were judged
+abbrev pub SlicedFor : Slicing → Request → List Object → Type 0
+SlicedFor s = AnsweredBy {P = Name × ℕ} (λ p. Slice p.0 p.1) (λ p. Sliced s p.0 p.1)

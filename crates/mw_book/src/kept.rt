@@ -1,0 +1,53 @@
+//! The events of a slice, as they are written.
+ghost use Rattle.std.specs.Prelude.{◌≡◌, ℕ, ◌<◌, All, List, ◌++◌, map, length, codes, OnOk};
+ghost use Rattle.mw_model.specs.Printing.{numeral};
+ghost use Rattle.mw_model.specs.Report.{spaced};
+ghost use Rattle.mw_model.specs.Written.{IsDatumLine};
+ghost use Rattle.mw_model.specs.Pieces.{InOrder, comment};
+ghost use Rattle.mw_model.specs.Slice.{event_at};
+ghost use Rattle.mw_slice.specs.Slices.{events_of};
+
+use crate::answer::write_line;
+use crate::line::write_number;
+use mw_heap::Memory;
+use mw_slice::Slicer;
+
+// The events at these places, each on a line.
+fn write_kept(lines: &mut Vec<u8>, slicer: &Slicer, places: &[u64]) -> Result<(), Memory>
+    requires { All (λ j. j < length (events_of slicer.now)) places.now }
+    ensures { OnOk result ((body : List ℕ) × InOrder IsDatumLine (map (event_at (events_of slicer.now)) places.now) body × (lines.new.items ≡ lines.old.items ++ body)) }
+{
+    for &place in places {
+        write_line(lines, slicer.heap(), slicer.event(place))?;
+    }
+    Ok(())
+}
+
+/// Writes the events at these places, and of how many events they were kept.
+pub(crate) fn write_slice(
+    lines: &mut Vec<u8>,
+    slicer: &Slicer,
+    places: &[u64],
+    events: u64,
+) -> Result<(), Memory>
+    requires { All (λ j. j < length (events_of slicer.now)) places.now }
+    ensures { OnOk result ((body : List ℕ) × InOrder IsDatumLine (map (event_at (events_of slicer.now)) places.now) body × (lines.new.items ≡ lines.old.items ++ (body ++ comment (spaced (codes "kept") (spaced (numeral (length places.now)) (spaced (codes "of") (numeral events))))))) }
+{
+    write_kept(lines, slicer, places)?;
+    lines.extend_from_slice(b"; kept ")?;
+    write_number(lines, places.len() as u64)?;
+    lines.extend_from_slice(b" of ")?;
+    write_number(lines, events)?;
+    lines.push(b'\n')?;
+    Ok(())
+}
+
+/// Writes that none of so many events is the theorem.
+pub(crate) fn write_absent(lines: &mut Vec<u8>, events: u64) -> Result<(), Memory>
+    ensures { OnOk result (lines.new.items ≡ lines.old.items ++ comment (spaced (codes "none of") (numeral events))) }
+{
+    lines.extend_from_slice(b"; none of ")?;
+    write_number(lines, events)?;
+    lines.push(b'\n')?;
+    Ok(())
+}

@@ -1,0 +1,48 @@
+-- The text of an atom is one lexeme, before what ends a token.
+use Rattle.std.proofs.Common.{◌≡◌, ℕ, ◌+◌, Bool, true, false, ◌&&◌, ◌||◌, not, List, [], ◌∷◌, ◌++◌, length, sym, refl, ap, ◌∙◌, if◌then◌else◌, arith}
+use Rattle.std.proofs.lemmas.Bool.{and_parts, and_from, or_left, both_ways}
+use Rattle.mw_model.specs.Object.{Object, Natural, Symbol, Name, is_name}
+use Rattle.mw_model.specs.Lexemes.{Atom, Ending, lexemes_from, all_are, is_digit, is_constituent, is_small, is_capital, is_mark, token_form_else, TokenForm, Whole, Point, Bad, token_form, decimal_value}
+use Rattle.mw_model.specs.Printing.{numeral, is_bare, name_text, is_read_as}
+use Rattle.mw_model.proofs.Names.{same_object-eq}
+use Rattle.mw_model.proofs.Numerals.{IsNumeral, numeral_is}
+use Rattle.mw_model.proofs.Lexing.{Delimits, lexemes_from-token, lexemes_from-bars}
+
+abbrev pub IsAtom : Object → List ℕ → Type 0
+IsAtom x t = (e : Ending) (o : ℕ) (z : List ℕ) → Delimits e z → lexemes_from e o 0 (t ++ z) ≡ Atom o x ∷ lexemes_from e (o + length t) 0 z
+
+read_as-form : (x : Object) (f : TokenForm) → is_read_as x f ≡ true → f ≡ Whole x
+read_as-form x (Whole y) h = ap Whole (same_object-eq y x h)
+read_as-form x Point h = cc
+read_as-form x Bad h = cc
+
+bare_atom : (s : Name) (n : List ℕ) → s.bytes ≡ n → is_bare s ≡ true → IsAtom (Symbol s) n
+bare_atom s [] q h e o z d = absurd (both_ways (is_name s.bytes) (ap is_name q) s.valid)
+bare_atom s (c ∷ n) q h e o z d =
+    let a = and_parts (all_are is_constituent s.bytes) (all_are (λ b. not (is_small b)) s.bytes && is_read_as (Symbol s) (token_form s.bytes)) h in
+    let b = and_parts (all_are (λ b. not (is_small b)) s.bytes) (is_read_as (Symbol s) (token_form s.bytes)) a.1 in
+    lexemes_from-token e o c n z (Symbol s) (ap (all_are is_constituent) (sym q) ∙ a.0) (ap token_form (sym q) ∙ read_as-form (Symbol s) (token_form s.bytes) b.1) d
+
+pub name_atom : (s : Name) → IsAtom (Symbol s) (name_text s)
+name_atom s = go (is_bare s) refl
+  where
+    go : (v : Bool) → is_bare s ≡ v → IsAtom (Symbol s) (if v then s.bytes else 124 ∷ (s.bytes ++ 124 ∷ []))
+    go true h = bare_atom s s.bytes refl h
+    go false h = λ e o z d. lexemes_from-bars e o s s.bytes z refl d
+
+digits_are_constituents : (t : List ℕ) → all_are is_digit t ≡ true → all_are is_constituent t ≡ true
+digits_are_constituents [] h = refl
+digits_are_constituents (c ∷ t) h =
+    let a = and_parts (is_digit c) (all_are is_digit t) h in
+    and_from (is_constituent c) (all_are is_constituent t) (or_left (is_digit c) (is_capital c || (is_small c || is_mark c)) a.0) (digits_are_constituents t a.1)
+
+token_form-digits : (t : List ℕ) → all_are is_digit t ≡ true → token_form t ≡ Whole (Natural (decimal_value t))
+token_form-digits t h = ap (λ v. if v then Whole (Natural (decimal_value t)) else token_form_else t) h
+
+digits_atom : (m : ℕ) (ds : List ℕ) → IsNumeral m ds → IsAtom (Natural m) ds
+digits_atom m [] h e o z d = absurd (omega (arith, h.2))
+digits_atom m (c ∷ n) h e o z d =
+    lexemes_from-token e o c n z (Natural m) (digits_are_constituents (c ∷ n) h.0) (token_form-digits (c ∷ n) h.0 ∙ ap (λ k. Whole (Natural k)) h.1) d
+
+pub natural_atom : (n : ℕ) → IsAtom (Natural n) (numeral n)
+natural_atom n = digits_atom n (numeral n) (numeral_is n)

@@ -1,0 +1,10 @@
+-- The places of the formulas of the events before this one.
+use Rattle.std.proofs.Common.{◌≡◌, take}
+use Rattle.mw_model.specs.Object.{Object}
+use Rattle.mw_model.specs.Slice.{first_proof}
+use Rattle.mw_slice.specs.Events.{objects_of}
+use Rattle.mw_slice.specs.Firsts.{AreFirsts, first_by}
+use Rattle.mw_slice.proofs.firsts.first_proofs.Given as goal
+
+abbrev pub invariant-loop-place : goal.invariant-loop-place
+invariant-loop-place l = AreFirsts l.heap.objects l.firsts.entries × ((c : Object) → first_by l.heap.objects l.firsts.entries c ≡ first_proof (objects_of l.heap.objects (take l.place l.added)) c)

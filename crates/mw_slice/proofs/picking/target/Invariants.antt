@@ -1,0 +1,9 @@
+-- None of the events before this one is a theorem of this name.
+use Rattle.std.proofs.Common.{◌≡◌, take, None}
+use Rattle.mw_model.specs.Object.{name_of_bytes}
+use Rattle.mw_model.specs.Slice.{target}
+use Rattle.mw_slice.specs.Events.{objects_of}
+use Rattle.mw_slice.proofs.picking.target.Given as goal
+
+abbrev pub invariant-loop-place : goal.invariant-loop-place
+invariant-loop-place l = target (objects_of l.heap.objects (take l.place l.added)) (name_of_bytes l.name) ≡ None

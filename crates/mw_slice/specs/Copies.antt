@@ -1,0 +1,54 @@
+-- A copy of an object of another heap, cell by cell.
+use Rattle.std.specs.Prelude.{◌≡◌, ℕ, ◌+◌, ◌*◌, ◌<◌, nat_eq, List, [], ◌∷◌, ◌++◌, Option, Some, map, Contains, ◌⊎◌}
+use Rattle.std.specs.Map.{lookup}
+use Rattle.mw_model.specs.Object.{Object, Pair, weight}
+use Rattle.mw_heap.specs.Objects.{object_at, IsIn}
+use Rattle.mw_slice.specs.declared.copying.Job.{Job}
+use Rattle.mw_slice.specs.declared.copying.Job.TheVariants.{Copy, Join}
+
+-- the cell that a job gives a copy
+abbrev pub copied_cell : Job → ℕ
+copied_cell (Copy x) = x
+copied_cell (Join x a d) = x
+
+abbrev pub copy_of : List (ℕ × ℕ) → ℕ → Option ℕ
+copy_of copies x = lookup (nat_eq x) copies
+
+abbrev pub IsCopied : List (ℕ × ℕ) → ℕ → Type 0
+IsCopied copies x = (r : ℕ) × (copy_of copies x ≡ Some r)
+
+-- each copy is of the same object
+abbrev pub AreCopies : List Object → List Object → List (ℕ × ℕ) → Type 0
+AreCopies from to copies = (x r : ℕ) → copy_of copies x ≡ Some r → IsIn to r × (object_at to r ≡ object_at from x)
+
+-- the cell has a copy, or one of the jobs gives it one
+abbrev pub WillBeCopied : List (ℕ × ℕ) → List Job → ℕ → Type 0
+WillBeCopied copies jobs x = IsCopied copies x ⊎ Contains (map copied_cell jobs) x
+
+-- the job can be done after these others
+abbrev pub CanBeDone : List Object → List (ℕ × ℕ) → List Job → Job → Type 0
+CanBeDone from copies before (Copy x) = IsIn from x
+CanBeDone from copies before (Join x a d) = (object_at from x ≡ Pair (object_at from a) (object_at from d)) × WillBeCopied copies before a × WillBeCopied copies before d
+
+-- all of the jobs can be done, the last one first
+abbrev pub AllCanBeDone : List Object → List (ℕ × ℕ) → List Job → Type 0
+AllCanBeDone from copies [] = Unit {0}
+AllCanBeDone from copies (job ∷ jobs) = CanBeDone from copies jobs job × AllCanBeDone from copies jobs
+
+-- a job weighs more than those that it leaves
+abbrev pub job_weight : List Object → Job → ℕ
+job_weight from (Copy x) = 2 * weight (object_at from x)
+job_weight from (Join x a d) = 1
+
+abbrev pub jobs_weight : List Object → List Job → ℕ
+jobs_weight from [] = 0
+jobs_weight from (job ∷ jobs) = job_weight from job + jobs_weight from jobs
+
+-- a job is done, or leaves smaller ones
+pub record IsDone (from : List Object) (job : Job) (old new : List (ℕ × ℕ)) (waited waiting : List Job) : Type 0 where
+  pub more : List Job
+  pub longer : waiting ≡ waited ++ more
+  pub kept : (x : ℕ) → IsCopied old x → IsCopied new x
+  pub possible : AllCanBeDone from new more
+  pub copied : WillBeCopied new more (copied_cell job)
+  pub lighter : jobs_weight from more < job_weight from job

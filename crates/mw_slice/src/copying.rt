@@ -1,0 +1,149 @@
+//! Copies of objects of another heap.
+ghost use Rattle.std.specs.Prelude.{◌≡◌, ℕ, Some, [], ◌∷◌, ◌++◌, IfOk, OnOk};
+ghost use Rattle.mw_model.specs.Object.{Pair};
+ghost use Rattle.mw_heap.specs.Objects.{object_at, IsIn, Grows};
+ghost use Rattle.mw_slice.specs.Copies.{AreCopies, IsCopied, CanBeDone, IsDone, copy_of};
+ghost use Rattle.mw_slice.specs.declared.copying.Job.TheVariants.{Copy, Join};
+
+use indexmap::IndexMap;
+use mw_heap::{Heap, Memory, Ref, View};
+
+/// What is to be done: a cell is copied, or a pair is joined, once its parts have copies.
+#[derive(Clone, Copy)]
+pub(crate) enum Job {
+    Copy(Ref),
+    Join(Ref, Ref, Ref),
+}
+
+// The copy of a cell that has one.
+fn copy_of(copies: &IndexMap<Ref, Ref>, x: Ref) -> Ref
+    requires { IsCopied copies.now.entries x }
+    ensures { copy_of copies.now.entries x ≡ Some result }
+{
+    match copies.get(&x) {
+        Some(made) => *made,
+        None => unreachable!(),
+    }
+}
+
+// Notes the copy of a cell.
+fn note(
+    from: &Heap,
+    to: &Heap,
+    copies: &mut IndexMap<Ref, Ref>,
+    x: Ref,
+    made: Ref,
+) -> Result<(), Memory>
+    requires within { IsIn to.now.objects made }
+    requires same { object_at to.now.objects made ≡ object_at from.now.objects x }
+    requires copies { AreCopies from.now.objects to.now.objects copies.old.entries }
+    ensures copies { OnOk result (AreCopies from.now.objects to.now.objects copies.new.entries) }
+    ensures kept { OnOk result ((y : ℕ) → IsCopied copies.old.entries y → IsCopied copies.new.entries y) }
+    ensures copied { OnOk result (IsCopied copies.new.entries x) }
+{
+    let _ = from;
+    let _ = to;
+    copies.insert(x, made)?;
+    Ok(())
+}
+
+// Has the parts of a pair copied, and then the pair joined.
+fn enter(jobs: &mut Vec<Job>, x: Ref, first: Ref, second: Ref) -> Result<(), Memory>
+    ensures { OnOk result (jobs.new.items ≡ jobs.old.items ++ Join x first second ∷ Copy second ∷ Copy first ∷ []) }
+{
+    jobs.push(Job::Join(x, first, second))?;
+    jobs.push(Job::Copy(second))?;
+    jobs.push(Job::Copy(first))?;
+    Ok(())
+}
+
+// Copies a cell that is no pair, and enters a pair. A cell that has a copy is passed over.
+fn copy_cell(
+    from: &Heap,
+    to: &mut Heap,
+    copies: &mut IndexMap<Ref, Ref>,
+    jobs: &mut Vec<Job>,
+    x: Ref,
+) -> Result<(), Memory>
+    requires within { IsIn from.now.objects x }
+    requires copies { AreCopies from.now.objects to.old.objects copies.old.entries }
+    ensures grows { Grows to.old.objects to.new.objects }
+    ensures copies { OnOk result (AreCopies from.now.objects to.new.objects copies.new.entries) }
+    ensures done { OnOk result (IsDone from.now.objects (Copy x) copies.old.entries copies.new.entries jobs.old.items jobs.new.items) }
+{
+    if copies.contains_key(&x) {
+        return Ok(());
+    }
+    match from.view(x) {
+        View::Nat(n) => {
+            let made = to.nat(n)?;
+            note(from, to, copies, x, made)?;
+        }
+        View::Symbol => {
+            let made = to.symbol(from.name_of(x))?;
+            note(from, to, copies, x, made)?;
+        }
+        View::Pair(first, second) => enter(jobs, x, first, second)?,
+    }
+    Ok(())
+}
+
+// Joins the copies of a pair's parts.
+fn join(
+    from: &Heap,
+    to: &mut Heap,
+    copies: &mut IndexMap<Ref, Ref>,
+    x: Ref,
+    first: Ref,
+    second: Ref,
+) -> Result<(), Memory>
+    requires pair { object_at from.now.objects x ≡ Pair (object_at from.now.objects first) (object_at from.now.objects second) }
+    requires first_copied { IsCopied copies.old.entries first }
+    requires second_copied { IsCopied copies.old.entries second }
+    requires copies { AreCopies from.now.objects to.old.objects copies.old.entries }
+    ensures grows { Grows to.old.objects to.new.objects }
+    ensures copies { OnOk result (AreCopies from.now.objects to.new.objects copies.new.entries) }
+    ensures kept { OnOk result ((y : ℕ) → IsCopied copies.old.entries y → IsCopied copies.new.entries y) }
+    ensures copied { OnOk result (IsCopied copies.new.entries x) }
+{
+    let made = to.cons(copy_of(copies, first), copy_of(copies, second))?;
+    note(from, to, copies, x, made)?;
+    Ok(())
+}
+
+// Does a job.
+fn work(
+    from: &Heap,
+    to: &mut Heap,
+    copies: &mut IndexMap<Ref, Ref>,
+    jobs: &mut Vec<Job>,
+    job: Job,
+) -> Result<(), Memory>
+    requires possible { CanBeDone from.now.objects copies.old.entries [] job }
+    requires copies { AreCopies from.now.objects to.old.objects copies.old.entries }
+    ensures grows { Grows to.old.objects to.new.objects }
+    ensures copies { OnOk result (AreCopies from.now.objects to.new.objects copies.new.entries) }
+    ensures done { OnOk result (IsDone from.now.objects job copies.old.entries copies.new.entries jobs.old.items jobs.new.items) }
+{
+    match job {
+        Job::Copy(x) => copy_cell(from, to, copies, jobs, x)?,
+        Job::Join(x, first, second) => join(from, to, copies, x, first, second)?,
+    }
+    Ok(())
+}
+
+/// The copy of an object of another heap. It takes time and memory in proportion to the distinct cells of the object. The error is that
+/// memory is refused: the heap may then have grown.
+pub fn copy(from: &Heap, x: Ref, to: &mut Heap) -> Result<Ref, Memory>
+    requires { IsIn from.now.objects x }
+    ensures grows { Grows to.old.objects to.new.objects }
+    ensures made { IfOk result (λ r. IsIn to.new.objects r × (object_at to.new.objects r ≡ object_at from.now.objects x)) }
+{
+    let mut copies = IndexMap::new(to.alloc());
+    let mut jobs = Vec::new(to.alloc());
+    jobs.push(Job::Copy(x))?;
+    while let Some(job) = jobs.pop() {
+        work(from, to, &mut copies, &mut jobs, job)?;
+    }
+    Ok(copy_of(&copies, x))
+}

@@ -1,0 +1,22 @@
+//! What a theorem rests on: the accepted events of a book, in a heap of their own, and those of them that a theorem needs.
+#![tactic(auto)]
+
+mod added;
+mod basis;
+mod copying;
+mod event;
+mod firsts;
+mod gathering;
+mod names;
+mod nil;
+mod part;
+mod picked;
+mod picking;
+mod positions;
+mod slicer;
+mod walk;
+
+pub use copying::copy;
+pub use picked::Picked;
+pub use positions::Positions;
+pub use slicer::Slicer;

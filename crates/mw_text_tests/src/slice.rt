@@ -1,0 +1,124 @@
+//! The events that theorems rest on.
+ghost use Rattle.mw_heap.specs.Objects.{IsIn};
+ghost use Rattle.std.specs.Prelude.{◌≡◌, true, IfOk};
+ghost use Rattle.mw_model.specs.Object.{is_name};
+
+use mw_forms::{boxed, is_in};
+use mw_heap::{Heap, Memory, Ref};
+use mw_read::{Reader, Step};
+use mw_slice::{Picked, Slicer};
+use std::alloc::Global;
+use std::test::Fail;
+
+// A theorem of the function F, another theorem with the same formula, and one whose proof names that formula.
+const EVENTS: [&[u8]; 5] = [
+    b"(define f (x) x nil ())",
+    b"(verify a (pequal* (f x) x) (axiom (pequal* (f x) x)))",
+    b"(print f)",
+    b"(verify b (pequal* (f x) x) (axiom (pequal* (f x) x)))",
+    b"(verify c (pequal* y y) (contraction (pequal* y y) ((theorem (pequal* (f x) x)))))",
+];
+
+// The second profile, a theorem, a switch, a text that is shown, and a theorem after the switch.
+const SWITCHED: [&[u8]; 5] = [
+    b"(profile 2)",
+    b"(verify a (pequal* x x) (axiom (pequal* x x)))",
+    b"(switch s)",
+    b"(print x)",
+    b"(verify b (pequal* y y) (axiom (pequal* y y)))",
+];
+
+// The first datum of a text.
+fn read(heap: &mut Heap, text: &[u8]) -> Result<Ref, Memory>
+    ensures { IfOk result (λ x. IsIn heap.new.objects x) }
+{
+    let mut reader = Reader::new(heap.alloc());
+    let (step, _) = reader.step(heap, text);
+    match step {
+        Step::Datum(x) if is_in(heap, x) => Ok(x),
+        _ => Err(Memory),
+    }
+}
+
+// Adds five events, each from a heap that has those before it too.
+fn add_events(heap: &mut Heap, slicer: &mut Slicer, texts: &[&[u8]; 5]) -> Result<(), Memory> {
+    for text in texts {
+        let event = read(heap, text)?;
+        slicer.add(heap, event)?;
+    }
+    Ok(())
+}
+
+// Whether just these places are picked for a name.
+fn picks(slicer: &Slicer, name: &[u8], places: &[u64]) -> bool
+    requires { is_name name.now ≡ true }
+{
+    match slicer.pick(name) {
+        Picked::Events(picked) => picked.as_slice() == places,
+        Picked::Absent => places.is_empty(),
+        Picked::Memory => false,
+    }
+}
+
+fn boxed_slicer(alloc: Global) -> Result<Box<Slicer>, Memory> {
+    let slicer = Slicer::new(alloc)?;
+    Ok(Box::new(alloc, slicer)?)
+}
+
+// Whether each theorem is picked with what it rests on.
+fn picks_each(heap: &mut Heap, slicer: &mut Slicer) -> Result<[bool; 4], Memory> {
+    add_events(heap, slicer, &EVENTS)?;
+    Ok([
+        picks(slicer, b"A", &[0, 1]),
+        picks(slicer, b"B", &[0, 3]),
+        picks(slicer, b"C", &[0, 1, 4]),
+        picks(slicer, b"F", &[]),
+    ])
+}
+
+#[test]
+fn a_theorem_is_picked_with_what_it_rests_on(rt: HostRuntime) -> Result<(), Fail> {
+    let mut heap = boxed(rt.alloc())?;
+    let mut slicer = boxed_slicer(rt.alloc())?;
+    assert_eq!(rt; picks_each(&mut heap, &mut slicer)?, [true; 4]);
+    Ok(())
+}
+
+// Whether the second profile is picked with a theorem, and all that changes the theory with one after a switch.
+fn picks_switched(heap: &mut Heap, slicer: &mut Slicer) -> Result<[bool; 2], Memory> {
+    add_events(heap, slicer, &SWITCHED)?;
+    Ok([
+        picks(slicer, b"A", &[0, 1]),
+        picks(slicer, b"B", &[0, 1, 2, 4]),
+    ])
+}
+
+#[test]
+fn after_a_switch_every_change_is_picked(rt: HostRuntime) -> Result<(), Fail> {
+    let mut heap = boxed(rt.alloc())?;
+    let mut slicer = boxed_slicer(rt.alloc())?;
+    assert_eq!(rt; picks_switched(&mut heap, &mut slicer)?, [true; 2]);
+    Ok(())
+}
+
+// Whether a theorem is there, whether it is gone once it is taken back, and whether the heap is then as it was.
+fn takes_back(heap: &mut Heap, slicer: &mut Slicer) -> Result<[bool; 3], Memory> {
+    let before = slicer.heap().mark();
+    let event = read(heap, SWITCHED[1])?;
+    slicer.add(heap, event)?;
+    let is_there = picks(slicer, b"A", &[0]);
+    slicer.take_back();
+    Ok([
+        is_there,
+        picks(slicer, b"A", &[]),
+        slicer.heap().mark() == before,
+    ])
+}
+
+#[test]
+fn an_event_is_taken_back(rt: HostRuntime) -> Result<(), Fail> {
+    let mut heap = boxed(rt.alloc())?;
+    let mut slicer = boxed_slicer(rt.alloc())?;
+    assert_eq!(rt; takes_back(&mut heap, &mut slicer)?, [true; 3]);
+    Ok(())
+}
