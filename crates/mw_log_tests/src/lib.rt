@@ -1,0 +1,5 @@
+//! Tests of the crates that speak of logs.
+#![tactic(auto)]
+
+#[cfg(test)]
+mod flat;
