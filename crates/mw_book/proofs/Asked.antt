@@ -21,6 +21,7 @@ IsAsked (Trial m N) = Unit {0}
 IsAsked Taut = Unit {0}
 IsAsked (Lower N) = Unit {0}
 IsAsked (Slice name N) = Unit {0}
+IsAsked (Flat N) = Unit {0}
 IsAsked Help = Unit {0}
 IsAsked Usage = Unit {0}
 IsAsked _ = ⊥
@@ -37,6 +38,10 @@ lower_asked : (steps : Option ℕ) → IsAsked (with_number Lower steps)
 lower_asked None = tt
 lower_asked (Some N) = tt
 
+flat_asked : (steps : Option ℕ) → IsAsked (with_number Flat steps)
+flat_asked None = tt
+flat_asked (Some N) = tt
+
 trial_asked : (events steps : Option ℕ) → IsAsked (trial_with events steps)
 trial_asked None steps = tt
 trial_asked (Some m) None = tt
@@ -52,7 +57,7 @@ with_asked word steps events theorem =
     by_test (same_bytes (codes "check") word) _ _ (check_asked steps)
     (by_test (same_bytes (codes "trial") word) _ _ (trial_asked events steps)
     (by_test (same_bytes (codes "taut") word) Taut _ tt
-    (by_test (same_bytes (codes "lower") word) _ _ (lower_asked steps) (by_test (same_bytes (codes "slice") word) _ Usage (slice_asked theorem steps) tt))))
+    (by_test (same_bytes (codes "lower") word) _ _ (lower_asked steps) (by_test (same_bytes (codes "slice") word) _ _ (slice_asked theorem steps) (by_test (same_bytes (codes "flat") word) _ Usage (flat_asked steps) tt)))))
 
 of_asked : (found : Option (Text × List Row)) → IsAsked (request_of found)
 of_asked None = tt
@@ -69,7 +74,7 @@ none_of begins Help h input sink = nothing_taken help_text sink
 none_of begins Usage h input sink = nothing_taken help_text sink
 none_of begins (Lower N) h input sink = part_none begins (Lower N) refl input sink
 none_of begins (Slice name N) h input sink = part_none begins (Slice name N) refl input sink
-none_of begins (Flat N) h input sink = absurd h
+none_of begins (Flat N) h input sink = part_none begins (Flat N) refl input sink
 none_of begins Recheck h input sink = absurd h
 
 pub nothing_written : Begins → (words : List Text) (input sink : Option (List ℕ)) → IsPartOf (asked words) input sink sink

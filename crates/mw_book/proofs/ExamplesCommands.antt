@@ -3,7 +3,7 @@ use Rattle.std.proofs.Common.{◌≡◌, [], ◌∷◌, refl, codes}
 use Rattle.clap.proofs.OnLiterals.{clap_on_literals}
 use Rattle.mw_model.specs.BuiltInText.{joined}
 use Rattle.mw_model.specs.Object.{named}
-use Rattle.mw_model.specs.Request.{Check, Trial, Taut, Lower, Slice, Help, Usage}
+use Rattle.mw_model.specs.Request.{Check, Trial, Taut, Lower, Slice, Flat, Help, Usage}
 use Rattle.mw_book.specs.Commands.{asked, help_text}
 
 no_words : asked [] ≡ Usage
@@ -190,5 +190,17 @@ slice_of_a_fault : asked (codes "slice" ∷ codes "|use" ∷ []) ≡ Usage
 unfolding clap_on_literals
 slice_of_a_fault = refl
 
-help_text_of_all_commands : help_text ≡ joined ("milawa check [--steps N]" ∷ "milawa trial M [--steps N]" ∷ "milawa taut" ∷ "milawa lower [--steps N]" ∷ "milawa slice NAME [--steps N]" ∷ [])
+flat_alone : asked (codes "flat" ∷ []) ≡ Flat 10000000
+unfolding clap_on_literals
+flat_alone = refl
+
+flat_with_steps : asked (codes "flat" ∷ codes "--steps" ∷ codes "5" ∷ []) ≡ Flat 5
+unfolding clap_on_literals
+flat_with_steps = refl
+
+word_after_flat : asked (codes "flat" ∷ codes "book" ∷ []) ≡ Usage
+unfolding clap_on_literals
+word_after_flat = refl
+
+help_text_of_all_commands : help_text ≡ joined ("milawa check [--steps N]" ∷ "milawa trial M [--steps N]" ∷ "milawa taut" ∷ "milawa lower [--steps N]" ∷ "milawa slice NAME [--steps N]" ∷ "milawa flat [--steps N]" ∷ [])
 help_text_of_all_commands = refl

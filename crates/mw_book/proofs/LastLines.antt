@@ -1,7 +1,7 @@
 -- The last lines, and how many of the data were refused.
 use Rattle.std.proofs.Common.{◌≡◌, ℕ, ◌-◌, List, ◌++◌, Some, None, codes, refl, sym, ap, subst}
 use Rattle.mw_model.specs.Object.{Object}
-use Rattle.mw_model.specs.Request.{Request, Check, Taut, Lower}
+use Rattle.mw_model.specs.Request.{Request, Check, Taut, Lower, Flat}
 use Rattle.mw_kernel.specs.Knowledge.{theory_of}
 use Rattle.mw_read.specs.Piles.{kind_of}
 use Rattle.mw_read.specs.declared.step.SyntaxKind.{SyntaxKind}
@@ -9,14 +9,17 @@ use Rattle.mw_book.specs.Answered.{Answered, IsProving, ProvedFor}
 use Rattle.mw_book.specs.Answering.{fault_of}
 use Rattle.mw_book.specs.Due.{IsLastText, refused_for}
 use Rattle.mw_book.specs.Knowing.{Judged, JudgedFor}
-use Rattle.mw_book.specs.Lines.{fault_line, formulas_line, summary_of}
+use Rattle.mw_book.specs.Flattened.{Flattened, FlattenedFor}
+use Rattle.mw_book.specs.Lines.{fault_line, flat_line, formulas_line, summary_of}
 use Rattle.mw_book.specs.Lowered.{Lowered, LoweredFor}
+use Rattle.mw_book.specs.declared.flattening.Flattening.{Flattening}
 use Rattle.mw_book.specs.declared.judging.Judging.{Judging}
 use Rattle.mw_book.specs.declared.lowering.Lowering.{Lowering}
 use Rattle.mw_book.specs.declared.proving.Proving.{Proving}
 use Rattle.mw_book.proofs.AnsweredBy.{last_by, refused_by}
 use Rattle.mw_book.proofs.Counted.{summary_is as formulas_are}
 use Rattle.mw_book.proofs.Ended.{summary_is}
+use Rattle.mw_book.proofs.FlattenedOne.{flat_summary_is}
 use Rattle.mw_book.proofs.LoweredOne.{summary_is as course_is}
 
 -- ---- a report
@@ -56,3 +59,15 @@ lowered_fault l kind offset q given h = last_by Lower (Lowered l) q given h (fau
 pub lowered_summary : (l : Lowering) (level : ℕ) → level ≡ (theory_of l.kernel).level → (q : Request) (given : List Object) → LoweredFor l q given → IsLastText q given None (codes "; " ++ summary_of l.events l.refused level)
 lowered_summary l level e q given h =
     last_by Lower (Lowered l) q given h None (codes "; " ++ summary_of l.events l.refused level) (λ N k. ap (λ u. codes "; " ++ u) (course_is l N given level k e))
+
+-- ---- a log
+
+pub flattened_refused : (f : Flattening) (q : Request) (given : List Object) → FlattenedFor f q given → f.others ≡ refused_for q given
+flattened_refused f q given h = refused_by Flat (Flattened f) q given h f.others (λ N k. k.others_counted)
+
+pub flattened_fault : (f : Flattening) (kind : SyntaxKind) (offset : ℕ) (q : Request) (given : List Object) → FlattenedFor f q given → IsLastText q given (fault_of (Some (kind, offset))) (codes "; " ++ fault_line (kind_of kind) offset)
+flattened_fault f kind offset q given h = last_by Flat (Flattened f) q given h (fault_of (Some (kind, offset))) (codes "; " ++ fault_line (kind_of kind) offset) (λ N k. refl)
+
+pub flattened_summary : (f : Flattening) (q : Request) (given : List Object) → FlattenedFor f q given → IsLastText q given None (codes "; " ++ flat_line f.events f.written)
+flattened_summary f q given h =
+    last_by Flat (Flattened f) q given h None (codes "; " ++ flat_line f.events f.written) (λ N k. ap (λ u. codes "; " ++ u) (flat_summary_is f N given k))

@@ -9,7 +9,10 @@ pub mod Rounds
 pub mod Headlines
 pub mod TrialHeadlines
 pub mod Pieces
+pub mod Courses
 pub mod LoweredPieces
+pub mod FlatPieces
+pub mod FlatWritten
 pub mod SlicedTexts
 pub mod Promising
 pub mod Proved
@@ -23,6 +26,7 @@ pub mod Symbols
 pub mod OneMore
 pub mod LoweredOne
 pub mod SlicedOne
+pub mod FlattenedOne
 pub mod SlicedPlaces
 pub mod LastLines
 pub mod Summary

@@ -25,7 +25,7 @@ use Rattle.mw_book.specs.Lines.{line_begun, summary_of}
 use Rattle.mw_book.specs.Lowered.{Lowered, LoweredFor}
 use Rattle.mw_book.specs.declared.lowering.Lowering.{Lowering}
 use Rattle.mw_book.proofs.AnsweredBy.{answers_by}
-use Rattle.mw_book.proofs.LoweredPieces.{course-append, last-append, length-course}
+use Rattle.mw_book.proofs.Courses.{event_after, course_more as one_more, last-append, length-course}
 use Rattle.mw_book.proofs.Ended.{same_text}
 use Rattle.mw_book.proofs.OneMore.{line-parts}
 use Rattle.mw_book.proofs.Pieces.{in_order_both, how_many-append}
@@ -45,10 +45,10 @@ lowered_read l k t s given =
 
 -- the event after these
 abbrev pub transition : ℕ → List Object → Object → Transition
-transition N given y = let t = last_theory (derived_course given N) in let h = derived N t y in record { number = 1 + length given; before = t; event = y; fate = h.0; next = h.1 }
+transition N given y = event_after (derived N) given y
 
 pub course_more : (N : ℕ) (given : List Object) (y : Object) → derived_course (given ++ y ∷ []) N ≡ derived_course given N ++ transition N given y ∷ []
-course_more N given y = course-append (derived N) 1 (initial One) given (y ∷ [])
+course_more N given y = one_more (derived N) given y
 
 -- One event more: its fate and the theory after it are those of the course, and its piece is owed.
 pub lowered_one : (old new : Lowering) (y : Object) (f : Fate) (piece : List ℕ) →

@@ -1,4 +1,4 @@
--- Each event of a course of derivations has a piece, and courses go on from their first events.
+-- Each event of a course of derivations has a piece.
 use Rattle.std.proofs.Common.{◌≡◌, ℕ, suc, ◌+◌, true, List, [], ◌∷◌, ◌++◌, length, codes, refl, ap, ◌∙◌, arith}
 use Rattle.mw_model.specs.Object.{Object}
 use Rattle.mw_model.specs.Truth.{Each}
@@ -9,23 +9,6 @@ use Rattle.mw_model.specs.Pieces.{InOrder}
 use Rattle.mw_model.specs.Transition.{Effect, Transition, course_from, last_theory_from, is_acceptance}
 use Rattle.mw_model.specs.Lowering.{IsLowered, OwesByFate, OwesLowered}
 use Rattle.mw_book.proofs.Pieces.{LabelledTexts, may_be_written}
-
-pub course-append : (effect : Effect) (k : ℕ) (t : Theory) (es more : List Object) → course_from effect k t (es ++ more) ≡ course_from effect k t es ++ course_from effect (k + length es) (last_theory_from t (course_from effect k t es)) more
-course-append effect k t [] more = ap (λ n. course_from effect n t more) (let e : k ≡ k + 0 = omega arith in e)
-course-append effect k t (e ∷ es) more =
-    let h = effect t e in
-    let s : Transition = record { number = k; before = t; event = e; fate = h.0; next = h.1 } in
-    ap (λ ss. s ∷ ss) (course-append effect (suc k) h.1 es more ∙ ap (λ n. course_from effect (suc k) h.1 es ++ course_from effect n (last_theory_from h.1 (course_from effect (suc k) h.1 es)) more) (let e : suc k + length es ≡ k + suc (length es) = omega arith in e))
-
-pub last-append : (t : Theory) (ss : List Transition) (s : Transition) → last_theory_from t (ss ++ s ∷ []) ≡ s.next
-last-append t [] s = refl
-last-append t (r ∷ ss) s = last-append r.next ss s
-
-pub length-course : (effect : Effect) (k : ℕ) (t : Theory) (es : List Object) → length (course_from effect k t es) ≡ length es
-length-course effect k t [] = refl
-length-course effect k t (e ∷ es) = ap suc (length-course effect (suc k) (effect t e).1 es)
-
--- ---- each event may be written
 
 -- an event that is accepted has a lowered form
 abbrev pub HasLowered : Transition → Type 0

@@ -1,5 +1,5 @@
 -- Whatever was answered first, the answers can go on to the end of the book.
-use Rattle.std.proofs.Common.{◌≡◌, ℕ, suc, ◌+◌, ◌≤◌, true, not, List, [], ◌∷◌, ◌++◌, length, Some, None, Option, codes, refl, sym, ap, ap₂, ◌∙◌, subst, append_assoc, append-nil}
+use Rattle.std.proofs.Common.{◌≡◌, ℕ, suc, ◌+◌, ◌≤◌, true, not, List, [], ◌∷◌, ◌++◌, length, map, Some, None, Option, codes, refl, sym, ap, ap₂, ◌∙◌, subst, append_assoc, append-nil}
 use Rattle.mw_model.specs.Object.{Object, symbol, car, second_of, list4}
 use Rattle.mw_model.specs.Term.{ArityTable, Formula, is_formula}
 use Rattle.mw_model.specs.Reading.{formula_of, formula_under, when, that}
@@ -16,19 +16,22 @@ use Rattle.mw_model.specs.Tautology.{Decision, Many, FailsUnder, Holds, decision
 use Rattle.mw_model.specs.TautologyBook.{IsPureProof, OwesDecided, OwesGiven, OwesTautology, TautologiesWritten, formula_given, initial_arities, is_proved, remark, tautology_summary}
 use Rattle.mw_model.specs.Slice.{target}
 use Rattle.mw_model.specs.Slicing.{accepted_events, SliceWritten}
-use Rattle.mw_model.specs.Headlines.{AcceptsAll, SliceHeadline, Promised, IsBegun}
+use Rattle.mw_model.specs.Flattening.{OwesFlat, FlatWritten, before_switch, flat_event, flat_events, flat_summary, plain_course}
+use Rattle.mw_model.specs.Headlines.{AcceptsAll, LogAccepted, SliceHeadline, Promised, IsBegun}
 use Rattle.mw_model.specs.Truth.{Each}
 use Rattle.mw_model.specs.Fate.{after}
 use Rattle.mw_model.specs.Demand.{happens_under}
 use Rattle.mw_model.specs.DerivationTest.{derived_as}
-use Rattle.mw_model.specs.Transition.{course_from, last_theory, is_acceptance}
+use Rattle.mw_model.specs.Transition.{course_from, last_theory, last_theory_from, is_acceptance}
 use Rattle.mw_model.specs.Lowering.{OwesLowered, LoweredWritten, course_summary, derived_course}
 use Rattle.mw_model.proofs.ReadBack.{when_some}
 use Rattle.mw_reflect.specs.Laws.{EventsKeep}
 use Rattle.mw_book.specs.Due.{AreAnswers, IsLastText, refused_for}
 use Rattle.mw_model.proofs.LinesGrow.{lines_first}
 use Rattle.mw_book.proofs.Headlines.{AreKept}
-use Rattle.mw_book.proofs.LoweredPieces.{HasLowered, course-append, each_later, all_lowered}
+use Rattle.mw_book.proofs.Courses.{course-append, judged}
+use Rattle.mw_book.proofs.FlatPieces.{all_flat, flat_goes_on}
+use Rattle.mw_book.proofs.LoweredPieces.{HasLowered, each_later, all_lowered}
 use Rattle.mw_book.proofs.Pieces.{LabelledTexts, in_order_both, numbered-append, may_be_written}
 use Rattle.mw_book.proofs.Rounds.{Begins}
 use Rattle.mw_book.proofs.SlicedTexts.{HasSlices, SlicesAgain, sliced_status, some_slice}
@@ -87,6 +90,8 @@ module _
         (lowered_again : (b : Book) (N : ℕ) (text : List ℕ) → LoweredWritten b N text → length text ≤ limit → AcceptsAll text N (how_many is_acceptance (derived_course b.events N)))
         (has_slices : HasSlices)
         (sliced_again : SlicesAgain)
+        (may_be_flat : (e : Object) → (piece : List ℕ) × OwesFlat e piece)
+        (flattened_again : (b : Book) (N : ℕ) (text : List ℕ) → FlatWritten b N text → length text ≤ limit → LogAccepted (map flat_event (flat_events (plain_course b.events N))) (last_theory_from (initial One) (before_switch (plain_course b.events N))) text)
         (same_theory : (b : Book) (N : ℕ) (text : List ℕ) → LoweredWritten b N text → length text ≤ limit → after (initial One) (trees text).events N ≡ last_theory (derived_course b.events N))
       where
         reported : (bytes : List ℕ) (N : ℕ) (text : List ℕ) → text ≡ (report bytes N).text → Headline bytes N text (report bytes N).status
@@ -110,7 +115,10 @@ module _
             let status = sliced_status b.fault (target (accepted_events b.events N) name) in
             record { exact = all; ends = status; again = λ done. sliced_again b N name written all (sym status ∙ done) } in
             owed (text ++ last) (ap (λ u. u ++ last) h)
-        whole (Flat N) bytes text last h l = absurd h
+        whole (Flat N) bytes text last h l =
+            let b = trees bytes in
+            let all : FlatWritten b N (text ++ last) = (text, h, ap (λ u. text ++ u) l) in
+            record { exact = all; ends = refl; again = flattened_again b N (text ++ last) all }
         whole Recheck bytes text last h l = absurd h
         whole Help bytes text last h l = absurd h
         whole Usage bytes text last h l = absurd h
@@ -142,7 +150,15 @@ module _
             let accepted = accepted_events b.events N in
             let r = some_slice labelled has_slices b.fault (target accepted name) b.events accepted in
             goes_on (Slice name N) bytes text [] r.0 (ap (λ u. u ++ []) h) r.1
-        begun (Flat N) bytes text given more e h = absurd h
+        begun (Flat N) bytes text given more e h =
+            let effect = judged N in
+            let ss = plain_course given N in
+            let rest = course_from effect (1 + length given) (last_theory ss) more in
+            let whole_course = ap (λ es. plain_course es N) e ∙ course-append effect 1 (initial One) given more in
+            let m = flat_goes_on ss rest in
+            let r = all_flat may_be_flat m.0 in
+            goes_on (Flat N) bytes text r.0 (comment_ending (trees bytes).fault (flat_summary (plain_course (trees bytes).events N)))
+            (subst (λ es. InOrder OwesFlat es (text ++ r.0)) (sym (ap flat_events whole_course ∙ m.1)) (in_order_both OwesFlat (flat_events ss) m.0 text r.0 h r.1)) refl
         begun Recheck bytes text given more e h = absurd h
         begun Help bytes text given more e h = absurd h
         begun Usage bytes text given more e h = absurd h

@@ -1,5 +1,5 @@
 -- What reading more, and judging one event more, makes of where the slicing stands.
-use Rattle.std.proofs.Common.{◌≡◌, ℕ, suc, ◌+◌, Bool, true, false, cond, List, [], ◌∷◌, ◌++◌, length, map, refl, sym, ap, ap₂, ◌∙◌, subst}
+use Rattle.std.proofs.Common.{◌≡◌, ℕ, ◌+◌, Bool, true, false, cond, List, [], ◌∷◌, ◌++◌, length, map, refl, sym, ap, ap₂, ◌∙◌, subst}
 use Rattle.std.specs.Prelude.{filter}
 use Rattle.std.proofs.lemmas.List.{length_push, map-append, append-nil}
 use Rattle.std.proofs.lemmas.List.Elements.{filter-append}
@@ -9,7 +9,7 @@ use Rattle.mw_model.specs.Request.{Request, Slice}
 use Rattle.mw_model.specs.Theory.{Theory, initial}
 use Rattle.mw_model.specs.Fate.{is_out_of_range, happens, fate, next, after}
 use Rattle.mw_model.specs.Report.{is_accepted}
-use Rattle.mw_model.specs.Transition.{Effect, Transition, course_from, last_theory_from, course, last_theory, is_acceptance}
+use Rattle.mw_model.specs.Transition.{Transition, course, last_theory, is_acceptance}
 use Rattle.mw_model.specs.Slicing.{accepted_events}
 use Rattle.mw_kernel.specs.Knowledge.{Knowledge, theory_of}
 use Rattle.mw_slice.specs.Slices.{events_of}
@@ -18,17 +18,10 @@ use Rattle.mw_book.specs.Sliced.{Sliced, SlicedFor, name_asked}
 use Rattle.mw_book.specs.declared.slicing.Slicing.{Slicing}
 use Rattle.mw_book.proofs.AnsweredBy.{answers_by}
 use Rattle.mw_book.proofs.Appending.{after-append}
-use Rattle.mw_book.proofs.LoweredPieces.{course-append}
+use Rattle.mw_book.proofs.Courses.{course-append, course_leads, judged}
 use Rattle.mw_book.proofs.Showing.{fate-large, next-large}
 
 -- ---- the events that are accepted
-
-abbrev effect : ℕ → Effect
-effect N t e = happens t N e
-
-course_leads : (N k : ℕ) (t : Theory) (es : List Object) → last_theory_from t (course_from (effect N) k t es) ≡ after t es N
-course_leads N k t [] = refl
-course_leads N k t (e ∷ es) = course_leads N (suc k) (next t e N) es
 
 -- the event, where it is accepted
 abbrev pub where_accepted : Bool → Object → List Object
@@ -44,12 +37,12 @@ one_event s = go (is_acceptance s) refl
 pub accepted_more : (N : ℕ) (given : List Object) (y : Object) → accepted_events (given ++ y ∷ []) N ≡ accepted_events given N ++ where_accepted (is_accepted (fate (after (initial One) given N) y N)) y
 accepted_more N given y =
     let t = initial One in
-    let ss = course (effect N) given in
+    let ss = course (judged N) given in
     let u = last_theory ss in
     let h = happens u N y in
     let s : Transition = record { number = 1 + length given; before = u; event = y; fate = h.0; next = h.1 } in
     let events : List Transition → List Object = λ rs. map (λ r. r.event) rs in
-    ap (λ rs. events (filter is_acceptance rs)) (course-append (effect N) 1 t given (y ∷ []))
+    ap (λ rs. events (filter is_acceptance rs)) (course-append (judged N) 1 t given (y ∷ []))
     ∙ ap events (filter-append is_acceptance ss (s ∷ []))
     ∙ map-append (λ (r : Transition). r.event) (filter is_acceptance ss) (filter is_acceptance (s ∷ []))
     ∙ ap (λ l. events (filter is_acceptance ss) ++ l) (one_event s ∙ ap (λ v. where_accepted (is_accepted (fate v y N)) y) (course_leads N 1 t given))

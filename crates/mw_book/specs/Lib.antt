@@ -12,5 +12,7 @@ pub mod Lines
 pub mod Knowing
 pub mod Lowered
 pub mod Sliced
+pub mod Flattened
+pub mod FlatEvents
 pub mod Checks
 pub mod Trials

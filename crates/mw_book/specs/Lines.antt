@@ -18,3 +18,6 @@ fault_line kind offset = spaced (codes "syntax") (spaced (kind_word kind) (space
 
 abbrev pub formulas_line : (formulas proved : ℕ) → List ℕ
 formulas_line formulas proved = spaced (codes "formulas") (spaced (numeral formulas) (spaced (codes "proved") (numeral proved))) ++ 10 ∷ []
+
+abbrev pub flat_line : (events written : ℕ) → List ℕ
+flat_line events written = spaced (codes "events") (spaced (numeral events) (spaced (codes "flat") (numeral written))) ++ 10 ∷ []

@@ -4,21 +4,28 @@ ghost use Rattle.clap.specs.Words.{app_of, shape_of, rule_of};
 ghost use Rattle.clap.specs.declared.builder.command.Command.TheViews.{out-Command as fields_of};
 ghost use Rattle.mw_book.specs.Commands as commands;
 ghost use Rattle.mw_book.specs.Arguments as arguments;
-ghost use Rattle.mw_book.specs.Words.{judging_program};
+ghost use Rattle.mw_book.specs.Words.{judging_program, proving_program};
 
 use clap::{Arg, ArgAction, Command};
 use std::alloc::{AllocError, Global};
 
-/// The command with its subcommands `check`, `trial`, `taut`, `lower` and `slice`.
+/// The command with its subcommands `check`, `trial`, `taut`, `lower`, `slice` and `flat`.
 pub(crate) fn program<'a>(alloc: Global) -> Result<Command<'a>, AllocError>
     ensures { IfOk result (λ c. app_of c ≡ commands.program) }
 {
-    let lower = lower_command(alloc)?;
     let slice = slice_command(alloc)?;
+    let flat = flat_command(alloc)?;
+    proving_program(alloc)?.subcommand(slice)?.subcommand(flat)
+}
+
+// The command with the four subcommands that judge books, or write theorems with proofs.
+fn proving_program<'a>(alloc: Global) -> Result<Command<'a>, AllocError>
+    ensures { IfOk result (λ c. app_of c ≡ proving_program) }
+{
+    let lower = lower_command(alloc)?;
     judging_program(alloc)?
         .subcommand(taut_command(alloc))?
-        .subcommand(lower)?
-        .subcommand(slice)
+        .subcommand(lower)
 }
 
 // The command with the two subcommands that write reports.
@@ -75,6 +82,14 @@ fn slice_command<'a>(alloc: Global) -> Result<Command<'a>, AllocError>
     Command::new(alloc, "slice")
         .arg(name_argument(alloc))?
         .arg(steps_option(alloc))
+}
+
+// flat [--steps N]
+fn flat_command<'a>(alloc: Global) -> Result<Command<'a>, AllocError>
+    ensures shape { IfOk result (λ c. shape_of c ≡ arguments.steps_command "flat") }
+    ensures local { IfOk result (λ c. (fields_of c).has_globals ≡ false) }
+{
+    Command::new(alloc, "flat").arg(steps_option(alloc))
 }
 
 fn steps_option<'a>(alloc: Global) -> Arg<'a>

@@ -8,6 +8,7 @@ ghost use Rattle.mw_model.specs.Headlines.{Promised, IsBegun};
 ghost use Rattle.mw_book.specs.Due.{AreAnswers, IsLastText, refused_for};
 
 use mw_model::commands::{slices, tautologies_again};
+use mw_model::flattening::{flattenings_again, flattenings_possible};
 use mw_model::lowering::{lowerings_again, lowerings_possible};
 use mw_model::slicing::slices_again;
 use mw_print::labelled_texts_are_read;
@@ -24,6 +25,8 @@ pub(crate) fn answers_promised()
     tautologies_again();
     lowerings_possible();
     lowerings_again();
+    flattenings_possible();
+    flattenings_again();
     slices();
     slices_again();
     labelled_texts_are_read();

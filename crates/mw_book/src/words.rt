@@ -2,7 +2,7 @@
 ghost use Rattle.std.specs.Prelude.{◌≡◌, ℕ, IfOk, option_map};
 ghost use Rattle.clap.specs.Words.{subcommand_rows_of};
 ghost use Rattle.mw_model.specs.Object.{name_of_bytes};
-ghost use Rattle.mw_model.specs.Request.{Check, Lower};
+ghost use Rattle.mw_model.specs.Request.{Check, Lower, Flat};
 ghost use Rattle.mw_book.specs.Commands as commands;
 ghost use Rattle.mw_book.specs.Arguments as numbers;
 ghost use Rattle.mw_book.specs.Words.{meaning_of};
@@ -30,6 +30,8 @@ pub(crate) enum Request {
     Lower { steps: u64 },
     /// To keep what the theorem of this name rests on, with this step limit.
     Slice { name: TheoremName, steps: u64 },
+    /// To turn the book to a log, with this step limit.
+    Flat { steps: u64 },
     /// To show how the program is used.
     Help,
     /// Nothing that the program does.
@@ -105,6 +107,9 @@ fn request_with(
     if word == "slice" {
         return slice_with(name, steps);
     }
+    if word == "flat" {
+        return flat_with(steps);
+    }
     Request::Usage
 }
 
@@ -150,6 +155,16 @@ fn slice_with(name: Option<TheoremName>, steps: Option<u64>) -> Request
     };
     match steps {
         Some(steps) => Request::Slice { name, steps },
+        None => Request::Usage,
+    }
+}
+
+// To turn the book to a log, where there is a step limit.
+fn flat_with(steps: Option<u64>) -> Request
+    ensures { meaning_of result ≡ commands.with_number Flat steps }
+{
+    match steps {
+        Some(steps) => Request::Flat { steps },
         None => Request::Usage,
     }
 }

@@ -26,6 +26,8 @@ mod events;
 #[cfg(test)]
 mod faults;
 #[cfg(test)]
+mod flat;
+#[cfg(test)]
 mod hostile;
 #[cfg(test)]
 mod induction;

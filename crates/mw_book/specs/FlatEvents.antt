@@ -1,0 +1,25 @@
+-- Events with numbers in place of their proofs, as they are made.
+use Rattle.std.specs.Prelude.{◌≡◌, ℕ, List, [], ◌∷◌, ◌++◌}
+use Rattle.mw_model.specs.Object.{Object, Natural, Pair, NIL}
+use Rattle.mw_model.specs.Written.{IsDatumLine}
+use Rattle.mw_model.specs.Flattening.{StepsWritten}
+use Rattle.mw_heap.specs.Objects.{object_at}
+
+-- the members up to the end of a list, whatever ends it
+abbrev pub proper_list : Object → Object
+proper_list (Pair x rest) = Pair x (proper_list rest)
+proper_list _ = NIL
+
+-- the list of these numbers
+abbrev pub numbers_object : List ℕ → Object
+numbers_object [] = NIL
+numbers_object (n ∷ ns) = Pair (Natural n) (numbers_object ns)
+
+-- the objects of these references, and then the rest
+abbrev pub put_before : List Object → List ℕ → Object → Object
+put_before os [] rest = rest
+put_before os (x ∷ xs) rest = Pair (object_at os x) (put_before os xs rest)
+
+-- the steps of these proofs, and then the datum x on a line
+abbrev pub WritesFlat : Object → Object → List ℕ → Type 0
+WritesFlat ps x piece = (steps line : List ℕ) × (piece ≡ steps ++ line) × StepsWritten ps steps × IsDatumLine x line
