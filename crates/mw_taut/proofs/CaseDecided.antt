@@ -1,7 +1,7 @@
 -- What comes of a case, by what the formula comes to.
 use Rattle.std.proofs.Common.{◌≡◌, ℕ, Bool, true, false, not, cond, List, [], ◌∷◌, ◌++◌, map, length, refl, sym, ap, ap₂, ◌∙◌, subst, arith, length-append}
 use Rattle.mw_model.specs.Object.{Object, Pair, truth_of}
-use Rattle.mw_model.specs.Term.{Formula, Equal, Not, Or, formula_object, ArityTable}
+use Rattle.mw_model.specs.Term.{Formula, Equal, Not, Or, formula_object, ArityTable, is_formula}
 use Rattle.mw_model.specs.Same.{same_formula}
 use Rattle.mw_model.specs.Truth.{Each}
 use Rattle.mw_model.specs.Tautology.{Choice, choices, chosen, value_by, first_against, choice_object}
@@ -10,9 +10,10 @@ use Rattle.mw_heap.specs.Objects.{object_at}
 use Rattle.mw_taut.specs.declared.case.Outcome.{Outcome}
 use Rattle.mw_taut.specs.declared.case.Outcome.TheVariants.{Proof, Against}
 use Rattle.mw_taut.specs.Steps.{or_object, commuted, detached}
-use Rattle.mw_taut.specs.Reducing.{ValueAndProof, Form, Fixed, Changed}
+use Rattle.mw_taut.specs.Reducing.{ValueAndProof, Form, Fixed, Kept, Changed}
 use Rattle.mw_taut.specs.Meaning.{literal, IsEquation, AreApart, Over, IsFixed, IsForm}
 use Rattle.mw_taut.specs.Cases.{answer_at, Answer, Proved, Falsified, choice_list, ended, entered, carried, joined, IsEntered, going_on, choice_of, Follows, Decides, DecidesWhere}
+use Rattle.mw_taut.proofs.Reduces.{literal_formed, from_kept}
 use Rattle.mw_taut.proofs.Proved.{Good, commuted-good, resolved-good, detached-good}
 use Rattle.mw_taut.proofs.Falsified.{or_else, first_by_value, first_of_same, none_against, all_false, first_against-false}
 
@@ -88,9 +89,10 @@ module _ (A : ArityTable) (F : Formula) (before : List Formula) (E : Formula) (r
       (i.0, first_of_same longer (choices rest) F H (λ t. h.same (chosen (longer ++ t)) (apart_at before E rest bs b t apart)) ∙ i.1, i.2)
 
   -- what the formula comes to
-  pub decided_entered : (r : Form) → IsForm A E b rest r F → IsEntered A c E b rest F (entered (formula_object D) (formula_object F) (map formula_object ((before ++ E ∷ []) ++ rest)) (bs ++ b ∷ []) r)
-  decided_entered (Fixed s) h = decided_ended s h
-  decided_entered (Changed s) h = (h.0, record { context = refl; formula = h.1.formula; over = h.1.over; same = h.1.same; from = h.1.from })
+  pub decided_entered : (r : Form) → is_formula A E ≡ true → IsForm A E b rest r F → IsEntered A c E b rest F (entered (formula_object D) (formula_object F) (map formula_object ((before ++ E ∷ []) ++ rest)) (bs ++ b ∷ []) r)
+  decided_entered (Fixed s) f h = decided_ended s h
+  decided_entered Kept f h = (F, record { context = refl; formula = refl; over = h.0; same = λ v e. refl; from = from_kept A E b rest (literal_formed A (not b) E f) F h.1 })
+  decided_entered (Changed s) f h = (h.0, record { context = refl; formula = h.1.formula; over = h.1.over; same = h.1.same; from = h.1.from })
 
 pub carried_same : (d d' x x' y y' q q' : Object) (a : Answer) → d ≡ d' → x ≡ x' → y ≡ y' → q ≡ q' → carried d x y q a ≡ carried d' x' y' q' a
 carried_same d d' x x' y y' q q' a e f g h = ap₂ (λ u v. carried u v y q a) e f ∙ ap₂ (λ u v. carried d' x' u v a) g h

@@ -55,4 +55,4 @@ module _ (A : ArityTable) (F : Formula) (before : List Formula) (E : Formula) (r
       ∙ (ap (λ z. entered D (formula_object F) (map formula_object ((before ++ E ∷ []) ++ rest)) z r) e_longer
       ∙ ap (entered D (formula_object F) (map formula_object ((before ++ E ∷ []) ++ rest)) (bs ++ b ∷ [])) e_r)))) in
       subst (IsEntered A (choice_of before bs) E b rest F) (sym same)
-      (decided_entered A F before E rest b bs p.apart equation p.many whole (whole_reduced A E b rest F t.nodes.items table.parts t.root equation formed p.formed p.over table.nodes table.root))
+      (decided_entered A F before E rest b bs p.apart equation p.many whole formed (whole_reduced A E b rest F t.nodes.items table.parts t.root equation formed p.formed p.over table.nodes table.root))

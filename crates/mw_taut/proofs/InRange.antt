@@ -3,7 +3,7 @@ use Rattle.std.proofs.Common.{◌≡◌, false, true, Bool, refl, ap₂}
 use Rattle.std.specs.Prelude.{◌||◌}
 use Rattle.mw_model.specs.Object.{Name, Object, Pair, Symbol, NIL, named, nil_name, symbol, list1, list2, list3}
 use Rattle.mw_model.specs.Fate.{is_out_of_range}
-use Rattle.mw_taut.specs.Steps.{not_object, or_object, schema, expansion, contraction, associativity, cut, commuted, passed, rotated, inserted, appended, resolved, doubled, left, right, alternatives, without_first, without_either, gathered, neither}
+use Rattle.mw_taut.specs.Steps.{not_object, or_object, schema, expansion, contraction, associativity, cut, commuted, inserted, appended, resolved, doubled, left, right, turned, turned_twice, replaced, gathered, without_second, without_first, neither}
 use Rattle.mw_taut.specs.Reducing.{literal_object, literal_law}
 
 -- the object holds no such natural
@@ -52,21 +52,16 @@ commuted-fits : (a b p : Object) → Fits a → Fits b → Fits p → Fits (comm
 unfolding commuted
 commuted-fits a b p x y h = cut-fits b a p (schema a) y x h (schema-fits a x)
 
-passed-fits : (a b c p : Object) → Fits a → Fits b → Fits c → Fits p → Fits (passed a b c p)
-unfolding passed
-passed-fits a b c p x y z h = associativity-fits c a b _ z x y (commuted-fits (or_object a b) c p (or-fits a b x y) z h)
-
-rotated-fits : (a b c p : Object) → Fits a → Fits b → Fits c → Fits p → Fits (rotated a b c p)
-unfolding rotated
-rotated-fits a b c p x y z h = commuted-fits (or_object b c) a _ (or-fits b c y z) x (passed-fits c a b _ z x y (passed-fits a b c p x y z h))
-
 pub inserted-fits : (a b c p : Object) → Fits a → Fits b → Fits c → Fits p → Fits (inserted a b c p)
 unfolding inserted
 inserted-fits a b c p x y z h = commuted-fits (or_object b c) a _ (or-fits b c y z) x (associativity-fits b c a _ y z x (expansion-fits b (or_object c a) _ y (or-fits c a z x) (commuted-fits a c p x z h)))
 
 pub appended-fits : (a b c p : Object) → Fits a → Fits b → Fits c → Fits p → Fits (appended a b c p)
 unfolding appended
-appended-fits a b c p x y z h = rotated-fits a b c _ x y z (commuted-fits c (or_object a b) _ z (or-fits a b x y) (expansion-fits c (or_object a b) p z (or-fits a b x y) h))
+appended-fits a b c p x y z h =
+    let wider = expansion-fits c (or_object a b) p z (or-fits a b x y) h in
+    let turned = commuted-fits (or_object c a) b _ (or-fits c a z x) y (associativity-fits c a b _ z x y wider) in
+    commuted-fits (or_object b c) a _ (or-fits b c y z) x (associativity-fits b c a _ y z x turned)
 
 pub resolved-fits : (c p q : Object) → Fits c → Fits p → Fits q → Fits (resolved c p q)
 unfolding resolved
@@ -87,28 +82,39 @@ pub right-fits : (a b c p : Object) → Fits a → Fits b → Fits c → Fits p 
 unfolding right
 right-fits a b c p x y z h = associativity-fits a b c _ x y z (expansion-fits a (or_object b c) p x (or-fits b c y z) h)
 
-alternatives-fits : (a b n : Object) → Fits a → Fits b → Fits n → Fits (alternatives a b n)
-unfolding alternatives
-alternatives-fits a b n x y w = rotated-fits a b n _ x y w (commuted-fits n (or_object a b) _ w (or-fits a b x y) (schema-fits (or_object a b) (or-fits a b x y)))
+turned-fits : (a b c p : Object) → Fits a → Fits b → Fits c → Fits p → Fits (turned a b c p)
+unfolding turned
+turned-fits a b c p x y z h = commuted-fits (or_object a b) c _ (or-fits a b x y) z (associativity-fits a b c p x y z h)
 
-without_first-fits : (a b n c p : Object) → Fits a → Fits b → Fits n → Fits c → Fits p → Fits (without_first a b n c p)
-unfolding without_first
-without_first-fits a b n c p x y w z h = rotated-fits b n c _ y w z (cut-fits (or_object b n) c _ p (or-fits b n y w) z (alternatives-fits a b n x y w) h)
+turned_twice-fits : (a b c p : Object) → Fits a → Fits b → Fits c → Fits p → Fits (turned_twice a b c p)
+unfolding turned_twice
+turned_twice-fits a b c p x y z h = turned-fits c a b _ z x y (turned-fits a b c p x y z h)
 
-without_either-fits : (a b n c p q : Object) → Fits a → Fits b → Fits n → Fits c → Fits p → Fits q → Fits (without_either a b n c p q)
-unfolding without_either
-without_either-fits a b n c p q x y w z h k = cut-fits (or_object n c) c _ q (or-fits n c w z) z (without_first-fits a b n c p x y w z h) k
+replaced-fits : (a b c e p q : Object) → Fits a → Fits b → Fits c → Fits e → Fits p → Fits q → Fits (replaced a b c e p q)
+unfolding replaced
+replaced-fits a b c e p q x y z w h k = cut-fits (or_object a b) e _ q (or-fits a b x y) w (turned-fits a b c p x y z h) k
 
-gathered-fits : (n c w p : Object) → Fits n → Fits c → Fits w → Fits p → Fits (gathered n c w p)
+gathered-fits : (n w p : Object) → Fits n → Fits w → Fits p → Fits (gathered n w p)
 unfolding gathered
-gathered-fits n c w p x z y h = contraction-fits w _ y (associativity-fits n c w _ x z y (expansion-fits n (or_object c w) _ x (or-fits c w z y) (commuted-fits w c p y z h)))
+gathered-fits n w p x y h =
+    let whole = or-fits n w x y in
+    let moved = turned_twice-fits w w n p y y x h in
+    contraction-fits (or_object n w) _ whole (associativity-fits n w (or_object n w) _ x y whole (expansion-fits n (or_object w (or_object n w)) _ x (or-fits w (or_object n w) y whole) moved))
+
+without_second-fits : (a b n c q : Object) → Fits a → Fits b → Fits n → Fits c → Fits q → Fits (without_second a b n c q)
+unfolding without_second
+without_second-fits a b n c q x y w z h = replaced-fits n a b c _ q w x y z (schema-fits (or_object a b) (or-fits a b x y)) h
+
+without_first-fits : (a n c r p : Object) → Fits a → Fits n → Fits c → Fits r → Fits p → Fits (without_first a n c r p)
+unfolding without_first
+without_first-fits a n c r p x w z h k = gathered-fits n c _ w z (commuted-fits (or_object c n) c _ (or-fits c n z w) z (replaced-fits c n a c r p z w x z h k))
 
 pub neither-fits : (a b c p q : Object) → Fits a → Fits b → Fits c → Fits p → Fits q → Fits (neither a b c p q)
 unfolding neither
 neither-fits a b c p q x y z h k =
     let n = not_object (or_object a b) in
     let w = not-fits (or_object a b) (or-fits a b x y) in
-    gathered-fits n c (or_object n c) _ w z (or-fits n c w z) (without_either-fits a b n c p q x y w z h k)
+    without_first-fits a n c _ p x w z (commuted-fits (or_object n a) c _ (or-fits n a w x) z (without_second-fits a b n c q x y w z k)) h
 
 -- ---- literals
 

@@ -6,7 +6,7 @@ use Rattle.mw_heap.specs.Objects.{object_at, IsIn, Grows}
 use Rattle.mw_heap.proofs.Objects.{IsIn-Grows, object_at-Grows}
 use Rattle.mw_taut.specs.declared.reduced.Change.{Change}
 use Rattle.mw_taut.specs.declared.reduced.Reduced.{Reduced}
-use Rattle.mw_taut.specs.declared.reduced.Reduced.TheVariants.{Fixed as FixedAt, Changed as ChangedAt}
+use Rattle.mw_taut.specs.declared.reduced.Reduced.TheVariants.{Fixed as FixedAt, Kept as KeptAt, Changed as ChangedAt}
 use Rattle.mw_taut.specs.declared.table.Table.{Table}
 use Rattle.mw_taut.specs.Reducing.{Fixed, Changed, other_at, form_at, each_at, IsOtherIn, IsFormIn}
 use Rattle.mw_taut.specs.Cases.{IsTableIn}
@@ -19,11 +19,11 @@ module _ (old new : List Object) (grows : Grows old new) where
   map_kept [] h = refl
   map_kept (r ∷ rs) h = ap₂ ◌∷◌ (object_at-Grows old new grows r (h 0 0 (omega arith))) (map_kept rs (λ k d l. h (suc k) d (suc-le-suc l)))
 
-  denied_in_kept : (o : Option ℕ) → IfSome o (IsIn old) → IfSome o (IsIn new)
+  pub denied_in_kept : (o : Option ℕ) → IfSome o (IsIn old) → IfSome o (IsIn new)
   denied_in_kept None h = h
   denied_in_kept (Some z) h = IsIn-Grows old new grows z h
 
-  denied_kept : (o : Option ℕ) → IfSome o (IsIn old) → option_map (object_at new) o ≡ option_map (object_at old) o
+  pub denied_kept : (o : Option ℕ) → IfSome o (IsIn old) → option_map (object_at new) o ≡ option_map (object_at old) o
   denied_kept None h = refl
   denied_kept (Some z) h = ap Some (object_at-Grows old new grows z h)
 
@@ -37,10 +37,12 @@ module _ (old new : List Object) (grows : Grows old new) where
 
   pub form_in_kept : (r : Reduced) → IsFormIn old r → IsFormIn new r
   form_in_kept (FixedAt s) h = IsIn-Grows old new grows s.proof h
+  form_in_kept KeptAt h = h
   form_in_kept (ChangedAt s) h = other_in_kept s h
 
   pub form_kept : (r : Reduced) → IsFormIn old r → form_at new r ≡ form_at old r
   form_kept (FixedAt s) h = ap (λ p. Fixed (s.value, p)) (object_at-Grows old new grows s.proof h)
+  form_kept KeptAt h = refl
   form_kept (ChangedAt s) h = ap Changed (other_kept s h)
 
   pub forms_in_kept : (rs : List Reduced) → All (IsFormIn old) rs → All (IsFormIn new) rs

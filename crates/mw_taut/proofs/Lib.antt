@@ -1,5 +1,7 @@
 pub mod Growing
+pub mod EqualParts
 pub mod Proved
+pub mod BothParts
 pub mod Reduces
 pub mod WholeReduced
 pub mod Kept

@@ -11,7 +11,7 @@ use Rattle.mw_taut.specs.Reducing.{Form, nothing, reduce_equation, deny, either,
 use Rattle.mw_taut.specs.Meaning.{IsNodeOf, AreNodesOf, literal, IsEquation, Over, IsForm, AreForms}
 use Rattle.mw_taut.proofs.Elements.{each_at}
 use Rattle.mw_taut.proofs.FirstOccurrences.{each_first, are_equations, equations_formed}
-use Rattle.mw_taut.proofs.Reduces.{equation_reduced, denied_form, either_form}
+use Rattle.mw_taut.proofs.Reduces.{literal_formed, equation_reduced, denied_form, either_form}
 
 -- the object of a formula of a list
 listed : (before rest : List Formula) (a : ℕ) (H : Formula) → slice_get before a ≡ Some H → get_or (map formula_object (before ++ rest)) a NIL ≡ formula_object H
@@ -67,7 +67,7 @@ module _ (A : ArityTable) (E : Formula) (b : Bool) (rest : List Formula) where
         IsForm A E b rest (reduce d (formula_object E) b (map formula_object (before ++ G ∷ after)) done n) G
     node_reduced before after done (Equation k) G h i =
         let place = ap (λ m. get_or (map formula_object (before ++ G ∷ after)) m NIL) (forms_count done before h) ∙ next_listed before after G in
-        subst (λ x. IsForm A E b rest (reduce_equation d (formula_object E) b x) G) (sym place)
+        subst (λ x. IsForm A E b rest (reduce_equation (formula_object E) b x) G) (sym place)
         (equation_reduced A E b rest G equation (each_at IsEquation es k G all i) formed (each_at (λ G. is_formula A G ≡ true) es k G all_formed i) (each_at (Over (E ∷ rest)) es k G over i))
     node_reduced before after done (Not a) G h i =
         let H = i.0 in
@@ -84,7 +84,7 @@ module _ (A : ArityTable) (E : Formula) (b : Bool) (rest : List Formula) where
         subst (IsForm A E b rest _) (sym i.4)
         (subst (λ z. IsForm A E b rest (either d z (get_or (map formula_object (before ++ G ∷ after)) c NIL) r s) (Either H K)) (sym x)
         (subst (λ z. IsForm A E b rest (either d (formula_object H) z r s) (Either H K)) (sym y)
-        (either_form A E b rest H K r s (looked_up done before a H h i.2) (looked_up done before c K h i.3))))
+        (either_form A E b rest (literal_formed A (not b) E formed) H K r s (looked_up done before a H h i.2) (looked_up done before c K h i.3))))
 
     all_reduced : (before after : List Formula) (done : List Form) (ns : List Node) → AreForms A E b rest done before → AreNodesOf es before ns after →
         AreForms A E b rest (reduce_all d (formula_object E) b (map formula_object (before ++ after)) done ns) (before ++ after)

@@ -17,7 +17,7 @@ use Rattle.mw_taut.specs.declared.case.Entered.TheVariants.{Ended, Goes}
 use Rattle.mw_taut.specs.Steps.{or_object, commuted, resolved, detached}
 use Rattle.mw_taut.specs.Nodes.{AreNodes}
 use Rattle.mw_taut.specs.Meaning.{literal, IsEquation, AreApart, Over}
-use Rattle.mw_taut.specs.Reducing.{ValueAndProof, Form, Fixed, Changed}
+use Rattle.mw_taut.specs.Reducing.{ValueAndProof, Form, Fixed, Kept, Changed, kept_from}
 
 pub record IsTableIn (os : List Object) (t : Table) : Type 0 where
   pub formulas : All (IsIn os) t.formulas.items
@@ -55,6 +55,7 @@ pub data Step : Type 0 where
 -- where the formula x comes to this
 abbrev pub entered : Object → Object → List Object → List Bool → Form → Step
 entered d x es bs (Fixed s) = End (ended d x es bs s)
+entered d x es bs Kept = Next d x (kept_from d x)
 entered d x es bs (Changed s) = Next d s.formula s.from
 
 -- where it follows from y, by q, of what comes of that

@@ -1,7 +1,7 @@
 -- What nodes stand for, and what parts come to where an equation has a value.
 use Rattle.std.specs.Prelude.{◌≡◌, Bool, true, false, not, ◌||◌, List, [], ◌∷◌, ◌++◌, Option, Some, None, slice_get}
 use Rattle.mw_model.specs.Object.{Object, NIL}
-use Rattle.mw_model.specs.Term.{Formula, Equal, formula_object, ArityTable, Not as Denial, Or as Either}
+use Rattle.mw_model.specs.Term.{Formula, Equal, formula_object, ArityTable, is_formula, Not as Denial, Or as Either}
 use Rattle.mw_model.specs.Primitive.{One}
 use Rattle.mw_model.specs.Proof.{Proves}
 use Rattle.mw_model.specs.Same.{same_formula}
@@ -9,7 +9,7 @@ use Rattle.mw_model.specs.Truth.{Each}
 use Rattle.mw_model.specs.Tautology.{value_by}
 use Rattle.mw_taut.specs.declared.node.Node.{Node}
 use Rattle.mw_taut.specs.declared.node.Node.TheVariants.{Equation, Not, Or}
-use Rattle.mw_taut.specs.Reducing.{ValueAndProof, Other, Form, Fixed, Changed}
+use Rattle.mw_taut.specs.Reducing.{ValueAndProof, Other, Form, Fixed, Kept, Changed}
 
 -- the node, after these formulas, stands for the formula
 abbrev pub IsNodeOf : List Formula → List Formula → Node → Formula → Type 0
@@ -73,6 +73,7 @@ module _ (A : ArityTable) (E : Formula) (b : Bool) (rest : List Formula) where
 
   abbrev pub IsForm : Form → Formula → Type 0
   IsForm (Fixed s) G = IsFixed s G
+  IsForm Kept G = Over rest G × (is_formula A G ≡ true)
   IsForm (Changed s) G = (H : Formula) × ComesTo s G H
 
   abbrev pub AreForms : List Form → List Formula → Type 0

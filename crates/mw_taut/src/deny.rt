@@ -184,6 +184,7 @@ pub(crate) fn deny(heap: &mut Heap, d: Ref, x: Ref, r: Reduced) -> Result<Reduce
             let s = deny_value(heap, d, x, s)?;
             Ok(Reduced::Fixed(s))
         }
+        Reduced::Kept => Ok(Reduced::Kept),
         Reduced::Changed(s) => {
             let s = deny_other(heap, d, x, s)?;
             Ok(Reduced::Changed(s))

@@ -1,7 +1,7 @@
 //! Rules that are made of the steps.
 ghost use Rattle.std.specs.Prelude.{◌≡◌, IfOk};
 ghost use Rattle.mw_heap.specs.Objects.{object_at, IsIn, Grows};
-ghost use Rattle.mw_taut.specs.Steps.{commuted, passed, rotated, inserted, appended, resolved, doubled, left, right};
+ghost use Rattle.mw_taut.specs.Steps.{commuted, inserted, appended, resolved, doubled, left, right};
 
 use crate::formulas::{not, or};
 use crate::steps::{associativity, contraction, cut, expansion, schema};
@@ -19,39 +19,6 @@ pub(crate) fn commuted(heap: &mut Heap, a: Ref, b: Ref, p: Ref) -> Result<Ref, M
 {
     let law = schema(heap, a)?;
     cut(heap, b, a, p, law)
-}
-
-/// Of (a or b) or c, by p: (c or a) or b.
-#[tactic(auto, using(crate::proofs::Growing::growing), unfolding(crate::specs::Steps::passed))]
-pub(crate) fn passed(heap: &mut Heap, a: Ref, b: Ref, c: Ref, p: Ref) -> Result<Ref, Memory>
-    requires a_in { IsIn heap.old.objects a }
-    requires b_in { IsIn heap.old.objects b }
-    requires c_in { IsIn heap.old.objects c }
-    requires p_in { IsIn heap.old.objects p }
-    ensures grows { Grows heap.old.objects heap.new.objects }
-    ensures within { IfOk result (λ r. IsIn heap.new.objects r) }
-    ensures made { IfOk result (λ r. object_at heap.new.objects r ≡ passed (object_at heap.old.objects a) (object_at heap.old.objects b) (object_at heap.old.objects c) (object_at heap.old.objects p)) }
-{
-    let first = or(heap, a, b)?;
-    let turned = commuted(heap, first, c, p)?;
-    associativity(heap, c, a, b, turned)
-}
-
-/// Of (a or b) or c, by p: a or (b or c).
-#[tactic(auto, using(crate::proofs::Growing::growing), unfolding(crate::specs::Steps::rotated))]
-pub(crate) fn rotated(heap: &mut Heap, a: Ref, b: Ref, c: Ref, p: Ref) -> Result<Ref, Memory>
-    requires a_in { IsIn heap.old.objects a }
-    requires b_in { IsIn heap.old.objects b }
-    requires c_in { IsIn heap.old.objects c }
-    requires p_in { IsIn heap.old.objects p }
-    ensures grows { Grows heap.old.objects heap.new.objects }
-    ensures within { IfOk result (λ r. IsIn heap.new.objects r) }
-    ensures made { IfOk result (λ r. object_at heap.new.objects r ≡ rotated (object_at heap.old.objects a) (object_at heap.old.objects b) (object_at heap.old.objects c) (object_at heap.old.objects p)) }
-{
-    let once = passed(heap, a, b, c, p)?;
-    let twice = passed(heap, c, a, b, once)?;
-    let rest = or(heap, b, c)?;
-    commuted(heap, rest, a, twice)
 }
 
 /// Of a or c, by p: a or (b or c).
@@ -86,8 +53,12 @@ pub(crate) fn appended(heap: &mut Heap, a: Ref, b: Ref, c: Ref, p: Ref) -> Resul
 {
     let first = or(heap, a, b)?;
     let wider = expansion(heap, c, first, p)?;
-    let turned = commuted(heap, c, first, wider)?;
-    rotated(heap, a, b, c, turned)
+    let moved = associativity(heap, c, a, b, wider)?;
+    let last = or(heap, c, a)?;
+    let turned = commuted(heap, last, b, moved)?;
+    let moved = associativity(heap, b, c, a, turned)?;
+    let rest = or(heap, b, c)?;
+    commuted(heap, rest, a, moved)
 }
 
 /// Of x or c, by p, and not x or c, by q: c.

@@ -2,13 +2,15 @@
 ghost use Rattle.std.specs.Prelude.{◌≡◌, true, IfOk};
 ghost use Rattle.mw_heap.specs.Objects.{object_at, IsIn, Grows};
 ghost use Rattle.mw_taut.specs.Steps.{left, right};
-ghost use Rattle.mw_taut.specs.Reducing.{Fixed, Changed, settled_at, other_at, form_at, IsOtherIn, IsFormIn, either_value, either};
+ghost use Rattle.mw_taut.specs.Reducing.{settled_at, other_at, form_at, IsOtherIn, IsFormIn, either_value, either_after, either_before, either};
 
-use crate::both::{either_both, either_first, either_second};
+use crate::both::{either_both, either_first_kept, either_second_kept};
 use crate::derived::{left, right};
 use crate::neither::neither;
+use crate::one::{either_first, either_second};
 use crate::reduced::{Change, Reduced};
 use crate::settled::Settled;
+use crate::unchanged::kept;
 use mw_heap::{Heap, Memory, Ref};
 
 // Where x holds.
@@ -86,7 +88,7 @@ fn either_after(
     requires t_in { IsOtherIn heap.old.objects t }
     ensures grows { Grows heap.old.objects heap.new.objects }
     ensures within { IfOk result (λ r. IsFormIn heap.new.objects r) }
-    ensures made { IfOk result (λ r. form_at heap.new.objects r ≡ either (object_at heap.old.objects d) (object_at heap.old.objects x) (object_at heap.old.objects y) (Fixed (settled_at heap.old.objects s)) (Changed (other_at heap.old.objects t))) }
+    ensures made { IfOk result (λ r. form_at heap.new.objects r ≡ either_after (object_at heap.old.objects d) (object_at heap.old.objects x) (object_at heap.old.objects y) (settled_at heap.old.objects s) (other_at heap.old.objects t)) }
 {
     if s.value {
         let s = either_left(heap, d, x, y, s.proof)?;
@@ -112,7 +114,7 @@ fn either_before(
     requires t_in { IsIn heap.old.objects t.proof }
     ensures grows { Grows heap.old.objects heap.new.objects }
     ensures within { IfOk result (λ r. IsFormIn heap.new.objects r) }
-    ensures made { IfOk result (λ r. form_at heap.new.objects r ≡ either (object_at heap.old.objects d) (object_at heap.old.objects x) (object_at heap.old.objects y) (Changed (other_at heap.old.objects s)) (Fixed (settled_at heap.old.objects t))) }
+    ensures made { IfOk result (λ r. form_at heap.new.objects r ≡ either_before (object_at heap.old.objects d) (object_at heap.old.objects x) (object_at heap.old.objects y) (other_at heap.old.objects s) (settled_at heap.old.objects t)) }
 {
     if t.value {
         let t = either_right(heap, d, x, y, t.proof)?;
@@ -145,8 +147,25 @@ pub(crate) fn either(
             let value = either_value(heap, d, x, y, s, t)?;
             Ok(Reduced::Fixed(value))
         }
+        (Reduced::Fixed(s), Reduced::Kept) => {
+            let t = kept(heap, d, y)?;
+            either_after(heap, d, x, y, s, t)
+        }
         (Reduced::Fixed(s), Reduced::Changed(t)) => either_after(heap, d, x, y, s, t),
+        (Reduced::Kept, Reduced::Fixed(t)) => {
+            let s = kept(heap, d, x)?;
+            either_before(heap, d, x, y, s, t)
+        }
+        (Reduced::Kept, Reduced::Kept) => Ok(Reduced::Kept),
+        (Reduced::Kept, Reduced::Changed(t)) => {
+            let both = either_first_kept(heap, d, x, y, t)?;
+            Ok(Reduced::Changed(both))
+        }
         (Reduced::Changed(s), Reduced::Fixed(t)) => either_before(heap, d, x, y, s, t),
+        (Reduced::Changed(s), Reduced::Kept) => {
+            let both = either_second_kept(heap, d, x, y, s)?;
+            Ok(Reduced::Changed(both))
+        }
         (Reduced::Changed(s), Reduced::Changed(t)) => {
             let both = either_both(heap, d, x, y, s, t)?;
             Ok(Reduced::Changed(both))

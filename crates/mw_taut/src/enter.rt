@@ -14,6 +14,7 @@ use crate::reduce::reduce_all;
 use crate::reduced::Reduced;
 use crate::settled::Settled;
 use crate::table::Table;
+use crate::unchanged::kept_from;
 use mw_heap::{Heap, Memory, Ref};
 
 // Where the value of the formula f is fixed, in the context d: a proof of the context or the formula; where the formula is false, so it is
@@ -63,6 +64,14 @@ fn entered(
         Reduced::Fixed(s) => {
             let outcome = ended(heap, d, f, equations, chosen, s)?;
             Ok(Entered::Ended(outcome))
+        }
+        Reduced::Kept => {
+            let from = kept_from(heap, d, f)?;
+            Ok(Entered::Goes(Follow {
+                context: d,
+                formula: f,
+                from,
+            }))
         }
         Reduced::Changed(s) => Ok(Entered::Goes(Follow {
             context: d,

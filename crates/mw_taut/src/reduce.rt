@@ -2,54 +2,29 @@
 ghost use Rattle.std.specs.Prelude.{◌≡◌, ℕ, ◌<◌, ◌≤◌, [], All, length, map, IfOk};
 ghost use Rattle.mw_heap.specs.Objects.{object_at, IsIn, Grows};
 ghost use Rattle.mw_taut.specs.Nodes.{IsNode, AreNodes};
-ghost use Rattle.mw_taut.specs.Reducing.{reduce_equation, reduce, reduce_all, kept, other_at, form_at, each_at, IsOtherIn, IsFormIn};
+ghost use Rattle.mw_taut.specs.Reducing.{reduce_equation, reduce, reduce_all, form_at, each_at, IsFormIn};
 
 use crate::deny::deny;
-use crate::derived::{appended, inserted};
 use crate::either::either;
-use crate::formulas::not;
 use crate::literal::literal_law;
 use crate::node::Node;
-use crate::reduced::{Change, Reduced};
+use crate::reduced::Reduced;
 use crate::settled::Settled;
-use crate::steps::schema;
 use mw_heap::{Heap, Memory, Ref};
 
-// An equation that is left as it is.
-fn kept(heap: &mut Heap, d: Ref, x: Ref) -> Result<Change, Memory>
-    requires d_in { IsIn heap.old.objects d }
-    requires x_in { IsIn heap.old.objects x }
-    ensures grows { Grows heap.old.objects heap.new.objects }
-    ensures within { IfOk result (λ r. IsOtherIn heap.new.objects r) }
-    ensures made { IfOk result (λ r. other_at heap.new.objects r ≡ kept (object_at heap.old.objects d) (object_at heap.old.objects x)) }
-{
-    let n = not(heap, x)?;
-    let law = schema(heap, x)?;
-    let from = appended(heap, n, x, d, law)?;
-    let to = inserted(heap, n, d, x, law)?;
-    Ok(Change {
-        formula: x,
-        denied: None,
-        from,
-        to,
-    })
-}
-
 // An equation, where e has the value.
-fn reduce_equation(heap: &mut Heap, d: Ref, e: Ref, value: bool, x: Ref) -> Result<Reduced, Memory>
-    requires d_in { IsIn heap.old.objects d }
+fn reduce_equation(heap: &mut Heap, e: Ref, value: bool, x: Ref) -> Result<Reduced, Memory>
     requires e_in { IsIn heap.old.objects e }
     requires x_in { IsIn heap.old.objects x }
     ensures grows { Grows heap.old.objects heap.new.objects }
     ensures within { IfOk result (λ r. IsFormIn heap.new.objects r) }
-    ensures made { IfOk result (λ r. form_at heap.new.objects r ≡ reduce_equation (object_at heap.old.objects d) (object_at heap.old.objects e) value (object_at heap.old.objects x)) }
+    ensures made { IfOk result (λ r. form_at heap.new.objects r ≡ reduce_equation (object_at heap.old.objects e) value (object_at heap.old.objects x)) }
 {
     if heap.same(x, e) {
         let proof = literal_law(heap, e, value)?;
         return Ok(Reduced::Fixed(Settled { value, proof }));
     }
-    let change = kept(heap, d, x)?;
-    Ok(Reduced::Changed(change))
+    Ok(Reduced::Kept)
 }
 
 // One node.
@@ -73,7 +48,7 @@ fn reduce(
     ensures made { IfOk result (λ r. form_at heap.new.objects r ≡ reduce (object_at heap.old.objects d) (object_at heap.old.objects e) value (map (object_at heap.old.objects) formulas.now) (each_at heap.old.objects done.now) node) }
 {
     match node {
-        Node::Equation(_) => reduce_equation(heap, d, e, value, formulas[done.len()]),
+        Node::Equation(_) => reduce_equation(heap, e, value, formulas[done.len()]),
         Node::Not(i) => deny(heap, d, formulas[i], done[i]),
         Node::Or(i, j) => either(heap, d, formulas[i], formulas[j], done[i], done[j]),
     }

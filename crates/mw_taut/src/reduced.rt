@@ -12,9 +12,10 @@ pub(crate) struct Change {
     pub to: Ref,
 }
 
-/// A value, or another formula.
+/// A value, or another formula. A part in which the equation does not occur is kept, and nothing is proved of it.
 #[derive(Clone, Copy)]
 pub(crate) enum Reduced {
     Fixed(Settled),
+    Kept,
     Changed(Change),
 }

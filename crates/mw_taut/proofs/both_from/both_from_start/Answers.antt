@@ -1,0 +1,63 @@
+-- Each reference means in the grown heaps what it meant in the heap in which it was made.
+use Rattle.std.proofs.Common.{◌≡◌, IfOk, ap, ap₂, ◌∙◌, subst}
+use Rattle.mw_heap.specs.Objects.{object_at}
+use Rattle.mw_heap.proofs.Objects.{IsIn-Grows, object_at-Grows, Grows-trans}
+use Rattle.mw_taut.specs.Steps.{exchanged, gained_right, or_object, schema}
+use Rattle.mw_taut.specs.Reducing.{both_from_start}
+use Rattle.mw_taut.proofs.EqualParts.{ap₅, ap₇}
+use Rattle.mw_taut.proofs.both_from.both_from_start.Goals as goal
+
+pub exchanged-requires : goal.exchanged-requires
+exchanged-requires c =
+    let to_here = Grows-trans _ _ _ c.or.ensures.grows c.schema.ensures.grows in
+    record {
+      d_in = IsIn-Grows _ _ to_here _ c.requires.d_in;
+      a_in = IsIn-Grows _ _ to_here _ c.requires.n_in;
+      b_in = IsIn-Grows _ _ to_here _ c.requires.s_in;
+      c_in = IsIn-Grows _ _ to_here _ c.requires.t_in;
+      x_in = IsIn-Grows _ _ to_here _ c.requires.y_in;
+      p_in = c.in_ok-law.ensures.within;
+      q_in = IsIn-Grows _ _ to_here _ c.requires.q_in;
+    }
+
+pub or-requires-2 : goal.or-requires-2
+or-requires-2 c =
+    let to_here = Grows-trans _ _ _ (Grows-trans _ _ _ c.or.ensures.grows c.schema.ensures.grows) c.exchanged.ensures.grows in
+    record {
+      a_in = IsIn-Grows _ _ to_here _ c.requires.n_in;
+      b_in = IsIn-Grows _ _ to_here _ c.requires.s_in;
+    }
+
+pub gained_right-requires : goal.gained_right-requires
+gained_right-requires c =
+    let to_here = Grows-trans _ _ _ (Grows-trans _ _ _ (Grows-trans _ _ _ c.or.ensures.grows c.schema.ensures.grows) c.exchanged.ensures.grows) c.or-2.ensures.grows in
+    record {
+      d_in = IsIn-Grows _ _ to_here _ c.requires.d_in;
+      k_in = c.in_ok-k.ensures.within;
+      x_in = IsIn-Grows _ _ to_here _ c.requires.x_in;
+      y_in = IsIn-Grows _ _ to_here _ c.requires.y_in;
+      p_in = IsIn-Grows _ _ c.or-2.ensures.grows _ c.in_ok-moved.ensures.within;
+    }
+
+pub returns-in_err-law-clause-grows : goal.returns-in_err-law-clause-grows
+returns-in_err-law-clause-grows c = Grows-trans _ _ _ c.or.ensures.grows c.schema.ensures.grows
+
+pub returns-in_err-moved-clause-grows : goal.returns-in_err-moved-clause-grows
+returns-in_err-moved-clause-grows c = Grows-trans _ _ _ (Grows-trans _ _ _ c.or.ensures.grows c.schema.ensures.grows) c.exchanged.ensures.grows
+
+pub returns-in_err-k-clause-grows : goal.returns-in_err-k-clause-grows
+returns-in_err-k-clause-grows c = Grows-trans _ _ _ (Grows-trans _ _ _ (Grows-trans _ _ _ c.or.ensures.grows c.schema.ensures.grows) c.exchanged.ensures.grows) c.or-2.ensures.grows
+
+pub returns-clause-grows : goal.returns-clause-grows
+returns-clause-grows c = Grows-trans _ _ _ (Grows-trans _ _ _ (Grows-trans _ _ _ (Grows-trans _ _ _ c.or.ensures.grows c.schema.ensures.grows) c.exchanged.ensures.grows) c.or-2.ensures.grows) c.gained_right.ensures.grows
+
+pub returns-clause-made : goal.returns-clause-made
+unfolding both_from_start
+returns-clause-made c =
+    let law = c.in_ok-law.ensures.made ∙ ap schema c.in_ok-before.ensures.made in
+    let to_law = Grows-trans _ _ _ c.or.ensures.grows c.schema.ensures.grows in
+    let moved = c.in_ok-moved.ensures.made ∙ ap₇ exchanged (object_at-Grows _ _ to_law _ c.requires.d_in) (object_at-Grows _ _ to_law _ c.requires.n_in) (object_at-Grows _ _ to_law _ c.requires.s_in) (object_at-Grows _ _ to_law _ c.requires.t_in) (object_at-Grows _ _ to_law _ c.requires.y_in) law (object_at-Grows _ _ to_law _ c.requires.q_in) in
+    let to_moved = Grows-trans _ _ _ to_law c.exchanged.ensures.grows in
+    let k = c.in_ok-k.ensures.made ∙ ap₂ or_object (object_at-Grows _ _ to_moved _ c.requires.n_in) (object_at-Grows _ _ to_moved _ c.requires.s_in) in
+    let to_k = Grows-trans _ _ _ to_moved c.or-2.ensures.grows in
+    subst (λ x. IfOk c.gained_right.result (λ r. object_at c.gained_right.new.heap.objects r ≡ x)) (ap₅ gained_right (object_at-Grows _ _ to_k _ c.requires.d_in) k (object_at-Grows _ _ to_k _ c.requires.x_in) (object_at-Grows _ _ to_k _ c.requires.y_in) (object_at-Grows _ _ c.or-2.ensures.grows _ c.in_ok-moved.ensures.within ∙ moved)) c.gained_right.ensures.made

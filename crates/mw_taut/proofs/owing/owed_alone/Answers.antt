@@ -1,0 +1,80 @@
+-- Each reference means in the grown heaps what it meant in the heap in which it was made.
+use Rattle.std.proofs.Common.{◌≡◌, IfOk, ap₂, ◌∙◌, subst}
+use Rattle.mw_heap.specs.Objects.{object_at}
+use Rattle.mw_heap.proofs.Objects.{IsIn-Grows, object_at-Grows, Grows-trans}
+use Rattle.mw_taut.specs.Steps.{associativity, commuted, expansion, or_object, owed_alone}
+use Rattle.mw_taut.proofs.EqualParts.{ap₃, ap₄}
+use Rattle.mw_taut.proofs.owing.owed_alone.Goals as goal
+
+pub expansion-requires : goal.expansion-requires
+expansion-requires c =
+    record {
+      a_in = IsIn-Grows _ _ c.or.ensures.grows _ c.requires.s_in;
+      b_in = c.in_ok-part.ensures.within;
+      p_in = IsIn-Grows _ _ c.or.ensures.grows _ c.requires.p_in;
+    }
+
+pub associativity-requires : goal.associativity-requires
+associativity-requires c =
+    let to_here = Grows-trans _ _ _ c.or.ensures.grows c.expansion.ensures.grows in
+    record {
+      a_in = IsIn-Grows _ _ to_here _ c.requires.s_in;
+      b_in = IsIn-Grows _ _ to_here _ c.requires.k_in;
+      c_in = IsIn-Grows _ _ to_here _ c.requires.d_in;
+      p_in = c.in_ok-wider.ensures.within;
+    }
+
+pub or-requires-2 : goal.or-requires-2
+or-requires-2 c =
+    let to_here = Grows-trans _ _ _ (Grows-trans _ _ _ c.or.ensures.grows c.expansion.ensures.grows) c.associativity.ensures.grows in
+    record {
+      a_in = IsIn-Grows _ _ to_here _ c.requires.s_in;
+      b_in = IsIn-Grows _ _ to_here _ c.requires.k_in;
+    }
+
+pub commuted-requires : goal.commuted-requires
+commuted-requires c =
+    let to_here = Grows-trans _ _ _ (Grows-trans _ _ _ (Grows-trans _ _ _ c.or.ensures.grows c.expansion.ensures.grows) c.associativity.ensures.grows) c.or-2.ensures.grows in
+    record {
+      a_in = c.in_ok-rest.ensures.within;
+      b_in = IsIn-Grows _ _ to_here _ c.requires.d_in;
+      p_in = IsIn-Grows _ _ c.or-2.ensures.grows _ c.in_ok-moved.ensures.within;
+    }
+
+pub associativity-requires-2 : goal.associativity-requires-2
+associativity-requires-2 c =
+    let to_here = Grows-trans _ _ _ (Grows-trans _ _ _ (Grows-trans _ _ _ (Grows-trans _ _ _ c.or.ensures.grows c.expansion.ensures.grows) c.associativity.ensures.grows) c.or-2.ensures.grows) c.commuted.ensures.grows in
+    record {
+      a_in = IsIn-Grows _ _ to_here _ c.requires.d_in;
+      b_in = IsIn-Grows _ _ to_here _ c.requires.s_in;
+      c_in = IsIn-Grows _ _ to_here _ c.requires.k_in;
+      p_in = c.in_ok-moved-2.ensures.within;
+    }
+
+pub returns-in_err-wider-clause-grows : goal.returns-in_err-wider-clause-grows
+returns-in_err-wider-clause-grows c = Grows-trans _ _ _ c.or.ensures.grows c.expansion.ensures.grows
+
+pub returns-in_err-moved-clause-grows : goal.returns-in_err-moved-clause-grows
+returns-in_err-moved-clause-grows c = Grows-trans _ _ _ (Grows-trans _ _ _ c.or.ensures.grows c.expansion.ensures.grows) c.associativity.ensures.grows
+
+pub returns-in_err-rest-clause-grows : goal.returns-in_err-rest-clause-grows
+returns-in_err-rest-clause-grows c = Grows-trans _ _ _ (Grows-trans _ _ _ (Grows-trans _ _ _ c.or.ensures.grows c.expansion.ensures.grows) c.associativity.ensures.grows) c.or-2.ensures.grows
+
+pub returns-in_err-moved-2-clause-grows : goal.returns-in_err-moved-2-clause-grows
+returns-in_err-moved-2-clause-grows c = Grows-trans _ _ _ (Grows-trans _ _ _ (Grows-trans _ _ _ (Grows-trans _ _ _ c.or.ensures.grows c.expansion.ensures.grows) c.associativity.ensures.grows) c.or-2.ensures.grows) c.commuted.ensures.grows
+
+pub returns-clause-grows : goal.returns-clause-grows
+returns-clause-grows c = Grows-trans _ _ _ (Grows-trans _ _ _ (Grows-trans _ _ _ (Grows-trans _ _ _ (Grows-trans _ _ _ c.or.ensures.grows c.expansion.ensures.grows) c.associativity.ensures.grows) c.or-2.ensures.grows) c.commuted.ensures.grows) c.associativity-2.ensures.grows
+
+pub returns-clause-made : goal.returns-clause-made
+unfolding owed_alone
+returns-clause-made c =
+    let wider = c.in_ok-wider.ensures.made ∙ ap₃ expansion (object_at-Grows _ _ c.or.ensures.grows _ c.requires.s_in) c.in_ok-part.ensures.made (object_at-Grows _ _ c.or.ensures.grows _ c.requires.p_in) in
+    let to_wider = Grows-trans _ _ _ c.or.ensures.grows c.expansion.ensures.grows in
+    let moved = c.in_ok-moved.ensures.made ∙ ap₄ associativity (object_at-Grows _ _ to_wider _ c.requires.s_in) (object_at-Grows _ _ to_wider _ c.requires.k_in) (object_at-Grows _ _ to_wider _ c.requires.d_in) wider in
+    let to_moved = Grows-trans _ _ _ to_wider c.associativity.ensures.grows in
+    let rest = c.in_ok-rest.ensures.made ∙ ap₂ or_object (object_at-Grows _ _ to_moved _ c.requires.s_in) (object_at-Grows _ _ to_moved _ c.requires.k_in) in
+    let to_rest = Grows-trans _ _ _ to_moved c.or-2.ensures.grows in
+    let moved_2 = c.in_ok-moved-2.ensures.made ∙ ap₃ commuted rest (object_at-Grows _ _ to_rest _ c.requires.d_in) (object_at-Grows _ _ c.or-2.ensures.grows _ c.in_ok-moved.ensures.within ∙ moved) in
+    let to_moved_2 = Grows-trans _ _ _ to_rest c.commuted.ensures.grows in
+    subst (λ x. IfOk c.associativity-2.result (λ r. object_at c.associativity-2.new.heap.objects r ≡ x)) (ap₄ associativity (object_at-Grows _ _ to_moved_2 _ c.requires.d_in) (object_at-Grows _ _ to_moved_2 _ c.requires.s_in) (object_at-Grows _ _ to_moved_2 _ c.requires.k_in) moved_2) c.associativity-2.ensures.made
