@@ -3,7 +3,7 @@ use Rattle.std.proofs.Common.{◌≡◌, [], ◌∷◌, refl, codes}
 use Rattle.clap.proofs.OnLiterals.{clap_on_literals}
 use Rattle.mw_model.specs.BuiltInText.{joined}
 use Rattle.mw_model.specs.Object.{named}
-use Rattle.mw_model.specs.Request.{Check, Trial, Taut, Lower, Slice, Flat, Help, Usage}
+use Rattle.mw_model.specs.Request.{Check, Trial, Taut, Lower, Slice, Flat, Recheck, Help, Usage}
 use Rattle.mw_book.specs.Commands.{asked, help_text}
 
 no_words : asked [] ≡ Usage
@@ -202,5 +202,17 @@ word_after_flat : asked (codes "flat" ∷ codes "book" ∷ []) ≡ Usage
 unfolding clap_on_literals
 word_after_flat = refl
 
-help_text_of_all_commands : help_text ≡ joined ("milawa check [--steps N]" ∷ "milawa trial M [--steps N]" ∷ "milawa taut" ∷ "milawa lower [--steps N]" ∷ "milawa slice NAME [--steps N]" ∷ "milawa flat [--steps N]" ∷ [])
+recheck_alone : asked (codes "recheck" ∷ []) ≡ Recheck
+unfolding clap_on_literals
+recheck_alone = refl
+
+recheck_with_steps : asked (codes "recheck" ∷ codes "--steps" ∷ codes "5" ∷ []) ≡ Usage
+unfolding clap_on_literals
+recheck_with_steps = refl
+
+word_after_recheck : asked (codes "recheck" ∷ codes "log" ∷ []) ≡ Usage
+unfolding clap_on_literals
+word_after_recheck = refl
+
+help_text_of_all_commands : help_text ≡ joined ("milawa check [--steps N]" ∷ "milawa trial M [--steps N]" ∷ "milawa taut" ∷ "milawa lower [--steps N]" ∷ "milawa slice NAME [--steps N]" ∷ "milawa flat [--steps N]" ∷ "milawa recheck" ∷ [])
 help_text_of_all_commands = refl

@@ -1,7 +1,7 @@
 -- The last lines, and how many of the data were refused.
-use Rattle.std.proofs.Common.{◌≡◌, ℕ, ◌-◌, List, ◌++◌, Some, None, codes, refl, sym, ap, subst}
+use Rattle.std.proofs.Common.{◌≡◌, ℕ, ◌+◌, ◌-◌, List, ◌++◌, Some, None, codes, refl, sym, ap, ap₂, subst}
 use Rattle.mw_model.specs.Object.{Object}
-use Rattle.mw_model.specs.Request.{Request, Check, Taut, Lower, Flat}
+use Rattle.mw_model.specs.Request.{Request, Check, Taut, Lower, Flat, Recheck}
 use Rattle.mw_kernel.specs.Knowledge.{theory_of}
 use Rattle.mw_read.specs.Piles.{kind_of}
 use Rattle.mw_read.specs.declared.step.SyntaxKind.{SyntaxKind}
@@ -10,17 +10,20 @@ use Rattle.mw_book.specs.Answering.{fault_of}
 use Rattle.mw_book.specs.Due.{IsLastText, refused_for}
 use Rattle.mw_book.specs.Knowing.{Judged, JudgedFor}
 use Rattle.mw_book.specs.Flattened.{Flattened, FlattenedFor}
-use Rattle.mw_book.specs.Lines.{fault_line, flat_line, formulas_line, summary_of}
+use Rattle.mw_book.specs.Lines.{answers_line, fault_line, flat_line, formulas_line, summary_of}
 use Rattle.mw_book.specs.Lowered.{Lowered, LoweredFor}
+use Rattle.mw_book.specs.Rechecked.{Rechecked, RecheckedFor}
 use Rattle.mw_book.specs.declared.flattening.Flattening.{Flattening}
 use Rattle.mw_book.specs.declared.judging.Judging.{Judging}
 use Rattle.mw_book.specs.declared.lowering.Lowering.{Lowering}
 use Rattle.mw_book.specs.declared.proving.Proving.{Proving}
+use Rattle.mw_book.specs.declared.rechecking.Rechecking.{Rechecking}
 use Rattle.mw_book.proofs.AnsweredBy.{last_by, refused_by}
 use Rattle.mw_book.proofs.Counted.{summary_is as formulas_are}
 use Rattle.mw_book.proofs.Ended.{summary_is}
 use Rattle.mw_book.proofs.FlattenedOne.{flat_summary_is}
 use Rattle.mw_book.proofs.LoweredOne.{summary_is as course_is}
+use Rattle.mw_book.proofs.RecheckedOne.{log_summary_is}
 
 -- ---- a report
 
@@ -60,7 +63,7 @@ pub lowered_summary : (l : Lowering) (level : ℕ) → level ≡ (theory_of l.ke
 lowered_summary l level e q given h =
     last_by Lower (Lowered l) q given h None (codes "; " ++ summary_of l.events l.refused level) (λ N k. ap (λ u. codes "; " ++ u) (course_is l N given level k e))
 
--- ---- a log
+-- ---- a book turned to a log
 
 pub flattened_refused : (f : Flattening) (q : Request) (given : List Object) → FlattenedFor f q given → f.others ≡ refused_for q given
 flattened_refused f q given h = refused_by Flat (Flattened f) q given h f.others (λ N k. k.others_counted)
@@ -71,3 +74,17 @@ flattened_fault f kind offset q given h = last_by Flat (Flattened f) q given h (
 pub flattened_summary : (f : Flattening) (q : Request) (given : List Object) → FlattenedFor f q given → IsLastText q given None (codes "; " ++ flat_line f.events f.written)
 flattened_summary f q given h =
     last_by Flat (Flattened f) q given h None (codes "; " ++ flat_line f.events f.written) (λ N k. ap (λ u. codes "; " ++ u) (flat_summary_is f N given k))
+
+-- ---- a log
+
+abbrev AreRechecked : Rechecking → Unit {0} → List Object → Type 0
+AreRechecked r u given = Rechecked r given
+
+pub rechecked_refused : (r : Rechecking) (q : Request) (given : List Object) → RecheckedFor r q given → r.denied + r.flat.count ≡ refused_for q given
+rechecked_refused r q given h = refused_by (λ u. Recheck) (AreRechecked r) q given h (r.denied + r.flat.count) (λ u k. ap₂ (λ a b. a + b) k.denied_counted k.collected.count)
+
+pub rechecked_fault : (r : Rechecking) (kind : SyntaxKind) (offset : ℕ) (q : Request) (given : List Object) → RecheckedFor r q given → IsLastText q given (fault_of (Some (kind, offset))) (fault_line (kind_of kind) offset)
+rechecked_fault r kind offset q given h = last_by (λ u. Recheck) (AreRechecked r) q given h (fault_of (Some (kind, offset))) (fault_line (kind_of kind) offset) (λ u k. refl)
+
+pub rechecked_summary : (r : Rechecking) (q : Request) (given : List Object) → RecheckedFor r q given → IsLastText q given None (answers_line r.events r.denied r.flat.count)
+rechecked_summary r q given h = last_by (λ u. Recheck) (AreRechecked r) q given h None (answers_line r.events r.denied r.flat.count) (λ u k. log_summary_is r given k)

@@ -27,6 +27,8 @@ pub mod OneMore
 pub mod LoweredOne
 pub mod SlicedOne
 pub mod FlattenedOne
+pub mod Logs
+pub mod RecheckedOne
 pub mod SlicedPlaces
 pub mod LastLines
 pub mod Summary

@@ -19,7 +19,7 @@ use Rattle.mw_book.proofs.Appending.{after-append, refused_among-append, lines-a
 use Rattle.mw_book.proofs.Ended.{counts}
 use Rattle.mw_book.proofs.Showing.{fate-large, next-large}
 
-joined : (a b c d : List ℕ) → (a ++ 32 ∷ (b ++ 32 ∷ (c ++ 32 ∷ []))) ++ (d ++ 10 ∷ []) ≡ (a ++ 32 ∷ (b ++ 32 ∷ (c ++ 32 ∷ d))) ++ 10 ∷ []
+pub joined : (a b c d : List ℕ) → (a ++ 32 ∷ (b ++ 32 ∷ (c ++ 32 ∷ []))) ++ (d ++ 10 ∷ []) ≡ (a ++ 32 ∷ (b ++ 32 ∷ (c ++ 32 ∷ d))) ++ 10 ∷ []
 joined a b c d = simp append_assoc
 
 -- the line of an event, in two parts

@@ -11,13 +11,14 @@ use Rattle.mw_model.specs.Grammar.{Book, limit, trees}
 use Rattle.mw_model.specs.Theory.{initial}
 use Rattle.mw_model.specs.Report.{spaced, lines, last_line, report, status_of}
 use Rattle.mw_model.specs.Headline.{Headline}
-use Rattle.mw_model.specs.Pieces.{InOrder, numbered, how_many, comment_ending}
+use Rattle.mw_model.specs.Pieces.{InOrder, numbered, how_many, comment_ending, ending}
 use Rattle.mw_model.specs.Tautology.{Decision, Many, FailsUnder, Holds, decision, choice_object}
 use Rattle.mw_model.specs.TautologyBook.{IsPureProof, OwesDecided, OwesGiven, OwesTautology, TautologiesWritten, formula_given, initial_arities, is_proved, remark, tautology_summary}
 use Rattle.mw_model.specs.Slice.{target}
 use Rattle.mw_model.specs.Slicing.{accepted_events, SliceWritten}
 use Rattle.mw_model.specs.Flattening.{OwesFlat, FlatWritten, before_switch, flat_event, flat_events, flat_summary, plain_course}
-use Rattle.mw_model.specs.Headlines.{AcceptsAll, LogAccepted, SliceHeadline, Promised, IsBegun}
+use Rattle.mw_model.specs.LogReport.{log_lines, log_of, log_summary}
+use Rattle.mw_model.specs.Headlines.{AcceptsAll, EntryKeeps, LogAccepted, SliceHeadline, Promised, IsBegun}
 use Rattle.mw_model.specs.Truth.{Each}
 use Rattle.mw_model.specs.Fate.{after}
 use Rattle.mw_model.specs.Demand.{happens_under}
@@ -31,6 +32,7 @@ use Rattle.mw_model.proofs.LinesGrow.{lines_first}
 use Rattle.mw_book.proofs.Headlines.{AreKept}
 use Rattle.mw_book.proofs.Courses.{course-append, judged}
 use Rattle.mw_book.proofs.FlatPieces.{all_flat, flat_goes_on}
+use Rattle.mw_book.proofs.Logs.{log_goes_on, log_lines-append}
 use Rattle.mw_book.proofs.LoweredPieces.{HasLowered, each_later, all_lowered}
 use Rattle.mw_book.proofs.Pieces.{LabelledTexts, in_order_both, numbered-append, may_be_written}
 use Rattle.mw_book.proofs.Rounds.{Begins}
@@ -93,6 +95,7 @@ module _
         (may_be_flat : (e : Object) → (piece : List ℕ) × OwesFlat e piece)
         (flattened_again : (b : Book) (N : ℕ) (text : List ℕ) → FlatWritten b N text → length text ≤ limit → LogAccepted (map flat_event (flat_events (plain_course b.events N))) (last_theory_from (initial One) (before_switch (plain_course b.events N))) text)
         (same_theory : (b : Book) (N : ℕ) (text : List ℕ) → LoweredWritten b N text → length text ≤ limit → after (initial One) (trees text).events N ≡ last_theory (derived_course b.events N))
+        (true_logs : (xs : List Object) → Each EntryKeeps (log_of xs).entered)
       where
         reported : (bytes : List ℕ) (N : ℕ) (text : List ℕ) → text ≡ (report bytes N).text → Headline bytes N text (report bytes N).status
         reported bytes N text e = record { exact = e; ends = refl; events_keep = true_events (trees bytes).events N }
@@ -119,7 +122,7 @@ module _
             let b = trees bytes in
             let all : FlatWritten b N (text ++ last) = (text, h, ap (λ u. text ++ u) l) in
             record { exact = all; ends = refl; again = flattened_again b N (text ++ last) all }
-        whole Recheck bytes text last h l = absurd h
+        whole Recheck bytes text last h l = record { exact = ap₂ (λ u v. u ++ v) h l; ends = refl; events_keep = true_logs (trees bytes).events }
         whole Help bytes text last h l = absurd h
         whole Usage bytes text last h l = absurd h
 
@@ -159,6 +162,10 @@ module _
             let r = all_flat may_be_flat m.0 in
             goes_on (Flat N) bytes text r.0 (comment_ending (trees bytes).fault (flat_summary (plain_course (trees bytes).events N)))
             (subst (λ es. InOrder OwesFlat es (text ++ r.0)) (sym (ap flat_events whole_course ∙ m.1)) (in_order_both OwesFlat (flat_events ss) m.0 text r.0 h r.1)) refl
-        begun Recheck bytes text given more e h = absurd h
+        begun Recheck bytes text given more e h =
+            let b = trees bytes in
+            let r = log_goes_on given more in
+            goes_on Recheck bytes text (log_lines r.0) (ending b.fault (log_summary (log_of b.events)))
+            (ap (λ u. u ++ log_lines r.0) h ∙ sym (log_lines-append (log_of given).entered r.0) ∙ ap log_lines (sym r.1) ∙ ap (λ xs. log_lines (log_of xs).entered) (sym e)) refl
         begun Help bytes text given more e h = absurd h
         begun Usage bytes text given more e h = absurd h

@@ -43,7 +43,7 @@ begun_is_part (Trial m N) given text a input old new b = absurd a
 begun_is_part (Lower N) given text a input old new b = b
 begun_is_part (Slice s N) given text a input old new b = b
 begun_is_part (Flat N) given text a input old new b = b
-begun_is_part Recheck given text a input old new b = absurd a
+begun_is_part Recheck given text a input old new b = b
 begun_is_part Help given text a input old new b = absurd a
 begun_is_part Usage given text a input old new b = absurd a
 

@@ -2,7 +2,7 @@
 use Rattle.std.specs.Prelude.{ℕ, true, cond, List, [], ◌∷◌, ◌++◌, Option, Some, None, codes}
 use Prim.Native.String.{String}
 use Rattle.mw_model.specs.Object.{Name, same_bytes}
-use Rattle.mw_model.specs.Request.{Request, Check, Trial, Taut, Lower, Slice, Flat, Help, Usage}
+use Rattle.mw_model.specs.Request.{Request, Check, Trial, Taut, Lower, Slice, Flat, Recheck, Help, Usage}
 use Rattle.mw_book.specs.Arguments.{steps_command, trial_command, slice_command, steps_of, events_of, name_of, is_help}
 use Rattle.clap.specs.Walk.{Text, Row, first_of}
 use Rattle.clap.specs.Simple.{App, Shape, new_shape, new_app, on_top, with_subcommand, subcommand_of}
@@ -21,7 +21,7 @@ with_subcommands app (s ∷ ss) = with_subcommands (with_subcommand app s) ss
 abbrev pub program : App
 program =
     with_subcommands (on_top (λ s. record s { no_binary_name = true }) (new_app (codes "milawa")))
-    (steps_command "check" ∷ trial_command ∷ plain_command "taut" ∷ steps_command "lower" ∷ slice_command ∷ steps_command "flat" ∷ [])
+    (steps_command "check" ∷ trial_command ∷ plain_command "taut" ∷ steps_command "lower" ∷ slice_command ∷ steps_command "flat" ∷ plain_command "recheck" ∷ [])
 
 -- ---- the request
 
@@ -45,7 +45,7 @@ request_named (p ∷ ps) word = cond (same_bytes p.0 word) p.1 (request_named ps
 abbrev pub request_with : Text → (steps : Option ℕ) → (events : Option ℕ) → (name : Option Name) → Request
 request_with word steps events name =
     request_named
-    ((codes "check", with_number Check steps) ∷ (codes "trial", trial_with events steps) ∷ (codes "taut", Taut) ∷ (codes "lower", with_number Lower steps) ∷ (codes "slice", slice_with name steps) ∷ (codes "flat", with_number Flat steps) ∷ [])
+    ((codes "check", with_number Check steps) ∷ (codes "trial", trial_with events steps) ∷ (codes "taut", Taut) ∷ (codes "lower", with_number Lower steps) ∷ (codes "slice", slice_with name steps) ∷ (codes "flat", with_number Flat steps) ∷ (codes "recheck", Recheck) ∷ [])
     word
 
 abbrev pub request_of : Option (Text × List Row) → Request
@@ -61,4 +61,4 @@ help_lines [] = []
 help_lines (l ∷ ls) = codes l ++ 10 ∷ help_lines ls
 
 abbrev pub help_text : List ℕ
-help_text = help_lines ("milawa check [--steps N]" ∷ "milawa trial M [--steps N]" ∷ "milawa taut" ∷ "milawa lower [--steps N]" ∷ "milawa slice NAME [--steps N]" ∷ "milawa flat [--steps N]" ∷ [])
+help_text = help_lines ("milawa check [--steps N]" ∷ "milawa trial M [--steps N]" ∷ "milawa taut" ∷ "milawa lower [--steps N]" ∷ "milawa slice NAME [--steps N]" ∷ "milawa flat [--steps N]" ∷ "milawa recheck" ∷ [])

@@ -1,5 +1,5 @@
 -- What is due for the data of a book, by what was asked for.
-use Rattle.std.specs.Prelude.{◌≡◌, ℕ, ◌&&◌, not, cond, List, [], Option}
+use Rattle.std.specs.Prelude.{◌≡◌, ℕ, ◌&&◌, not, ◌+◌, cond, List, [], length, Option}
 use Rattle.mw_model.specs.Object.{Object}
 use Rattle.mw_model.specs.Primitive.{One}
 use Rattle.mw_model.specs.Lexemes.{Fault}
@@ -7,14 +7,15 @@ use Rattle.mw_model.specs.Grammar.{book}
 use Rattle.mw_model.specs.Theory.{initial}
 use Rattle.mw_model.specs.Definition.{is_present}
 use Rattle.mw_model.specs.Report.{lines, last_line, refused_among}
-use Rattle.mw_model.specs.Request.{Request, Check, Taut, Lower, Slice, Flat}
-use Rattle.mw_model.specs.Pieces.{InOrder, numbered, how_many, comment_ending}
+use Rattle.mw_model.specs.Request.{Request, Check, Taut, Lower, Slice, Flat, Recheck}
+use Rattle.mw_model.specs.Pieces.{InOrder, numbered, how_many, comment_ending, ending}
 use Rattle.mw_model.specs.TautologyBook.{OwesTautology, is_proved, tautology_summary}
 use Rattle.mw_model.specs.Lowering.{OwesLowered, course_summary, derived_course, refused_in}
 use Rattle.mw_model.specs.Slice.{target}
 use Rattle.mw_model.specs.Slicing.{accepted_events, SliceOwed}
 use Rattle.mw_model.specs.Transition.{is_acceptance}
 use Rattle.mw_model.specs.Flattening.{OwesFlat, flat_events, flat_summary, is_switch, plain_course}
+use Rattle.mw_model.specs.LogReport.{denied, log_lines, log_of, log_summary}
 
 -- the text of the answers to these data, in order
 abbrev pub AreAnswers : Request → List Object → List ℕ → Type 0
@@ -23,6 +24,7 @@ AreAnswers Taut given text = InOrder OwesTautology (numbered 1 given) text
 AreAnswers (Lower N) given text = InOrder OwesLowered (derived_course given N) text
 AreAnswers (Slice name N) given text = text ≡ []
 AreAnswers (Flat N) given text = InOrder OwesFlat (flat_events (plain_course given N)) text
+AreAnswers Recheck given text = text ≡ log_lines (log_of given).entered
 AreAnswers _ given text = ⊥
 
 -- the text after the answers to all data of a book with this fault, or with none: the last line, and for a slice the events that are kept before it
@@ -32,13 +34,16 @@ IsLastText Taut given fault text = text ≡ comment_ending fault (tautology_summ
 IsLastText (Lower N) given fault text = text ≡ comment_ending fault (course_summary (derived_course given N))
 IsLastText (Slice name N) given fault text = let accepted = accepted_events given N in SliceOwed fault (target accepted name) given accepted text
 IsLastText (Flat N) given fault text = text ≡ comment_ending fault (flat_summary (plain_course given N))
+IsLastText Recheck given fault text = text ≡ ending fault (log_summary (log_of given))
 IsLastText _ given fault text = ⊥
 
--- how many of the data are refused, or not proved; of a slice whether its theorem is missing; a log has no place for switches either
+-- how many of the data are refused, or not proved; of a slice whether its theorem is missing; a log has no place for switches either; of a log, how
+-- many events get a no, and how many steps are left over
 abbrev pub refused_for : Request → List Object → ℕ
 refused_for (Check N) given = refused_among (initial One) given N
 refused_for Taut given = how_many (λ x. not (is_proved x)) given
 refused_for (Lower N) given = refused_in (derived_course given N)
 refused_for (Slice name N) given = cond (is_present (target (accepted_events given N) name)) 0 1
 refused_for (Flat N) given = how_many (λ s. not (is_acceptance s && not (is_switch s))) (plain_course given N)
+refused_for Recheck given = let log = log_of given in denied log + length log.left
 refused_for _ given = 0

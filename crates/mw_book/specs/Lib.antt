@@ -14,5 +14,6 @@ pub mod Lowered
 pub mod Sliced
 pub mod Flattened
 pub mod FlatEvents
+pub mod Rechecked
 pub mod Checks
 pub mod Trials

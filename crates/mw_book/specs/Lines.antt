@@ -21,3 +21,7 @@ formulas_line formulas proved = spaced (codes "formulas") (spaced (numeral formu
 
 abbrev pub flat_line : (events written : ℕ) → List ℕ
 flat_line events written = spaced (codes "events") (spaced (numeral events) (spaced (codes "flat") (numeral written))) ++ 10 ∷ []
+
+abbrev pub answers_line : (events denied left : ℕ) → List ℕ
+answers_line events denied left =
+    spaced (codes "events") (spaced (numeral events) (spaced (codes "yes") (spaced (numeral (events - denied)) (spaced (codes "no") (spaced (numeral denied) (spaced (codes "left") (numeral left))))))) ++ 10 ∷ []

@@ -1,6 +1,6 @@
 -- How the program ends, and what is then true.
 use Rattle.std.specs.Prelude.{◌≡◌, ℕ, Bool, true, false, List, Option, Some, None}
-use Rattle.mw_model.specs.Request.{Request, Check, Trial, Taut, Lower, Slice, Flat, Help, Usage}
+use Rattle.mw_model.specs.Request.{Request, Check, Trial, Taut, Lower, Slice, Flat, Recheck, Help, Usage}
 use Rattle.mw_book.specs.Commands.{asked, help_text}
 use Rattle.mw_model.specs.Lexemes.{Goes}
 use Rattle.mw_model.specs.Grammar.{reading, trees}
@@ -35,6 +35,7 @@ reads_book Taut = true
 reads_book (Lower N) = true
 reads_book (Slice name N) = true
 reads_book (Flat N) = true
+reads_book Recheck = true
 reads_book _ = false
 
 -- What was written, with this status, is what the request promises for the book that the source holds.

@@ -3,7 +3,7 @@ use Rattle.std.specs.Prelude.{true, [], ◌∷◌, codes}
 use Rattle.clap.specs.Simple.{App, new_app, on_top}
 use Rattle.mw_book.specs.Arguments.{steps_command, trial_command}
 use Rattle.mw_model.specs.Object.{name_of_bytes}
-use Rattle.mw_model.specs.Request.{Request, Check, Trial, Taut, Lower, Slice, Flat, Help, Usage}
+use Rattle.mw_model.specs.Request.{Request, Check, Trial, Taut, Lower, Slice, Flat, Recheck, Help, Usage}
 use Rattle.mw_book.specs.Commands.{plain_command, with_subcommands}
 use Rattle.mw_book.specs.declared.words.Request.{Request as Asked}
 use Rattle.mw_book.specs.declared.words.Request.TheVariants as words
@@ -15,6 +15,7 @@ meaning_of words.Taut = Taut
 meaning_of (words.Lower steps) = Lower steps
 meaning_of (words.Slice name steps) = Slice (name_of_bytes name) steps
 meaning_of (words.Flat steps) = Flat steps
+meaning_of words.Recheck = Recheck
 meaning_of words.Help = Help
 meaning_of words.Usage = Usage
 

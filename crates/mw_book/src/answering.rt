@@ -77,7 +77,7 @@ pub(crate) trait Answering {
         ensures answered { (q : Request) (given : List Object) → answered self.old q given → answered self.new q given };
 
     /// Puts the last text after the lines that were not written yet, for a book with this fault or with none. Answers how many data were
-    /// refused, or not proved, or how many theorems are missing.
+    /// refused, or not proved, or how many theorems are missing; of a log how many events got a no, and how many steps are left over.
     fn end(&mut self, fault: Option<(SyntaxKind, u64)>) -> Result<u64, Memory>
         requires known { HasAnswered answered self.old }
         ensures refused { fault ≡ None → IfOk result (λ n. (q : Request) (given : List Object) → answered self.old q given → n ≡ refused_for q given) }

@@ -13,6 +13,7 @@ use crate::flat::flat;
 use crate::lower::lower;
 use crate::output::{status_of, write_all};
 use crate::promise::answers_promised;
+use crate::recheck::recheck;
 use crate::slice::slice;
 use crate::taut::taut;
 use crate::trial::TrialSource;
@@ -22,15 +23,16 @@ use std::alloc::Global;
 
 // How the program is used: a line for each command.
 const HELP: &[u8] =
-    b"milawa check [--steps N]\nmilawa trial M [--steps N]\nmilawa taut\nmilawa lower [--steps N]\nmilawa slice NAME [--steps N]\nmilawa flat [--steps N]\n";
+    b"milawa check [--steps N]\nmilawa trial M [--steps N]\nmilawa taut\nmilawa lower [--steps N]\nmilawa slice NAME [--steps N]\nmilawa flat [--steps N]\nmilawa recheck\n";
 
 /// Does what the words ask for: judges the book on the source and writes its report to the sink, or judges the trial book and writes
 /// the last line of its report, or proves the formulas of the book on the source and writes the theorems, or judges that book with
 /// derivations as good as proofs and writes its events with proofs in their place, or judges that book and writes the events that one of its
-/// theorems rests on, or judges that book and writes it as a log of single steps, or writes how the program is used.
+/// theorems rests on, or judges that book and writes it as a log of single steps, or judges the log on the source and writes its report, or
+/// writes how the program is used.
 ///
 /// `Done`, `SomeRefused` and `Syntax` come where the words ask for a book and its report, or its answers, have that status; the
-/// sink then took these whole, or the last line: what a report calls accepted is true in the standard model, and the events that
+/// sink then took these whole, or the last line: what a report calls accepted, or gives a yes, is true in the standard model, and the events that
 /// the next three wrote are accepted when they are read again, as those of the log get a yes. `Help` comes where the words ask how the program is used, and `Usage` where
 /// they ask for nothing that it does. `ReadFault` and `WriteFault` come where the source, or the sink, counted a fault in this call, and
 /// `Memory` where memory was refused: what the sink took is a prefix of a text that was due, and at a fault in reading what is due
@@ -60,6 +62,7 @@ pub fn run<S: Source, K: Sink>(
         Ok(Request::Lower { steps }) => lower(alloc, steps, source, sink),
         Ok(Request::Slice { name, steps }) => slice(alloc, name, steps, source, sink),
         Ok(Request::Flat { steps }) => flat(alloc, steps, source, sink),
+        Ok(Request::Recheck) => recheck(alloc, source, sink),
         Ok(Request::Help) => match write_help(sink) {
             Ok(()) => Status::Help,
             Err(status) => status,

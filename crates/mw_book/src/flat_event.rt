@@ -7,7 +7,7 @@ ghost use Rattle.mw_model.specs.Flattening.{numbers_among, is_logged_word, OwesF
 ghost use Rattle.mw_heap.specs.Objects.{object_at, IsIn, Grows};
 ghost use Rattle.mw_heap.specs.Lists.{list_object};
 ghost use Rattle.mw_heap.specs.Words.{word_object};
-ghost use Rattle.mw_kernel.specs.Words.{verify_event, IsEvent};
+ghost use Rattle.mw_theory.specs.Words.{verify_event, IsEvent};
 ghost use Rattle.mw_book.specs.FlatEvents.{proper_list, numbers_object, put_before, WritesFlat};
 
 use crate::answer::write_line;

@@ -21,6 +21,8 @@ mod program;
 mod promise;
 mod proving;
 mod reading;
+mod recheck;
+mod rechecking;
 mod slice;
 mod slicing;
 mod status;

@@ -9,13 +9,16 @@ ghost use Rattle.mw_book.specs.Words.{judging_program, proving_program};
 use clap::{Arg, ArgAction, Command};
 use std::alloc::{AllocError, Global};
 
-/// The command with its subcommands `check`, `trial`, `taut`, `lower`, `slice` and `flat`.
+/// The command with its subcommands `check`, `trial`, `taut`, `lower`, `slice`, `flat` and `recheck`.
 pub(crate) fn program<'a>(alloc: Global) -> Result<Command<'a>, AllocError>
     ensures { IfOk result (λ c. app_of c ≡ commands.program) }
 {
     let slice = slice_command(alloc)?;
     let flat = flat_command(alloc)?;
-    proving_program(alloc)?.subcommand(slice)?.subcommand(flat)
+    proving_program(alloc)?
+        .subcommand(slice)?
+        .subcommand(flat)?
+        .subcommand(recheck_command(alloc))
 }
 
 // The command with the four subcommands that judge books, or write theorems with proofs.
@@ -90,6 +93,14 @@ fn flat_command<'a>(alloc: Global) -> Result<Command<'a>, AllocError>
     ensures local { IfOk result (λ c. (fields_of c).has_globals ≡ false) }
 {
     Command::new(alloc, "flat").arg(steps_option(alloc))
+}
+
+// recheck
+fn recheck_command<'a>(alloc: Global) -> Command<'a>
+    ensures shape { shape_of result ≡ commands.plain_command "recheck" }
+    ensures local { (fields_of result).has_globals ≡ false }
+{
+    Command::new(alloc, "recheck")
 }
 
 fn steps_option<'a>(alloc: Global) -> Arg<'a>

@@ -14,6 +14,7 @@ use mw_model::slicing::slices_again;
 use mw_print::labelled_texts_are_read;
 use mw_reflect::reached_sound;
 use mw_taut::tautologies_have_proofs;
+use mw_truth::soundness::logs_keep;
 
 /// The answers to all data of a book, with the last text, keep the promise of the request; those to the first data begin a text that
 /// keeps it, since an answer to each of the other data may be written.
@@ -22,6 +23,7 @@ pub(crate) fn answers_promised()
     ensures begun { (q : Request) (bytes text : List ℕ) (given more : List Object) → (trees bytes).events ≡ given ++ more → AreAnswers q given text → IsBegun q bytes text }
 {
     reached_sound();
+    logs_keep();
     tautologies_again();
     lowerings_possible();
     lowerings_again();

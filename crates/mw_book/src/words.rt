@@ -32,6 +32,8 @@ pub(crate) enum Request {
     Slice { name: TheoremName, steps: u64 },
     /// To turn the book to a log, with this step limit.
     Flat { steps: u64 },
+    /// To judge the log.
+    Recheck,
     /// To show how the program is used.
     Help,
     /// Nothing that the program does.
@@ -109,6 +111,9 @@ fn request_with(
     }
     if word == "flat" {
         return flat_with(steps);
+    }
+    if word == "recheck" {
+        return Request::Recheck;
     }
     Request::Usage
 }

@@ -1,14 +1,14 @@
 -- What a caller cites: what the answers say of the events that add a witness and that add functions.
-use Rattle.std.proofs.Common.{◌≡◌, ℕ, false, not, List, ◌∷◌, length, Option, Some, None, ap, ◌∙◌, subst}
-use Rattle.mw_model.specs.Object.{Name, Object, Pair, second_of, third_of, fourth_of, fifth_of, has_members}
+use Rattle.std.proofs.Common.{◌≡◌, ℕ, Bool, false, not, List, ◌∷◌, Option, Some, ap, ◌∙◌, subst}
+use Rattle.mw_model.specs.Object.{Name, Object, Pair, second_of, third_of, fourth_of, fifth_of}
 use Rattle.mw_model.specs.Term.{Term, ArityTable, is_closed}
 use Rattle.mw_model.specs.Definition.{Functions, Choice, arity_table}
 use Rattle.mw_model.specs.Obligation.{obligations, is_nested}
 use Rattle.mw_model.specs.Expansion.{expand}
 use Rattle.mw_model.specs.Theory.{Theory}
-use Rattle.mw_model.specs.Refusal.{Refusal, EVENT, NAME, FORMALS, TERM, VARIABLES, NESTED, COUNT, Fate, refuse, accept, need, must, unless}
-use Rattle.mw_model.specs.Checking.{judged_each}
-use Rattle.mw_model.specs.Admission.{Draft, formals_of, functions, measures, are_closed_by, add_witness, add_to_theory, skolem, define, define_all, some_drafts}
+use Rattle.mw_model.specs.Refusal.{Refusal, NAME, FORMALS, TERM, VARIABLES, NESTED, Fate, refuse, accept, need, must}
+use Rattle.mw_model.specs.Demand.{Demand, Denied, Wants, wants_some, wants_that, define_demand}
+use Rattle.mw_model.specs.Admission.{Draft, formals_of, functions, measures, are_closed_by, add_witness, add_to_theory, skolem}
 use Rattle.mw_define.specs.declared.admitted.Owed.{Owed}
 use Rattle.mw_define.specs.Tests.{FailsWitness, by_name, by_formals, by_term, by_variables, PassesWitness}
 use Rattle.mw_define.specs.BlockTests.{the_formal_lists, the_terms_under, FailsBlock, no_names, no_formals, no_terms, not_closed, nested, PassesBlock}
@@ -58,60 +58,40 @@ module _ (t : Theory) where
         ∙ (ap (with_body h.symbol (h.first ∷ h.rest)) h.expands
         ∙ ap (λ d. must t VARIABLES d (accept (add_to_theory t (Choice h.symbol h.first h.rest h.term)))) h.closed))
 
--- Blocks of functions: the first test that fails is the reason of the refusal; where all pass, the proofs are judged.
-module _ (t : Theory) (N : ℕ) (proofs : Object) where
-  abbrev pub judged_block : List Name → List (List Name) → List Term × List Term → Fate × Theory
-  judged_block fs xss terms =
-      let B = functions fs xss terms.0 in
-      let owed = obligations B (measures fs terms.1) in
-      must t COUNT (has_members (length owed) proofs) (unless t (judged_each t N owed proofs) (accept (add_to_theory t (Functions B))))
-
-  abbrev tested_block : List Name → List (List Name) → List Term × List Term → Fate × Theory
+-- Blocks of functions: the first test that fails is the reason of the refusal; where all pass, proofs of the obligations are wanted.
+module _ (t : Theory) where
+  abbrev tested_block : List Name → List (List Name) → List Term × List Term → Demand
   tested_block fs xss terms =
       let B = functions fs xss terms.0 in
-      must t VARIABLES (are_closed_by xss terms.0 terms.1) (must t NESTED (not (is_nested B B)) (judged_block fs xss terms))
+      wants_that VARIABLES (are_closed_by xss terms.0 terms.1) (wants_that NESTED (not (is_nested B B)) (Wants (obligations B (measures fs terms.1)) (add_to_theory t (Functions B))))
 
-  abbrev with_terms : List Name → List (List Name) → Option (List Term × List Term) → Fate × Theory
-  with_terms fs xss o = need t TERM o (λ terms. tested_block fs xss terms)
+  abbrev with_terms : List Name → List (List Name) → Option (List Term × List Term) → Demand
+  with_terms fs xss o = wants_some TERM o (λ terms. tested_block fs xss terms)
 
   module _ (drafts : List Draft) where
-    abbrev with_formal_lists : List Name → Option (List (List Name)) → Fate × Theory
-    with_formal_lists fs o = need t FORMALS o (λ xss. with_terms fs xss (the_terms_under (arity_table t.definitions) drafts fs xss))
+    abbrev with_formal_lists : List Name → Option (List (List Name)) → Demand
+    with_formal_lists fs o = wants_some FORMALS o (λ xss. with_terms fs xss (the_terms_under (arity_table t.definitions) drafts fs xss))
 
-    abbrev with_names : Option (List Name) → Fate × Theory
-    with_names o = need t NAME o (λ fs. with_formal_lists fs (the_formal_lists (arity_table t.definitions) drafts))
+    abbrev with_names : Option (List Name) → Demand
+    with_names o = wants_some NAME o (λ fs. with_formal_lists fs (the_formal_lists (arity_table t.definitions) drafts))
 
-    pub define-refused : (r : Refusal) → FailsBlock (arity_table t.definitions) drafts r → define t N drafts proofs ≡ refuse t r
-    unfolding need must
-    define-refused r (no_names h) = ap with_names h
-    define-refused r (no_formals fs h k) = ap with_names h ∙ ap (with_formal_lists fs) k
-    define-refused r (no_terms fs xss h k l) = ap with_names h ∙ (ap (with_formal_lists fs) k ∙ ap (with_terms fs xss) l)
-    define-refused r (not_closed fs xss bs ms h k l c) =
-        ap with_names h
-        ∙ (ap (with_formal_lists fs) k
-        ∙ (ap (with_terms fs xss) l
-        ∙ ap (λ d. must t VARIABLES d (must t NESTED (not (is_nested (functions fs xss bs) (functions fs xss bs))) (judged_block fs xss (bs, ms)))) c))
-    define-refused r (nested fs xss bs ms h k l c n) =
-        ap with_names h
-        ∙ (ap (with_formal_lists fs) k
-        ∙ (ap (with_terms fs xss) l
-        ∙ (ap (λ d. must t VARIABLES d (must t NESTED (not (is_nested (functions fs xss bs) (functions fs xss bs))) (judged_block fs xss (bs, ms)))) c
-        ∙ ap (λ d. must t NESTED (not d) (judged_block fs xss (bs, ms))) n)))
+    abbrev when_closed : List Name → List (List Name) → List Term → List Term → Bool → Demand
+    when_closed fs xss bs ms d = let B = functions fs xss bs in wants_that VARIABLES d (wants_that NESTED (not (is_nested B B)) (Wants (obligations B (measures fs ms)) (add_to_theory t (Functions B))))
 
-    pub define-judged : (os : List Object) (owed : Owed) → (h : PassesBlock (arity_table t.definitions) drafts os owed) → define t N drafts proofs ≡ judged_block h.names h.formals (h.bodies, h.measures_of)
-    unfolding need must
-    define-judged os owed h =
+    abbrev when_flat : List Name → List (List Name) → List Term → List Term → Bool → Demand
+    when_flat fs xss bs ms d = let B = functions fs xss bs in wants_that NESTED (not d) (Wants (obligations B (measures fs ms)) (add_to_theory t (Functions B)))
+
+    pub define-denied : (r : Refusal) → FailsBlock (arity_table t.definitions) drafts r → define_demand t drafts ≡ Denied r
+    define-denied r (no_names h) = ap with_names h
+    define-denied r (no_formals fs h k) = ap with_names h ∙ ap (with_formal_lists fs) k
+    define-denied r (no_terms fs xss h k l) = ap with_names h ∙ (ap (with_formal_lists fs) k ∙ ap (with_terms fs xss) l)
+    define-denied r (not_closed fs xss bs ms h k l c) = ap with_names h ∙ (ap (with_formal_lists fs) k ∙ (ap (with_terms fs xss) l ∙ ap (when_closed fs xss bs ms) c))
+    define-denied r (nested fs xss bs ms h k l c n) =
+        ap with_names h ∙ (ap (with_formal_lists fs) k ∙ (ap (with_terms fs xss) l ∙ (ap (when_closed fs xss bs ms) c ∙ ap (when_flat fs xss bs ms) n)))
+
+    pub define-wants : (os : List Object) (owed : Owed) → (h : PassesBlock (arity_table t.definitions) drafts os owed) → let B = functions h.names h.formals h.bodies in define_demand t drafts ≡ Wants (obligations B (measures h.names h.measures_of)) (add_to_theory t (Functions B))
+    define-wants os owed h =
         ap with_names h.are_new
         ∙ (ap (with_formal_lists h.names) h.are_formals
         ∙ (ap (with_terms h.names h.formals) h.expand
-        ∙ (ap (λ d. must t VARIABLES d (must t NESTED (not (is_nested (functions h.names h.formals h.bodies) (functions h.names h.formals h.bodies))) (judged_block h.names h.formals (h.bodies, h.measures_of)))) h.closed
-        ∙ ap (λ d. must t NESTED (not d) (judged_block h.names h.formals (h.bodies, h.measures_of))) h.flat)))
-
--- an event that defines a block gives a list of drafts, or is refused
-pub define_all-none : (t : Theory) (N : ℕ) (e : Object) → some_drafts (second_of e) ≡ None → define_all t N e ≡ refuse t EVENT
-unfolding need
-define_all-none t N e h = ap (λ o. need t EVENT o (λ drafts. define t N drafts (third_of e))) h
-
-pub define_all-some : (t : Theory) (N : ℕ) (e : Object) (drafts : List Draft) → some_drafts (second_of e) ≡ Some drafts → define_all t N e ≡ define t N drafts (third_of e)
-unfolding need
-define_all-some t N e drafts h = ap (λ o. need t EVENT o (λ ds. define t N ds (third_of e))) h
+        ∙ (ap (when_closed h.names h.formals h.bodies h.measures_of) h.closed ∙ ap (when_flat h.names h.formals h.bodies h.measures_of) h.flat)))

@@ -25,4 +25,5 @@ mod witness;
 pub use admission::{admit_block, admit_function};
 pub use admitted::{Admitted, Entry, Owed};
 pub use draft::Draft;
+pub use drafts::are_drafts;
 pub use witness::admit_witness;

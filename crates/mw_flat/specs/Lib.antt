@@ -1,2 +1,7 @@
 pub mod Walk
 pub mod Members
+pub mod Verdicts
+pub mod Collecting
+pub mod Steps
+pub mod Going
+pub mod Code

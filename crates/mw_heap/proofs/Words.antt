@@ -51,6 +51,7 @@ place_of-below word.Instantiation = omega arith
 place_of-below word.Induction = omega arith
 place_of-below word.Ordp = omega arith
 place_of-below word.OrdLess = omega arith
+place_of-below word.Step = omega arith
 
 -- the list of all words has each in its place
 pub word_in_place : (d w : Word) → get_or WORDS (place_of w) d ≡ w
@@ -95,6 +96,7 @@ word_in_place d word.Instantiation = refl
 word_in_place d word.Induction = refl
 word_in_place d word.Ordp = refl
 word_in_place d word.OrdLess = refl
+word_in_place d word.Step = refl
 
 -- NIL stands first
 pub nil_is_first : (w : Word) → eqb (place_of w) 0 ≡ same_object NIL (word_object w)
@@ -139,6 +141,7 @@ nil_is_first word.Instantiation = refl
 nil_is_first word.Induction = refl
 nil_is_first word.Ordp = refl
 nil_is_first word.OrdLess = refl
+nil_is_first word.Step = refl
 
 -- growth keeps the words
 pub KeepsWords-Grows : (known : Bool) (inside old new : List Object) → inside ≡ old → Grows old new → KeepsWords known inside → KeepsWords known new

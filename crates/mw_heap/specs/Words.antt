@@ -51,6 +51,7 @@ word_bytes word.Instantiation = codes "INSTANTIATION"
 word_bytes word.Induction = codes "INDUCTION"
 word_bytes word.Ordp = codes "ORDP"
 word_bytes word.OrdLess = codes "ORD<"
+word_bytes word.Step = codes "STEP"
 
 -- the symbol that the word is
 abbrev pub word_object : Word → Object
@@ -98,9 +99,10 @@ place_of word.Instantiation = 37
 place_of word.Induction = 38
 place_of word.Ordp = 39
 place_of word.OrdLess = 40
+place_of word.Step = 41
 
 abbrev pub word_count : ℕ
-word_count = 41
+word_count = 42
 
 -- each word stands in its place, if this is known
 abbrev pub KeepsWords : Bool → List Object → Type 0

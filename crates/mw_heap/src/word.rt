@@ -89,10 +89,12 @@ pub enum Word {
     Ordp,
     /// ORD<
     OrdLess,
+    /// STEP
+    Step,
 }
 
 // All of them, in order.
-pub(crate) static WORDS: [Word; 41] = [
+pub(crate) static WORDS: [Word; 42] = [
     Word::Nil,
     Word::T,
     Word::Quote,
@@ -134,6 +136,7 @@ pub(crate) static WORDS: [Word; 41] = [
     Word::Induction,
     Word::Ordp,
     Word::OrdLess,
+    Word::Step,
 ];
 
 impl Word {
@@ -183,6 +186,7 @@ impl Word {
             Word::Induction => b"INDUCTION",
             Word::Ordp => b"ORDP",
             Word::OrdLess => b"ORD<",
+            Word::Step => b"STEP",
         }
     }
 
@@ -232,6 +236,7 @@ impl Word {
             Word::Induction => 38,
             Word::Ordp => 39,
             Word::OrdLess => 40,
+            Word::Step => 41,
         };
         Ref::new(place)
     }

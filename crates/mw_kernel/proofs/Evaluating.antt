@@ -17,7 +17,7 @@ use Rattle.mw_heap.specs.Objects.{object_at, Grows}
 use Rattle.mw_code.specs.declared.table.Table.{Table}
 use Rattle.mw_code.specs.Tables.{StandsFor, IsClosedTerm}
 use Rattle.mw_code.proofs.CallerLemmas.{stands-grows}
-use Rattle.mw_kernel.specs.Words.{eval_event}
+use Rattle.mw_theory.specs.Words.{eval_event}
 use Rattle.mw_kernel.specs.Evaluating.{IsTried}
 use Rattle.mw_kernel.specs.declared.eval.Tried.TheVariants.{Closed}
 

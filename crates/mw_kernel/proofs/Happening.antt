@@ -1,49 +1,35 @@
 -- What happens by an event, whose object is told.
-use Rattle.std.proofs.Common.{◌≡◌, ℕ, Bool, true, false, cond, ltb, List, [], length, Option, Some, None, Result, Ok, Err, IfOk, OnOk, OnErr, refl, sym, ap, ◌∙◌, subst}
-use Rattle.mw_model.specs.Object.{Object, symbol, second_of}
-use Rattle.mw_model.specs.Term.{Term, is_closed}
+use Rattle.std.proofs.Common.{◌≡◌, ℕ, Bool, true, false, cond, ltb, List, [], ◌∷◌, length, Option, Some, None, refl, sym, ap, ◌∙◌, subst}
+use Rattle.mw_model.specs.Object.{Object, symbol, second_of, car, cdr, has_members}
+use Rattle.mw_model.specs.Term.{Term, Formula, is_closed}
 use Rattle.mw_model.specs.Reading.{when}
 use Rattle.mw_model.specs.Definition.{arity_table}
 use Rattle.mw_model.specs.Expansion.{expand}
 use Rattle.mw_model.specs.Evaluation.{Outcome, Value, Steps, Overflow, Witness, evaluate}
 use Rattle.mw_model.specs.Theory.{Theory, IsSound}
 use Rattle.mw_model.specs.Printing.{text_of}
-use Rattle.mw_model.specs.Refusal.{TERM, VARIABLES, LONG, EVENT, Fate, Accepted, refuse, need}
+use Rattle.mw_model.specs.Refusal.{TERM, VARIABLES, LONG, EVENT, COUNT, Fate, Accepted, refuse, accept, need, must, unless}
+use Rattle.mw_model.specs.Checking.{judged_as, or_else}
+use Rattle.mw_model.specs.Admission.{Draft}
+use Rattle.mw_model.specs.Demand.{Demand, Denied, Wants, wants_some, define_demand, each_judged, settled}
+use Rattle.mw_model.proofs.Demands.{by_word as judged_by_word}
 use Rattle.mw_model.specs.Keeping.{EventKeeps}
 use Rattle.mw_model.specs.Fate.{EventWord, SetProfile, is_out_of_range, event_word, longest, happens, happens_by, show, show_outcome, eval, profile}
 use Rattle.mw_model.specs.Fate as word
 use Rattle.mw_heap.specs.Objects.{object_at}
 use Rattle.mw_kernel.specs.Knowledge.{Knowledge, theory_of}
-use Rattle.mw_kernel.specs.Words.{event_object, IsEvent, eval_event, profile_event}
-use Rattle.mw_kernel.specs.declared.admitting.Drafts.TheVariants.{One, All}
-use Rattle.mw_kernel.specs.Admitting.{drafts_given, defined, skolem_at}
+use Rattle.mw_theory.specs.Words.{event_object, IsEvent, eval_event, profile_event}
+use Rattle.mw_theory.specs.declared.admitting.Drafts.TheVariants.{One, All}
+use Rattle.mw_theory.specs.Admitting.{drafts_given}
+use Rattle.mw_theory.specs.Proofs.{by_formula}
+use Rattle.mw_theory.specs.Settling.{verified, defined, skolem_at}
+use Rattle.mw_kernel.specs.Proofs.{judged_for}
 use Rattle.mw_kernel.specs.Switching.{switched}
-use Rattle.mw_kernel.specs.Fates.{verified}
-use Rattle.mw_kernel.specs.declared.event.Event.{Event}
-use Rattle.mw_kernel.specs.declared.event.Event.TheVariants.{Verify, Define, Skolem, Switch, Eval, Print, DefineAll, Profile}
-use Rattle.mw_kernel.proofs.EventWords.{none_happens, word_happens}
+use Rattle.mw_theory.specs.declared.event.Event.{Event}
+use Rattle.mw_theory.specs.declared.event.Event.TheVariants.{Verify, Define, Skolem, Switch, Eval, Print, DefineAll, Profile}
+use Rattle.mw_theory.proofs.CallerLemmas.{none_happens, word_happens}
 use Rattle.mw_kernel.proofs.Refusing.{verify_is}
 use Rattle.mw_kernel.proofs.Switching.{switch-is}
-
-pub IfOk-map : {X : Type 0} {E : Type 0} (r : Result X E) (P Q : X → Type 0) → ((x : X) → P x → Q x) → IfOk r P → IfOk r Q
-IfOk-map (Ok x) P Q f h = f x h
-IfOk-map (Err e) P Q f h = h
-
-pub OnOk-map : {X : Type 0} {E : Type 0} (r : Result X E) (P Q : Type 0) → (P → Q) → OnOk r P → OnOk r Q
-OnOk-map (Ok x) P Q f h = f h
-OnOk-map (Err e) P Q f h = h
-
-pub OnOk-from : {X : Type 0} {E : Type 0} (r : Result X E) (P : Type 0) → P → OnOk r P
-OnOk-from (Ok x) P p = p
-OnOk-from (Err e) P p = tt
-
-pub OnErr-from : {X : Type 0} {E : Type 0} (r : Result X E) (P : Type 0) → P → OnErr r P
-OnErr-from (Ok x) P p = tt
-OnErr-from (Err e) P p = p
-
-pub OnErr-map : {X : Type 0} {E : Type 0} (r : Result X E) (P Q : Type 0) → (P → Q) → OnErr r P → OnErr r Q
-OnErr-map (Ok x) P Q f h = h
-OnErr-map (Err e) P Q f h = f h
 
 pub show_stays : (t : Theory) (text : List ℕ) → t ≡ (show t text).1
 show_stays t text = go (ltb longest (length text))
@@ -93,24 +79,41 @@ word-is os (Profile n) = refl
 
 -- the fate of an event by its members, and the theory after it
 abbrev pub comes_to : List Object → Theory → ℕ → Event → Fate × Theory
-comes_to os t N (Verify name formula proof) = verified t N (object_at os name) (object_at os formula) (object_at os proof)
-comes_to os t N (Define name formals body measure proofs) = defined t N (drafts_given os (One (record { name = name; formals = formals; body = body; measure = measure }))) (object_at os proofs)
+comes_to os t N (Verify name formula proof) = verified (judged_for N) t (object_at os name) (object_at os formula) (object_at os proof)
+comes_to os t N (Define name formals body measure proofs) = defined (judged_for N) t (drafts_given os (One (record { name = name; formals = formals; body = body; measure = measure }))) (object_at os proofs)
 comes_to os t N (Skolem name bound free body) = skolem_at os t name bound free body
 comes_to os t N (Switch name) = switched t (object_at os name)
 comes_to os t N (Eval term) = eval t N (eval_event (object_at os term))
 comes_to os t N (Print x) = show t (text_of (object_at os x))
-comes_to os t N (DefineAll definitions proofs) = defined t N (drafts_given os (All definitions)) (object_at os proofs)
+comes_to os t N (DefineAll definitions proofs) = defined (judged_for N) t (drafts_given os (All definitions)) (object_at os proofs)
 comes_to os t N (Profile n) = profile t (profile_event (object_at os n))
+
+-- the theory's checker judges proof by proof
+each-as : (t : Theory) (N : ℕ) (Fs : List Formula) (ps : Object) → each_judged (by_formula (judged_for N)) t 0 Fs ps ≡ each_judged judged_as t N Fs ps
+each-as t N [] ps = refl
+each-as t N (F ∷ Fs) ps = ap (or_else (judged_as t N F (car ps))) (each-as t N Fs (cdr ps))
+
+settled-as : (t : Theory) (N : ℕ) (ps : Object) (d : Demand) → settled (by_formula (judged_for N)) t 0 ps d ≡ settled judged_as t N ps d
+settled-as t N ps (Denied r) = refl
+settled-as t N ps (Wants Fs next) = ap (λ o. must t COUNT (has_members (length Fs) ps) (unless t o (accept next))) (each-as t N Fs ps)
+
+defined-as : (t : Theory) (N : ℕ) (ps : Object) (given : Option (List Draft)) → defined (judged_for N) t given ps ≡ settled judged_as t N ps (wants_some EVENT given (define_demand t))
+unfolding need
+defined-as t N ps None = refl
+defined-as t N ps (Some ds) = settled-as t N ps (define_demand t ds)
 
 comes-by : (os : List Object) (t : Theory) (N : ℕ) (e : Event) → comes_to os t N e ≡ happens_by (word_of_event e) t N (event_object os e)
 unfolding need
 comes-by os t N (Verify name formula proof) = sym (verify_is t N (symbol "VERIFY") (object_at os name) (object_at os formula) (object_at os proof))
-comes-by os t N (Define name formals body measure proofs) = refl
+comes-by os t N (Define name formals body measure proofs) =
+    defined-as t N (object_at os proofs) (drafts_given os (One (record { name = name; formals = formals; body = body; measure = measure })))
+    ∙ judged_by_word word.Define t N (event_object os (Define name formals body measure proofs))
 comes-by os t N (Skolem name bound free body) = refl
 comes-by os t N (Switch name) = sym (switch-is t (object_at os name))
 comes-by os t N (Eval term) = refl
 comes-by os t N (Print x) = refl
-comes-by os t N (DefineAll definitions proofs) = refl
+comes-by os t N (DefineAll definitions proofs) =
+    defined-as t N (object_at os proofs) (drafts_given os (All definitions)) ∙ judged_by_word word.DefineAll t N (event_object os (DefineAll definitions proofs))
 comes-by os t N (Profile n) = refl
 
 -- what a kernel holds, told of the heap before

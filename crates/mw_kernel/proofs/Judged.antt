@@ -14,12 +14,12 @@ use Rattle.mw_heap.specs.Objects.{object_at}
 use Rattle.mw_code.specs.declared.table.Table.{Table}
 use Rattle.mw_code.specs.declared.entry.Entry.{Entry}
 use Rattle.mw_code.specs.Tables.{StandsFor, IsCodeOf, IsEntry}
-use Rattle.mw_kernel.specs.declared.theory.Theory.{Theory as Kept}
-use Rattle.mw_kernel.specs.Knowledge.{parts_of, definitions_of, name_read, meant, IsHeld}
+use Rattle.mw_theory.specs.declared.theory.Theory.{Theory as Kept}
+use Rattle.mw_theory.specs.Knowledge.{parts_of, definitions_of, name_read, meant, IsHeld}
 use Rattle.mw_kernel.specs.Proofs.{judged_for}
 
 -- the second member is another than the formula
-pub judged-other : (t : Theory) (N : ℕ) (formula p : Object) → same_object (second_of p) formula ≡ false → Some CONCLUSION ≡ judged_for t N formula p
+pub judged-other : (t : Theory) (N : ℕ) (formula p : Object) → same_object (second_of p) formula ≡ false → Some CONCLUSION ≡ judged_for N t formula p
 judged-other t N formula p other = ap (λ b. cond b (Some CONCLUSION) (Some CONCLUSION)) (sym other) ∙ go (same_object (second_of p) formula) other
   where
     go : (b : Bool) → b ≡ false → cond b (Some CONCLUSION) (Some CONCLUSION) ≡ cond b (judged t p N) (Some CONCLUSION)
@@ -27,7 +27,7 @@ judged-other t N formula p other = ap (λ b. cond b (Some CONCLUSION) (Some CONC
     go true h = cc
 
 -- it is the formula
-pub judged-concluded : (t : Theory) (N : ℕ) (formula p : Object) → same_object (second_of p) formula ≡ true → judged t p N ≡ judged_for t N formula p
+pub judged-concluded : (t : Theory) (N : ℕ) (formula p : Object) → same_object (second_of p) formula ≡ true → judged t p N ≡ judged_for N t formula p
 judged-concluded t N formula p same = sym (ap (λ b. cond b (judged t p N) (Some CONCLUSION)) same)
 
 -- the built-in checker's answer

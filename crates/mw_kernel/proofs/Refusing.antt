@@ -1,4 +1,4 @@
--- The tests of a VERIFY, one after another, and what its fate and the next theory are by them.
+-- A VERIFY as the rules test it comes to what it comes to by the theory's checker.
 use Rattle.std.proofs.Common.{◌≡◌, ℕ, Bool, true, false, Option, Some, None, refl, ap, ◌∙◌}
 use Rattle.mw_model.specs.Object.{Object, Pair, list3}
 use Rattle.mw_model.specs.Term.{ArityTable, Formula, is_formula, formula_object}
@@ -10,23 +10,9 @@ use Rattle.mw_model.specs.Refusal.{Refusal, NAME, FORMULA, accept, need, must, u
 use Rattle.mw_model.specs.Checking.{judged_as}
 use Rattle.mw_model.specs.Fate.{verify}
 use Rattle.mw_model.proofs.ReadBack.{when_some, formula_back}
-use Rattle.mw_kernel.specs.Knowledge.{with_theorem}
+use Rattle.mw_theory.specs.Knowledge.{with_theorem}
 use Rattle.mw_kernel.specs.Proofs.{judged_for}
-use Rattle.mw_kernel.specs.Fates.{refusal_by, by_refusal, verified}
-
-pub refused_name : (n f : Bool) (r : Option Refusal) → n ≡ false → Some NAME ≡ refusal_by n f r
-refused_name false f r h = refl
-refused_name true f r h = cc
-
-pub refused_formula : (n f : Bool) (r : Option Refusal) → n ≡ true → f ≡ false → Some FORMULA ≡ refusal_by n f r
-refused_formula true false r h k = refl
-refused_formula true true r h k = cc
-refused_formula false f r h k = cc
-
-pub proof_refused : (n f : Bool) (r : Option Refusal) → n ≡ true → f ≡ true → r ≡ refusal_by n f r
-proof_refused true true r h k = refl
-proof_refused true false r h k = cc
-proof_refused false f r h k = cc
+use Rattle.mw_theory.specs.Settling.{refusal_by, by_refusal, verified}
 
 that_some : {X : Type 0} (test : X → Bool) (o : Option X) (x : X) → that test o ≡ Some x → o ≡ Some x
 that_some test None x h = cc
@@ -43,14 +29,14 @@ module _ (t : Theory) (N : ℕ) where
   by_proof (Some r) x = refl
 
   module _ (b p : Object) where
-    by_formula : (F : Formula) → formula_object F ≡ b → unless t (judged_as t N F p) (accept (with_theorem t (formula_object F))) ≡ by_refusal t b (refusal_by true true (judged_for t N b p))
-    by_formula F is = by_proof (judged_as t N F p) (formula_object F) ∙ ap (λ x. by_refusal t x (refusal_by true true (judged_for t N x p))) is
+    by_formula : (F : Formula) → formula_object F ≡ b → unless t (judged_as t N F p) (accept (with_theorem t (formula_object F))) ≡ by_refusal t b (refusal_by true true (judged_for N t b p))
+    by_formula F is = by_proof (judged_as t N F p) (formula_object F) ∙ ap (λ x. by_refusal t x (refusal_by true true (judged_for N t x p))) is
 
-    by_name : (n : Bool) (o : Option Formula) → ((F : Formula) → o ≡ Some F → formula_object F ≡ b) → must t NAME n (need t FORMULA o (λ F. unless t (judged_as t N F p) (accept (with_theorem t (formula_object F))))) ≡ by_refusal t b (refusal_by n (is_present o) (judged_for t N b p))
+    by_name : (n : Bool) (o : Option Formula) → ((F : Formula) → o ≡ Some F → formula_object F ≡ b) → must t NAME n (need t FORMULA o (λ F. unless t (judged_as t N F p) (accept (with_theorem t (formula_object F))))) ≡ by_refusal t b (refusal_by n (is_present o) (judged_for N t b p))
     unfolding must need
     by_name false o back = refl
     by_name true None back = refl
     by_name true (Some F) back = by_formula F (back F refl)
 
-  pub verify_is : (w a b p : Object) → verify t N (Pair w (list3 a b p)) ≡ verified t N a b p
+  pub verify_is : (w a b p : Object) → verify t N (Pair w (list3 a b p)) ≡ verified (judged_for N) t a b p
   verify_is w a b p = by_name b p (is_symbol a) (formula_under (arity_table t.definitions) b) (formula_under-back (arity_table t.definitions) b)

@@ -14,11 +14,11 @@ use Rattle.mw_heap.proofs.Objects.{Grows-refl, Grows-trans, object_at-Grows}
 use Rattle.mw_axioms.proofs.OnStack.{AreIn-push}
 use Rattle.mw_term.specs.declared.cell_mark.CellMark.{CellMark}
 use Rattle.mw_term.specs.Marking.{AreMarks}
-use Rattle.mw_kernel.specs.declared.theory.Theory.{Theory as Kept}
-use Rattle.mw_kernel.specs.Knowledge.{parts_of, meant, IsHeld}
-use Rattle.mw_kernel.specs.Words.{verify_event}
-use Rattle.mw_kernel.proofs.Held.{all-grow, meant-grows}
-use Rattle.mw_kernel.proofs.ProofLists.{pair_before, put_before, put_before-push, list_object-before, list_end}
+use Rattle.mw_theory.specs.declared.theory.Theory.{Theory as Kept}
+use Rattle.mw_theory.specs.Knowledge.{parts_of, meant, IsHeld}
+use Rattle.mw_theory.specs.Words.{verify_event}
+use Rattle.mw_theory.proofs.CallerLemmas.{all-grow, meant-grows, put_before, put_before-push, list_object-before, list_end}
+use Rattle.mw_theory.proofs.CallerLemmas.{pair_before}
 
 -- a VERIFY whose proof turns to q or stays
 pub verify-rewritten : (turns : Turning) (t : Theory) → None ≡ t.checker → (x e n f p q : Object) → e ≡ verify_event n f p → TurnsOrStays turns t p q → x ≡ verify_event n f q → IsRewritten turns t e x

@@ -9,7 +9,7 @@ use Rattle.mw_model.specs.Refusal.{refuse}
 use Rattle.mw_model.specs.Fate.{eval}
 use Rattle.mw_heap.specs.Objects.{object_at, IsIn}
 use Rattle.mw_heap.specs.Variants.{refusal_of}
-use Rattle.mw_kernel.specs.Words.{eval_event}
+use Rattle.mw_theory.specs.Words.{eval_event}
 use Rattle.mw_kernel.specs.declared.eval.Tried.{Tried}
 use Rattle.mw_kernel.specs.declared.eval.Tried.TheVariants.{Closed, Refused}
 

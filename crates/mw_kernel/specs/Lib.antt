@@ -1,13 +1,6 @@
-pub mod Entered
 pub mod Knowledge
 pub mod Code
-pub mod EventWords
-pub mod Words
 pub mod Fates
 pub mod Proofs
 pub mod Switching
 pub mod Evaluating
-pub mod Adding
-pub mod Admitting
-pub mod Defining
-pub mod FirstName

@@ -11,7 +11,7 @@ ghost use Rattle.mw_heap.specs.Objects.{object_at, IsIn, Grows};
 ghost use Rattle.mw_code.specs.Tables.{StandsFor, IsClosedTerm};
 ghost use Rattle.mw_machine.specs.State.{Answers};
 ghost use Rattle.mw_kernel.specs.Fates.{fate_of};
-ghost use Rattle.mw_kernel.specs.Words.{eval_event};
+ghost use Rattle.mw_theory.specs.Words.{eval_event};
 ghost use Rattle.mw_kernel.specs.Evaluating.{IsTried};
 
 use crate::Fate;

@@ -1,11 +1,13 @@
 //! The fate of an event.
-ghost use Rattle.std.specs.Prelude.{◌≡◌, [], IfOk};
+ghost use Rattle.std.specs.Prelude.{◌≡◌, ℕ, [], IfOk, IfSome, option_map};
 ghost use Rattle.mw_model.specs.Refusal.{Accepted};
 ghost use Rattle.mw_model.specs.Theory.{Theory};
 ghost use Rattle.mw_model.specs.Fate.{show};
 ghost use Rattle.mw_model.specs.Printing.{text_of};
 ghost use Rattle.mw_heap.specs.Objects.{object_at, IsIn};
-ghost use Rattle.mw_kernel.specs.Fates.{fate_of};
+ghost use Rattle.mw_heap.specs.Variants.{refusal_of};
+ghost use Rattle.mw_kernel.specs.Fates.{fate_of, KeepsRoom};
+ghost use Rattle.mw_theory.specs.Settling.{fate_by};
 
 use mw_heap::{Heap, Memory, Ref, Refusal};
 use mw_print::{Bytes, Printed, print};
@@ -24,6 +26,17 @@ pub(crate) fn accepted(heap: &Heap) -> Fate
     ensures { fate_of result ≡ Accepted [] }
 {
     Fate::Accepted(Bytes::from_vec(Vec::new(heap.alloc())))
+}
+
+// The fate of an event that shows nothing, and that is refused for this reason, if it is.
+pub(crate) fn fate_after(heap: &Heap, refused: Option<Refusal>) -> Fate
+    ensures fate { fate_of result ≡ fate_by (option_map refusal_of refused) }
+    ensures kept { (old new : ℕ) → IfSome refused (λ r. new ≡ old) → KeepsRoom result old new }
+{
+    match refused {
+        None => accepted(heap),
+        Some(reason) => Fate::Refused(reason),
+    }
 }
 
 // The fate of an event that shows an object.

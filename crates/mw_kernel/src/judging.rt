@@ -6,15 +6,15 @@ ghost use Rattle.mw_heap.specs.Objects.{object_at, IsIn, Grows};
 ghost use Rattle.mw_heap.specs.Variants.{refusal_of};
 ghost use Rattle.mw_term.specs.Marking.{AreMarks};
 ghost use Rattle.mw_machine.specs.State.{Answers};
-ghost use Rattle.mw_kernel.specs.Knowledge.{parts_of, name_read, meant, IsHeld};
+ghost use Rattle.mw_theory.specs.Knowledge.{parts_of, name_read, meant, IsHeld};
 ghost use Rattle.mw_kernel.specs.Proofs.{judged_for};
 
 use crate::running::run_entry;
-use crate::theory::Theory;
 use mw_heap::{Heap, Memory, Ref, Refusal};
 use mw_machine::{Machine, Outcome};
 use mw_proof::{Judged, judge};
 use mw_term::Marks;
+use mw_theory::Theory;
 
 /// Why this is refused as a proof of the formula, where it is: Conclusion where its second member is not the formula, and then what the
 /// theory's checker finds. That is Proof by the built-in checker. A checker of the theory is run with so many units; it finds Nil where
@@ -35,7 +35,7 @@ pub(crate) fn refusal_of_proof(
     requires marked { AreMarks theory.now.arity heap.old.objects marks.old }
     ensures grows { Grows heap.old.objects heap.new.objects }
     ensures marked { AreMarks theory.now.arity heap.new.objects marks.new }
-    ensures refusal { IfOk result (λ r. option_map refusal_of r ≡ judged_for (meant heap.old.objects (parts_of theory.now)) steps (object_at heap.old.objects formula) (object_at heap.old.objects proof)) }
+    ensures refusal { IfOk result (λ r. option_map refusal_of r ≡ judged_for steps (meant heap.old.objects (parts_of theory.now)) (object_at heap.old.objects formula) (object_at heap.old.objects proof)) }
 {
     if !heap.is_same(heap.second_of(proof), Some(formula)) {
         return Ok(Some(Refusal::Conclusion));

@@ -7,15 +7,14 @@ ghost use Rattle.mw_heap.specs.Objects.{object_at, IsIn, Grows};
 ghost use Rattle.mw_heap.specs.Lists.{list_object};
 ghost use Rattle.mw_define.specs.Blocks.{IsDraftIn};
 ghost use Rattle.mw_term.specs.Marking.{AreMarks};
-ghost use Rattle.mw_kernel.specs.Knowledge.{parts_of, meant, IsHeld};
-ghost use Rattle.mw_kernel.specs.Words.{verify_event, define_event, define_all_event};
+ghost use Rattle.mw_theory.specs.Knowledge.{parts_of, meant, IsHeld};
+ghost use Rattle.mw_theory.specs.Words.{verify_event, define_event, define_all_event};
 
-use crate::event::{Event, event_of};
-use crate::theory::Theory;
 use mw_define::Draft;
 use mw_heap::{Heap, Memory, Ref, View, form_of, list_of};
 use mw_proof::{Rewriter, Rewritten};
 use mw_term::Marks;
+use mw_theory::{Event, Theory, event_of};
 
 /// The event with its proofs rewritten, each to what it turns to, or kept where it turns to nothing. The event itself where the theory's
 /// checker is not the built-in one, where the object is no event with proofs, and where its proofs are no proper list. The marks, which

@@ -8,15 +8,14 @@ ghost use Rattle.mw_heap.specs.Objects.{object_at, IsIn, Grows};
 ghost use Rattle.mw_heap.specs.Variants.{refusal_of};
 ghost use Rattle.mw_heap.specs.Lists.{list_object};
 ghost use Rattle.mw_code.specs.Tables.{StandsFor};
-ghost use Rattle.mw_kernel.specs.Knowledge.{parts_of, meant, IsHeld};
+ghost use Rattle.mw_theory.specs.Knowledge.{parts_of, meant, IsHeld};
 ghost use Rattle.mw_kernel.specs.Switching.{switch_refusal};
 
 use crate::claim::claim;
-use crate::theory::Theory;
-use crate::verify::is_symbol;
 use mw_code::Table;
 use mw_heap::{Heap, Memory, Ref, Refusal};
-use mw_proof::Known;
+use mw_rules::Known;
+use mw_theory::{Theory, is_symbol};
 
 /// Why a switch to the checker of this name is refused, where it is: Checker where no function with code and four formals has the name,
 /// and then Claim where the claim of the name is none of the theorems.

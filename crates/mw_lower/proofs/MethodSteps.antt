@@ -11,7 +11,8 @@ use Rattle.mw_heap.specs.Objects.{object_at, IsIn, Grows}
 use Rattle.mw_heap.proofs.Objects.{object_at-Grows}
 use Rattle.mw_proof.specs.declared.members.Members.{Members}
 use Rattle.mw_heap.specs.Lists.{list_object}
-use Rattle.mw_proof.specs.Step.{conclusions_object, rule_holds}
+use Rattle.mw_rules.specs.Step.{rule_holds}
+use Rattle.mw_proof.specs.Step.{conclusions_object}
 use Rattle.mw_proof.specs.Judging.{Basis}
 use Rattle.mw_proof.proofs.StepExact.{are_proofs-is}
 use Rattle.mw_proof.proofs.Deciding.{conclusions_formulas, All-map}

@@ -17,12 +17,14 @@ use Rattle.mw_model.proofs.Follows.{row_is}
 use Rattle.mw_model.proofs.Judging.{method_among-name, goods_judge}
 use Rattle.mw_heap.specs.Objects.{object_at}
 use Rattle.mw_heap.specs.Lists.{list_object}
-use Rattle.mw_proof.specs.Step.{has_proof_shape, subproofs_of, conclusions_object, rule_holds, step_holds}
+use Rattle.mw_rules.specs.Step.{rule_holds}
+use Rattle.mw_proof.specs.Step.{has_proof_shape, subproofs_of, conclusions_object, step_holds}
 use Rattle.mw_proof.specs.Members.{AreMembers}
 use Rattle.mw_proof.specs.Gathered.{itself}
 use Rattle.mw_proof.specs.Judging.{Basis, is_proof_on, are_proofs_on}
 use Rattle.mw_proof.specs.declared.members.Members.{Members}
-use Rattle.mw_proof.proofs.StepExact.{is_proof-step, rule_holds-is, judge_each-conclusions}
+use Rattle.mw_rules.proofs.CallerLemmas.{rule_holds-is}
+use Rattle.mw_proof.proofs.StepExact.{is_proof-step, judge_each-conclusions}
 use Rattle.mw_proof.proofs.Deciding.{no_method}
 use Rattle.mw_proof.proofs.Holding.{no_proof}
 use Rattle.mw_lower.specs.declared.further.Further.{Further}

@@ -14,7 +14,7 @@ use Rattle.mw_term.specs.declared.cell_mark.CellMark.{CellMark}
 use Rattle.mw_proof.specs.Step.{subproofs_of}
 use Rattle.mw_proof.specs.Gathered.{IsAmong, AreIn, HasMembers}
 use Rattle.mw_proof.specs.Judging.{Basis}
-use Rattle.mw_proof.proofs.Counted.{eqb-swap}
+use Rattle.mw_rules.proofs.CallerLemmas.{eqb-swap}
 use Rattle.mw_proof.proofs.Gathering.{IsAmong-at, place}
 use Rattle.mw_lower.specs.Parts.{AreParts}
 use Rattle.mw_lower.specs.Turned.{Becomes, IsTurned, AreMembersTurned, AreSubproofsTurned}

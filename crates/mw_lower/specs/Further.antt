@@ -4,7 +4,7 @@ use Rattle.mw_model.specs.Object.{Object, Symbol, same_object}
 use Rattle.mw_model.specs.Derivation as logic
 use Rattle.mw_lower.specs.declared.further.Further.{Further}
 use Rattle.mw_lower.specs.declared.further.Further.TheVariants.{CommuteOr, ModusPonens, Symmetry, Transitivity, Replace}
-use Rattle.mw_proof.specs.Counted.{most_subproofs}
+use Rattle.mw_rules.specs.Counted.{most_subproofs}
 
 -- the rule of the table
 abbrev pub rule_of : Further → logic.Rule

@@ -5,7 +5,8 @@ use Rattle.mw_model.specs.Term.{Formula}
 use Rattle.mw_model.specs.Judgment.{methods, method_among}
 use Rattle.mw_model.specs.Proof.{ProveEach}
 use Rattle.mw_heap.specs.Objects.{object_at, IsIn}
-use Rattle.mw_proof.specs.Step.{conclusions_object, rule_holds}
+use Rattle.mw_rules.specs.Step.{rule_holds}
+use Rattle.mw_proof.specs.Step.{conclusions_object}
 use Rattle.mw_heap.specs.Lists.{list_object}
 use Rattle.mw_proof.specs.Judging.{Basis}
 use Rattle.mw_proof.specs.declared.members.Members.{Members}

@@ -5,7 +5,7 @@ ghost use Rattle.mw_heap.specs.Objects.{object_at, IsIn};
 ghost use Rattle.mw_lower.specs.Further.{rule_of, further_rules, further_among, most_premises, most_premises_of};
 
 use mw_heap::{Heap, Ref};
-use mw_proof::Method;
+use mw_rules::Method;
 
 /// A rule of derivations that is no method of proof.
 #[derive(Clone, Copy, Debug, PartialEq, Eq)]

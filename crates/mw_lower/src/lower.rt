@@ -10,7 +10,8 @@ ghost use Rattle.mw_lower.specs.Turned.{IsTurned};
 use crate::parts::parts;
 use crate::walk::turn_all;
 use mw_heap::{Heap, Memory, Profile, Ref};
-use mw_proof::{Known, Rewriter, Rewritten};
+use mw_proof::{Rewriter, Rewritten};
+use mw_rules::Known;
 use mw_term::{Arity, Marks};
 
 /// Turns derivations to proofs by the twelve methods. What is such a proof already stays.

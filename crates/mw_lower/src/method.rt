@@ -7,7 +7,7 @@ ghost use Rattle.mw_model.specs.Term.{ArityTable, Formula};
 ghost use Rattle.mw_model.specs.Proof.{ProveEach};
 ghost use Rattle.mw_model.specs.Judgment.{methods, method_among};
 ghost use Rattle.mw_model.specs.Rules.{is_formula_object};
-ghost use Rattle.mw_proof.specs.Step.{rule_holds};
+ghost use Rattle.mw_rules.specs.Step.{rule_holds};
 ghost use Rattle.mw_proof.specs.Judging.{basis};
 ghost use Rattle.mw_heap.specs.Lists.{list_object};
 ghost use Rattle.mw_lower.specs.Methods.{ProvesSome, IsMethodStep, AreConclusions, WithProofs};
@@ -15,7 +15,8 @@ ghost use Rattle.mw_lower.specs.Methods.{ProvesSome, IsMethodStep, AreConclusion
 use crate::machine::make;
 use crate::scheme::STEP;
 use mw_heap::{Heap, Memory, Profile, Ref, list_of};
-use mw_proof::{Known, Members, Method, follows};
+use mw_proof::Members;
+use mw_rules::{Known, Method, follows};
 use mw_term::Marks;
 
 /// A step by its method with other proofs for its premises, and with these the step itself where they are its own; nothing where it does

@@ -14,7 +14,8 @@ use crate::method::method_step;
 use crate::subproofs::turned_members;
 use indexmap::IndexMap;
 use mw_heap::{Heap, Memory, Profile, Ref};
-use mw_proof::{Known, members_of};
+use mw_proof::members_of;
+use mw_rules::Known;
 use mw_term::{Marks, is_formula};
 
 /// What the object becomes, where it is known what its subproofs become; nothing where it is no derivation.

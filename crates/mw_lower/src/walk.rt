@@ -12,7 +12,7 @@ ghost use Rattle.mw_lower.specs.Turned.{IsTurned};
 use crate::turn::turn;
 use indexmap::IndexMap;
 use mw_heap::{Heap, Memory, Profile, Ref};
-use mw_proof::Known;
+use mw_rules::Known;
 use mw_term::Marks;
 
 /// What a derivation becomes, from what it is made of. It ends at the first part that is no derivation: then the whole is none.

@@ -9,12 +9,13 @@ use Rattle.mw_model.specs.RulesInduction.{length_object}
 use Rattle.mw_model.specs.Judgment.{methods, method_among}
 use Rattle.mw_model.specs.Rules.{is_formula_object}
 use Rattle.mw_heap.specs.Objects.{object_at}
-use Rattle.mw_proof.specs.Step.{has_proof_shape, subproofs_of, conclusions_object, rule_holds}
+use Rattle.mw_rules.specs.Step.{rule_holds}
+use Rattle.mw_proof.specs.Step.{has_proof_shape, subproofs_of, conclusions_object}
 use Rattle.mw_heap.specs.Lists.{list_object}
 use Rattle.mw_proof.specs.Members.{AreMembers}
 use Rattle.mw_proof.specs.declared.members.Members.{Members}
 use Rattle.mw_proof.specs.Judging.{Basis, is_step_on, have_conclusions, AreConclusions, IsOver}
-use Rattle.mw_proof.specs.Counted.{most_subproofs}
+use Rattle.mw_rules.specs.Counted.{most_subproofs}
 
 -- no more members than those of the list of n
 members_over : (n : ℕ) (x : Object) → n < length_object x → has_members n (conclusions_object x) ≡ false

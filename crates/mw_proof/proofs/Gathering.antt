@@ -13,7 +13,7 @@ use Rattle.mw_heap.specs.Objects.{object_at, IsIn, Grows}
 use Rattle.mw_heap.proofs.Objects.{object_at-Grows}
 use Rattle.mw_proof.specs.Step.{has_proof_shape, subproofs_of}
 use Rattle.mw_proof.specs.Judgments.{HasStepForSome}
-use Rattle.mw_proof.proofs.Counted.{keys_more}
+use Rattle.mw_rules.proofs.CallerLemmas.{keys_more}
 use Rattle.mw_proof.specs.Gathered.{IsAmong, AreIn, HasMembers, HasSubproofs, AddsMembers, AddsSubproofs, AreGathered, IsSubproof, IsMadeOf, itself, subproof}
 
 pub IsAmong-append : (keys more : List ℕ) (x : ℕ) → IsAmong keys x → IsAmong (keys ++ more) x

@@ -1,57 +1,22 @@
 -- Judging is a local test: an object is a proof exactly where its parts, its subproofs and its step are as they should be.
-use Rattle.std.proofs.Common.{◌≡◌, Bool, true, false, ◌&&◌, ◌||◌, cond, List, [], ◌∷◌, Option, Some, None, refl, sym, ap, ap₂, ◌∙◌, subst}
+use Rattle.std.proofs.Common.{◌≡◌, Bool, true, false, ◌&&◌, ◌||◌, cond, List, [], Option, Some, None, refl, sym, ap, ap₂, ◌∙◌, subst}
 use Rattle.std.proofs.lemmas.Bool.{and_parts, and_right}
-use Rattle.mw_model.specs.Object.{Object, Natural, Symbol, Pair, same_name, same_object, nil_name, NIL, car, second_of, has_members, is_member}
+use Rattle.mw_model.specs.Object.{Object, Natural, Symbol, Pair, same_name, same_object, nil_name, NIL, second_of}
 use Rattle.mw_model.specs.Term.{Formula, formula_object, ArityTable, is_formula, IsFormula}
 use Rattle.mw_model.specs.Reading.{formula_of, and_more, that, when}
 use Rattle.mw_model.specs.Primitive.{Profile}
 use Rattle.mw_model.specs.Definition.{is_present}
 use Rattle.mw_model.specs.Truth.{Each}
-use Rattle.mw_model.specs.Proof.{Method, Axiom, Theorem, PropositionalSchema, FunctionalEquality, BetaReduction, BaseEval, Expansion, Contraction, Associativity, Cut, Instantiation, Induction}
-use Rattle.mw_model.specs.Judgment.{methods, method_among, is_expansion, is_contraction, is_associativity, is_cut, is_instance, of_none, of_one, of_two, follows, judge_step, judge, judge_each}
-use Rattle.mw_model.specs.Substitution.{substitution_of}
-use Rattle.mw_model.specs.Rules.{is_formula_object, object_is_expansion, object_is_contraction, object_is_associativity, object_is_cut, object_is_instance}
+use Rattle.mw_model.specs.Proof.{Method}
+use Rattle.mw_model.specs.Judgment.{methods, method_among, follows, judge_step, judge, judge_each}
+use Rattle.mw_model.specs.Rules.{is_formula_object}
 use Rattle.mw_model.specs.RulesInduction.{formulas_object}
-use Rattle.mw_model.proofs.Readable.{formula_readable}
 use Rattle.mw_model.proofs.ReadBack.{when_some, some_one, cond_some, and_more-back, formula_back}
-use Rattle.mw_model.proofs.RulesExact.{object_is_schema-exact, object_is_beta-exact, object_is_expansion-exact, object_is_contraction-exact, object_is_associativity-exact, object_is_cut-exact, object_is_instance-exact}
-use Rattle.mw_model.proofs.EqualityExact.{object_is_functional_equality-exact}
-use Rattle.mw_model.proofs.BaseEvalExact.{object_is_base_eval-exact}
-use Rattle.mw_model.proofs.InductionExact.{object_is_induction-exact}
-use Rattle.mw_proof.specs.Step.{subproofs_of, conclusions_object, rule_holds, is_proof, are_proofs, is_step}
-
--- no subproof, one, two
-of_none-is : (test : Bool) (Fs : List Formula) → (has_members 0 (formulas_object Fs) && test) ≡ of_none test Fs
-of_none-is test [] = refl
-of_none-is test (F ∷ Fs) = refl
-
-of_one-is : (A : ArityTable) (test : Formula → Bool) (object_test : Object → Bool) → ((F : Formula) → IsFormula A F → object_test (formula_object F) ≡ test F) → (Fs : List Formula) → Each (IsFormula A) Fs → (has_members 1 (formulas_object Fs) && object_test (car (formulas_object Fs))) ≡ of_one test Fs
-of_one-is A test object_test e [] i = refl
-of_one-is A test object_test e (F ∷ []) i = e F i.0
-of_one-is A test object_test e (F ∷ G ∷ Fs) i = refl
-
-of_two-is : (A : ArityTable) (test : Formula → Formula → Bool) (object_test : Object → Object → Bool) → ((F G : Formula) → IsFormula A F → IsFormula A G → object_test (formula_object F) (formula_object G) ≡ test F G) → (Fs : List Formula) → Each (IsFormula A) Fs → (has_members 2 (formulas_object Fs) && object_test (car (formulas_object Fs)) (second_of (formulas_object Fs))) ≡ of_two test Fs
-of_two-is A test object_test e [] i = refl
-of_two-is A test object_test e (F ∷ []) i = refl
-of_two-is A test object_test e (F ∷ G ∷ []) i = e F G i.0 i.1.0
-of_two-is A test object_test e (F ∷ G ∷ H ∷ Fs) i = refl
+use Rattle.mw_rules.specs.Step.{rule_holds}
+use Rattle.mw_rules.proofs.CallerLemmas.{rule_holds-is}
+use Rattle.mw_proof.specs.Step.{subproofs_of, conclusions_object, is_proof, are_proofs, is_step}
 
 module _ (ax th : Object) (A : ArityTable) (P : Profile) where
-  -- the rule on objects is the table of methods
-  pub rule_holds-is : (m : Method) (F : Formula) (Fs : List Formula) (x : Object) → IsFormula A F → Each (IsFormula A) Fs → rule_holds ax th A P (Some m) (formula_object F) (formulas_object Fs) x ≡ follows ax th A P m F Fs x
-  rule_holds-is Axiom F Fs x i j = ap (λ b. same_object x NIL && b) (of_none-is (is_member (formula_object F) ax) Fs)
-  rule_holds-is Theorem F Fs x i j = ap (λ b. same_object x NIL && b) (of_none-is (is_member (formula_object F) th) Fs)
-  rule_holds-is PropositionalSchema F Fs x i j = ap (λ b. same_object x NIL && b) (ap (λ t. has_members 0 (formulas_object Fs) && t) (object_is_schema-exact F (formula_readable A F i)) ∙ of_none-is _ Fs)
-  rule_holds-is FunctionalEquality F Fs x i j = ap (λ b. same_object x NIL && b) (ap (λ t. has_members 0 (formulas_object Fs) && t) (object_is_functional_equality-exact A F i) ∙ of_none-is _ Fs)
-  rule_holds-is BetaReduction F Fs x i j = ap (λ b. same_object x NIL && b) (ap (λ t. has_members 0 (formulas_object Fs) && t) (object_is_beta-exact F (formula_readable A F i)) ∙ of_none-is _ Fs)
-  rule_holds-is BaseEval F Fs x i j = ap (λ b. same_object x NIL && b) (ap (λ t. has_members 0 (formulas_object Fs) && t) (object_is_base_eval-exact P F (formula_readable A F i)) ∙ of_none-is _ Fs)
-  rule_holds-is Expansion F Fs x i j = ap (λ b. same_object x NIL && b) (of_one-is A (is_expansion F) (object_is_expansion (formula_object F)) (λ G k. object_is_expansion-exact F G (formula_readable A F i) (formula_readable A G k)) Fs j)
-  rule_holds-is Contraction F Fs x i j = ap (λ b. same_object x NIL && b) (of_one-is A (is_contraction F) (object_is_contraction (formula_object F)) (λ G k. object_is_contraction-exact F G (formula_readable A F i) (formula_readable A G k)) Fs j)
-  rule_holds-is Associativity F Fs x i j = ap (λ b. same_object x NIL && b) (of_one-is A (is_associativity F) (object_is_associativity (formula_object F)) (λ G k. object_is_associativity-exact F G (formula_readable A F i) (formula_readable A G k)) Fs j)
-  rule_holds-is Cut F Fs x i j = ap (λ b. same_object x NIL && b) (of_two-is A (is_cut F) (object_is_cut (formula_object F)) (λ G H k l. object_is_cut-exact F G H (formula_readable A F i) (formula_readable A G k) (formula_readable A H l)) Fs j)
-  rule_holds-is Instantiation F Fs x i j = of_one-is A (λ G. is_instance A F G (substitution_of x)) (λ g. object_is_instance A (formula_object F) g x) (λ G k. object_is_instance-exact A F G i k x) Fs j
-  rule_holds-is Induction F Fs x i j = object_is_induction-exact A F Fs x i j
-
   -- what judging answers stands in the object
   step_conclusion : (om : Option Method) (c : Object) (oFs : Option (List Formula)) (x : Object) (F : Formula) → judge_step ax th A P om (formula_of c) oFs x ≡ Some F → (formula_object F ≡ c) × IsFormula A F
   step_conclusion om c oFs x F h = go om (formula_of c) refl oFs h
@@ -116,7 +81,7 @@ module _ (ax th : Object) (A : ArityTable) (P : Profile) where
       sym (ap (λ b. is_present (when (is_formula A F) (Some F)) && (b && rule_holds ax th A P (Some m) c cs x)) (sym q) ∙ and_right (is_present (when (is_formula A F) (Some F))) false refl)
   step_named (Some m) c cs ps x (Some F) e (Some Fs) q r =
       let parts = r Fs refl in
-      both_tests F (is_formula A F) (follows ax th A P m F Fs x) ps (rule_holds ax th A P (Some m) c cs x) (sym q) (λ i. sym (ap₂ (λ y ys. rule_holds ax th A P (Some m) y ys x) (sym (e F refl)) (sym parts.0) ∙ rule_holds-is m F Fs x i parts.1))
+      both_tests F (is_formula A F) (follows ax th A P m F Fs x) ps (rule_holds ax th A P (Some m) c cs x) (sym q) (λ i. sym (ap₂ (λ y ys. rule_holds ax th A P (Some m) y ys x) (sym (e F refl)) (sym parts.0) ∙ rule_holds-is ax th A P m F Fs x i parts.1))
 
   judge_step-is : (m c ps x : Object) → is_present (judge_step ax th A P (method_among methods m) (formula_of c) (judge_each ax th A P ps) x) ≡ (is_formula_object A c && (are_proofs ax th A P ps && rule_holds ax th A P (method_among methods m) c (conclusions_object ps) x))
   judge_step-is m c ps x = step_named (method_among methods m) c (conclusions_object ps) (are_proofs ax th A P ps) x (formula_of c) (formula_back c) (judge_each ax th A P ps) (are_proofs-is ps) (judge_each-conclusions ps)

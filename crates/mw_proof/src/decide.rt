@@ -7,13 +7,11 @@ ghost use Rattle.mw_model.specs.Term.{ArityTable};
 ghost use Rattle.mw_proof.specs.Judging.{basis, is_step_on};
 ghost use Rattle.mw_proof.specs.Gathered.{AreIn, AddsSubproofs};
 
-use crate::Known;
 use crate::conclusions::conclusions_of;
 use crate::members::members_of;
-use crate::method::Method;
-use crate::rules::follows;
 use indexmap::IndexSet;
 use mw_heap::{Heap, Memory, Profile, Ref};
+use mw_rules::{Known, Method, follows};
 use mw_term::{Marks, is_formula};
 
 /// Whether all holds of an object that must hold of a proof, but that its subproofs are proofs. Where it does they are found.

@@ -9,10 +9,10 @@ ghost use Rattle.mw_heap.specs.Lists.{list_object};
 ghost use Rattle.mw_proof.specs.Judging.{basis, is_proof_on};
 ghost use Rattle.mw_proof.specs.Judgments.{IsJudgment, Reaches, DecidesEach, HasStepForEach, HasStepForSome};
 
-use crate::Known;
 use crate::decide::decide;
 use indexmap::IndexSet;
 use mw_heap::{Heap, Memory, Profile, Ref};
+use mw_rules::Known;
 use mw_subst::Steps;
 use mw_term::{Arity, Marks};
 use std::marker::Brand;

@@ -4,11 +4,8 @@
 mod conclusions;
 mod decide;
 mod judging;
-mod known;
 mod members;
-mod method;
 mod rewriter;
-mod rules;
 
 ghost use Rattle.std.specs.Prelude.{◌≡◌, Some};
 ghost use Rattle.mw_model.specs.Object.{Object, second_of};
@@ -19,12 +16,9 @@ ghost use Rattle.mw_proof.specs.Step.{subproofs_of, is_proof, are_proofs, is_ste
 
 pub use conclusions::conclusions_of;
 pub use judging::{Judged, judge, judge_counted};
-pub use known::Known;
 pub use members::{Members, members_of};
-pub use method::Method;
 pub use mw_subst::Steps;
 pub use rewriter::{Rewriter, Rewritten};
-pub use rules::follows;
 
 /// Judging is a local test: an object is a proof exactly where it has the shape of one, its conclusion is a formula, its
 /// subproofs are proofs and the rule of its method holds. What is judged a proof proves the formula that it names.

@@ -10,8 +10,8 @@ ghost use Rattle.mw_heap.specs.Variants.{profile_of};
 ghost use Rattle.mw_term.specs.Marking.{AreMarks};
 ghost use Rattle.mw_proof.specs.Rewritten.{IsRewriting};
 
-use crate::Known;
 use mw_heap::{Heap, Profile, Ref};
+use mw_rules::Known;
 use mw_term::{Arity, Marks};
 
 /// What becomes of a proof: another, itself where it turns to none, or out of memory.

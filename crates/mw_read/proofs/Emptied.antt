@@ -11,6 +11,7 @@ use Rattle.mw_model.specs.Report.{word_text, label_text, symbol_text, labelled_w
 use Rattle.mw_heap.specs.Objects.{object_at, IsIn}
 use Rattle.mw_read.specs.Machine.{Members, State, Idle, Within, Full, Broken, end_fault}
 use Rattle.mw_read.specs.Clamp.{clamp}
+use Rattle.mw_read.specs.Shown.{first_symbol}
 use Rattle.mw_read.specs.Named.{Agree, seen, IsListed}
 use Rattle.mw_read.specs.Piles.{Pile, Frames, Ready, piled, MayLie, pile_on, LieOn, pile_of, IsPile, AreUnder}
 use Rattle.mw_read.specs.Held.{Holds, Completes}
@@ -119,6 +120,13 @@ label_clamp (Pair (Symbol w) (Natural n)) = refl
 label_clamp (Pair (Symbol w) (Symbol s)) = refl
 label_clamp (Pair (Symbol w) (Pair x b)) = ap (λ u. cond (is_among w labelled_words) u dash) (symbol_clamp x)
 
+first_clamp : (y : Object) → first_symbol (clamp y) ≡ first_symbol y
+first_clamp (Natural n) = refl
+first_clamp (Symbol s) = refl
+first_clamp (Pair (Natural n) b) = refl
+first_clamp (Pair (Symbol s) b) = refl
+first_clamp (Pair (Pair a c) b) = refl
+
 -- the step of a datum that is complete gives it
 pub gives : (os : List Object) (s : Stack) (x : ℕ) (y : Object) (t : Step) → Completes os s x y → Tells os s.big x t → Gives os y t
 gives os s x y (steps.Datum r) q h =
@@ -134,6 +142,7 @@ gives os s x y (steps.TooBig w l) q h = (
     label_in = h.1.label_in;
     word_shown = h.1.word_shown ∙ ap word_text q.object ∙ word_clamp y;
     label_shown = h.1.label_shown ∙ ap label_text q.object ∙ label_clamp y;
+    word_first = h.1.word_first ∙ ap first_symbol q.object ∙ first_clamp y;
   },
 )
 gives os s x y steps.More q h = absurd h

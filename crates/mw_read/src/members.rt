@@ -1,11 +1,11 @@
 //! The members of an event that its line shows.
-ghost use Rattle.std.specs.Prelude.{◌≡◌, true, Option};
+ghost use Rattle.std.specs.Prelude.{◌≡◌, true, Option, option_map};
 ghost use Rattle.mw_model.specs.Object.{Pair};
 ghost use Rattle.mw_model.specs.Primitive.{is_symbol, name_of};
 ghost use Rattle.mw_model.specs.Term.{is_among};
 ghost use Rattle.mw_model.specs.Report.{labelled_words, symbol_text, label_text};
 ghost use Rattle.mw_heap.specs.Objects.{object_at, IsIn};
-ghost use Rattle.mw_read.specs.Shown.{shown_text, IsShown, ShowsEvent};
+ghost use Rattle.mw_read.specs.Shown.{shown_text, symbol_itself, IsShown, ShowsEvent};
 
 use mw_heap::{Heap, Ref, View};
 
@@ -14,6 +14,7 @@ fn symbol(heap: &Heap, x: Ref) -> Option<Ref>
     requires { IsIn heap.now.objects x }
     ensures within { IsShown heap.now.objects result }
     ensures shown { shown_text heap.now.objects result ≡ symbol_text (object_at heap.now.objects x) }
+    ensures itself { option_map (object_at heap.now.objects) result ≡ symbol_itself (object_at heap.now.objects x) }
 {
     match heap.view(x) {
         View::Symbol => Some(x),
@@ -34,6 +35,19 @@ fn is_labelled(heap: &Heap, word: Ref) -> bool
         || name == b"SWITCH".as_slice()
 }
 
+// The second member of an event that begins with a word, where the line shows it.
+fn label(heap: &Heap, word: Ref, rest: Ref) -> Option<Ref>
+    requires word { IsIn heap.now.objects word }
+    requires rest { IsIn heap.now.objects rest }
+    ensures within { IsShown heap.now.objects result }
+    ensures shown { shown_text heap.now.objects result ≡ label_text (Pair (object_at heap.now.objects word) (object_at heap.now.objects rest)) }
+{
+    match (heap.view(word), heap.view(rest)) {
+        (View::Symbol, View::Pair(x, _)) if is_labelled(heap, word) => symbol(heap, x),
+        _ => None,
+    }
+}
+
 /// The word and the label of an event, each where the line shows it.
 pub fn shown(heap: &Heap, event: Ref) -> (Option<Ref>, Option<Ref>)
     requires { IsIn heap.now.objects event }
@@ -42,9 +56,5 @@ pub fn shown(heap: &Heap, event: Ref) -> (Option<Ref>, Option<Ref>)
     let View::Pair(word, rest) = heap.view(event) else {
         return (None, None);
     };
-    let label = match (heap.view(word), heap.view(rest)) {
-        (View::Symbol, View::Pair(x, _)) if is_labelled(heap, word) => symbol(heap, x),
-        _ => None,
-    };
-    (symbol(heap, word), label)
+    (symbol(heap, word), label(heap, word, rest))
 }

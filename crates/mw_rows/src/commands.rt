@@ -10,10 +10,10 @@ const BOOK: &str = "(print 1)";
 const REPORT: &str = "1 PRINT - accepted 1\nevents 1 accepted 1 refused 0 level 1\n";
 
 const HELP: &str =
-    "milawa check [--steps N]\nmilawa trial M [--steps N]\nmilawa taut\nmilawa lower [--steps N]\nmilawa slice NAME [--steps N]\nmilawa flat [--steps N]\n";
+    "milawa check [--steps N]\nmilawa trial M [--steps N]\nmilawa taut\nmilawa lower [--steps N]\nmilawa slice NAME [--steps N]\nmilawa flat [--steps N]\nmilawa recheck\n";
 
 // Words that ask for nothing that the program does.
-const OTHERS: [&[&str]; 35] = [
+const OTHERS: [&[&str]; 37] = [
     &[],
     &["check", "--steps", "0"],
     &["check", "--steps", "1000000000001"],
@@ -49,6 +49,8 @@ const OTHERS: [&[&str]; 35] = [
     &["slice", "a", "b"],
     &["flat", "x"],
     &["flat", "--steps", "0"],
+    &["recheck", "x"],
+    &["recheck", "--steps", "5"],
 ];
 
 // Words that ask for a book to be judged.

@@ -32,6 +32,8 @@ mod hostile;
 #[cfg(test)]
 mod induction;
 #[cfg(test)]
+mod long_logs;
+#[cfg(test)]
 mod lower;
 #[cfg(test)]
 mod pieces;
@@ -39,6 +41,8 @@ mod pieces;
 mod profiles;
 #[cfg(test)]
 mod ranks;
+#[cfg(test)]
+mod recheck;
 #[cfg(test)]
 mod row;
 #[cfg(test)]

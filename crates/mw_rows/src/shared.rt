@@ -36,7 +36,8 @@ fn book_of_the_term(alloc: Global) -> Result<String, AllocError> {
     )
 }
 
-fn book_of_the_proof(alloc: Global) -> Result<String, AllocError> {
+/// The book that shows a variable equal to itself by that proof.
+pub(crate) fn book_of_the_proof(alloc: Global) -> Result<String, AllocError> {
     let proof = doubled_proof(alloc)?;
     format!(in alloc; "(verify q (pequal* x x) {proof})")
 }

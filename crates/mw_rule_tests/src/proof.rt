@@ -4,7 +4,8 @@ ghost use Rattle.mw_model.specs.Object.{is_name};
 
 use mw_forms::{boxed, equation_with_itself, form, is_in, list, not, or};
 use mw_heap::{Heap, Memory, Profile, Ref};
-use mw_proof::{Judged, Known, Steps, judge, judge_counted};
+use mw_proof::{Judged, Steps, judge, judge_counted};
+use mw_rules::Known;
 use mw_term::{Arity, Marks};
 use std::marker::Brand;
 use std::sync::ledger::{Blank, Ledger};

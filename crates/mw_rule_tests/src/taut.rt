@@ -1,7 +1,8 @@
 //! Formulas that are decided: tautologies by a proof, others by the first choice against them, and those of too many equations.
 use mw_forms::{boxed, equation, equation_with_itself, is_in, list, not, or, pair, quoted};
 use mw_heap::{Heap, Memory, Profile, Ref};
-use mw_proof::{Judged, Known, judge};
+use mw_proof::{Judged, judge};
+use mw_rules::Known;
 use mw_taut::{Decision, decide};
 use mw_term::{Arity, Marks, is_formula, mark_terms};
 use std::test::Fail;

@@ -2,7 +2,7 @@
 use Rattle.std.proofs.Common.{ap, ap₂, ◌∙◌}
 use Rattle.mw_model.specs.Object.{list2, list3, symbol}
 use Rattle.mw_heap.proofs.Objects.{Grows-trans, object_at-Grows}
-use Rattle.mw_kernel.proofs.Happening.{IfOk-map}
+use Rattle.mw_theory.proofs.CallerLemmas.{IfOk-map}
 use Rattle.mw_kernel.proofs.claim.answers_nil.Goals as goal
 
 pub returns-clause-formula : goal.returns-clause-formula

@@ -2,7 +2,7 @@
 use Rattle.std.proofs.Common.{refl, ap₂, ◌∙◌}
 use Rattle.mw_model.specs.Object.{Pair}
 use Rattle.mw_heap.proofs.Objects.{Grows-trans, object_at-Grows}
-use Rattle.mw_kernel.proofs.Happening.{IfOk-map}
+use Rattle.mw_theory.proofs.CallerLemmas.{IfOk-map}
 use Rattle.mw_kernel.proofs.claim.call_on_the_theory.Goals as goal
 
 pub returns-clause-term : goal.returns-clause-term

@@ -6,7 +6,7 @@ use Rattle.mw_model.specs.Writing.{var, call}
 use Rattle.mw_heap.specs.Objects.{object_at}
 use Rattle.mw_heap.proofs.Objects.{Grows-trans, object_at-Grows}
 use Rattle.mw_term.proofs.Symbols.{symbol_is}
-use Rattle.mw_kernel.proofs.Happening.{IfOk-map}
+use Rattle.mw_theory.proofs.CallerLemmas.{IfOk-map}
 use Rattle.mw_kernel.proofs.claim.claim.Goals as goal
 
 pub returns-clause-claim : goal.returns-clause-claim

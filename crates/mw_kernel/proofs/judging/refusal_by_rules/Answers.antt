@@ -5,7 +5,7 @@ use Rattle.mw_heap.specs.Objects.{object_at}
 use Rattle.mw_heap.specs.Variants.{profile_of}
 use Rattle.mw_proof.specs.Step.{is_proof}
 use Rattle.mw_heap.specs.Lists.{list_object}
-use Rattle.mw_kernel.specs.Knowledge.{parts_of, definitions_of}
+use Rattle.mw_theory.specs.Knowledge.{parts_of, definitions_of}
 use Rattle.mw_kernel.proofs.Judged.{found-good, found-bad}
 use Rattle.mw_kernel.proofs.judging.refusal_by_rules.Goals as goal
 

@@ -3,7 +3,7 @@ use Rattle.std.proofs.Common.{[], sym, ◌∙◌, subst}
 use Rattle.std.proofs.lemmas.Result.{IfOk-weaker}
 use Rattle.mw_model.specs.Evaluation.{evaluate}
 use Rattle.mw_code.specs.Tables.{StandsFor}
-use Rattle.mw_kernel.specs.Knowledge.{parts_of, definitions_of}
+use Rattle.mw_theory.specs.Knowledge.{parts_of, definitions_of}
 use Rattle.mw_kernel.proofs.Judged.{code-found, never-missed, checker_call, checker-count, checker-entry, checker-verdict}
 use Rattle.mw_kernel.proofs.judging.refusal_by_run.Goals as goal
 

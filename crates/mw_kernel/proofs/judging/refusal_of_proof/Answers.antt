@@ -4,7 +4,7 @@ use Rattle.std.proofs.lemmas.Result.{IfOk-weaker}
 use Rattle.mw_model.specs.Object.{same_object}
 use Rattle.mw_model.specs.Checking.{judged_by}
 use Rattle.mw_heap.specs.Objects.{object_at}
-use Rattle.mw_kernel.specs.Knowledge.{parts_of, name_read, meant}
+use Rattle.mw_theory.specs.Knowledge.{parts_of, name_read, meant}
 use Rattle.mw_kernel.proofs.Judged.{judged-other, judged-concluded}
 use Rattle.mw_kernel.proofs.judging.refusal_of_proof.Goals as goal
 

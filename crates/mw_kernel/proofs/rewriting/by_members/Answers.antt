@@ -1,9 +1,9 @@
 -- By the word of the event.
 use Rattle.std.proofs.Common.{sym, ap, ◌∙◌}
 use Rattle.mw_heap.specs.Objects.{object_at}
-use Rattle.mw_kernel.specs.Knowledge.{parts_of, name_read, meant}
-use Rattle.mw_kernel.specs.Words.{event_object}
-use Rattle.mw_kernel.proofs.Happening.{IfOk-map}
+use Rattle.mw_theory.specs.Knowledge.{parts_of, name_read, meant}
+use Rattle.mw_theory.specs.Words.{event_object}
+use Rattle.mw_theory.proofs.CallerLemmas.{IfOk-map}
 use Rattle.mw_kernel.proofs.Rewritten.{verify-rewritten}
 use Rattle.mw_kernel.proofs.rewriting.by_members.Goals as goal
 

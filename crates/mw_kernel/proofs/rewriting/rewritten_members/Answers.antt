@@ -1,7 +1,7 @@
 -- A proof at a time.
 use Rattle.mw_heap.specs.Objects.{object_at}
 use Rattle.mw_heap.proofs.NoPair.{shown_no_pair}
-use Rattle.mw_kernel.proofs.Held.{held-grows}
+use Rattle.mw_theory.proofs.CallerLemmas.{held-grows}
 use Rattle.mw_kernel.proofs.Rewritten.{Rewrites-next, all_rewritten}
 use Rattle.mw_kernel.proofs.rewriting.rewritten_members.Goals as goal
 

@@ -3,7 +3,7 @@ use Rattle.std.proofs.Common.{refl, ap, ap₂, ◌∙◌}
 use Rattle.mw_model.specs.Object.{Pair, symbol}
 use Rattle.mw_heap.specs.Objects.{object_at}
 use Rattle.mw_heap.proofs.Objects.{object_at-Grows}
-use Rattle.mw_kernel.proofs.Happening.{IfOk-map}
+use Rattle.mw_theory.proofs.CallerLemmas.{IfOk-map}
 use Rattle.mw_kernel.proofs.rewriting.with_proofs.Goals as goal
 
 pub returns-clause-rewritten : goal.returns-clause-rewritten

@@ -1,5 +1,5 @@
 -- Equal objects have equal references.
-use Rattle.mw_proof.proofs.RuleLemmas.{known-member}
+use Rattle.mw_rules.proofs.CallerLemmas.{known-member}
 use Rattle.std.proofs.Common.{◌∙◌}
 use Rattle.mw_kernel.proofs.switch.is_known.Goals as goal
 

@@ -2,8 +2,8 @@
 use Rattle.std.proofs.Common.{true, false, ◌∙◌, sym, subst}
 use Rattle.mw_heap.specs.Objects.{object_at}
 use Rattle.mw_code.specs.Tables.{StandsFor}
-use Rattle.mw_kernel.specs.Knowledge.{parts_of, definitions_of, meant}
-use Rattle.mw_kernel.proofs.Held.{all-grow}
+use Rattle.mw_theory.specs.Knowledge.{parts_of, definitions_of, meant}
+use Rattle.mw_theory.proofs.CallerLemmas.{all-grow}
 use Rattle.mw_kernel.proofs.Switching.{no-checker, checker-symbol, claim-decided}
 use Rattle.mw_kernel.proofs.switch.refusal_of_switch.Goals as goal
 

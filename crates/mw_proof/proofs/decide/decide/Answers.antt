@@ -8,9 +8,9 @@ use Rattle.mw_model.specs.Rules.{is_formula_object}
 use Rattle.mw_heap.specs.Objects.{object_at, IsIn}
 use Rattle.mw_heap.specs.Variants.{profile_of}
 use Rattle.mw_heap.proofs.Objects.{Grows-refl}
-use Rattle.mw_proof.specs.Step.{rule_holds}
+use Rattle.mw_rules.specs.Step.{rule_holds}
 use Rattle.mw_heap.specs.Lists.{list_object}
-use Rattle.mw_proof.specs.Methods.{method_of_logic}
+use Rattle.mw_rules.specs.Methods.{method_of_logic}
 use Rattle.mw_proof.specs.Gathered.{AddsMembers}
 use Rattle.mw_proof.proofs.Gathering.{adds}
 use Rattle.mw_proof.specs.Judging.{basis, have_conclusions, AreConclusions, IsOver, IsAnswer}

@@ -3,15 +3,15 @@ use Rattle.std.proofs.Common.{refl, sym, ap, ◌∙◌, subst}
 use Rattle.mw_model.specs.Fate.{eval}
 use Rattle.mw_heap.specs.Objects.{object_at}
 use Rattle.mw_code.specs.Tables.{StandsFor}
-use Rattle.mw_kernel.specs.Knowledge.{parts_of, definitions_of, meant, theory_of}
-use Rattle.mw_kernel.specs.Words.{eval_event}
-use Rattle.mw_kernel.proofs.Held.{held, grown-other, grown_theory}
-use Rattle.mw_kernel.proofs.Happening.{IfOk-map}
+use Rattle.mw_theory.specs.Knowledge.{parts_of, definitions_of, meant}
+use Rattle.mw_kernel.specs.Knowledge.{theory_of}
+use Rattle.mw_theory.proofs.CallerLemmas.{held, grown-other, grown_theory, IfOk-map}
+use Rattle.mw_theory.specs.Words.{eval_event}
 use Rattle.mw_kernel.proofs.kernel.Kernel.eval.Goals as goal
 
 pub evaluated-requires-clause-table : goal.evaluated-requires-clause-table
 evaluated-requires-clause-table c =
-    let inside = c.self.inside in
+    let inside = c.self.inside.world in
     let h = held _ _ _ _ c.self.invariant in
     let D = definitions_of inside.heap.objects (parts_of inside.theory) in
     (D, subst (λ T. StandsFor inside.heap.objects T D) (sym c.deref_mut.ensures.value) h.coded, h.arities)
@@ -26,7 +26,7 @@ returns-clause-theory c = grown_theory _ _ _ _ c.self.invariant c.evaluated.new.
 
 pub returns-clause-fate : goal.returns-clause-fate
 returns-clause-fate c =
-    let inside = c.self.inside in
+    let inside = c.self.inside.world in
     let held = held _ _ _ _ c.self.invariant in
     let t = meant inside.heap.objects (parts_of inside.theory) in
     IfOk-map c.evaluated.result _ _

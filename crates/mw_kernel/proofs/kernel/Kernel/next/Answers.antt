@@ -1,7 +1,7 @@
 -- The heap grows.
 use Rattle.std.proofs.Common.{ap, ◌∙◌}
 use Rattle.mw_kernel.specs.Knowledge.{theory_of}
-use Rattle.mw_kernel.proofs.Held.{grown, grown_theory}
+use Rattle.mw_theory.proofs.CallerLemmas.{grown, grown_theory}
 use Rattle.mw_kernel.proofs.kernel.Kernel.next.Goals as goal
 
 pub invariant_of-self : goal.invariant_of-self

@@ -1,56 +1,20 @@
--- The tests of a witness, and then the step that adds it.
-use Rattle.std.proofs.Common.{◌≡◌, IfSome, sym, ap, ◌∙◌, subst, slice_get}
-use Rattle.mw_model.specs.Definition.{Choice}
-use Rattle.mw_model.specs.Admission.{add_to_theory}
-use Rattle.mw_preamble.specs.declared.definition.Definition.TheVariants.{Witness}
-use Rattle.mw_kernel.proofs.Held.{grown}
-use Rattle.mw_kernel.proofs.Happening.{OnErr-from}
-use Rattle.mw_kernel.proofs.Defined.{theory-same, skolem-fails, skolem-passes, witness-block}
+-- The world's witness.
+use Rattle.std.proofs.Common.{sym, ap, ◌∙◌, subst}
+use Rattle.mw_model.specs.Theory.{IsSound}
+use Rattle.mw_kernel.specs.Knowledge.{theory_of}
+use Rattle.mw_theory.specs.Settling.{skolem_at}
+use Rattle.mw_theory.proofs.CallerLemmas.{OnErr-from}
 use Rattle.mw_kernel.proofs.kernel.Kernel.skolem.Goals as goal
 
-pub invariant_of-self : goal.invariant_of-self
-invariant_of-self c = grown _ _ _ _ c.self.invariant c.admit_witness.new.heap.objects c.admit_witness.ensures.grows
+pub skolem-requires-clause-sound : goal.skolem-requires-clause-sound
+skolem-requires-clause-sound c = subst (λ v. IsSound (skolem_at v.objects (theory_of v) c.args.name c.args.bound c.args.free c.args.body).1) (sym c.self.view_is) c.requires.sound
 
-pub returns-in-Refused-clause-fate : goal.returns-in-Refused-clause-fate
-returns-in-Refused-clause-fate c =
-    sym (ap (λ r. r.0) (skolem-fails _ _ _ _ _ c.self.invariant c.args.self.now c.self.view_is c.admit_witness.new.heap.objects c.admit_witness.ensures.grows c.args.name c.args.bound c.args.free c.args.body c.in-Refused.reason c.in-Refused.ensures.admitted))
-
-pub returns-in-Refused-clause-theory : goal.returns-in-Refused-clause-theory
-returns-in-Refused-clause-theory c =
-    theory-same _ _ _ _ _ c.self.invariant c.args.self.now c.self.view_is c.admit_witness.new.heap.objects c.admit_witness.ensures.grows
-    ∙ sym (ap (λ r. r.1) (skolem-fails _ _ _ _ _ c.self.invariant c.args.self.now c.self.view_is c.admit_witness.new.heap.objects c.admit_witness.ensures.grows c.args.name c.args.bound c.args.free c.args.body c.in-Refused.reason c.in-Refused.ensures.admitted))
-
-pub invariant_of-self-in-Memory : goal.invariant_of-self-in-Memory
-invariant_of-self-in-Memory c = grown _ _ _ _ c.self.invariant c.admit_witness.new.heap.objects c.admit_witness.ensures.grows
-
-pub returns-in-Memory-clause-err : goal.returns-in-Memory-clause-err
-returns-in-Memory-clause-err c = theory-same _ _ _ _ _ c.self.invariant c.args.self.now c.self.view_is c.admit_witness.new.heap.objects c.admit_witness.ensures.grows
-
-pub invariant_of-self-2 : goal.invariant_of-self-2
-invariant_of-self-2 c = grown _ _ _ _ c.self.invariant c.admit_witness.new.heap.objects c.admit_witness.ensures.grows
-
-pub add_definitions-requires : goal.add_definitions-requires
-add_definitions-requires c =
-    let owed = c.in-Obligations.owed in
-    let p = c.in-Obligations.ensures.admitted in
-    let B = Choice p.symbol p.first p.rest p.term in
-    let w_is = subst (λ es. IfSome (slice_get es 0) (λ e. c.witness_of-witness.result ≡ Witness c.args.name c.args.bound c.args.free e.body)) (c.as_slice.ensures.value ∙ p.entries) c.witness_of-witness.ensures in
-    let block = witness-block _ _ _ _ _ c.self.invariant c.args.self.now c.self.view_is c.admit_witness.new.heap.objects c.admit_witness.ensures.grows c.args.name c.args.bound c.args.free c.args.body c.requires.name c.requires.bound c.requires.free owed p c.witness_of-witness.result w_is c.requires.sound in
-    record { block = (B, block) }
-
-pub returns-in_err-add_definitions-clause-err : goal.returns-in_err-add_definitions-clause-err
-returns-in_err-add_definitions-clause-err c = OnErr-from _ _ (c.in_err-add_definitions.ensures.err ∙ theory-same _ _ _ _ _ c.self.invariant c.args.self.now c.self.view_is c.admit_witness.new.heap.objects c.admit_witness.ensures.grows)
+pub returns-in_err-refused-clause-err : goal.returns-in_err-refused-clause-err
+returns-in_err-refused-clause-err c = OnErr-from _ _ (c.in_err-refused.ensures.err ∙ ap theory_of c.self.view_is)
 
 pub returns-clause-fate : goal.returns-clause-fate
 returns-clause-fate c =
-    let p = c.in-Obligations.ensures.admitted in
-    c.accepted.ensures ∙ sym (ap (λ r. r.0) (skolem-passes _ _ _ _ _ c.self.invariant c.args.self.now c.self.view_is c.admit_witness.new.heap.objects c.admit_witness.ensures.grows c.args.name c.args.bound c.args.free c.args.body c.in-Obligations.owed p))
+    c.fate_after.ensures.fate ∙ (c.in_ok-refused.ensures.fate ∙ ap (λ v. (skolem_at v.objects (theory_of v) c.args.name c.args.bound c.args.free c.args.body).0) c.self.view_is)
 
 pub returns-clause-theory : goal.returns-clause-theory
-returns-clause-theory c =
-    let owed = c.in-Obligations.owed in
-    let p = c.in-Obligations.ensures.admitted in
-    let B = Choice p.symbol p.first p.rest p.term in
-    let w_is = subst (λ es. IfSome (slice_get es 0) (λ e. c.witness_of-witness.result ≡ Witness c.args.name c.args.bound c.args.free e.body)) (c.as_slice.ensures.value ∙ p.entries) c.witness_of-witness.ensures in
-    let block = witness-block _ _ _ _ _ c.self.invariant c.args.self.now c.self.view_is c.admit_witness.new.heap.objects c.admit_witness.ensures.grows c.args.name c.args.bound c.args.free c.args.body c.requires.name c.requires.bound c.requires.free owed p c.witness_of-witness.result w_is c.requires.sound in
-    c.in_ok-add_definitions.ensures.theory B block ∙ (ap (λ t. add_to_theory t B) (theory-same _ _ _ _ _ c.self.invariant c.args.self.now c.self.view_is c.admit_witness.new.heap.objects c.admit_witness.ensures.grows) ∙ sym (ap (λ r. r.1) (skolem-passes _ _ _ _ _ c.self.invariant c.args.self.now c.self.view_is c.admit_witness.new.heap.objects c.admit_witness.ensures.grows c.args.name c.args.bound c.args.free c.args.body owed p)))
+returns-clause-theory c = c.in_ok-refused.ensures.theory ∙ ap (λ v. (skolem_at v.objects (theory_of v) c.args.name c.args.bound c.args.free c.args.body).1) c.self.view_is

@@ -1,68 +1,33 @@
--- Refused, or a theorem more.
-use Rattle.std.proofs.Common.{option_map, Some, None, sym, ap, ap₂, ◌∙◌, subst}
+-- The world's theorem, by the theory's checker.
+use Rattle.std.proofs.Common.{sym, ap, ◌∙◌, subst}
 use Rattle.mw_model.specs.Theory.{IsSound}
 use Rattle.mw_heap.specs.Objects.{object_at}
-use Rattle.mw_heap.specs.Variants.{refusal_of}
-use Rattle.mw_kernel.specs.Knowledge.{theory_of, with_theorem}
-use Rattle.mw_kernel.specs.Fates.{by_refusal}
-use Rattle.mw_kernel.proofs.Held.{held, grown-marked}
-use Rattle.mw_kernel.proofs.Happening.{OnErr-from}
-use Rattle.mw_kernel.proofs.Defined.{theory-same, object-told, verify-told}
+use Rattle.mw_kernel.specs.Knowledge.{theory_of}
+use Rattle.mw_kernel.specs.Proofs.{judged_for}
+use Rattle.mw_theory.specs.Settling.{verified}
+use Rattle.mw_theory.proofs.CallerLemmas.{OnErr-from}
 use Rattle.mw_kernel.proofs.kernel.Kernel.verify.Goals as goal
 
-pub refusal-requires-clause-held : goal.refusal-requires-clause-held
-refusal-requires-clause-held c = held _ _ _ _ c.self.invariant
+pub verify-requires-clause-sound : goal.verify-requires-clause-sound
+verify-requires-clause-sound c =
+    subst (λ v. IsSound (verified (judged_for v.steps) (theory_of v) (object_at v.objects c.args.name) (object_at v.objects c.args.formula) (object_at v.objects c.args.proof)).1) (sym c.self.view_is) c.requires.sound
 
-pub refusal-requires-clause-marked : goal.refusal-requires-clause-marked
-refusal-requires-clause-marked c = c.self.invariant.marked
-
-pub invariant_of-self : goal.invariant_of-self
-invariant_of-self c = grown-marked _ _ _ _ c.self.invariant c.refusal.new.heap.objects c.refusal.ensures.grows c.refusal.new.marks c.refusal.ensures.marked
-
-pub invariant_of-self-in-Some : goal.invariant_of-self-in-Some
-invariant_of-self-in-Some c = grown-marked _ _ _ _ c.self.invariant c.refusal.new.heap.objects c.refusal.ensures.grows c.refusal.new.marks c.refusal.ensures.marked
-
-pub invariant_of-self-2 : goal.invariant_of-self-2
-invariant_of-self-2 c = grown-marked _ _ _ _ c.self.invariant c.refusal.new.heap.objects c.refusal.ensures.grows c.refusal.new.marks c.refusal.ensures.marked
-
-pub returns-in_err-reason-clause-err : goal.returns-in_err-reason-clause-err
-returns-in_err-reason-clause-err c = OnErr-from _ _ (theory-same _ _ _ _ _ c.self.invariant c.args.self.now c.self.view_is c.refusal.new.heap.objects c.refusal.ensures.grows)
-
-pub returns-in-Some-clause-fate : goal.returns-in-Some-clause-fate
-returns-in-Some-clause-fate c =
-    let old = c.args.self.now in
-    let told = verify-told _ _ _ _ _ c.self.invariant old c.self.view_is c.refusal.new.heap.objects c.refusal.ensures.grows c.args.name c.args.formula c.args.proof _ (Some (refusal_of c.in-Some.reason)) (ap (option_map refusal_of) c.in-Some.is) c.in_ok-reason.ensures.refusal in
-    sym (ap (λ r. (by_refusal (theory_of old) (object_at old.objects c.args.formula) r).0) told)
-
-pub returns-in-Some-clause-theory : goal.returns-in-Some-clause-theory
-returns-in-Some-clause-theory c =
-    let old = c.args.self.now in
-    let told = verify-told _ _ _ _ _ c.self.invariant old c.self.view_is c.refusal.new.heap.objects c.refusal.ensures.grows c.args.name c.args.formula c.args.proof _ (Some (refusal_of c.in-Some.reason)) (ap (option_map refusal_of) c.in-Some.is) c.in_ok-reason.ensures.refusal in
-    theory-same _ _ _ _ _ c.self.invariant old c.self.view_is c.refusal.new.heap.objects c.refusal.ensures.grows
-    ∙ sym (ap (λ r. (by_refusal (theory_of old) (object_at old.objects c.args.formula) r).1) told)
-
-pub returns-in_err-add_theorem-clause-err : goal.returns-in_err-add_theorem-clause-err
-returns-in_err-add_theorem-clause-err c = OnErr-from _ _ (c.in_err-add_theorem.ensures.err ∙ theory-same _ _ _ _ _ c.self.invariant c.args.self.now c.self.view_is c.refusal.new.heap.objects c.refusal.ensures.grows)
-
-pub add_theorem-requires-clause-sound : goal.add_theorem-requires-clause-sound
-add_theorem-requires-clause-sound c =
-    let old = c.args.self.now in
-    let b = object_at old.objects c.args.formula in
-    let told = verify-told _ _ _ _ _ c.self.invariant old c.self.view_is c.refusal.new.heap.objects c.refusal.ensures.grows c.args.name c.args.formula c.args.proof _ None (ap (option_map refusal_of) c.in_default.is) c.in_ok-reason.ensures.refusal in
-    let same = theory-same _ _ _ _ _ c.self.invariant old c.self.view_is c.refusal.new.heap.objects c.refusal.ensures.grows in
-    let formula = object-told _ _ _ _ _ c.self.invariant old c.self.view_is c.refusal.new.heap.objects c.refusal.ensures.grows c.args.formula c.requires.formula in
-    subst IsSound (sym (ap₂ with_theorem same formula)) (subst (λ r. IsSound (by_refusal (theory_of old) b r).1) told c.requires.sound)
+pub returns-in_err-refused-clause-err : goal.returns-in_err-refused-clause-err
+returns-in_err-refused-clause-err c = OnErr-from _ _ (c.in_err-refused.ensures.err ∙ ap theory_of c.self.view_is)
 
 pub returns-clause-fate : goal.returns-clause-fate
 returns-clause-fate c =
-    let old = c.args.self.now in
-    let told = verify-told _ _ _ _ _ c.self.invariant old c.self.view_is c.refusal.new.heap.objects c.refusal.ensures.grows c.args.name c.args.formula c.args.proof _ None (ap (option_map refusal_of) c.in_default.is) c.in_ok-reason.ensures.refusal in
-    c.accepted.ensures ∙ sym (ap (λ r. (by_refusal (theory_of old) (object_at old.objects c.args.formula) r).0) told)
+    c.fate_after.ensures.fate
+    ∙ (c.in_ok-refused.ensures.fate
+    ∙ ap (λ v. (verified (judged_for v.steps) (theory_of v) (object_at v.objects c.args.name) (object_at v.objects c.args.formula) (object_at v.objects c.args.proof)).0) c.self.view_is)
 
 pub returns-clause-theory : goal.returns-clause-theory
 returns-clause-theory c =
-    let old = c.args.self.now in
-    let told = verify-told _ _ _ _ _ c.self.invariant old c.self.view_is c.refusal.new.heap.objects c.refusal.ensures.grows c.args.name c.args.formula c.args.proof _ None (ap (option_map refusal_of) c.in_default.is) c.in_ok-reason.ensures.refusal in
-    let same = theory-same _ _ _ _ _ c.self.invariant old c.self.view_is c.refusal.new.heap.objects c.refusal.ensures.grows in
-    let formula = object-told _ _ _ _ _ c.self.invariant old c.self.view_is c.refusal.new.heap.objects c.refusal.ensures.grows c.args.formula c.requires.formula in
-    c.in_ok-add_theorem.ensures.theory ∙ (ap₂ with_theorem same formula ∙ sym (ap (λ r. (by_refusal (theory_of old) (object_at old.objects c.args.formula) r).1) told))
+    c.in_ok-refused.ensures.theory
+    ∙ ap (λ v. (verified (judged_for v.steps) (theory_of v) (object_at v.objects c.args.name) (object_at v.objects c.args.formula) (object_at v.objects c.args.proof)).1) c.self.view_is
+
+pub returns-in_err-refused-clause-steps : goal.returns-in_err-refused-clause-steps
+returns-in_err-refused-clause-steps c = c.verify.ensures.limit ∙ ap (λ v. v.steps) c.self.view_is
+
+pub returns-clause-steps : goal.returns-clause-steps
+returns-clause-steps c = c.verify.ensures.limit ∙ ap (λ v. v.steps) c.self.view_is

@@ -1,0 +1,180 @@
+//! Judging the data of a log as they are read.
+ghost use Rattle.std.specs.Prelude.{◌≡◌, ◌+◌, ◌<◌, ◌≤◌, ◌^◌, cond, [], ◌++◌, IfOk, IfSome, OnOk};
+ghost use Rattle.mw_model.specs.Object.{Object};
+ghost use Rattle.mw_model.specs.Request.{Recheck};
+ghost use Rattle.mw_heap.specs.Objects.{IsIn};
+ghost use Rattle.mw_read.specs.Shown.{ShowsEvent};
+ghost use Rattle.mw_flat.specs.Going.{is_step_word};
+ghost use Rattle.mw_flat.specs.Verdicts.{answer_of};
+ghost use Rattle.mw_book.specs.Lines.{answers_line, line_begun};
+ghost use Rattle.mw_book.specs.Rechecked.{HasEndedDatum, Rechecked, RecheckedFor};
+
+use crate::answering::Answering;
+use crate::line::{begin_line, write_fault, write_number};
+use mw_flat::{Flat, Verdict};
+use mw_heap::{Heap, Memory, Ref, Word};
+use mw_read::{Reader, Step, SyntaxKind, shown};
+use std::alloc::Global;
+
+/// The theory so far with the steps that wait for their event, what was counted, and the lines that were not written yet.
+#[derive(Drop)]
+pub(crate) struct Rechecking {
+    flat: Flat,
+    // the data that were answered, steps too
+    taken: u64,
+    events: u64,
+    // the events that got a no
+    denied: u64,
+    lines: Vec<u8>,
+}
+
+// The same word, since what holds a reference is moved where it is passed on.
+fn copy_of(word: &Option<Ref>) -> Option<Ref>
+    ensures { result ≡ word.now }
+{
+    match word {
+        Some(word) => Some(*word),
+        None => None,
+    }
+}
+
+// Whether the word is STEP.
+fn is_step_word(heap: &Heap, word: &Option<Ref>) -> bool
+    requires { IfSome word.now (IsIn heap.now.objects) }
+    ensures { result ≡ is_step_word heap.now.objects word.now }
+{
+    heap.is_word(copy_of(word), Word::Step)
+}
+
+// The last line of a log without a fault.
+fn write_answers(lines: &mut Vec<u8>, events: u64, denied: u64, left: u64) -> Result<(), Memory>
+    requires { denied ≤ events }
+    ensures { OnOk result (lines.new.items ≡ lines.old.items ++ answers_line events denied left) }
+{
+    lines.extend_from_slice(b"events ")?;
+    write_number(lines, events)?;
+    lines.extend_from_slice(b" yes ")?;
+    write_number(lines, events - denied)?;
+    lines.extend_from_slice(b" no ")?;
+    write_number(lines, denied)?;
+    lines.extend_from_slice(b" left ")?;
+    write_number(lines, left)?;
+    lines.push(b'\n')?;
+    Ok(())
+}
+
+impl Rechecking {
+    /// Nothing was read.
+    pub(crate) fn new(alloc: Global) -> Result<Rechecking, Memory>
+        ensures rechecked { IfOk result (λ r. Rechecked r []) }
+        ensures lines { IfOk result (λ r. r.lines.items ≡ []) }
+    {
+        Ok(Rechecking {
+            flat: Flat::new(alloc)?,
+            taken: 0,
+            events: 0,
+            denied: 0,
+            lines: Vec::new(alloc),
+        })
+    }
+
+    // Begins the line of a datum that is shown so, unless it is a step, which has none.
+    fn begin_datum(
+        &mut self,
+        is_step: bool,
+        word: Option<Ref>,
+        label: Option<Ref>,
+    ) -> Result<(), Memory>
+        requires shows { (x : Object) × ShowsEvent self.old.flat.objects word label x }
+        requires room { self.old.events + 1 < 2 ^ 64 }
+        ensures begun { OnOk result ((x : Object) → ShowsEvent self.old.flat.objects word label x → self.new.lines.items ≡ self.old.lines.items ++ cond is_step [] (line_begun (self.old.events + 1) x)) }
+        ensures rest { self.new ≡ record self.old { lines = self.new.lines } }
+    {
+        if is_step {
+            return Ok(());
+        }
+        let number = self.events + 1;
+        begin_line(&mut self.lines, self.flat.heap(), number, word, label)
+    }
+
+    // Ends the line of an event with the answer to it, and counts the datum.
+    fn end_datum(&mut self, verdict: Verdict) -> Result<(), Memory>
+        requires taken { self.old.taken + 1 < 2 ^ 64 }
+        requires events { self.old.events + 1 < 2 ^ 64 }
+        requires denied { self.old.denied + 1 < 2 ^ 64 }
+        ensures flat { self.new.flat ≡ self.old.flat }
+        ensures ended { OnOk result (HasEndedDatum self.old self.new (answer_of verdict)) }
+    {
+        match verdict {
+            Verdict::Noted => {}
+            Verdict::Yes => {
+                self.lines.extend_from_slice(b"yes\n")?;
+                self.events += 1;
+            }
+            Verdict::No(objection) => {
+                self.lines.extend_from_slice(b"no ")?;
+                self.lines.extend_from_slice(objection.word().as_bytes())?;
+                self.lines.push(b'\n')?;
+                self.events += 1;
+                self.denied += 1;
+            }
+        }
+        self.taken += 1;
+        Ok(())
+    }
+}
+
+impl Answering for Rechecking {
+    ghost objects = { λ r. r.flat.objects };
+
+    ghost unwritten = { λ r. r.lines.items };
+
+    ghost count = { λ r. r.taken };
+
+    ghost request = { λ r. Recheck };
+
+    ghost answered = { RecheckedFor };
+
+    fn step(&mut self, reader: &mut Reader, piece: &[u8]) -> (Step, usize) {
+        self.flat.step(reader, piece)
+    }
+
+    fn next(&mut self, reader: &mut Reader) -> Step {
+        self.flat.next(reader)
+    }
+
+    fn answer(&mut self, x: Ref) -> Result<(), Memory> {
+        let is_step = self.flat.heap().is_headed(x, Word::Step);
+        let (word, label) = shown(self.flat.heap(), x);
+        self.begin_datum(is_step, word, label)?;
+        let verdict = self.flat.datum(x)?;
+        self.end_datum(verdict)
+    }
+
+    fn answer_large(&mut self, word: Option<Ref>, label: Option<Ref>) -> Result<(), Memory> {
+        let is_step = is_step_word(self.flat.heap(), &word);
+        self.begin_datum(is_step, copy_of(&word), label)?;
+        let verdict = self.flat.too_big(word);
+        self.end_datum(verdict)
+    }
+
+    fn lines(&self) -> &[u8] {
+        &self.lines
+    }
+
+    fn drop_lines(&mut self) {
+        self.lines.clear();
+    }
+
+    fn end(&mut self, fault: Option<(SyntaxKind, u64)>) -> Result<u64, Memory> {
+        // what is refused was answered, so that the sum is in the range of that number
+        let _answered = self.taken;
+        let left = self.flat.left();
+        let refused = self.denied + left;
+        match fault {
+            Some((kind, offset)) => write_fault(&mut self.lines, kind, offset)?,
+            None => write_answers(&mut self.lines, self.events, self.denied, left)?,
+        }
+        Ok(refused)
+    }
+}

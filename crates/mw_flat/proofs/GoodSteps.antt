@@ -1,0 +1,56 @@
+-- An entry of a log after good steps: what a judge by their numbers has it come to is what the log answers, and sound.
+use Rattle.std.proofs.Common.{◌≡◌, ℕ, true, List, Option, Some, None, refl, sym, ap, ◌∙◌, subst, true≢false}
+use Rattle.mw_model.specs.Object.{Object}
+use Rattle.mw_model.specs.Term.{Formula}
+use Rattle.mw_model.specs.Definition.{arity_table, is_present}
+use Rattle.mw_model.specs.Theory.{Theory, IsSound}
+use Rattle.mw_model.specs.Log.{entry_of, conclusions, logged}
+use Rattle.mw_truth.specs.Logged.{LoggedKeeps}
+use Rattle.mw_heap.specs.Objects.{object_at}
+use Rattle.mw_theory.specs.declared.world.World.{World}
+use Rattle.mw_theory.specs.declared.event.Event.{Event}
+use Rattle.mw_theory.specs.Knowledge.{name_read}
+use Rattle.mw_theory.specs.Words.{IsEvent}
+use Rattle.mw_theory.specs.Worlds.{theory_in}
+use Rattle.mw_theory.proofs.CallerLemmas.{held}
+use Rattle.mw_flat.specs.declared.collected.Collected.{Collected}
+use Rattle.mw_flat.specs.Collecting.{AreConclusions}
+use Rattle.mw_flat.specs.Going.{HasCollected, IsGoing, going_of, settles}
+use Rattle.mw_flat.proofs.Conclusions.{conclusions-formulas}
+use Rattle.mw_flat.proofs.ReadableConclusions.{formulas-readable}
+use Rattle.mw_flat.proofs.Settled.{answered}
+use Rattle.mw_flat.proofs.EntryAnswered.{event-answered}
+
+-- each event of a log keeps a sound theory
+abbrev pub LogsKeep : Type 0
+LogsKeep = (t : Theory) (steps : List Object) (e : Object) → IsSound t → t.checker ≡ None → LoggedKeeps t steps e
+
+module _ (w : World) (c : Collected) (i : IsGoing w c) (good : c.good ≡ true) (x : ℕ) (e : Event) (is : IsEvent w.heap.objects x e) (there : is_present (entry_of (object_at w.heap.objects x)) ≡ true) where
+  abbrev os : List Object
+  os = w.heap.objects
+
+  abbrev comes : Theory → Type 0
+  comes t = t ≡ (settles os (theory_in w) c.conclusions.items e).1
+
+  pub logged-settles : (steps : List Object) → HasCollected (going_of w c) steps → logged (theory_in w) steps (object_at os x) ≡ answered (settles os (theory_in w) c.conclusions.items e)
+  logged-settles steps h = go (conclusions t.axioms t.theorems (arity_table t.definitions) t.definitions.profile steps) refl h.conclusions
+    where
+      t : Theory
+      t = theory_in w
+
+      go : (o : Option (List Formula)) → conclusions t.axioms t.theorems (arity_table t.definitions) t.definitions.profile steps ≡ o → AreConclusions os c.good c.conclusions.items o → logged t steps (object_at os x) ≡ answered (settles os t c.conclusions.items e)
+      go None s k = absurd (true≢false (sym good ∙ k))
+      go (Some Fs) s k =
+          let A = arity_table t.definitions in
+          ap (logged t steps) is.0
+          ∙ event-answered os t c.conclusions.items Fs k.1 (formulas-readable A Fs (conclusions-formulas t.axioms t.theorems A t.definitions.profile steps Fs s)) steps s e (sym (ap (λ y. is_present (entry_of y)) is.0) ∙ there)
+
+  module _ (keep : LogsKeep) where
+    keeps : (steps : List Object) → LoggedKeeps (theory_in w) steps (object_at os x)
+    keeps steps = keep (theory_in w) steps (object_at os x) (held _ _ _ _ i.world).sound (ap (name_read os) i.built_in)
+
+    pub settles-sound : IsSound (settles os (theory_in w) c.conclusions.items e).1
+    settles-sound = let k = i.known good in subst IsSound (ap (λ p. p.1) (logged-settles k.0 k.1)) (keeps k.0).sound
+
+    pub settles-built_in : (settles os (theory_in w) c.conclusions.items e).1.checker ≡ None
+    settles-built_in = let k = i.known good in sym (ap (λ p. p.1.checker) (logged-settles k.0 k.1)) ∙ (keeps k.0).built_in

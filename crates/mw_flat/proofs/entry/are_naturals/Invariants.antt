@@ -1,0 +1,13 @@
+-- What is left of the list decides.
+use Rattle.std.proofs.Common.{◌≡◌}
+use Rattle.mw_model.specs.Definition.{is_present}
+use Rattle.mw_model.specs.Log.{naturals_of}
+use Rattle.mw_heap.specs.Objects.{object_at, IsIn}
+use Rattle.mw_flat.proofs.entry.are_naturals.Given as goal
+
+abbrev pub invariant-loop-first : goal.invariant-loop-first
+invariant-loop-first l =
+    IsIn l.heap.objects l.rest × (is_present (naturals_of (object_at l.heap.objects l.fn.list)) ≡ is_present (naturals_of (object_at l.heap.objects l.rest)))
+
+abbrev pub decreases-loop-first : goal.decreases-loop-first
+decreases-loop-first l = l.rest

@@ -1,0 +1,30 @@
+-- After the tests the event comes to what the log answers.
+use Rattle.std.proofs.Common.{sym, ap, ◌∙◌}
+use Rattle.mw_heap.specs.Variants.{refusal_of}
+use Rattle.std.specs.Prelude.{Some, option_map}
+use Rattle.mw_flat.proofs.Goings.{unnamed}
+use Rattle.mw_flat.proofs.Settled.{answer_by_fate, fate-answered}
+use Rattle.mw_flat.proofs.GoodSteps.{logged-settles, settles-sound, settles-built_in}
+use Rattle.mw_flat.proofs.flat.answer.Goals as goal
+
+pub settle-requires-clause-sound : goal.settle-requires-clause-sound
+settle-requires-clause-sound c =
+    let i = c.requires.going in
+    settles-sound c.args.world.now c.args.collected.now i c.if-not-collected.false c.args.x c.in-Some.event c.in-Some.ensures.event (sym c.in_ok-is_entry.ensures ∙ c.if-not-branch.false) c.logs_keep.ensures.event
+
+pub returns-clause-built_in : goal.returns-clause-built_in
+returns-clause-built_in c =
+    let i = c.requires.going in
+    unnamed c.settle.new.world.heap.objects c.settle.new.world.theory.checker (ap (λ t. t.checker) c.in_ok-refused.ensures.theory ∙ settles-built_in c.args.world.now c.args.collected.now i c.if-not-collected.false c.args.x c.in-Some.event c.in-Some.ensures.event (sym c.in_ok-is_entry.ensures ∙ c.if-not-branch.false) c.logs_keep.ensures.event)
+
+pub returns-clause-answer : goal.returns-clause-answer
+returns-clause-answer c = λ steps h.
+    let i = c.requires.going in
+    let same = logged-settles c.args.world.now c.args.collected.now i c.if-not-collected.false c.args.x c.in-Some.event c.in-Some.ensures.event (sym c.in_ok-is_entry.ensures ∙ c.if-not-branch.false) steps h in
+    c.verdict_of.ensures ∙ ap Some (sym (fate-answered (option_map refusal_of c.in_ok-refused.refused)) ∙ (ap answer_by_fate c.in_ok-refused.ensures.fate ∙ ap (λ a. a.0) (sym same)))
+
+pub returns-clause-theory : goal.returns-clause-theory
+returns-clause-theory c = λ steps h.
+    let i = c.requires.going in
+    let same = logged-settles c.args.world.now c.args.collected.now i c.if-not-collected.false c.args.x c.in-Some.event c.in-Some.ensures.event (sym c.in_ok-is_entry.ensures ∙ c.if-not-branch.false) steps h in
+    c.in_ok-refused.ensures.theory ∙ ap (λ a. a.1) (sym same)

@@ -1,7 +1,0 @@
--- Equal objects have equal references.
-use Rattle.std.proofs.Common.{◌∙◌}
-use Rattle.mw_proof.proofs.RuleLemmas.{known-member}
-use Rattle.mw_proof.proofs.rules.is_known.Goals as goal
-
-pub returns : goal.returns
-returns c = c.holds.ensures ∙ known-member c.args.heap.now.objects c.args.known.now c.args.x c.same.ensures.distinct c.requires.within c.requires.known

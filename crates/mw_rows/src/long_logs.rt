@@ -1,0 +1,71 @@
+//! Long logs: each is judged in time that is linear in what is written.
+use crate::row::{Answer, answer_within};
+use mw_book::Status;
+use std::alloc::{AllocError, Global};
+use std::test::Fail;
+
+// A log of one event, after so many pairs of steps of which each names the one before.
+fn log_of_a_chain(alloc: Global, pairs: u32) -> Result<String, AllocError> {
+    let mut log = String::from_str(alloc, "(step 1 axiom (pequal* x x) nil nil)\n")?;
+    for k in 0..pairs {
+        let named = 2 * k as u64 + 1;
+        let longer = 2 * k as u64 + 2;
+        let shorter = 2 * k as u64 + 3;
+        writeln!(
+            log,
+            "(step {longer} expansion (por* (pequal* x x) (pequal* x x)) ({named}) nil)"
+        )?;
+        writeln!(
+            log,
+            "(step {shorter} contraction (pequal* x x) ({longer}) nil)"
+        )?;
+    }
+    let last = 2 * pairs as u64 + 1;
+    writeln!(log, "(verify q (pequal* x x) {last})")?;
+    Ok(log)
+}
+
+// A log of one event after a step that names another so many times.
+fn log_of_a_repeated_number(alloc: Global, times: usize) -> Result<String, AllocError> {
+    let mut log = String::from_str(
+        alloc,
+        "(step 1 axiom (pequal* x x) nil nil) (step 2 contraction (pequal* x x) (",
+    )?;
+    for _ in 0..times {
+        log.push_str(" 1")?;
+    }
+    log.push_str(") nil) (verify q (pequal* x x) 2)")?;
+    Ok(log)
+}
+
+fn answer_to_a_chain(alloc: Global) -> Result<Answer, AllocError> {
+    let log = log_of_a_chain(alloc, 50_000)?;
+    answer_within(alloc, &["recheck"], log.as_str(), 4096)
+}
+
+fn answer_to_a_repeated_number(alloc: Global) -> Result<Answer, AllocError> {
+    let log = log_of_a_repeated_number(alloc, 1_000_000)?;
+    answer_within(alloc, &["recheck"], log.as_str(), 4096)
+}
+
+#[test]
+fn a_hundred_thousand_steps_get_a_yes(rt: HostRuntime) -> Result<(), Fail> {
+    let answer = answer_to_a_chain(rt.alloc())?;
+    assert_eq!(rt;
+        answer.report.as_str(),
+        "1 VERIFY Q yes\nevents 1 yes 1 no 0 left 0\n"
+    );
+    assert_eq!(rt; answer.status, Status::Done);
+    Ok(())
+}
+
+#[test]
+fn a_step_that_names_another_a_million_times_is_not_good(rt: HostRuntime) -> Result<(), Fail> {
+    let answer = answer_to_a_repeated_number(rt.alloc())?;
+    assert_eq!(rt;
+        answer.report.as_str(),
+        "1 VERIFY Q no STEP\nevents 1 yes 0 no 1 left 0\n"
+    );
+    assert_eq!(rt; answer.status, Status::SomeRefused);
+    Ok(())
+}

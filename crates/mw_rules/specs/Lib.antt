@@ -1,0 +1,4 @@
+pub mod Step
+pub mod Known
+pub mod Methods
+pub mod Counted

@@ -1,0 +1,10 @@
+//! The rules of proof over a heap, by their methods, and the formulas that a proof may cite.
+#![tactic(auto)]
+
+mod known;
+mod method;
+mod rules;
+
+pub use known::Known;
+pub use method::Method;
+pub use rules::follows;

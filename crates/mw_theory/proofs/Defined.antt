@@ -1,0 +1,220 @@
+-- What an event that defines comes to, by the tests of its definitions and of its proofs.
+use Rattle.std.proofs.Common.{◌≡◌, ℕ, Bool, true, false, cond, List, [], ◌∷◌, length, map, option_map, Option, Some, None, is_some, refl, sym, ap, ap₂, ◌∙◌, subst, true≢false}
+use Rattle.mw_model.specs.Object.{Object, NIL, same_object, has_members}
+use Rattle.mw_model.specs.Term.{ArityTable, Formula}
+use Rattle.mw_model.specs.RulesInduction.{formulas_object}
+use Rattle.mw_model.specs.Definition.{Function as Defined, Block, Functions, Choice, arity_table}
+use Rattle.mw_model.specs.Obligation.{obligations}
+use Rattle.mw_model.specs.Theory.{Theory, IsSound}
+use Rattle.mw_model.specs.Refusal.{Refusal, EVENT, COUNT, Fate, Accepted, Refused, refuse, accept, need, must, unless}
+use Rattle.mw_model.specs.Demand.{define_demand, settled}
+use Rattle.mw_model.specs.Admission.{Draft, functions, measures, add_to_theory, skolem}
+use Rattle.mw_heap.specs.declared.refusal.Refusal.{Refusal as Reason}
+use Rattle.mw_heap.specs.Variants.{refusal_of}
+use Rattle.mw_heap.specs.Objects.{object_at, IsIn, Grows}
+use Rattle.mw_heap.proofs.Objects.{Grows-refl}
+use Rattle.mw_term.specs.declared.cell_mark.CellMark.{CellMark}
+use Rattle.mw_define.specs.declared.admitted.Admitted.TheVariants as admitted
+use Rattle.mw_define.specs.declared.admitted.Owed.{Owed}
+use Rattle.mw_define.specs.Tests.{FailsWitness, PassesWitness}
+use Rattle.mw_define.specs.BlockTests.{PassesBlock, IsBlockOf}
+use Rattle.mw_define.proofs.CallerLemmas.{define-denied, define-wants, skolem-refused, skolem-accepted}
+use Rattle.mw_define.proofs.EntryLemmas.{block-entries, witness-entry}
+use Rattle.mw_preamble.specs.declared.definition.Definition.{Definition}
+use Rattle.mw_preamble.specs.declared.definition.Definition.TheVariants.{Witness}
+use Rattle.mw_preamble.specs.Entries.{AreFunctions, IsBlock}
+use Rattle.mw_theory.specs.declared.theory.Theory.{Theory as Kept}
+use Rattle.mw_theory.specs.declared.world.World.{World}
+use Rattle.mw_theory.specs.Knowledge.{parts_of, meant, IsKernel}
+use Rattle.mw_theory.specs.Worlds.{theory_in}
+use Rattle.mw_theory.specs.Proofs.{Judge, by_formula, judged_each, judged_all}
+use Rattle.mw_theory.specs.Settling.{fate_by, defined, IsDefined, IsAccepted, skolem_at}
+use Rattle.mw_theory.specs.Admitting.{AreWithin, drafts_given, function_of_entry}
+use Rattle.mw_theory.specs.Defining.{IsNewBlock}
+use Rattle.mw_theory.proofs.Held.{held, grown_theory}
+use Rattle.mw_theory.proofs.Drafting.{given-grows, functions-mean}
+use Rattle.mw_theory.specs.Words.{skolem_event}
+use Rattle.mw_theory.specs.declared.admitting.Drafts.{Drafts}
+
+-- what stands after the tests of the proofs
+abbrev pub after_proofs : Theory → Option Refusal → Block → Fate × Theory
+after_proofs t None B = accept (add_to_theory t B)
+after_proofs t (Some r) B = refuse t r
+
+must_unless : (t : Theory) (b : Bool) (o r : Option Refusal) (B : Block) → cond b o (Some COUNT) ≡ r → must t COUNT b (unless t o (accept (add_to_theory t B))) ≡ after_proofs t r B
+unfolding must unless
+must_unless t true None r B e = ap (λ q. after_proofs t q B) e
+must_unless t true (Some q) r B e = ap (λ q. after_proofs t q B) e
+must_unless t false o r B e = ap (λ q. after_proofs t q B) e
+
+-- the functions of a block that passed its tests
+abbrev pub functions_passed : (A : ArityTable) (ds : List Draft) (os : List Object) (owed : Owed) → PassesBlock A ds os owed → List Defined
+functions_passed A ds os owed h = functions h.names h.formals h.bodies
+
+-- the drafts of an event whose tests passed
+pub record IsPassed (A : ArityTable) (given : Option (List Draft)) (os : List Object) (owed : Owed) : Type 0 where
+  pub drafts : List Draft
+  pub given_is : given ≡ Some drafts
+  pub passes : PassesBlock A drafts os owed
+
+pub given-passed : (A : ArityTable) (given : Option (List Draft)) (os : List Object) (owed : Owed) → IsBlockOf A given os (admitted.Obligations owed) → IsPassed A given os owed
+given-passed A None os owed h = absurd h
+given-passed A (Some ds) os owed h = record { drafts = ds; given_is = refl; passes = h }
+
+module _ (J : Judge) (t : Theory) (proofs : Object) (os : List Object) where
+  pub refused-given : (given : Option (List Draft)) (r : Reason) → IsBlockOf (arity_table t.definitions) given os (admitted.Refused r) → defined J t given proofs ≡ refuse t (refusal_of r)
+  unfolding need
+  refused-given None r h = ap (refuse t) (sym h)
+  refused-given (Some ds) r h = ap (settled (by_formula J) t 0 proofs) (define-denied t ds (refusal_of r) h)
+
+  pub judged-given : (given : Option (List Draft)) (owed : Owed) (h : IsPassed (arity_table t.definitions) given os owed) (r : Option Refusal) → judged_all J t (obligations (functions h.passes.names h.passes.formals h.passes.bodies) (measures h.passes.names h.passes.measures_of)) proofs ≡ r → defined J t given proofs ≡ after_proofs t r (Functions (functions h.passes.names h.passes.formals h.passes.bodies))
+  unfolding need
+  judged-given given owed h r told =
+      let Fs = obligations (functions h.passes.names h.passes.formals h.passes.bodies) (measures h.passes.names h.passes.measures_of) in
+      ap (λ g. need t EVENT g (λ drafts. settled (by_formula J) t 0 proofs (define_demand t drafts))) h.given_is
+      ∙ (ap (settled (by_formula J) t 0 proofs) (define-wants t h.drafts os owed h.passes)
+      ∙ must_unless t (has_members (length Fs) proofs) (judged_each J t Fs proofs) r (Functions (functions h.passes.names h.passes.formals h.passes.bodies)) told)
+
+-- no proofs are just as many as are owed where nothing is
+judged-none : (J : Judge) (t : Theory) (Fs : List Formula) → same_object (formulas_object Fs) NIL ≡ true → judged_all J t Fs NIL ≡ None
+judged-none J t [] h = refl
+judged-none J t (F ∷ Fs) h = cc
+
+judged-some : (J : Judge) (t : Theory) (Fs : List Formula) → same_object (formulas_object Fs) NIL ≡ false → judged_all J t Fs NIL ≡ Some COUNT
+judged-some J t [] h = cc
+judged-some J t (F ∷ Fs) h = refl
+
+-- by the tests of the functions and of the proofs it is refused, or accepted with some block
+pub definitions-judged : (J : Judge) (t : Theory) (proofs : Object) (os : List Object) (given : Option (List Draft)) (owed : Owed) (p : IsPassed (arity_table t.definitions) given os owed) (r : Option Refusal) → r ≡ judged_all J t (obligations (functions p.passes.names p.passes.formals p.passes.bodies) (measures p.passes.names p.passes.measures_of)) proofs → IsDefined J t given proofs r
+definitions-judged J t proofs os given owed p r told = go r (judged-given J t proofs os given owed p r (sym told))
+  where
+    B : Block
+    B = Functions (functions p.passes.names p.passes.formals p.passes.bodies)
+
+    go : (q : Option Refusal) → defined J t given proofs ≡ after_proofs t q B → IsDefined J t given proofs q
+    go None e = (B, e)
+    go (Some reason) e = e
+
+-- where there is a reason
+pub defined-refused : (J : Judge) (t : Theory) (given : Option (List Draft)) (proofs : Object) (r : Option Reason) → is_some r ≡ true → IsDefined J t given proofs (option_map refusal_of r) → (fate_by (option_map refusal_of r) ≡ (defined J t given proofs).0) × (t ≡ (defined J t given proofs).1)
+defined-refused J t given proofs None some h = cc
+defined-refused J t given proofs (Some q) some h = (sym (ap (λ x. x.0) h), sym (ap (λ x. x.1) h))
+
+-- Functions that were accepted and pass their tests are accepted as these.
+pub accepted-these : (J : Judge) (t : Theory) (proofs : Object) (os : List Object) (given : Option (List Draft)) (owed : Owed) (p : IsPassed (arity_table t.definitions) given os owed) (B : Block) → defined J t given proofs ≡ accept (add_to_theory t B) → defined J t given proofs ≡ accept (add_to_theory t (Functions (functions p.passes.names p.passes.formals p.passes.bodies)))
+accepted-these J t proofs os given owed p B accepted = go r (judged-given J t proofs os given owed p r refl)
+  where
+    C : Block
+    C = Functions (functions p.passes.names p.passes.formals p.passes.bodies)
+
+    r : Option Refusal
+    r = judged_all J t (obligations (functions p.passes.names p.passes.formals p.passes.bodies) (measures p.passes.names p.passes.measures_of)) proofs
+
+    never : (q : Refusal) → accept (add_to_theory t B) ≡ refuse t q → ⊥
+    never q e = is_refused (ap (λ x. x.0) e)
+      where
+        shows : Fate → Bool
+        shows (Accepted text) = true
+        shows (Refused reason) = false
+
+        is_refused : Accepted [] ≡ Refused q → ⊥
+        is_refused e = true≢false (ap shows e)
+
+    go : (q : Option Refusal) → defined J t given proofs ≡ after_proofs t q C → defined J t given proofs ≡ accept (add_to_theory t C)
+    go None e = e
+    go (Some q) e = absurd (never q (sym accepted ∙ e))
+
+-- what is accepted and leaves a sound theory
+pub accepted-sound : (J : Judge) (t : Theory) (given : Option (List Draft)) (proofs : Object) → IsDefined J t given proofs None → IsSound (defined J t given proofs).1 → IsAccepted J t given proofs
+accepted-sound J t given proofs d sound = (d.0, d.1, subst (λ r. IsSound r.1) d.1 sound)
+
+-- A world whose heap grew.
+module _ (os : List Object) (n : ℕ) (t : Kept) (marks : List CellMark) (h : IsKernel os n t marks) (new : List Object) (grows : Grows os new) where
+  abbrev now : Theory
+  now = meant os (parts_of t)
+
+  pub theory-same : meant new (parts_of t) ≡ now
+  theory-same = grown_theory os n t marks h new grows
+
+  arities : t.arity ≡ arity_table now.definitions
+  arities = (held os n t marks h).arities
+
+  module _ (drafts : Drafts) where
+    -- after a cut that keeps the theory and the definitions, what was accepted is accepted
+    module _ (cut : World) (theory : theory_in cut ≡ meant new (parts_of t)) (given : drafts_given cut.heap.objects drafts ≡ drafts_given new drafts) (within : AreWithin os drafts) where
+      pub kept-theory : theory_in cut ≡ now
+      kept-theory = theory ∙ theory-same
+
+      kept-given : drafts_given cut.heap.objects drafts ≡ drafts_given os drafts
+      kept-given = given ∙ given-grows os new grows drafts within
+
+      pub kept-defined : (J : Judge) (proofs : Object) → defined J (theory_in cut) (drafts_given cut.heap.objects drafts) proofs ≡ defined J now (drafts_given os drafts) proofs
+      kept-defined J proofs = ap₂ (λ v x. defined J v x proofs) kept-theory kept-given
+
+      pub kept-accepted : (J : Judge) (proofs : Object) → IsDefined J now (drafts_given os drafts) proofs None → IsSound (defined J now (drafts_given os drafts) proofs).1 → IsAccepted J (theory_in cut) (drafts_given cut.heap.objects drafts) proofs
+      kept-accepted J proofs told sound =
+          subst (λ v. IsAccepted J v (drafts_given cut.heap.objects drafts) proofs) (sym kept-theory)
+          (subst (λ x. IsAccepted J now x proofs) (sym kept-given) (accepted-sound J now (drafts_given os drafts) proofs told sound))
+
+    -- the functions are refused
+    pub functions-fail : (J : Judge) (proofs : Object) (r : Reason) → IsBlockOf t.arity (drafts_given os drafts) new (admitted.Refused r) → defined J now (drafts_given os drafts) proofs ≡ refuse now (refusal_of r)
+    functions-fail J proofs r fails = refused-given J now proofs new (drafts_given os drafts) r (subst (λ B. IsBlockOf B (drafts_given os drafts) new (admitted.Refused r)) arities fails)
+
+    pub passed : (owed : Owed) → IsBlockOf t.arity (drafts_given os drafts) new (admitted.Obligations owed) → IsPassed (arity_table now.definitions) (drafts_given os drafts) new owed
+    passed owed p = given-passed (arity_table now.definitions) (drafts_given os drafts) new owed (subst (λ B. IsBlockOf B (drafts_given os drafts) new (admitted.Obligations owed)) arities p)
+
+    module _ (owed : Owed) (p : IsPassed (arity_table now.definitions) (drafts_given os drafts) new owed) where
+      abbrev pub block_of : Block
+      block_of = Functions (functions p.passes.names p.passes.formals p.passes.bodies)
+
+      -- they are accepted as these
+      pub functions-pass : (J : Judge) (proofs : Object) → IsAccepted J now (drafts_given os drafts) proofs → defined J now (drafts_given os drafts) proofs ≡ accept (add_to_theory now block_of)
+      functions-pass J proofs a = accepted-these J now proofs new (drafts_given os drafts) owed p a.0 a.1
+
+      -- without proofs they are accepted where nothing is owed
+      pub alone-passes : (J : Judge) → same_object (object_at new owed.obligations) NIL ≡ true → defined J now (drafts_given os drafts) NIL ≡ accept (add_to_theory now block_of)
+      alone-passes J none = judged-given J now NIL new (drafts_given os drafts) owed p None (judged-none J now _ (sym (ap (λ o. same_object o NIL) p.passes.obligations) ∙ none))
+
+      pub alone-fails : (J : Judge) → same_object (object_at new owed.obligations) NIL ≡ false → defined J now (drafts_given os drafts) NIL ≡ refuse now COUNT
+      alone-fails J some = judged-given J now NIL new (drafts_given os drafts) owed p (Some COUNT) (judged-some J now _ (sym (ap (λ o. same_object o NIL) p.passes.obligations) ∙ some))
+
+      pub alone-accepted : (J : Judge) → same_object (object_at new owed.obligations) NIL ≡ true → IsSound (defined J now (drafts_given os drafts) NIL).1 → IsAccepted J now (drafts_given os drafts) NIL
+      alone-accepted J none sound = let e = alone-passes J none in (block_of, e, subst (λ r. IsSound r.1) e sound)
+
+      -- they are a new block
+      pub functions-block : (J : Judge) (proofs : Object) → IsAccepted J now (drafts_given os drafts) proofs → (ds : List Definition) → ds ≡ map function_of_entry owed.entries.items → IsNewBlock new (parts_of t) ds owed.axioms block_of
+      functions-block J proofs a ds ds_are =
+          let q = p.passes in
+          let B = functions q.names q.formals q.bodies in
+          record {
+            means = subst (λ es. AreFunctions new es B) (sym ds_are) (functions-mean new B owed.entries.items (block-entries (arity_table now.definitions) p.drafts new new owed (Grows-refl new) q));
+            axioms_in = q.axioms_in;
+            axioms_are = q.axioms;
+            sound = subst (λ u. IsSound (add_to_theory u block_of)) (sym theory-same) (subst IsSound (ap (λ r. r.1) (sym a.1 ∙ functions-pass J proofs a)) a.2);
+          }
+
+  -- of a witness
+  module _ (name bound free body : ℕ) where
+    abbrev event : Object
+    event = skolem_event (object_at os name) (object_at os bound) (object_at os free) (object_at os body)
+
+    pub skolem-fails : (r : Reason) → FailsWitness t.arity (object_at os name) (object_at os bound) (object_at os free) (object_at os body) (refusal_of r) → skolem_at os now name bound free body ≡ refuse now (refusal_of r)
+    skolem-fails r fails = skolem-refused now event (refusal_of r) (subst (λ B. FailsWitness B (object_at os name) (object_at os bound) (object_at os free) (object_at os body) (refusal_of r)) arities fails)
+
+    pub skolem-passes : (owed : Owed) (p : PassesWitness t.arity (object_at os name) (object_at os bound) (object_at os free) (object_at os body) new name owed) → skolem_at os now name bound free body ≡ accept (add_to_theory now (Choice p.symbol p.first p.rest p.term))
+    skolem-passes owed p =
+        subst (λ B. (q : PassesWitness B (object_at os name) (object_at os bound) (object_at os free) (object_at os body) new name owed) → skolem now event ≡ accept (add_to_theory now (Choice q.symbol q.first q.rest q.term))) (sym arities)
+        (skolem-accepted now event new name owed) p
+
+    -- the witness is a new block
+    pub witness-block : IsIn os name → IsIn os bound → IsIn os free → (owed : Owed) (p : PassesWitness t.arity (object_at os name) (object_at os bound) (object_at os free) (object_at os body) new name owed) (w : Definition) → w ≡ Witness name bound free p.entry.body → IsSound (skolem_at os now name bound free body).1 → IsNewBlock new (parts_of t) (w ∷ []) owed.axioms (Choice p.symbol p.first p.rest p.term)
+    witness-block name_in bound_in free_in owed p w w_is sound =
+        let B = Choice p.symbol p.first p.rest p.term in
+        let e = witness-entry t.arity os new grows name bound free (object_at os body) owed name_in bound_in free_in p in
+        let means : IsBlock new (Witness name bound free p.entry.body ∷ []) B = record { name_in = e.name_in; bound_in = e.bound_in; free_in = e.free_in; body_in = e.body_in; name_is = e.name_is; bound_is = e.bound_is; free_are = e.free_are; body_is = e.body_is } in
+        record {
+          means = subst (λ d. IsBlock new (d ∷ []) B) (sym w_is) means;
+          axioms_in = p.axioms_in;
+          axioms_are = p.axioms;
+          sound = subst (λ u. IsSound (add_to_theory u B)) (sym theory-same) (subst IsSound (ap (λ r. r.1) (skolem-passes owed p)) sound);
+        }

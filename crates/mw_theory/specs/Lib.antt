@@ -1,0 +1,12 @@
+pub mod Entered
+pub mod Knowledge
+pub mod Code
+pub mod EventWords
+pub mod Words
+pub mod Adding
+pub mod Admitting
+pub mod Defining
+pub mod FirstName
+pub mod Worlds
+pub mod Proofs
+pub mod Settling

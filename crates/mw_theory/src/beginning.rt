@@ -1,0 +1,96 @@
+//! The initial theory.
+ghost use Rattle.std.specs.Prelude.{◌≡◌, ◌++◌, true, map, reverse, All, IfOk, OnOk};
+ghost use Rattle.mw_model.specs.Object.{Natural, Symbol, Pair, is_name, name_of_bytes};
+ghost use Rattle.mw_model.specs.Term.{table_object};
+ghost use Rattle.mw_model.specs.Theory.{initial};
+ghost use Rattle.mw_model.specs.Fate.{is_one};
+ghost use Rattle.mw_heap.specs.Objects.{object_at, IsIn, Grows};
+ghost use Rattle.mw_heap.specs.Variants.{profile_of};
+ghost use Rattle.mw_theory.specs.Knowledge.{parts_of, meant, put_all, IsHeld};
+
+use crate::adding::add_known;
+use crate::front::{with_all, with_pair};
+use crate::theory::Theory;
+use mw_axioms::build;
+use mw_heap::{Heap, Memory, Profile, Ref};
+use mw_preamble::admit_all;
+use mw_rules::Known;
+use mw_term::Arity;
+use mw_truth::soundness::initial_sound;
+
+/// The initial theory of a profile.
+pub fn begin(heap: &mut Heap, profile: Profile) -> Result<Theory, Memory>
+    ensures grows { Grows heap.old.objects heap.new.objects }
+    ensures held { IfOk result (IsHeld heap.new.objects) }
+    ensures theory { IfOk result (λ t. meant heap.new.objects (parts_of t) ≡ initial (profile_of profile)) }
+{
+    initial_sound();
+    let primitives = build(heap, profile)?;
+    let preamble = admit_all(heap, profile)?;
+    let arity_list = list_arities(heap, &preamble.arity)?;
+    let nil = heap.nil()?;
+    let mut known = Known::new(heap.alloc());
+    let axioms = add_axioms(heap, &mut known, nil, primitives.as_slice())?;
+    let axioms = add_axioms(heap, &mut known, axioms, preamble.axioms.as_slice())?;
+    Ok(Theory {
+        profile,
+        known_axioms: known,
+        known_theorems: Known::new(heap.alloc()),
+        arity: preamble.arity,
+        axioms,
+        theorems: nil,
+        arity_list,
+        entries: preamble.definitions,
+        table: preamble.table,
+        checker: None,
+        level: 1,
+        is_initial: is_first(profile),
+    })
+}
+
+// Whether it is the profile that a kernel begins with.
+fn is_first(profile: Profile) -> bool
+    ensures { result ≡ is_one (profile_of profile) }
+{
+    match profile {
+        Profile::One => true,
+        Profile::Two => false,
+    }
+}
+
+// Puts these axioms in front of those that are known, the last one foremost. The list of them is handed on.
+fn add_axioms(heap: &mut Heap, known: &mut Known, list: Ref, axioms: &[Ref]) -> Result<Ref, Memory>
+    requires list { IsIn heap.old.objects list }
+    requires axioms { All (IsIn heap.old.objects) axioms.now }
+    ensures grows { Grows heap.old.objects heap.new.objects }
+    ensures list { IfOk result (λ r. IsIn heap.new.objects r × (object_at heap.new.objects r ≡ put_all (map (object_at heap.old.objects) axioms.now) (object_at heap.old.objects list))) }
+    ensures known { OnOk result (known.new ≡ reverse axioms.now ++ known.old) }
+{
+    let list = with_all(heap, axioms, list)?;
+    add_known(known, axioms)?;
+    Ok(list)
+}
+
+// The arity table as an object, the newest pair first.
+fn list_arities(heap: &mut Heap, arity: &Arity) -> Result<Ref, Memory>
+    ensures grows { Grows heap.old.objects heap.new.objects }
+    ensures list { IfOk result (λ r. IsIn heap.new.objects r × (object_at heap.new.objects r ≡ table_object arity.now)) }
+{
+    let mut list = heap.nil()?;
+    for index in 0..arity.len() {
+        let (name, count) = arity.nth(index);
+        list = add_arity(heap, list, name, count)?;
+    }
+    Ok(list)
+}
+
+// Puts the pair (name . count) in front of a list.
+fn add_arity(heap: &mut Heap, list: Ref, name: &[u8], count: u64) -> Result<Ref, Memory>
+    requires list { IsIn heap.old.objects list }
+    requires name { is_name name.now ≡ true }
+    ensures grows { Grows heap.old.objects heap.new.objects }
+    ensures list { IfOk result (λ r. IsIn heap.new.objects r × (object_at heap.new.objects r ≡ Pair (Pair (Symbol (name_of_bytes name.now)) (Natural count)) (object_at heap.old.objects list))) }
+{
+    let name = heap.symbol(name)?;
+    with_pair(heap, name, count, list)
+}

@@ -1,0 +1,110 @@
+//! The events, by their members.
+ghost use Rattle.std.specs.Prelude.{◌≡◌, false, MatchOption, None};
+ghost use Rattle.mw_model.specs.Object.{has_members};
+ghost use Rattle.mw_model.specs.Fate.{event_word, is_out_of_range};
+ghost use Rattle.mw_heap.specs.Objects.{object_at, IsIn};
+ghost use Rattle.mw_theory.specs.EventWords.{members_after};
+ghost use Rattle.mw_theory.specs.Words.{IsEvent, IsEventOf};
+
+use crate::members::{five_members, four_members, one_member, three_members, two_members};
+use crate::word::{Word, word_of};
+use mw_heap::{Heap, Ref, View};
+
+/// An event, by its members after its word, in order.
+#[derive(Clone, Copy)]
+pub enum Event {
+    /// A theorem with its proof.
+    Verify {
+        name: Ref,
+        formula: Ref,
+        proof: Ref,
+    },
+    /// A function, with the proofs of its obligations.
+    Define {
+        name: Ref,
+        formals: Ref,
+        body: Ref,
+        measure: Ref,
+        proofs: Ref,
+    },
+    /// A witness.
+    Skolem {
+        name: Ref,
+        bound: Ref,
+        free: Ref,
+        body: Ref,
+    },
+    /// A switch to the checker of this name.
+    Switch(Ref),
+    /// A term to be evaluated.
+    Eval(Ref),
+    /// An object to be shown.
+    Print(Ref),
+    /// Functions that may call each other, with the proofs of their obligations.
+    DefineAll {
+        definitions: Ref,
+        proofs: Ref,
+    },
+    /// A profile, by its number.
+    Profile(Ref),
+}
+
+// The event of this word with these members, where they are as many as it has.
+fn event_with(heap: &Heap, word: Word, members: Ref) -> Option<Event>
+    requires { IsIn heap.now.objects members }
+    ensures { MatchOption result (has_members (members_after word) (object_at heap.now.objects members) ≡ false) (IsEventOf heap.now.objects word members) }
+{
+    match word {
+        Word::Verify => {
+            let m = three_members(heap, members)?;
+            Some(Event::Verify {
+                name: m.0,
+                formula: m.1,
+                proof: m.2,
+            })
+        }
+        Word::Define => {
+            let m = five_members(heap, members)?;
+            Some(Event::Define {
+                name: m.0,
+                formals: m.1,
+                body: m.2,
+                measure: m.3,
+                proofs: m.4,
+            })
+        }
+        Word::Skolem => {
+            let m = four_members(heap, members)?;
+            Some(Event::Skolem {
+                name: m.0,
+                bound: m.1,
+                free: m.2,
+                body: m.3,
+            })
+        }
+        Word::DefineAll => {
+            let m = two_members(heap, members)?;
+            Some(Event::DefineAll {
+                definitions: m.0,
+                proofs: m.1,
+            })
+        }
+        Word::Switch => Some(Event::Switch(one_member(heap, members)?)),
+        Word::Eval => Some(Event::Eval(one_member(heap, members)?)),
+        Word::Print => Some(Event::Print(one_member(heap, members)?)),
+        Word::Profile => Some(Event::Profile(one_member(heap, members)?)),
+    }
+}
+
+/// The event that an object is, by its word and as many members as that has; nothing of what is none.
+pub fn event_of(heap: &Heap, x: Ref) -> Option<Event>
+    requires { IsIn heap.now.objects x }
+    ensures event { MatchOption result (event_word (object_at heap.now.objects x) ≡ None) (IsEvent heap.now.objects x) }
+    ensures in_range { is_out_of_range (object_at heap.now.objects x) ≡ false }
+{
+    let View::Pair(first, members) = heap.view(x) else {
+        return None;
+    };
+    let word = word_of(heap, first)?;
+    event_with(heap, word, members)
+}

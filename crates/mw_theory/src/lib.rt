@@ -1,0 +1,32 @@
+//! What is kept of a theory that is sound, what may be added to it, and the events by their members.
+#![tactic(auto)]
+
+mod adding;
+mod admitting;
+mod beginning;
+mod coding;
+mod define;
+mod event;
+mod first_name;
+mod front;
+mod judge;
+mod mark;
+mod members;
+mod pairs;
+mod profile;
+mod proofs;
+mod settling;
+mod symbol;
+mod theory;
+mod verify;
+mod word;
+mod world;
+
+pub use admitting::Drafts;
+pub use event::{Event, event_of};
+pub use judge::Judge;
+pub use mark::later;
+pub use members::five_members;
+pub use symbol::is_symbol;
+pub use theory::Theory;
+pub use world::World;

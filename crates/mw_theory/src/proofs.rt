@@ -1,0 +1,100 @@
+//! The proofs that an event comes with, one for each formula that it owes.
+ghost use Rattle.std.specs.Prelude.{◌≡◌, List, true, All, IfOk, option_map};
+ghost use Rattle.mw_model.specs.Object.{Object, has_members};
+ghost use Rattle.mw_model.specs.Term.{Formula};
+ghost use Rattle.mw_model.specs.RulesInduction.{formulas_object, is_list_object, length_object};
+ghost use Rattle.mw_heap.specs.Objects.{object_at, IsIn, Grows};
+ghost use Rattle.mw_heap.specs.Variants.{refusal_of};
+ghost use Rattle.mw_term.specs.Marking.{AreMarks};
+ghost use Rattle.mw_heap.specs.Lists.{list_object};
+ghost use Rattle.mw_theory.specs.Knowledge.{parts_of, meant, IsHeld};
+ghost use Rattle.mw_theory.specs.Proofs.{judged_each, judged_all};
+
+use crate::judge::Judge;
+use crate::theory::Theory;
+use mw_heap::{Heap, Memory, Ref, Refusal, View};
+use mw_term::Marks;
+
+/// Why this list of proofs is refused for the list of formulas, where it is: for its length, else for the first of its members that is
+/// no proof of the formula at its place. It extends the marks, which are under the arity table.
+pub(crate) fn refusal_of_proofs<J: Judge>(
+    heap: &mut Heap,
+    obligations: Ref,
+    proofs: Ref,
+    theory: &Theory,
+    marks: &mut Marks,
+    judge: &mut J,
+) -> Result<Option<Refusal>, Memory>
+    requires obligations { IsIn heap.old.objects obligations }
+    requires proofs { IsIn heap.old.objects proofs }
+    requires held { IsHeld heap.old.objects theory.now }
+    requires ready { (os : List Object) × Grows os heap.old.objects × J.ready judge.old os }
+    requires marked { AreMarks theory.now.arity heap.old.objects marks.old }
+    ensures grows { Grows heap.old.objects heap.new.objects }
+    ensures marked { AreMarks theory.now.arity heap.new.objects marks.new }
+    ensures same { J.judges judge.new ≡ J.judges judge.old }
+    ensures limit { J.limit judge.new ≡ J.limit judge.old }
+    ensures ready { (os : List Object) → J.ready judge.old os → J.ready judge.new os }
+    ensures refusal { (os : List Object) → Grows os heap.old.objects → J.ready judge.old os → IfOk result (λ r. (Fs : List Formula) → object_at heap.old.objects obligations ≡ formulas_object Fs → option_map refusal_of r ≡ judged_all (J.judges judge.old os) (meant heap.old.objects (parts_of theory.now)) Fs (object_at heap.old.objects proofs)) }
+{
+    if !has_as_many(heap, proofs, obligations) {
+        return Ok(Some(Refusal::Count));
+    }
+    first_refusal(heap, obligations, proofs, theory, marks, judge)
+}
+
+// Whether it is a proper list of as many members as the other list has.
+fn has_as_many(heap: &Heap, list: Ref, other: Ref) -> bool
+    requires list { IsIn heap.now.objects list }
+    requires other { IsIn heap.now.objects other }
+    ensures { result ≡ has_members (length_object (object_at heap.now.objects other)) (object_at heap.now.objects list) }
+{
+    let mut rest = list;
+    let mut others = other;
+    while let View::Pair(_, more) = heap.view(others) {
+        let View::Pair(_, members) = heap.view(rest) else {
+            return false;
+        };
+        rest = members;
+        others = more;
+    }
+    heap.is_nil(Some(rest))
+}
+
+// The first refusal, proof by proof, of as many proofs as formulas.
+fn first_refusal<J: Judge>(
+    heap: &mut Heap,
+    obligations: Ref,
+    proofs: Ref,
+    theory: &Theory,
+    marks: &mut Marks,
+    judge: &mut J,
+) -> Result<Option<Refusal>, Memory>
+    requires obligations { IsIn heap.old.objects obligations }
+    requires proofs { IsIn heap.old.objects proofs }
+    requires many { has_members (length_object (object_at heap.old.objects obligations)) (object_at heap.old.objects proofs) ≡ true }
+    requires held { IsHeld heap.old.objects theory.now }
+    requires ready { (os : List Object) × Grows os heap.old.objects × J.ready judge.old os }
+    requires marked { AreMarks theory.now.arity heap.old.objects marks.old }
+    ensures grows { Grows heap.old.objects heap.new.objects }
+    ensures marked { AreMarks theory.now.arity heap.new.objects marks.new }
+    ensures same { J.judges judge.new ≡ J.judges judge.old }
+    ensures limit { J.limit judge.new ≡ J.limit judge.old }
+    ensures ready { (os : List Object) → J.ready judge.old os → J.ready judge.new os }
+    ensures refusal { (os : List Object) → Grows os heap.old.objects → J.ready judge.old os → IfOk result (λ r. (Fs : List Formula) → object_at heap.old.objects obligations ≡ formulas_object Fs → option_map refusal_of r ≡ judged_each (J.judges judge.old os) (meant heap.old.objects (parts_of theory.now)) Fs (object_at heap.old.objects proofs)) }
+{
+    let mut formulas = obligations;
+    let mut rest = proofs;
+    while let View::Pair(formula, more) = heap.view(formulas) {
+        let View::Pair(proof, others) = heap.view(rest) else {
+            unreachable!()
+        };
+        let refusal = judge.refusal(heap, formula, proof, theory, marks)?;
+        if refusal.is_some() {
+            return Ok(refusal);
+        }
+        formulas = more;
+        rest = others;
+    }
+    Ok(None)
+}

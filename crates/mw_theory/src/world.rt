@@ -1,0 +1,154 @@
+//! A theory in its heap, and how it changes.
+ghost use Rattle.std.specs.Prelude.{◌≡◌, ℕ, ◌≤◌, List, [], length, take, IfOk, OnOk, OnErr};
+ghost use Rattle.mw_model.specs.Object.{Object};
+ghost use Rattle.mw_model.specs.Term.{ArityTable};
+ghost use Rattle.mw_model.specs.Primitive.{One, Two};
+ghost use Rattle.mw_model.specs.Definition.{Block};
+ghost use Rattle.mw_model.specs.Theory.{initial, IsSound};
+ghost use Rattle.mw_model.specs.Admission.{add_to_theory};
+ghost use Rattle.mw_heap.specs.Objects.{object_at, IsIn};
+ghost use Rattle.mw_term.specs.Marking.{AreMarks};
+ghost use Rattle.mw_theory.specs.Worlds.{theory_in, IsWorld};
+ghost use Rattle.mw_theory.specs.Knowledge.{with_theorem};
+ghost use Rattle.mw_theory.specs.Defining.{IsNewBlockIn};
+
+use crate::beginning::begin;
+use crate::first_name::first_name;
+use crate::mark::later;
+use crate::theory::Theory;
+use mw_heap::{Heap, Mark, Memory, Profile, Ref, looks_for};
+use mw_preamble::Definition;
+use mw_term::Marks;
+use std::alloc::Global;
+
+/// A sound theory, and the heap that has its objects.
+#[derive(Drop)]
+pub struct World {
+    pub heap: Heap,
+    /// How much of the heap the theory needs.
+    pub needed: Mark,
+    pub theory: Theory,
+    /// Which objects of the heap are terms and formulas under the arity table.
+    pub marks: Marks,
+}
+
+impl World {
+    /// The initial theory of the first profile.
+    pub fn new(alloc: Global) -> Result<World, Memory>
+        ensures world { IfOk result IsWorld }
+        ensures theory { IfOk result (λ w. theory_in w ≡ initial One) }
+        ensures room { IfOk result (λ w. length w.heap.objects ≡ w.needed) }
+    {
+        let mut heap = Heap::new(alloc)?;
+        heap.keep_words()?;
+        let theory = begin(&mut heap, Profile::One)?;
+        Ok(World {
+            needed: heap.mark(),
+            heap,
+            theory,
+            marks: Marks::new(alloc),
+        })
+    }
+
+    /// Allows an event as many looks at cells as its own cells give it.
+    pub fn allow_looks(&mut self)
+        requires world { IsWorld self.old }
+        ensures world { IsWorld self.new }
+        ensures objects { self.new.heap.objects ≡ self.old.heap.objects }
+        ensures rest { self.new ≡ record self.old { heap = self.new.heap } }
+    {
+        let cells = self.heap.mark().cells().saturating_sub(self.needed.cells());
+        self.heap.allow_looks(looks_for(cells));
+    }
+
+    /// Adds a theorem. Of the objects that the theory does not need, only those that came before it stay.
+    pub fn add_theorem(&mut self, formula: Ref) -> Result<(), Memory>
+        requires world { IsWorld self.old }
+        requires within { IsIn self.old.heap.objects formula }
+        requires sound { IsSound (with_theorem (theory_in self.old) (object_at self.old.heap.objects formula)) }
+        ensures world { IsWorld self.new }
+        ensures theory { OnOk result (theory_in self.new ≡ with_theorem (theory_in self.old) (object_at self.old.heap.objects formula)) }
+        ensures err { OnErr result (theory_in self.new ≡ theory_in self.old) }
+    {
+        let behind = self.heap.mark_after(formula);
+        self.cut_to(later(behind, self.needed));
+        self.theory.add_theorem(&mut self.heap, formula)?;
+        self.needed = self.heap.mark();
+        Ok(())
+    }
+
+    /// Adds a block of definitions with the list of its axioms. The marks of the objects before its names stay.
+    pub fn add_definitions(&mut self, block: &[Definition], axioms: Ref) -> Result<(), Memory>
+        requires world { IsWorld self.old }
+        requires block { (B : Block) × IsNewBlockIn self.old block.now axioms B }
+        ensures world { IsWorld self.new }
+        ensures theory { (B : Block) → IsNewBlockIn self.old block.now axioms B → OnOk result (theory_in self.new ≡ add_to_theory (theory_in self.old) B) }
+        ensures err { OnErr result (theory_in self.new ≡ theory_in self.old) }
+        ensures err_needed { OnErr result (self.new.needed ≡ self.old.needed) }
+    {
+        let first = first_name(&self.heap, block);
+        forget_marks(&mut self.marks, first);
+        self.theory.add_definitions(&mut self.heap, block, axioms)?;
+        self.needed = self.heap.mark();
+        Ok(())
+    }
+
+    /// Begins the initial theory of the second profile in place of the theory. The objects that were needed stay in the heap: the new theory
+    /// has nearly all of them.
+    pub fn begin_second(&mut self) -> Result<(), Memory>
+        requires world { IsWorld self.old }
+        ensures world { IsWorld self.new }
+        ensures theory { OnOk result (theory_in self.new ≡ initial Two) }
+        ensures err { OnErr result (theory_in self.new ≡ theory_in self.old) }
+    {
+        let theory = begin(&mut self.heap, Profile::Two)?;
+        self.theory = theory;
+        self.marks = Marks::new(self.heap.alloc());
+        self.needed = self.heap.mark();
+        Ok(())
+    }
+
+    /// Forgets the objects that the theory does not need.
+    pub fn cut(&mut self)
+        requires world { IsWorld self.old }
+        ensures world { IsWorld self.new }
+        ensures objects { self.new.heap.objects ≡ take self.old.needed self.old.heap.objects }
+        ensures theory_kept { self.new.theory ≡ self.old.theory }
+        ensures theory { theory_in self.new ≡ theory_in self.old }
+        ensures needed { self.new.needed ≡ self.old.needed }
+        ensures room { length self.new.heap.objects ≡ self.new.needed }
+    {
+        self.cut_to(self.needed);
+    }
+
+    /// Forgets the objects from a mark on, which the theory does not need.
+    pub fn cut_to(&mut self, to: Mark)
+        requires world { IsWorld self.old }
+        requires needed { self.old.needed ≤ to }
+        requires within { to ≤ length self.old.heap.objects }
+        ensures world { IsWorld self.new }
+        ensures objects { self.new.heap.objects ≡ take to self.old.heap.objects }
+        ensures theory_kept { self.new.theory ≡ self.old.theory }
+        ensures theory { theory_in self.new ≡ theory_in self.old }
+        ensures needed { self.new.needed ≡ self.old.needed }
+    {
+        cut_marks(&mut self.marks, to);
+        self.heap.cut_back(to);
+    }
+}
+
+// Forgets the marks of the objects from there on, since the heap forgets these.
+fn cut_marks(marks: &mut Marks, to: Mark)
+    ensures few { length marks.new ≤ to }
+    ensures marked { (A : ArityTable) (os : List Object) → AreMarks A os marks.old → AreMarks A os marks.new }
+{
+    marks.cut(to);
+}
+
+// The same, since they may be other terms under a new table.
+fn forget_marks(marks: &mut Marks, from: Mark)
+    ensures few { length marks.new ≤ from }
+    ensures marked { (A : ArityTable) (os : List Object) → AreMarks A os marks.old → AreMarks A os marks.new }
+{
+    marks.forget(from);
+}
