@@ -13,6 +13,7 @@ pub mod Courses
 pub mod LoweredPieces
 pub mod FlatPieces
 pub mod FlatWritten
+pub mod ShortTheorems
 pub mod SlicedTexts
 pub mod Promising
 pub mod Proved
