@@ -52,6 +52,14 @@ place_of-below word.Induction = omega arith
 place_of-below word.Ordp = omega arith
 place_of-below word.OrdLess = omega arith
 place_of-below word.Step = omega arith
+place_of-below word.CommuteOr = omega arith
+place_of-below word.ModusPonens = omega arith
+place_of-below word.Symmetry = omega arith
+place_of-below word.Transitivity = omega arith
+place_of-below word.Replace = omega arith
+place_of-below word.Car = omega arith
+place_of-below word.Cdr = omega arith
+place_of-below word.Cons = omega arith
 
 -- the list of all words has each in its place
 pub word_in_place : (d w : Word) → get_or WORDS (place_of w) d ≡ w
@@ -97,6 +105,14 @@ word_in_place d word.Induction = refl
 word_in_place d word.Ordp = refl
 word_in_place d word.OrdLess = refl
 word_in_place d word.Step = refl
+word_in_place d word.CommuteOr = refl
+word_in_place d word.ModusPonens = refl
+word_in_place d word.Symmetry = refl
+word_in_place d word.Transitivity = refl
+word_in_place d word.Replace = refl
+word_in_place d word.Car = refl
+word_in_place d word.Cdr = refl
+word_in_place d word.Cons = refl
 
 -- NIL stands first
 pub nil_is_first : (w : Word) → eqb (place_of w) 0 ≡ same_object NIL (word_object w)
@@ -142,6 +158,14 @@ nil_is_first word.Induction = refl
 nil_is_first word.Ordp = refl
 nil_is_first word.OrdLess = refl
 nil_is_first word.Step = refl
+nil_is_first word.CommuteOr = refl
+nil_is_first word.ModusPonens = refl
+nil_is_first word.Symmetry = refl
+nil_is_first word.Transitivity = refl
+nil_is_first word.Replace = refl
+nil_is_first word.Car = refl
+nil_is_first word.Cdr = refl
+nil_is_first word.Cons = refl
 
 -- growth keeps the words
 pub KeepsWords-Grows : (known : Bool) (inside old new : List Object) → inside ≡ old → Grows old new → KeepsWords known inside → KeepsWords known new

@@ -52,6 +52,14 @@ word_bytes word.Induction = codes "INDUCTION"
 word_bytes word.Ordp = codes "ORDP"
 word_bytes word.OrdLess = codes "ORD<"
 word_bytes word.Step = codes "STEP"
+word_bytes word.CommuteOr = codes "COMMUTE-OR"
+word_bytes word.ModusPonens = codes "MODUS-PONENS"
+word_bytes word.Symmetry = codes "SYMMETRY"
+word_bytes word.Transitivity = codes "TRANSITIVITY"
+word_bytes word.Replace = codes "REPLACE"
+word_bytes word.Car = codes "CAR"
+word_bytes word.Cdr = codes "CDR"
+word_bytes word.Cons = codes "CONS"
 
 -- the symbol that the word is
 abbrev pub word_object : Word → Object
@@ -100,9 +108,17 @@ place_of word.Induction = 38
 place_of word.Ordp = 39
 place_of word.OrdLess = 40
 place_of word.Step = 41
+place_of word.CommuteOr = 42
+place_of word.ModusPonens = 43
+place_of word.Symmetry = 44
+place_of word.Transitivity = 45
+place_of word.Replace = 46
+place_of word.Car = 47
+place_of word.Cdr = 48
+place_of word.Cons = 49
 
 abbrev pub word_count : ℕ
-word_count = 42
+word_count = 50
 
 -- each word stands in its place, if this is known
 abbrev pub KeepsWords : Bool → List Object → Type 0

@@ -4,6 +4,7 @@
 
 mod bare;
 mod cell;
+mod formula_parts;
 mod heap;
 mod lengths;
 mod list;

@@ -1,10 +1,11 @@
 //! Lists of objects.
-ghost use Rattle.std.specs.Prelude.{◌≡◌, true, All, IfOk};
-ghost use Rattle.mw_model.specs.Object.{Symbol, Pair, is_name, name_of_bytes};
+ghost use Rattle.std.specs.Prelude.{◌≡◌, All, IfOk};
+ghost use Rattle.mw_model.specs.Object.{Pair};
 ghost use Rattle.mw_heap.specs.Objects.{object_at, IsIn, Grows};
 ghost use Rattle.mw_heap.specs.Lists.{list_object};
+ghost use Rattle.mw_heap.specs.Words.{word_object};
 
-use crate::{Heap, Memory, Ref};
+use crate::{Heap, Memory, Ref, Word};
 
 /// The list of these members. The error is memory that is refused: the heap may then have grown.
 pub fn list_of(heap: &mut Heap, members: &[Ref]) -> Result<Ref, Memory>
@@ -19,14 +20,13 @@ pub fn list_of(heap: &mut Heap, members: &[Ref]) -> Result<Ref, Memory>
     Ok(list)
 }
 
-/// The list of the symbol of this name and, after it, of these members. The error is that of `list_of`.
-pub fn form_of(heap: &mut Heap, head: &[u8], members: &[Ref]) -> Result<Ref, Memory>
-    requires name { is_name head.now ≡ true }
-    requires members { All (IsIn heap.old.objects) members.now }
+/// The list of the word and, after it, of these members. The error is that of `list_of`.
+pub fn form_of(heap: &mut Heap, word: Word, members: &[Ref]) -> Result<Ref, Memory>
+    requires { All (IsIn heap.old.objects) members.now }
     ensures grows { Grows heap.old.objects heap.new.objects }
-    ensures made { IfOk result (λ r. IsIn heap.new.objects r × (object_at heap.new.objects r ≡ Pair (Symbol (name_of_bytes head.now)) (list_object heap.old.objects members.now))) }
+    ensures made { IfOk result (λ r. IsIn heap.new.objects r × (object_at heap.new.objects r ≡ Pair (word_object word) (list_object heap.old.objects members.now))) }
 {
     let rest = list_of(heap, members)?;
-    let head = heap.symbol(head)?;
+    let head = heap.word(word)?;
     heap.cons(head, rest)
 }

@@ -91,10 +91,26 @@ pub enum Word {
     OrdLess,
     /// STEP
     Step,
+    /// COMMUTE-OR
+    CommuteOr,
+    /// MODUS-PONENS
+    ModusPonens,
+    /// SYMMETRY
+    Symmetry,
+    /// TRANSITIVITY
+    Transitivity,
+    /// REPLACE
+    Replace,
+    /// CAR
+    Car,
+    /// CDR
+    Cdr,
+    /// CONS
+    Cons,
 }
 
 // All of them, in order.
-pub(crate) static WORDS: [Word; 42] = [
+pub(crate) static WORDS: [Word; 50] = [
     Word::Nil,
     Word::T,
     Word::Quote,
@@ -137,6 +153,14 @@ pub(crate) static WORDS: [Word; 42] = [
     Word::Ordp,
     Word::OrdLess,
     Word::Step,
+    Word::CommuteOr,
+    Word::ModusPonens,
+    Word::Symmetry,
+    Word::Transitivity,
+    Word::Replace,
+    Word::Car,
+    Word::Cdr,
+    Word::Cons,
 ];
 
 impl Word {
@@ -187,6 +211,14 @@ impl Word {
             Word::Ordp => b"ORDP",
             Word::OrdLess => b"ORD<",
             Word::Step => b"STEP",
+            Word::CommuteOr => b"COMMUTE-OR",
+            Word::ModusPonens => b"MODUS-PONENS",
+            Word::Symmetry => b"SYMMETRY",
+            Word::Transitivity => b"TRANSITIVITY",
+            Word::Replace => b"REPLACE",
+            Word::Car => b"CAR",
+            Word::Cdr => b"CDR",
+            Word::Cons => b"CONS",
         }
     }
 
@@ -237,6 +269,14 @@ impl Word {
             Word::Ordp => 39,
             Word::OrdLess => 40,
             Word::Step => 41,
+            Word::CommuteOr => 42,
+            Word::ModusPonens => 43,
+            Word::Symmetry => 44,
+            Word::Transitivity => 45,
+            Word::Replace => 46,
+            Word::Car => 47,
+            Word::Cdr => 48,
+            Word::Cons => 49,
         };
         Ref::new(place)
     }

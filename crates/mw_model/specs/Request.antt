@@ -1,5 +1,4 @@
--- What the program may be asked for. What words ask for which of them is said where the program reads its words; requests that no words make yet
--- are those of commands that are still to come.
+-- What the program may be asked for. What words ask for which of them is said where the program reads its words.
 use Rattle.std.specs.Prelude.{ℕ}
 use Rattle.mw_model.specs.Object.{Name}
 

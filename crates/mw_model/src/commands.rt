@@ -1,4 +1,4 @@
-//! Laws on what `taut` owes, and what the commands that are still to come will.
+//! Laws on what the commands `taut`, `lower`, `slice`, `flat` and `recheck` owe.
 ghost use Rattle.std.specs.Prelude.{◌≡◌, ◌↔◌, ℕ, ◌≤◌, ◌<◌, Bool, false, true, List, [], ◌∷◌, ◌++◌, length, map, Some, None};
 ghost use Rattle.mw_model.specs.Object.{Object, Member};
 ghost use Rattle.mw_model.specs.Term.{ArityTable, Formula, formula_object};
