@@ -2,10 +2,10 @@
 use Rattle.std.proofs.Common.{◌≡◌, Bool, true, false, ◌&&◌, List, [], ◌∷◌, refl, ap₂}
 use Rattle.std.specs.Prelude.{map, reverse}
 use Rattle.std.proofs.lemmas.Bool.{and_parts}
-use Rattle.mw_model.specs.Object.{Object, same_object}
-use Rattle.mw_model.specs.Term.{formula_object}
-use Rattle.mw_model.specs.Primitive.{One, Two}
-use Rattle.mw_model.specs.Axioms.{primitive_axioms}
+use Rattle.mw_model.specs.Terms.Object.{Object, same_object}
+use Rattle.mw_model.specs.Terms.Term.{formula_object}
+use Rattle.mw_model.specs.Values.Primitive.{One, Two}
+use Rattle.mw_model.specs.Proofs.Axioms.{primitive_axioms}
 use Rattle.mw_model.proofs.Names.{same_object-eq}
 use Rattle.mw_axioms.specs.Pieces.{run}
 use Rattle.mw_axioms.specs.declared.table.TheConstants.{SHARED, OF_TIMES}

@@ -1,6 +1,6 @@
 -- What the pieces of the table of axioms mean: a machine puts objects on a stack, the newest first.
 use Rattle.std.specs.Prelude.{ℕ, zero, suc, List, [], ◌∷◌, codes}
-use Rattle.mw_model.specs.Object.{Object, Natural, Symbol, Pair, name_of_bytes, NIL}
+use Rattle.mw_model.specs.Terms.Object.{Object, Natural, Symbol, Pair, name_of_bytes, NIL}
 use Rattle.mw_axioms.specs.declared.piece.Word.{Word}
 use Rattle.mw_axioms.specs.declared.piece.Word.TheVariants.{X, Y, Z, A, B, C, X1, X2, Y1, Y2, T, Nil, Quote, Is, Not, Or, If, Equal, Consp, Cons, Car, Cdr, Symbolp, SymbolLess, Natp, Less, Plus, Minus, Times}
 use Rattle.mw_axioms.specs.declared.piece.Piece.{Piece}

@@ -1,6 +1,6 @@
 -- The objects of references on a stack.
 use Rattle.std.specs.Prelude.{ℕ, List, map, reverse, All}
-use Rattle.mw_model.specs.Object.{Object}
+use Rattle.mw_model.specs.Terms.Object.{Object}
 use Rattle.mw_heap.specs.Objects.{object_at, IsIn}
 
 -- the newest first

@@ -1,7 +1,7 @@
 //! The axioms of the primitives in a heap.
 ghost use Rattle.std.specs.Prelude.{◌≡◌, IfOk, map};
-ghost use Rattle.mw_model.specs.Term.{formula_object};
-ghost use Rattle.mw_model.specs.Axioms.{primitive_axioms};
+ghost use Rattle.mw_model.specs.Terms.Term.{formula_object};
+ghost use Rattle.mw_model.specs.Proofs.Axioms.{primitive_axioms};
 ghost use Rattle.mw_heap.specs.Objects.{object_at, Grows};
 ghost use Rattle.mw_heap.specs.Variants.{profile_of};
 ghost use Rattle.mw_axioms.specs.Stacks.{AreIn};

@@ -1,6 +1,6 @@
 //! The stack machine that makes objects of pieces.
 ghost use Rattle.std.specs.Prelude.{◌≡◌, [], ◌∷◌, OnOk, OnErr};
-ghost use Rattle.mw_model.specs.Object.{NIL};
+ghost use Rattle.mw_model.specs.Terms.Object.{NIL};
 ghost use Rattle.mw_heap.specs.Objects.{object_at, IsIn, Grows};
 ghost use Rattle.mw_axioms.specs.Pieces.{gather, step, run};
 ghost use Rattle.mw_axioms.specs.Stacks.{stack_of, AreIn};

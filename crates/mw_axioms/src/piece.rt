@@ -1,6 +1,6 @@
 //! The pieces of which the table of axioms is made.
 ghost use Rattle.std.specs.Prelude.{◌≡◌, true};
-ghost use Rattle.mw_model.specs.Object.{is_name};
+ghost use Rattle.mw_model.specs.Terms.Object.{is_name};
 ghost use Rattle.mw_axioms.specs.Pieces.{bytes_of};
 
 /// A symbol that stands in an axiom.

@@ -1,8 +1,8 @@
 -- The tests of constants by their parts.
 use Rattle.std.proofs.Common.{◌≡◌, Bool, true, false, ◌&&◌, refl}
-use Rattle.mw_model.specs.Object.{Object, Natural, Symbol, Pair, symbol, same_object, NIL, car, second_of, third_of}
-use Rattle.mw_model.specs.Primitive.{first_value, second_value}
-use Rattle.mw_model.specs.Rules.{is_constant_object, unquoted, third_value}
+use Rattle.mw_model.specs.Terms.Object.{Object, Natural, Symbol, Pair, symbol, same_object, NIL, car, second_of, third_of}
+use Rattle.mw_model.specs.Values.Primitive.{first_value, second_value}
+use Rattle.mw_model.specs.Laws.Rules.{is_constant_object, unquoted, third_value}
 
 and-false : (b : Bool) → (b && false) ≡ false
 and-false true = refl

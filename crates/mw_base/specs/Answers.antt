@@ -1,9 +1,9 @@
 -- What a primitive function, or IF, answers at references of a heap.
 use Rattle.std.specs.Prelude.{◌≡◌, ℕ, Bool, true, false, List, Option, Some, None}
-use Rattle.mw_model.specs.Object.{Object}
-use Rattle.mw_model.specs.Primitive.{Primitive, primitive_arity, apply, choose, first_value, second_value}
-use Rattle.mw_model.specs.Evaluation.{is_past_range}
-use Rattle.mw_model.specs.Rules.{third_value}
+use Rattle.mw_model.specs.Terms.Object.{Object}
+use Rattle.mw_model.specs.Values.Primitive.{Primitive, primitive_arity, apply, choose, first_value, second_value}
+use Rattle.mw_model.specs.Events.Evaluation.{is_past_range}
+use Rattle.mw_model.specs.Laws.Rules.{third_value}
 use Rattle.mw_heap.specs.Objects.{object_at, IsIn}
 use Rattle.mw_heap.specs.Variants.{primitive_of}
 use Rattle.mw_heap.specs.declared.primitive.Primitive.{Primitive as Word}

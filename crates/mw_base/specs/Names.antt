@@ -1,7 +1,7 @@
 -- How much of names a primitive function looks at.
 use Rattle.std.specs.Prelude.{ℕ, ◌/◌, min, List, [], ◌∷◌, length}
-use Rattle.mw_model.specs.Object.{Object}
-use Rattle.mw_model.specs.Primitive.{name_of}
+use Rattle.mw_model.specs.Terms.Object.{Object}
+use Rattle.mw_model.specs.Values.Primitive.{name_of}
 use Rattle.mw_heap.specs.declared.primitive.Primitive.{Primitive as Word}
 use Rattle.mw_heap.specs.declared.primitive.Primitive.TheVariants as word
 

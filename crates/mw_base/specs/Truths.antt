@@ -1,6 +1,6 @@
 -- The references of T and NIL.
 use Rattle.std.specs.Prelude.{◌≡◌, List}
-use Rattle.mw_model.specs.Object.{Object, T, NIL}
+use Rattle.mw_model.specs.Terms.Object.{Object, T, NIL}
 use Rattle.mw_heap.specs.Objects.{object_at, IsIn}
 use Rattle.mw_base.specs.declared.truths.Truths.{Truths}
 

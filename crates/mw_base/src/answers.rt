@@ -1,6 +1,6 @@
 //! Answers from what was found.
 ghost use Rattle.std.specs.Prelude.{◌≡◌, ◌<◌, ◌≤◌, ◌+◌, false, MatchOption};
-ghost use Rattle.mw_model.specs.Object.{Natural, Pair};
+ghost use Rattle.mw_model.specs.Terms.Object.{Natural, Pair};
 ghost use Rattle.mw_heap.specs.Objects.{object_at, IsIn, Grows};
 ghost use Rattle.mw_base.specs.declared.applied.Applied.TheVariants.{Overflow};
 ghost use Rattle.mw_base.specs.Answers.{Answers, IsAnswered};

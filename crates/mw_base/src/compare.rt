@@ -1,8 +1,8 @@
 //! Whether an object is the value of a primitive function, told without making the value.
 ghost use Rattle.std.specs.Prelude.{◌≡◌, ℕ, ◌<◌, ◌^◌, [], ◌∷◌};
 ghost use Rattle.std.specs.Option.{SomeIff};
-ghost use Rattle.mw_model.specs.Object.{Natural, Pair, same_object, truth_of, car, cdr};
-ghost use Rattle.mw_model.specs.Primitive.{choose};
+ghost use Rattle.mw_model.specs.Terms.Object.{Natural, Pair, same_object, truth_of, car, cdr};
+ghost use Rattle.mw_model.specs.Values.Primitive.{choose};
 ghost use Rattle.mw_heap.specs.Parts.{part_at, IsPart};
 ghost use Rattle.mw_base.specs.Answers.{value_of};
 

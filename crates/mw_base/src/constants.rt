@@ -1,7 +1,7 @@
 //! Objects of constants.
 ghost use Rattle.std.specs.Prelude.{◌≡◌};
-ghost use Rattle.mw_model.specs.Object.{second_of};
-ghost use Rattle.mw_model.specs.Rules.{is_constant_object, are_constant_objects};
+ghost use Rattle.mw_model.specs.Terms.Object.{second_of};
+ghost use Rattle.mw_model.specs.Laws.Rules.{is_constant_object, are_constant_objects};
 ghost use Rattle.mw_heap.specs.Objects.{object_at, IsIn};
 ghost use Rattle.mw_heap.specs.Parts.{part_at, IsPart};
 

@@ -1,7 +1,7 @@
 //! The rule of proof that computes a primitive function at constants.
 ghost use Rattle.std.specs.Prelude.{◌≡◌, true};
-ghost use Rattle.mw_model.specs.Rules.{is_call_with_value, is_that_value, primitive_value, unquoted, object_is_base_eval};
-ghost use Rattle.mw_model.specs.Primitive.{is_symbol, name_of};
+ghost use Rattle.mw_model.specs.Laws.Rules.{is_call_with_value, is_that_value, primitive_value, unquoted, object_is_base_eval};
+ghost use Rattle.mw_model.specs.Values.Primitive.{is_symbol, name_of};
 ghost use Rattle.mw_heap.specs.Objects.{object_at, IsIn, Grows};
 ghost use Rattle.mw_heap.specs.Parts.{part_at, IsPart};
 ghost use Rattle.mw_heap.specs.Variants.{profile_of};

@@ -1,6 +1,6 @@
 //! T and NIL at hand.
 ghost use Rattle.std.specs.Prelude.{◌≡◌, IfOk};
-ghost use Rattle.mw_model.specs.Object.{truth_of};
+ghost use Rattle.mw_model.specs.Terms.Object.{truth_of};
 ghost use Rattle.mw_heap.specs.Objects.{object_at, IsIn, Grows};
 ghost use Rattle.mw_base.specs.Truths.{AreTruths};
 

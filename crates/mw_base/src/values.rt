@@ -1,7 +1,7 @@
 //! What an object counts as where a primitive function takes a name, and tests of its kind.
 ghost use Rattle.std.specs.Prelude.{◌≡◌, map, All};
-ghost use Rattle.mw_model.specs.Object.{is_before_bytes};
-ghost use Rattle.mw_model.specs.Primitive.{name_of, is_symbol, is_natural};
+ghost use Rattle.mw_model.specs.Terms.Object.{is_before_bytes};
+ghost use Rattle.mw_model.specs.Values.Primitive.{name_of, is_symbol, is_natural};
 ghost use Rattle.mw_heap.specs.Objects.{object_at, IsIn};
 ghost use Rattle.mw_heap.specs.Parts.{part_at, IsPart};
 ghost use Rattle.mw_base.specs.Names.{blocks_of};

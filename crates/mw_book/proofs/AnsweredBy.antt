@@ -1,8 +1,8 @@
 -- What follows for each request from what holds for those that are made.
 use Rattle.std.proofs.Common.{◌≡◌, ℕ, List, ◌++◌, Option, sym, subst}
-use Rattle.mw_model.specs.Object.{Object}
-use Rattle.mw_model.specs.Lexemes.{Fault}
-use Rattle.mw_model.specs.Request.{Request}
+use Rattle.mw_model.specs.Terms.Object.{Object}
+use Rattle.mw_model.specs.Texts.Lexemes.{Fault}
+use Rattle.mw_model.specs.Reports.Request.{Request}
 use Rattle.mw_book.specs.Answering.{Answers, AnsweredBy}
 use Rattle.mw_book.specs.Due.{AreAnswers, IsLastText, refused_for}
 

@@ -1,11 +1,11 @@
 -- Whatever the words ask for, nothing is a part of what is due.
 use Rattle.std.proofs.Common.{List, ℕ, Option, refl}
 use Rattle.clap.specs.Walk.{Text}
-use Rattle.mw_model.specs.Request.{Request, Check, Trial, Taut, Lower, Slice, Flat, Recheck, Help, Usage}
+use Rattle.mw_model.specs.Reports.Request.{Request, Check, Trial, Taut, Lower, Slice, Flat, Recheck, Help, Usage}
 use Rattle.mw_book.specs.Commands.{asked, help_text}
-use Rattle.mw_model.specs.Trial.{trial_book}
-use Rattle.mw_model.specs.Grammar.{trees}
-use Rattle.mw_model.specs.Report.{last_line}
+use Rattle.mw_model.specs.Reports.Trial.{trial_book}
+use Rattle.mw_model.specs.Texts.Grammar.{trees}
+use Rattle.mw_model.specs.Reports.Report.{last_line}
 use Rattle.mw_book.specs.Statuses.{IsPartOf}
 use Rattle.mw_book.proofs.Written.{nothing_taken}
 use Rattle.mw_book.proofs.Rounds.{Begins, part_none}

@@ -1,10 +1,10 @@
 -- What one datum more adds, and the numbers of the last line.
 use Rattle.std.proofs.Common.{◌≡◌, ℕ, suc, ◌+◌, ◌-◌, Bool, true, false, cond, not, List, [], ◌∷◌, ◌++◌, length, refl, sym, ap, ap₂, ◌∙◌, subst, arith, append_assoc, append-nil}
 use Rattle.std.proofs.lemmas.List.{length_push}
-use Rattle.mw_model.specs.Object.{Object}
-use Rattle.mw_model.specs.Pieces.{how_many}
-use Rattle.mw_model.specs.TautologyBook.{OwesTautology, is_proved, tautology_summary}
-use Rattle.mw_model.specs.Request.{Taut}
+use Rattle.mw_model.specs.Terms.Object.{Object}
+use Rattle.mw_model.specs.Texts.Pieces.{how_many}
+use Rattle.mw_model.specs.Commands.TautologyBook.{OwesTautology, is_proved, tautology_summary}
+use Rattle.mw_model.specs.Reports.Request.{Taut}
 use Rattle.mw_book.specs.Answered.{Answered, IsProving, ProvedFor, lines_of}
 use Rattle.mw_book.specs.Answering.{Answers}
 use Rattle.mw_book.specs.Due.{AreAnswers}

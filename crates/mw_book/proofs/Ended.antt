@@ -1,11 +1,11 @@
 -- The last line of a report.
 use Rattle.std.proofs.Common.{◌≡◌, ℕ, suc, ◌+◌, ◌-◌, Bool, true, false, cond, List, [], ◌∷◌, ◌++◌, length, codes, refl, ap, ◌∙◌, arith}
-use Rattle.mw_model.specs.Object.{Object}
-use Rattle.mw_model.specs.Primitive.{One}
-use Rattle.mw_model.specs.Theory.{Theory, initial}
-use Rattle.mw_model.specs.Fate.{fate, next, after}
-use Rattle.mw_model.specs.Printing.{numeral}
-use Rattle.mw_model.specs.Report.{spaced, is_accepted, accepted_among, refused_among, summary}
+use Rattle.mw_model.specs.Terms.Object.{Object}
+use Rattle.mw_model.specs.Values.Primitive.{One}
+use Rattle.mw_model.specs.Events.Theory.{Theory, initial}
+use Rattle.mw_model.specs.Events.Fate.{fate, next, after}
+use Rattle.mw_model.specs.Texts.Printing.{numeral}
+use Rattle.mw_model.specs.Reports.Report.{spaced, is_accepted, accepted_among, refused_among, summary}
 use Rattle.mw_kernel.specs.Knowledge.{theory_of}
 use Rattle.mw_book.specs.Knowing.{Judged}
 use Rattle.mw_book.specs.Lines.{summary_of}

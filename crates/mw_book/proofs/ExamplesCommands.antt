@@ -1,9 +1,9 @@
 -- What the words of a command line ask for.
 use Rattle.std.proofs.Common.{◌≡◌, [], ◌∷◌, refl, codes}
 use Rattle.clap.proofs.OnLiterals.{clap_on_literals}
-use Rattle.mw_model.specs.BuiltInText.{joined}
-use Rattle.mw_model.specs.Object.{named}
-use Rattle.mw_model.specs.Request.{Check, Trial, Taut, Lower, Slice, Flat, Recheck, Help, Usage}
+use Rattle.mw_model.specs.Laws.BuiltInText.{joined}
+use Rattle.mw_model.specs.Terms.Object.{named}
+use Rattle.mw_model.specs.Reports.Request.{Check, Trial, Taut, Lower, Slice, Flat, Recheck, Help, Usage}
 use Rattle.mw_book.specs.Commands.{asked, help_text}
 
 no_words : asked [] ≡ Usage

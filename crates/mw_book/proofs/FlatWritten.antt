@@ -1,12 +1,12 @@
 -- What is written for an event with numbers in place of its proofs: a list of proofs counts up to its end, and the event stands after the steps.
 use Rattle.std.proofs.Common.{◌≡◌, ℕ, false, List, [], ◌∷◌, ◌++◌, map, refl, sym, ap, ◌∙◌, subst}
-use Rattle.mw_model.specs.Object.{Object, Natural, Symbol, Pair, NIL, same_object}
-use Rattle.mw_model.specs.Primitive.{is_pair}
-use Rattle.mw_model.specs.Term.{firsts}
-use Rattle.mw_model.specs.Written.{IsWritten}
-use Rattle.mw_model.specs.Subproofs.{proofs_within, each_within, distinct_proofs}
-use Rattle.mw_model.specs.Pieces.{InOrder, numbered}
-use Rattle.mw_model.specs.Flattening.{number_among, numbers_among, IsStepLine, StepsWritten}
+use Rattle.mw_model.specs.Terms.Object.{Object, Natural, Symbol, Pair, NIL, same_object}
+use Rattle.mw_model.specs.Values.Primitive.{is_pair}
+use Rattle.mw_model.specs.Terms.Term.{firsts}
+use Rattle.mw_model.specs.Texts.Written.{IsWritten}
+use Rattle.mw_model.specs.Commands.Subproofs.{proofs_within, each_within, distinct_proofs}
+use Rattle.mw_model.specs.Texts.Pieces.{InOrder, numbered}
+use Rattle.mw_model.specs.Commands.Flattening.{number_among, numbers_among, IsStepLine, StepsWritten}
 use Rattle.mw_heap.specs.Objects.{object_at}
 use Rattle.mw_heap.specs.Lists.{list_object}
 use Rattle.mw_book.specs.FlatEvents.{proper_list, numbers_object, put_before, WritesFlat}

@@ -2,17 +2,17 @@
 use Rattle.std.proofs.Common.{◌≡◌, ℕ, ◌+◌, ◌≤◌, Bool, true, false, ◌&&◌, ◌||◌, not, cond, List, [], ◌∷◌, ◌++◌, length, refl, sym, ap, ap₂, ◌∙◌, subst, arith, append_assoc, append-nil, length-append, true≢false}
 use Rattle.std.proofs.lemmas.Bool.{and_parts}
 use Rattle.std.proofs.lemmas.List.{length_push}
-use Rattle.mw_model.specs.Object.{Object}
-use Rattle.mw_model.specs.Primitive.{One}
-use Rattle.mw_model.specs.Request.{Flat}
-use Rattle.mw_model.specs.Theory.{initial}
-use Rattle.mw_model.specs.Refusal.{Fate}
-use Rattle.mw_model.specs.Fate.{event_word, fate, happens, is_out_of_range, next}
-use Rattle.mw_model.specs.Report.{is_accepted}
-use Rattle.mw_model.specs.Pieces.{InOrder, how_many}
-use Rattle.mw_model.specs.Transition.{Transition, is_acceptance, last_theory}
-use Rattle.mw_model.specs.Slice.{begins_with, some_passes}
-use Rattle.mw_model.specs.Flattening.{OwesFlat, flat_events, flat_summary, is_logged_word, is_switch, plain_course}
+use Rattle.mw_model.specs.Terms.Object.{Object}
+use Rattle.mw_model.specs.Values.Primitive.{One}
+use Rattle.mw_model.specs.Reports.Request.{Flat}
+use Rattle.mw_model.specs.Events.Theory.{initial}
+use Rattle.mw_model.specs.Events.Refusal.{Fate}
+use Rattle.mw_model.specs.Events.Fate.{event_word, fate, happens, is_out_of_range, next}
+use Rattle.mw_model.specs.Reports.Report.{is_accepted}
+use Rattle.mw_model.specs.Texts.Pieces.{InOrder, how_many}
+use Rattle.mw_model.specs.Commands.Transition.{Transition, is_acceptance, last_theory}
+use Rattle.mw_model.specs.Commands.Slice.{begins_with, some_passes}
+use Rattle.mw_model.specs.Commands.Flattening.{OwesFlat, flat_events, flat_summary, is_logged_word, is_switch, plain_course}
 use Rattle.mw_kernel.specs.Knowledge.{Knowledge, theory_of}
 use Rattle.mw_book.specs.Answering.{Answers, HasAnswered}
 use Rattle.mw_book.specs.Flattened.{Flattened, FlattenedFor, HasEndedEvent}

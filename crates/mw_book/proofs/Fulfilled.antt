@@ -1,9 +1,9 @@
 -- What is said of a run by its ending.
 use Rattle.std.proofs.Common.{ℕ, List, [], Option, IfSome}
-use Rattle.mw_model.specs.Request.{Request, Trial}
+use Rattle.mw_model.specs.Reports.Request.{Request, Trial}
 use Rattle.mw_book.specs.Statuses.{report_status, Keeps}
 use Rattle.mw_book.specs.Checks.{BookEnds, TrialEnds, LastReported}
-use Rattle.mw_model.specs.Report.{Status}
+use Rattle.mw_model.specs.Reports.Report.{Status}
 use Rattle.mw_book.specs.declared.status.Status.{Status as Ending}
 use Rattle.mw_book.specs.declared.status.Status.TheVariants as ending
 use Rattle.mw_book.proofs.Written.{gives_none, left_of, gives_has}

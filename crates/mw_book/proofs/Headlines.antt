@@ -1,10 +1,10 @@
 -- The answers to a book that was read to its end or its first fault.
 use Rattle.std.proofs.Common.{◌≡◌, ℕ, List, [], ◌++◌, Option, Some, None, inl, inr, refl, sym, ap, ◌∙◌, subst, append_assoc, append-nil}
-use Rattle.mw_model.specs.Object.{Object}
-use Rattle.mw_model.specs.Request.{Request}
-use Rattle.mw_model.specs.Grammar.{Book, book, trees}
-use Rattle.mw_model.specs.Report.{Status, Done, SomeRefused, Syntax, status_of}
-use Rattle.mw_model.specs.Headlines.{Promised}
+use Rattle.mw_model.specs.Terms.Object.{Object}
+use Rattle.mw_model.specs.Reports.Request.{Request}
+use Rattle.mw_model.specs.Texts.Grammar.{Book, book, trees}
+use Rattle.mw_model.specs.Reports.Report.{Status, Done, SomeRefused, Syntax, status_of}
+use Rattle.mw_model.specs.Reports.Headlines.{Promised}
 use Rattle.mw_port.specs.Ports.{Takes}
 use Rattle.mw_read.specs.Piles.{kind_of}
 use Rattle.mw_read.specs.declared.step.SyntaxKind.{SyntaxKind}

@@ -1,14 +1,14 @@
 -- What a log is with one datum more, and with more data; and what its lines and its numbers then are.
 use Rattle.std.proofs.Common.{◌≡◌, ℕ, suc, ◌+◌, ◌≤◌, Bool, true, false, not, cond, List, [], ◌∷◌, ◌++◌, length, refl, sym, ap, ◌∙◌, arith, append_assoc}
 use Rattle.std.proofs.lemmas.List.{length_push}
-use Rattle.mw_model.specs.Object.{Object}
-use Rattle.mw_model.specs.Primitive.{One}
-use Rattle.mw_model.specs.Theory.{Theory, initial}
-use Rattle.mw_model.specs.Printing.{numeral}
-use Rattle.mw_model.specs.Report.{spaced, word_text, label_text}
-use Rattle.mw_model.specs.Pieces.{how_many}
-use Rattle.mw_model.specs.Log.{is_step, logged}
-use Rattle.mw_model.specs.LogReport.{Entered, Log, answer_text, is_yes, log_from, log_lines, log_of, theory_after, with_event}
+use Rattle.mw_model.specs.Terms.Object.{Object}
+use Rattle.mw_model.specs.Values.Primitive.{One}
+use Rattle.mw_model.specs.Events.Theory.{Theory, initial}
+use Rattle.mw_model.specs.Texts.Printing.{numeral}
+use Rattle.mw_model.specs.Reports.Report.{spaced, word_text, label_text}
+use Rattle.mw_model.specs.Texts.Pieces.{how_many}
+use Rattle.mw_model.specs.Commands.Log.{is_step, logged}
+use Rattle.mw_model.specs.Commands.LogReport.{Entered, Log, answer_text, is_yes, log_from, log_lines, log_of, theory_after, with_event}
 
 -- the log with this step more
 abbrev pub with_last_step : Log → Object → Log

@@ -1,24 +1,24 @@
 -- What reading more, and judging one event more with derivations as good as proofs, makes of where the lowering stands.
 use Rattle.std.proofs.Common.{◌≡◌, ℕ, suc, ◌+◌, ◌-◌, ◌≤◌, Bool, true, false, not, cond, List, [], ◌∷◌, ◌++◌, length, Some, codes, refl, sym, ap, ◌∙◌, subst, arith, append_assoc, append-nil}
 use Rattle.std.proofs.lemmas.List.{length_push}
-use Rattle.mw_model.specs.Object.{Object, Member}
-use Rattle.mw_model.specs.Term.{formula_object}
-use Rattle.mw_model.specs.Axioms.{axiom_1, axiom_2}
-use Rattle.mw_model.specs.Request.{Lower}
-use Rattle.mw_model.specs.Theory.{Theory, initial}
-use Rattle.mw_model.specs.Primitive.{One}
-use Rattle.mw_model.specs.Refusal.{Refusal, RANGE, EVENT, Fate, Accepted, Refused, refuse, need}
-use Rattle.mw_model.specs.Fate.{is_out_of_range, happens, event_word}
-use Rattle.mw_model.specs.Demand.{happens_under, happens_by_under}
-use Rattle.mw_model.specs.DerivationTest.{derived_as}
-use Rattle.mw_model.specs.Derivation.{Turns}
-use Rattle.mw_model.specs.Rewriting.{IsRewritten}
-use Rattle.mw_model.specs.Reading.{when}
-use Rattle.mw_model.specs.Report.{fate_text, line, is_accepted}
-use Rattle.mw_model.specs.Written.{IsDatumLine}
-use Rattle.mw_model.specs.Pieces.{InOrder, how_many}
-use Rattle.mw_model.specs.Transition.{Transition, Effect, last_theory, is_acceptance}
-use Rattle.mw_model.specs.Lowering.{IsLoweredBy, OwesByFate, OwesLowered, derived_course, refused_in, course_summary}
+use Rattle.mw_model.specs.Terms.Object.{Object, Member}
+use Rattle.mw_model.specs.Terms.Term.{formula_object}
+use Rattle.mw_model.specs.Proofs.Axioms.{axiom_1, axiom_2}
+use Rattle.mw_model.specs.Reports.Request.{Lower}
+use Rattle.mw_model.specs.Events.Theory.{Theory, initial}
+use Rattle.mw_model.specs.Values.Primitive.{One}
+use Rattle.mw_model.specs.Events.Refusal.{Refusal, RANGE, EVENT, Fate, Accepted, Refused, refuse, need}
+use Rattle.mw_model.specs.Events.Fate.{is_out_of_range, happens, event_word}
+use Rattle.mw_model.specs.Commands.Demand.{happens_under, happens_by_under}
+use Rattle.mw_model.specs.Commands.DerivationTest.{derived_as}
+use Rattle.mw_model.specs.Commands.Derivation.{Turns}
+use Rattle.mw_model.specs.Laws.Rewriting.{IsRewritten}
+use Rattle.mw_model.specs.Terms.Reading.{when}
+use Rattle.mw_model.specs.Reports.Report.{fate_text, line, is_accepted}
+use Rattle.mw_model.specs.Texts.Written.{IsDatumLine}
+use Rattle.mw_model.specs.Texts.Pieces.{InOrder, how_many}
+use Rattle.mw_model.specs.Commands.Transition.{Transition, Effect, last_theory, is_acceptance}
+use Rattle.mw_model.specs.Commands.Lowering.{IsLoweredBy, OwesByFate, OwesLowered, derived_course, refused_in, course_summary}
 use Rattle.mw_kernel.specs.Knowledge.{Knowledge, theory_of}
 use Rattle.mw_book.specs.Answering.{Answers, HasAnswered}
 use Rattle.mw_book.specs.Lines.{line_begun, summary_of}

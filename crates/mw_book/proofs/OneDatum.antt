@@ -1,10 +1,10 @@
 -- What a book of one datum is read as.
 use Rattle.std.proofs.Common.{◌≡◌, ℕ, true, false, leb, List, [], ◌∷◌, ◌++◌, length, Option, Some, None, inl, inr, refl, sym, ap, ◌∙◌, append_assoc, append-nil, true≢false}
 use Rattle.std.proofs.lemmas.Bool.{le-leb as leb-from}
-use Rattle.mw_model.specs.Object.{Object, Natural, Symbol, Pair}
-use Rattle.mw_model.specs.Lexemes.{Fault, fault, Ends}
-use Rattle.mw_model.specs.Grammar.{Book, book, limit, reading, trees}
-use Rattle.mw_model.specs.Fate.{is_out_of_range}
+use Rattle.mw_model.specs.Terms.Object.{Object, Natural, Symbol, Pair}
+use Rattle.mw_model.specs.Texts.Lexemes.{Fault, fault, Ends}
+use Rattle.mw_model.specs.Texts.Grammar.{Book, book, limit, reading, trees}
+use Rattle.mw_model.specs.Events.Fate.{is_out_of_range}
 use Rattle.mw_book.specs.Arguments.{symbol_among}
 use Rattle.mw_read.specs.Parsing.{meaning_of}
 use Rattle.mw_read.specs.Piles.{kind_of}

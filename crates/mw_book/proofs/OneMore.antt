@@ -1,16 +1,16 @@
 -- What reading more, and judging one event more, makes of where the judging stands.
 use Rattle.std.proofs.Common.{◌≡◌, ℕ, ◌+◌, ◌≤◌, true, cond, List, [], ◌∷◌, ◌++◌, length, refl, sym, ap, ◌∙◌, subst, arith, append_assoc}
 use Rattle.std.proofs.lemmas.List.{length_push}
-use Rattle.mw_model.specs.Object.{Object}
-use Rattle.mw_model.specs.Primitive.{One}
-use Rattle.mw_model.specs.Theory.{Theory, initial}
-use Rattle.mw_model.specs.Refusal.{RANGE, Fate, Refused}
-use Rattle.mw_model.specs.Fate.{is_out_of_range, fate, next, after}
-use Rattle.mw_model.specs.Printing.{numeral}
-use Rattle.mw_model.specs.Report.{fate_text, word_text, label_text, line, lines, is_accepted, refused_among}
+use Rattle.mw_model.specs.Terms.Object.{Object}
+use Rattle.mw_model.specs.Values.Primitive.{One}
+use Rattle.mw_model.specs.Events.Theory.{Theory, initial}
+use Rattle.mw_model.specs.Events.Refusal.{RANGE, Fate, Refused}
+use Rattle.mw_model.specs.Events.Fate.{is_out_of_range, fate, next, after}
+use Rattle.mw_model.specs.Texts.Printing.{numeral}
+use Rattle.mw_model.specs.Reports.Report.{fate_text, word_text, label_text, line, lines, is_accepted, refused_among}
 use Rattle.mw_kernel.specs.Knowledge.{Knowledge, theory_of}
 use Rattle.mw_book.specs.declared.judging.Judging.{Judging}
-use Rattle.mw_model.specs.Request.{Check}
+use Rattle.mw_model.specs.Reports.Request.{Check}
 use Rattle.mw_book.specs.Answering.{Answers, HasAnswered}
 use Rattle.mw_book.specs.Knowing.{Judged, JudgedFor}
 use Rattle.mw_book.specs.Lines.{line_begun}

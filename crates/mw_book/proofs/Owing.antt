@@ -1,15 +1,15 @@
 -- What is found of a datum settles what is owed for it.
 use Rattle.std.proofs.Common.{◌≡◌, ◌∙◌, ℕ, Bool, true, false, not, List, [], ◌∷◌, ◌++◌, Option, Some, None, codes, refl, sym, ap, ap₂, subst}
-use Rattle.mw_model.specs.Object.{Object, symbol, car, second_of, has_members, list2, list4}
-use Rattle.mw_model.specs.Term.{ArityTable, Formula}
-use Rattle.mw_model.specs.Reading.{formula_under, when}
-use Rattle.mw_model.specs.Primitive.{is_symbol}
-use Rattle.mw_model.specs.Definition.{is_present}
-use Rattle.mw_model.specs.Fate.{is_out_of_range}
-use Rattle.mw_model.specs.Report.{spaced}
-use Rattle.mw_model.specs.Written.{IsWritten}
-use Rattle.mw_model.specs.Tautology.{Choice, Decision as Due, Many as HasMany, FailsUnder, Holds, decision, choice_object}
-use Rattle.mw_model.specs.TautologyBook.{IsPureProof, OwesDecided, OwesGiven, OwesTautology, decision_on, formula_given, initial_arities, is_holding, is_proved, remark}
+use Rattle.mw_model.specs.Terms.Object.{Object, symbol, car, second_of, has_members, list2, list4}
+use Rattle.mw_model.specs.Terms.Term.{ArityTable, Formula}
+use Rattle.mw_model.specs.Terms.Reading.{formula_under, when}
+use Rattle.mw_model.specs.Values.Primitive.{is_symbol}
+use Rattle.mw_model.specs.Values.Definition.{is_present}
+use Rattle.mw_model.specs.Events.Fate.{is_out_of_range}
+use Rattle.mw_model.specs.Reports.Report.{spaced}
+use Rattle.mw_model.specs.Texts.Written.{IsWritten}
+use Rattle.mw_model.specs.Commands.Tautology.{Choice, Decision as Due, Many as HasMany, FailsUnder, Holds, decision, choice_object}
+use Rattle.mw_model.specs.Commands.TautologyBook.{IsPureProof, OwesDecided, OwesGiven, OwesTautology, decision_on, formula_given, initial_arities, is_holding, is_proved, remark}
 use Rattle.mw_heap.specs.Objects.{object_at, IsIn, Grows}
 use Rattle.mw_heap.proofs.Objects.{object_at-Grows}
 use Rattle.mw_taut.specs.Decided.{IsDecision}

@@ -1,11 +1,11 @@
 -- Pieces one after another, and what may stand in them.
 use Rattle.std.proofs.Common.{◌≡◌, ℕ, suc, ◌+◌, Bool, true, false, ltb, cond, List, [], ◌∷◌, ◌++◌, length, refl, sym, ap, ◌∙◌, subst, arith, append_assoc}
-use Rattle.mw_model.specs.Object.{Object}
-use Rattle.mw_model.specs.Fate.{longest}
-use Rattle.mw_model.specs.Value.{pick}
-use Rattle.mw_model.specs.Printing.{text_of}
-use Rattle.mw_model.specs.Written.{IsLabelled, IsWritten}
-use Rattle.mw_model.specs.Pieces.{InOrder, numbered, how_many}
+use Rattle.mw_model.specs.Terms.Object.{Object}
+use Rattle.mw_model.specs.Events.Fate.{longest}
+use Rattle.mw_model.specs.Values.Value.{pick}
+use Rattle.mw_model.specs.Texts.Printing.{text_of}
+use Rattle.mw_model.specs.Texts.Written.{IsLabelled, IsWritten}
+use Rattle.mw_model.specs.Texts.Pieces.{InOrder, numbered, how_many}
 use Rattle.mw_print.specs.Labelling.{labelled_text, labelled_next}
 
 pub in_order_both : {X : Type 0} (P : X → List ℕ → Type 0) (xs ys : List X) (text more : List ℕ) → InOrder P xs text → InOrder P ys more → InOrder P (xs ++ ys) (text ++ more)

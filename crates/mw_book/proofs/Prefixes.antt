@@ -1,9 +1,9 @@
 -- The data that are read first are the first of the book, whatever follows.
 use Rattle.std.proofs.Common.{◌≡◌, ℕ, zero, suc, ◌-◌, ◌≤◌, Bool, true, false, leb, leb-true, List, [], ◌∷◌, ◌++◌, length, length-append, append-nil, take, Option, Some, None, refl, ap, ◌∙◌, subst, arith, if◌then◌else◌}
 use Rattle.std.proofs.lemmas.List.{take_all}
-use Rattle.mw_model.specs.Object.{Object}
-use Rattle.mw_model.specs.Lexemes.{Fault, Ending, Ends, Goes}
-use Rattle.mw_model.specs.Grammar.{Book, book, reading, limit, cut_short, trees}
+use Rattle.mw_model.specs.Terms.Object.{Object}
+use Rattle.mw_model.specs.Texts.Lexemes.{Fault, Ending, Ends, Goes}
+use Rattle.mw_model.specs.Texts.Grammar.{Book, book, reading, limit, cut_short, trees}
 use Rattle.mw_read.specs.Parsing.{Fits, meaning_of}
 use Rattle.mw_read.specs.Standing.{Stands, IsFree, Follows}
 use Rattle.mw_read.specs.declared.parser.Parser.{Parser}

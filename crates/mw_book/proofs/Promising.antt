@@ -1,30 +1,30 @@
 -- Whatever was answered first, the answers can go on to the end of the book.
 use Rattle.std.proofs.Common.{◌≡◌, ℕ, suc, ◌+◌, ◌≤◌, true, not, List, [], ◌∷◌, ◌++◌, length, map, Some, None, Option, codes, refl, sym, ap, ap₂, ◌∙◌, subst, append_assoc, append-nil}
-use Rattle.mw_model.specs.Object.{Object, symbol, car, second_of, list4}
-use Rattle.mw_model.specs.Term.{ArityTable, Formula, is_formula}
-use Rattle.mw_model.specs.Reading.{formula_of, formula_under, when, that}
-use Rattle.mw_model.specs.Primitive.{One, is_symbol}
-use Rattle.mw_model.specs.Fate.{is_out_of_range}
-use Rattle.mw_model.specs.Object.{has_members}
-use Rattle.mw_model.specs.Request.{Request, Check, Trial, Taut, Lower, Slice, Flat, Recheck, Help, Usage}
-use Rattle.mw_model.specs.Grammar.{Book, limit, trees}
-use Rattle.mw_model.specs.Theory.{initial}
-use Rattle.mw_model.specs.Report.{spaced, lines, last_line, report, status_of}
-use Rattle.mw_model.specs.Headline.{Headline}
-use Rattle.mw_model.specs.Pieces.{InOrder, numbered, how_many, comment_ending, ending}
-use Rattle.mw_model.specs.Tautology.{Decision, Many, FailsUnder, Holds, decision, choice_object}
-use Rattle.mw_model.specs.TautologyBook.{IsPureProof, OwesDecided, OwesGiven, OwesTautology, TautologiesWritten, formula_given, initial_arities, is_proved, remark, tautology_summary}
-use Rattle.mw_model.specs.Slice.{target}
-use Rattle.mw_model.specs.Slicing.{accepted_events, SliceWritten}
-use Rattle.mw_model.specs.Flattening.{OwesFlat, FlatWritten, before_switch, flat_event, flat_events, flat_summary, plain_course}
-use Rattle.mw_model.specs.LogReport.{log_lines, log_of, log_summary}
-use Rattle.mw_model.specs.Headlines.{AcceptsAll, EntryKeeps, LogAccepted, SliceHeadline, Promised, IsBegun}
-use Rattle.mw_model.specs.Truth.{Each}
-use Rattle.mw_model.specs.Fate.{after}
-use Rattle.mw_model.specs.Demand.{happens_under}
-use Rattle.mw_model.specs.DerivationTest.{derived_as}
-use Rattle.mw_model.specs.Transition.{course_from, last_theory, last_theory_from, is_acceptance}
-use Rattle.mw_model.specs.Lowering.{OwesLowered, LoweredWritten, course_summary, derived_course}
+use Rattle.mw_model.specs.Terms.Object.{Object, symbol, car, second_of, list4}
+use Rattle.mw_model.specs.Terms.Term.{ArityTable, Formula, is_formula}
+use Rattle.mw_model.specs.Terms.Reading.{formula_of, formula_under, when, that}
+use Rattle.mw_model.specs.Values.Primitive.{One, is_symbol}
+use Rattle.mw_model.specs.Events.Fate.{is_out_of_range}
+use Rattle.mw_model.specs.Terms.Object.{has_members}
+use Rattle.mw_model.specs.Reports.Request.{Request, Check, Trial, Taut, Lower, Slice, Flat, Recheck, Help, Usage}
+use Rattle.mw_model.specs.Texts.Grammar.{Book, limit, trees}
+use Rattle.mw_model.specs.Events.Theory.{initial}
+use Rattle.mw_model.specs.Reports.Report.{spaced, lines, last_line, report, status_of}
+use Rattle.mw_model.specs.Reports.Headline.{Headline}
+use Rattle.mw_model.specs.Texts.Pieces.{InOrder, numbered, how_many, comment_ending, ending}
+use Rattle.mw_model.specs.Commands.Tautology.{Decision, Many, FailsUnder, Holds, decision, choice_object}
+use Rattle.mw_model.specs.Commands.TautologyBook.{IsPureProof, OwesDecided, OwesGiven, OwesTautology, TautologiesWritten, formula_given, initial_arities, is_proved, remark, tautology_summary}
+use Rattle.mw_model.specs.Commands.Slice.{target}
+use Rattle.mw_model.specs.Commands.Slicing.{accepted_events, SliceWritten}
+use Rattle.mw_model.specs.Commands.Flattening.{OwesFlat, FlatWritten, before_switch, flat_event, flat_events, flat_summary, plain_course}
+use Rattle.mw_model.specs.Commands.LogReport.{log_lines, log_of, log_summary}
+use Rattle.mw_model.specs.Reports.Headlines.{AcceptsAll, EntryKeeps, LogAccepted, SliceHeadline, Promised, IsBegun}
+use Rattle.mw_model.specs.Values.Truth.{Each}
+use Rattle.mw_model.specs.Events.Fate.{after}
+use Rattle.mw_model.specs.Commands.Demand.{happens_under}
+use Rattle.mw_model.specs.Commands.DerivationTest.{derived_as}
+use Rattle.mw_model.specs.Commands.Transition.{course_from, last_theory, last_theory_from, is_acceptance}
+use Rattle.mw_model.specs.Commands.Lowering.{OwesLowered, LoweredWritten, course_summary, derived_course}
 use Rattle.mw_model.proofs.ReadBack.{when_some}
 use Rattle.mw_reflect.specs.Laws.{EventsKeep}
 use Rattle.mw_book.specs.Due.{AreAnswers, IsLastText, refused_for}

@@ -2,11 +2,11 @@
 use Rattle.std.proofs.Common.{◌≡◌, ℕ, ◌≤◌, List, ◌++◌, inl, inr, length, take, Option, Some, None, refl, sym, ap, ◌∙◌, subst, arith}
 use Rattle.std.proofs.lemmas.Bool.{cases_lt}
 use Rattle.std.proofs.lemmas.List.{length-take-le, take_all}
-use Rattle.mw_model.specs.Object.{Object}
-use Rattle.mw_model.specs.Term.{ArityTable}
-use Rattle.mw_model.specs.Primitive.{is_symbol}
-use Rattle.mw_model.specs.Report.{symbol_text}
-use Rattle.mw_model.specs.Request.{Taut}
+use Rattle.mw_model.specs.Terms.Object.{Object}
+use Rattle.mw_model.specs.Terms.Term.{ArityTable}
+use Rattle.mw_model.specs.Values.Primitive.{is_symbol}
+use Rattle.mw_model.specs.Reports.Report.{symbol_text}
+use Rattle.mw_model.specs.Reports.Request.{Taut}
 use Rattle.mw_heap.specs.Contents.{Contents}
 use Rattle.mw_heap.specs.Objects.{Grows}
 use Rattle.mw_heap.proofs.Objects.{length-Grows, IsIn-Grows, object_at-Grows}

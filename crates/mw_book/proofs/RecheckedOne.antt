@@ -1,15 +1,15 @@
 -- What reading more, and answering one datum more, makes of where the judging of a log stands.
 use Rattle.std.proofs.Common.{◌≡◌, ℕ, ◌+◌, ◌-◌, ◌≤◌, Bool, true, false, not, cond, List, [], ◌∷◌, ◌++◌, length, Option, Some, None, IfSome, option_map, codes, refl, sym, ap, ap₂, ◌∙◌, subst, arith, append_assoc, append-nil, add-zero}
 use Rattle.std.proofs.lemmas.List.{length_push}
-use Rattle.mw_model.specs.Object.{Object, Natural, Symbol, Pair, symbol, same_object, car}
-use Rattle.mw_model.specs.Primitive.{One}
-use Rattle.mw_model.specs.Request.{Recheck}
-use Rattle.mw_model.specs.Theory.{initial}
-use Rattle.mw_model.specs.Printing.{numeral}
-use Rattle.mw_model.specs.Report.{spaced, word_text, label_text}
-use Rattle.mw_model.specs.Pieces.{how_many}
-use Rattle.mw_model.specs.Log.{Answer, Yes, No, is_step, logged}
-use Rattle.mw_model.specs.LogReport.{Entered, Log, answer_text, denied, is_yes, last_logged, log_lines, log_of, log_summary}
+use Rattle.mw_model.specs.Terms.Object.{Object, Natural, Symbol, Pair, symbol, same_object, car}
+use Rattle.mw_model.specs.Values.Primitive.{One}
+use Rattle.mw_model.specs.Reports.Request.{Recheck}
+use Rattle.mw_model.specs.Events.Theory.{initial}
+use Rattle.mw_model.specs.Texts.Printing.{numeral}
+use Rattle.mw_model.specs.Reports.Report.{spaced, word_text, label_text}
+use Rattle.mw_model.specs.Texts.Pieces.{how_many}
+use Rattle.mw_model.specs.Commands.Log.{Answer, Yes, No, is_step, logged}
+use Rattle.mw_model.specs.Commands.LogReport.{Entered, Log, answer_text, denied, is_yes, last_logged, log_lines, log_of, log_summary}
 use Rattle.mw_heap.specs.Objects.{object_at, IsIn}
 use Rattle.mw_read.specs.Shown.{IsShown, ShowsEvent, first_symbol}
 use Rattle.mw_flat.specs.Going.{Going, theory_of, HasCollected, IsNoted, IsAnswered, ComesBy, Comes, is_step_word}

@@ -9,9 +9,9 @@ use Rattle.clap.specs.declared.parser.matches.Found.{Found}
 use Rattle.clap.proofs.WalkLemmas.{first_value-rows}
 use Rattle.clap.proofs.OnLiterals.{clap_on_literals}
 use Rattle.mw_book.specs.Arguments.{events_of, is_help, name_of, steps_of}
-use Rattle.mw_model.specs.Request.{Request, Check, Taut, Lower, Flat, Recheck, Help, Usage}
+use Rattle.mw_model.specs.Reports.Request.{Request, Check, Taut, Lower, Flat, Recheck, Help, Usage}
 use Rattle.mw_book.specs.Commands.{asked, program, request_of, request_with, slice_with, trial_with, with_number}
-use Rattle.mw_model.specs.Object.{Name, same_bytes}
+use Rattle.mw_model.specs.Terms.Object.{Name, same_bytes}
 use Rattle.mw_model.proofs.Names.{same_bytes-eq, same_bytes-refl}
 use Rattle.mw_heap.proofs.NameSet.{pointwise-same_bytes}
 use Rattle.mw_book.proofs.Faultless.{faultless_taken, is_plain_app}

@@ -1,12 +1,12 @@
 -- What is known between two pieces of a book.
 use Rattle.std.proofs.Common.{◌≡◌, ℕ, ◌+◌, ◌*◌, ◌<◌, ◌≤◌, ◌^◌, true, false, List, [], ◌++◌, length, Option, Some, None, inl, inr, refl, sym, ap, ◌∙◌, subst, arith, true≢false, append_assoc, append-nil, length-append}
 use Rattle.std.specs.Option.{is_some}
-use Rattle.mw_model.specs.Object.{Object}
-use Rattle.mw_model.specs.Request.{Request, Check, Trial, Taut, Lower, Slice, Flat, Recheck, Help, Usage}
-use Rattle.mw_model.specs.Lexemes.{Goes}
-use Rattle.mw_model.specs.Grammar.{Book, book, reading, trees}
-use Rattle.mw_model.specs.Report.{Status}
-use Rattle.mw_model.specs.Headlines.{Promised, IsBegun}
+use Rattle.mw_model.specs.Terms.Object.{Object}
+use Rattle.mw_model.specs.Reports.Request.{Request, Check, Trial, Taut, Lower, Slice, Flat, Recheck, Help, Usage}
+use Rattle.mw_model.specs.Texts.Lexemes.{Goes}
+use Rattle.mw_model.specs.Texts.Grammar.{Book, book, reading, trees}
+use Rattle.mw_model.specs.Reports.Report.{Status}
+use Rattle.mw_model.specs.Reports.Headlines.{Promised, IsBegun}
 use Rattle.mw_port.specs.Ports.{Gives, Takes as SinkTakes, HasEnded}
 use Rattle.mw_read.specs.Standing.{Stands, IsStanding, IsFree, work}
 use Rattle.mw_read.specs.declared.parser.Parser.{Parser}

@@ -1,13 +1,13 @@
 -- Theorems with a number in the place of the proof: on a line where the text is short, and after the steps.
 use Rattle.std.proofs.Common.{◌≡◌, ℕ, ◌≤◌, List, [], ◌∷◌, ◌++◌, length, refl, sym, ap, ◌∙◌, subst}
 use Rattle.std.proofs.lemmas.Bool.{le-ltb}
-use Rattle.mw_model.specs.Object.{Object, Natural, list1}
-use Rattle.mw_model.specs.Value.{pick}
-use Rattle.mw_model.specs.Fate.{longest}
-use Rattle.mw_model.specs.Printing.{text_of}
-use Rattle.mw_model.specs.Subproofs.{distinct_proofs}
-use Rattle.mw_model.specs.Written.{IsLabelled, IsDatumLine}
-use Rattle.mw_model.specs.Flattening.{number_among, StepsWritten, OwesFlat}
+use Rattle.mw_model.specs.Terms.Object.{Object, Natural, list1}
+use Rattle.mw_model.specs.Values.Value.{pick}
+use Rattle.mw_model.specs.Events.Fate.{longest}
+use Rattle.mw_model.specs.Texts.Printing.{text_of}
+use Rattle.mw_model.specs.Commands.Subproofs.{distinct_proofs}
+use Rattle.mw_model.specs.Texts.Written.{IsLabelled, IsDatumLine}
+use Rattle.mw_model.specs.Commands.Flattening.{number_among, StepsWritten, OwesFlat}
 use Rattle.mw_theory.specs.Words.{verify_event}
 
 pub short_line : (x : Object) → length (text_of x) ≤ longest → IsDatumLine x (text_of x ++ 10 ∷ [])

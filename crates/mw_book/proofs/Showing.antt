@@ -1,10 +1,10 @@
 -- An event with a natural past the range is refused for that.
 use Rattle.std.proofs.Common.{◌≡◌, ℕ, true, not, Some, ap}
-use Rattle.mw_model.specs.Object.{Object}
-use Rattle.mw_model.specs.Theory.{Theory}
-use Rattle.mw_model.specs.Refusal.{RANGE, EVENT, Refused, need, refuse}
-use Rattle.mw_model.specs.Reading.{when}
-use Rattle.mw_model.specs.Fate.{event_word, is_out_of_range, happens, happens_by, fate, next}
+use Rattle.mw_model.specs.Terms.Object.{Object}
+use Rattle.mw_model.specs.Events.Theory.{Theory}
+use Rattle.mw_model.specs.Events.Refusal.{RANGE, EVENT, Refused, need, refuse}
+use Rattle.mw_model.specs.Terms.Reading.{when}
+use Rattle.mw_model.specs.Events.Fate.{event_word, is_out_of_range, happens, happens_by, fate, next}
 
 happens-large : (t : Theory) (e : Object) (N : ℕ) → is_out_of_range e ≡ true → happens t N e ≡ refuse t RANGE
 unfolding need

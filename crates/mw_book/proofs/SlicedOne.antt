@@ -3,14 +3,14 @@ use Rattle.std.proofs.Common.{◌≡◌, ℕ, ◌+◌, Bool, true, false, cond, 
 use Rattle.std.specs.Prelude.{filter}
 use Rattle.std.proofs.lemmas.List.{length_push, map-append, append-nil}
 use Rattle.std.proofs.lemmas.List.Elements.{filter-append}
-use Rattle.mw_model.specs.Object.{Name, Object}
-use Rattle.mw_model.specs.Primitive.{One}
-use Rattle.mw_model.specs.Request.{Request, Slice}
-use Rattle.mw_model.specs.Theory.{Theory, initial}
-use Rattle.mw_model.specs.Fate.{is_out_of_range, happens, fate, next, after}
-use Rattle.mw_model.specs.Report.{is_accepted}
-use Rattle.mw_model.specs.Transition.{Transition, course, last_theory, is_acceptance}
-use Rattle.mw_model.specs.Slicing.{accepted_events}
+use Rattle.mw_model.specs.Terms.Object.{Name, Object}
+use Rattle.mw_model.specs.Values.Primitive.{One}
+use Rattle.mw_model.specs.Reports.Request.{Request, Slice}
+use Rattle.mw_model.specs.Events.Theory.{Theory, initial}
+use Rattle.mw_model.specs.Events.Fate.{is_out_of_range, happens, fate, next, after}
+use Rattle.mw_model.specs.Reports.Report.{is_accepted}
+use Rattle.mw_model.specs.Commands.Transition.{Transition, course, last_theory, is_acceptance}
+use Rattle.mw_model.specs.Commands.Slicing.{accepted_events}
 use Rattle.mw_kernel.specs.Knowledge.{Knowledge, theory_of}
 use Rattle.mw_slice.specs.Slices.{events_of}
 use Rattle.mw_book.specs.Answering.{Answers}

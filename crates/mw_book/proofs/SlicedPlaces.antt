@@ -3,16 +3,16 @@ use Rattle.std.proofs.Common.{◌≡◌, ℕ, zero, suc, ◌<◌, ◌≤◌, Boo
 use Rattle.std.specs.Prelude.{All, slice_index_or}
 use Rattle.std.proofs.lemmas.Bool.{and_parts, ltb-true, or_left, or_right}
 use Rattle.std.proofs.lemmas.List.{length-map}
-use Rattle.mw_model.specs.Object.{Name, Object}
-use Rattle.mw_model.specs.Value.{pick}
-use Rattle.mw_model.specs.Definition.{is_present}
-use Rattle.mw_model.specs.Request.{Request}
-use Rattle.mw_model.specs.Printing.{numeral}
-use Rattle.mw_model.specs.Report.{spaced}
-use Rattle.mw_model.specs.Written.{IsDatumLine}
-use Rattle.mw_model.specs.Pieces.{InOrder, comment}
-use Rattle.mw_model.specs.Slice.{begins_with, event_at, some_passes, later_place, first_place, target, rests_on, Needed, the_goal, the_profile, the_basis, is_idle, IsKept, IsSlice}
-use Rattle.mw_model.specs.Slicing.{accepted_events, SliceOwed}
+use Rattle.mw_model.specs.Terms.Object.{Name, Object}
+use Rattle.mw_model.specs.Values.Value.{pick}
+use Rattle.mw_model.specs.Values.Definition.{is_present}
+use Rattle.mw_model.specs.Reports.Request.{Request}
+use Rattle.mw_model.specs.Texts.Printing.{numeral}
+use Rattle.mw_model.specs.Reports.Report.{spaced}
+use Rattle.mw_model.specs.Texts.Written.{IsDatumLine}
+use Rattle.mw_model.specs.Texts.Pieces.{InOrder, comment}
+use Rattle.mw_model.specs.Commands.Slice.{begins_with, event_at, some_passes, later_place, first_place, target, rests_on, Needed, the_goal, the_profile, the_basis, is_idle, IsKept, IsSlice}
+use Rattle.mw_model.specs.Commands.Slicing.{accepted_events, SliceOwed}
 use Rattle.mw_read.specs.Piles.{kind_of}
 use Rattle.mw_read.specs.declared.step.SyntaxKind.{SyntaxKind}
 use Rattle.mw_slice.specs.Slices.{events_of}

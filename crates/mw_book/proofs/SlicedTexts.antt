@@ -1,16 +1,16 @@
 -- What may be written of a slice, and how a slice ends.
 use Rattle.std.proofs.Common.{◌≡◌, ℕ, ◌≤◌, cond, List, [], ◌∷◌, ◌++◌, length, map, Option, Some, None, codes, refl, sym, append-nil}
-use Rattle.mw_model.specs.Object.{Name, Object}
-use Rattle.mw_model.specs.Lexemes.{Fault}
-use Rattle.mw_model.specs.Grammar.{Book, limit}
-use Rattle.mw_model.specs.Definition.{is_present}
-use Rattle.mw_model.specs.Printing.{numeral}
-use Rattle.mw_model.specs.Report.{Done, spaced, status_of}
-use Rattle.mw_model.specs.Written.{IsDatumLine}
-use Rattle.mw_model.specs.Pieces.{InOrder, comment, comment_ending}
-use Rattle.mw_model.specs.Slice.{event_at, target, IsSlice}
-use Rattle.mw_model.specs.Slicing.{accepted_events, of_events, SliceOwed, SliceWritten, slicing_status, status_for}
-use Rattle.mw_model.specs.Headlines.{SliceAccepted}
+use Rattle.mw_model.specs.Terms.Object.{Name, Object}
+use Rattle.mw_model.specs.Texts.Lexemes.{Fault}
+use Rattle.mw_model.specs.Texts.Grammar.{Book, limit}
+use Rattle.mw_model.specs.Values.Definition.{is_present}
+use Rattle.mw_model.specs.Texts.Printing.{numeral}
+use Rattle.mw_model.specs.Reports.Report.{Done, spaced, status_of}
+use Rattle.mw_model.specs.Texts.Written.{IsDatumLine}
+use Rattle.mw_model.specs.Texts.Pieces.{InOrder, comment, comment_ending}
+use Rattle.mw_model.specs.Commands.Slice.{event_at, target, IsSlice}
+use Rattle.mw_model.specs.Commands.Slicing.{accepted_events, of_events, SliceOwed, SliceWritten, slicing_status, status_for}
+use Rattle.mw_model.specs.Reports.Headlines.{SliceAccepted}
 use Rattle.mw_book.proofs.Pieces.{LabelledTexts, in_order_both, may_be_written}
 
 -- that a slice is accepted when it is read again

@@ -1,7 +1,7 @@
 -- The last line as it is written, part after part.
 use Rattle.std.proofs.Common.{◌≡◌, ℕ, List, [], ◌∷◌, ◌++◌, append_assoc}
 use Rattle.std.specs.Prelude.{codes}
-use Rattle.mw_model.specs.Report.{spaced}
+use Rattle.mw_model.specs.Reports.Report.{spaced}
 
 pub summary-joined : (old events accepted refused level : List ℕ) →
     ((((((((old ++ codes "events ") ++ events) ++ codes " accepted ") ++ accepted) ++ codes " refused ") ++ refused) ++ codes " level ") ++ level) ++ 10 ∷ []

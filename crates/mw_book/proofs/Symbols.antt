@@ -1,11 +1,11 @@
 -- What is shown of an object: of a symbol its text, where that is not too long, and else a dash.
 use Rattle.std.proofs.Common.{◌≡◌, ◌≤◌, ◌<◌, true, cond, length, refl, ap, ◌∙◌}
 use Rattle.std.proofs.lemmas.Bool.{lt-ltb, le-ltb}
-use Rattle.mw_model.specs.Object.{Object, Natural, Symbol, Pair}
-use Rattle.mw_model.specs.Primitive.{is_symbol}
-use Rattle.mw_model.specs.Printing.{text_of}
-use Rattle.mw_model.specs.Fate.{longest}
-use Rattle.mw_model.specs.Report.{dash, short, symbol_text}
+use Rattle.mw_model.specs.Terms.Object.{Object, Natural, Symbol, Pair}
+use Rattle.mw_model.specs.Values.Primitive.{is_symbol}
+use Rattle.mw_model.specs.Texts.Printing.{text_of}
+use Rattle.mw_model.specs.Events.Fate.{longest}
+use Rattle.mw_model.specs.Reports.Report.{dash, short, symbol_text}
 
 symbol_text-is : (x : Object) → is_symbol x ≡ true → symbol_text x ≡ short (text_of x)
 symbol_text-is (Symbol s) h = refl

@@ -2,10 +2,10 @@
 use Rattle.std.proofs.Common.{◌≡◌, ℕ, ◌+◌, ◌<◌, ◌≤◌, true, List, [], ◌∷◌, ◌++◌, length, take, drop, Some, None, sym, ap, ◌∙◌, subst, arith, append_assoc, append-nil}
 use Rattle.std.proofs.lemmas.List.{take-append-drop, drop-drop, length-drop}
 use Rattle.std.proofs.Math.Seq.{take-add}
-use Rattle.mw_model.specs.Object.{Object}
-use Rattle.mw_model.specs.Lexemes.{Goes}
-use Rattle.mw_model.specs.Grammar.{book, reading, trees}
-use Rattle.mw_model.specs.Request.{Request}
+use Rattle.mw_model.specs.Terms.Object.{Object}
+use Rattle.mw_model.specs.Texts.Lexemes.{Goes}
+use Rattle.mw_model.specs.Texts.Grammar.{book, reading, trees}
+use Rattle.mw_model.specs.Reports.Request.{Request}
 use Rattle.mw_read.specs.Standing.{Stands, IsStanding, IsFree, Follows, Gives, GivesBehind, Says, work}
 use Rattle.mw_read.specs.Feeding.{GivesNext, Continues}
 use Rattle.mw_read.specs.declared.parser.Parser.{Parser}

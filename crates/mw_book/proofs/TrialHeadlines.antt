@@ -1,15 +1,15 @@
 -- The last line of the report on the trial book, and what cannot stop its judging.
 use Rattle.std.proofs.Common.{◌≡◌, ◌∙◌, ℕ, List, [], ◌++◌, Option, Some, None, inl, inr, refl, sym, ap, subst, arith}
-use Rattle.mw_model.specs.Grammar.{Book, book, trees}
-use Rattle.mw_model.specs.Report.{Status, Done, SomeRefused, Syntax, report_of, last_line}
-use Rattle.mw_model.specs.Trial.{trial_book}
+use Rattle.mw_model.specs.Texts.Grammar.{Book, book, trees}
+use Rattle.mw_model.specs.Reports.Report.{Status, Done, SomeRefused, Syntax, report_of, last_line}
+use Rattle.mw_model.specs.Reports.Trial.{trial_book}
 use Rattle.mw_port.specs.Memories.{no_faults}
 use Rattle.mw_port.specs.Ports.{Rises, Takes}
 use Rattle.mw_read.specs.Piles.{kind_of}
 use Rattle.mw_read.specs.declared.step.SyntaxKind.{SyntaxKind}
 use Rattle.mw_reflect.specs.Laws.{EventsKeep}
 use Rattle.mw_book.specs.Books.{Has, TakesSome}
-use Rattle.mw_model.specs.Request.{Check}
+use Rattle.mw_model.specs.Reports.Request.{Check}
 use Rattle.mw_book.specs.Answering.{fault_of, ReadWhole}
 use Rattle.mw_book.specs.Checks.{TrialEnds, LastReported, SourceCounts, SinkCounts, ConcludesWith, IsStop}
 use Rattle.mw_book.specs.Knowing.{JudgedFor}

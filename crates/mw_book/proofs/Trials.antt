@@ -4,7 +4,7 @@ use Rattle.std.proofs.Math.Seq.{take-append-add}
 use Rattle.std.proofs.lemmas.Bool.{eq-eqb, ne_eqb}
 use Rattle.std.proofs.lemmas.List.{append-nil, drop-drop, length-take-le, take-append-drop, take-append-le}
 use borrow.Rule.Slice.PartMut.{put_mid}
-use Rattle.mw_model.specs.Trial.{sum_formula, x_formula, odd_line, even_line, trial_line, trial_book}
+use Rattle.mw_model.specs.Reports.Trial.{sum_formula, x_formula, odd_line, even_line, trial_line, trial_book}
 use Rattle.mw_book.specs.Trials.{lines_after}
 
 -- one text put after another

@@ -1,12 +1,12 @@
 -- Where the proving of formulas stands.
 use Rattle.std.specs.Prelude.{◌≡◌, ℕ, ◌≤◌, true, false, not, List, length, Option}
-use Rattle.mw_model.specs.Object.{Object, list2}
-use Rattle.mw_model.specs.Primitive.{is_symbol}
-use Rattle.mw_model.specs.Fate.{is_out_of_range}
-use Rattle.mw_model.specs.Report.{word_text}
-use Rattle.mw_model.specs.Request.{Request, Taut}
-use Rattle.mw_model.specs.Pieces.{how_many}
-use Rattle.mw_model.specs.TautologyBook.{initial_arities, is_proved}
+use Rattle.mw_model.specs.Terms.Object.{Object, list2}
+use Rattle.mw_model.specs.Values.Primitive.{is_symbol}
+use Rattle.mw_model.specs.Events.Fate.{is_out_of_range}
+use Rattle.mw_model.specs.Reports.Report.{word_text}
+use Rattle.mw_model.specs.Reports.Request.{Request, Taut}
+use Rattle.mw_model.specs.Texts.Pieces.{how_many}
+use Rattle.mw_model.specs.Commands.TautologyBook.{initial_arities, is_proved}
 use Rattle.mw_heap.specs.Objects.{object_at, IsIn}
 use Rattle.mw_term.specs.Marking.{AreMarks}
 use Rattle.mw_read.specs.Shown.{IsShown, shown_text}

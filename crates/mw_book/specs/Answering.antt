@@ -1,9 +1,9 @@
 -- What the answering of a book keeps, what is read and answered of a piece, and where the book ends.
 use Rattle.std.specs.Prelude.{◌≡◌, ℕ, List, ◌++◌, Option, Some, None}
-use Rattle.mw_model.specs.Object.{Object}
-use Rattle.mw_model.specs.Lexemes.{Fault, fault, Goes}
-use Rattle.mw_model.specs.Grammar.{book, reading, trees}
-use Rattle.mw_model.specs.Request.{Request}
+use Rattle.mw_model.specs.Terms.Object.{Object}
+use Rattle.mw_model.specs.Texts.Lexemes.{Fault, fault, Goes}
+use Rattle.mw_model.specs.Texts.Grammar.{book, reading, trees}
+use Rattle.mw_model.specs.Reports.Request.{Request}
 use Rattle.mw_port.specs.Ports.{Takes as SinkTakes, HasEnded}
 use Rattle.mw_read.specs.Piles.{kind_of}
 use Rattle.mw_read.specs.Standing.{Stands, IsFree}

@@ -1,9 +1,9 @@
 -- The options and the arguments of the commands, and the numbers and the name that they give.
 use Rattle.std.specs.Prelude.{ℕ, Bool, true, false, ◌&&◌, cond, leb, List, [], ◌∷◌, ◌++◌, length, Option, Some, None, codes}
 use Prim.Native.String.{String}
-use Rattle.mw_model.specs.Object.{Name, Object, Symbol, same_bytes}
-use Rattle.mw_model.specs.Lexemes.{Fault, is_digit, all_are, decimal_value}
-use Rattle.mw_model.specs.Grammar.{trees}
+use Rattle.mw_model.specs.Terms.Object.{Name, Object, Symbol, same_bytes}
+use Rattle.mw_model.specs.Texts.Lexemes.{Fault, is_digit, all_are, decimal_value}
+use Rattle.mw_model.specs.Texts.Grammar.{trees}
 use Rattle.clap.specs.Walk.{Text, Rule}
 use Rattle.clap.specs.Simple.{Shape, new_rule, new_shape}
 use Rattle.clap.specs.declared.builder.action.ArgAction.TheVariants.{Set}

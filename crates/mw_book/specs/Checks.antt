@@ -1,10 +1,10 @@
 -- How the judging of a book ends, and what is then true.
 use Rattle.std.specs.Prelude.{◌≡◌, ℕ, List, ◌++◌, Option, Some, ◌⊎◌}
-use Rattle.mw_model.specs.Request.{Request}
-use Rattle.mw_model.specs.Grammar.{trees}
-use Rattle.mw_model.specs.Report.{Status, Done, SomeRefused, Syntax, last_line}
-use Rattle.mw_model.specs.Trial.{trial_book}
-use Rattle.mw_model.specs.Headline.{TrialHeadline}
+use Rattle.mw_model.specs.Reports.Request.{Request}
+use Rattle.mw_model.specs.Texts.Grammar.{trees}
+use Rattle.mw_model.specs.Reports.Report.{Status, Done, SomeRefused, Syntax, last_line}
+use Rattle.mw_model.specs.Reports.Trial.{trial_book}
+use Rattle.mw_model.specs.Reports.Headline.{TrialHeadline}
 use Rattle.mw_port.specs.Ports.{Rises, Takes, HasEnded}
 use Rattle.mw_read.specs.Piles.{kind_of}
 use Rattle.mw_book.specs.Books.{TakesSome}

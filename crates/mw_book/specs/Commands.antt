@@ -1,8 +1,8 @@
 -- What the words of the command line ask for. How `clap` reads their options, and the numbers and the name among them, is in Arguments.
 use Rattle.std.specs.Prelude.{ℕ, true, cond, List, [], ◌∷◌, ◌++◌, Option, Some, None, codes}
 use Prim.Native.String.{String}
-use Rattle.mw_model.specs.Object.{Name, same_bytes}
-use Rattle.mw_model.specs.Request.{Request, Check, Trial, Taut, Lower, Slice, Flat, Recheck, Help, Usage}
+use Rattle.mw_model.specs.Terms.Object.{Name, same_bytes}
+use Rattle.mw_model.specs.Reports.Request.{Request, Check, Trial, Taut, Lower, Slice, Flat, Recheck, Help, Usage}
 use Rattle.mw_book.specs.Arguments.{steps_command, trial_command, slice_command, steps_of, events_of, name_of, is_help}
 use Rattle.clap.specs.Walk.{Text, Row, first_of}
 use Rattle.clap.specs.Simple.{App, Shape, new_shape, new_app, on_top, with_subcommand, subcommand_of}

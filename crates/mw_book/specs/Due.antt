@@ -1,21 +1,21 @@
 -- What is due for the data of a book, by what was asked for.
 use Rattle.std.specs.Prelude.{◌≡◌, ℕ, ◌&&◌, not, ◌+◌, cond, List, [], length, Option}
-use Rattle.mw_model.specs.Object.{Object}
-use Rattle.mw_model.specs.Primitive.{One}
-use Rattle.mw_model.specs.Lexemes.{Fault}
-use Rattle.mw_model.specs.Grammar.{book}
-use Rattle.mw_model.specs.Theory.{initial}
-use Rattle.mw_model.specs.Definition.{is_present}
-use Rattle.mw_model.specs.Report.{lines, last_line, refused_among}
-use Rattle.mw_model.specs.Request.{Request, Check, Taut, Lower, Slice, Flat, Recheck}
-use Rattle.mw_model.specs.Pieces.{InOrder, numbered, how_many, comment_ending, ending}
-use Rattle.mw_model.specs.TautologyBook.{OwesTautology, is_proved, tautology_summary}
-use Rattle.mw_model.specs.Lowering.{OwesLowered, course_summary, derived_course, refused_in}
-use Rattle.mw_model.specs.Slice.{target}
-use Rattle.mw_model.specs.Slicing.{accepted_events, SliceOwed}
-use Rattle.mw_model.specs.Transition.{is_acceptance}
-use Rattle.mw_model.specs.Flattening.{OwesFlat, flat_events, flat_summary, is_switch, plain_course}
-use Rattle.mw_model.specs.LogReport.{denied, log_lines, log_of, log_summary}
+use Rattle.mw_model.specs.Terms.Object.{Object}
+use Rattle.mw_model.specs.Values.Primitive.{One}
+use Rattle.mw_model.specs.Texts.Lexemes.{Fault}
+use Rattle.mw_model.specs.Texts.Grammar.{book}
+use Rattle.mw_model.specs.Events.Theory.{initial}
+use Rattle.mw_model.specs.Values.Definition.{is_present}
+use Rattle.mw_model.specs.Reports.Report.{lines, last_line, refused_among}
+use Rattle.mw_model.specs.Reports.Request.{Request, Check, Taut, Lower, Slice, Flat, Recheck}
+use Rattle.mw_model.specs.Texts.Pieces.{InOrder, numbered, how_many, comment_ending, ending}
+use Rattle.mw_model.specs.Commands.TautologyBook.{OwesTautology, is_proved, tautology_summary}
+use Rattle.mw_model.specs.Commands.Lowering.{OwesLowered, course_summary, derived_course, refused_in}
+use Rattle.mw_model.specs.Commands.Slice.{target}
+use Rattle.mw_model.specs.Commands.Slicing.{accepted_events, SliceOwed}
+use Rattle.mw_model.specs.Commands.Transition.{is_acceptance}
+use Rattle.mw_model.specs.Commands.Flattening.{OwesFlat, flat_events, flat_summary, is_switch, plain_course}
+use Rattle.mw_model.specs.Commands.LogReport.{denied, log_lines, log_of, log_summary}
 
 -- the text of the answers to these data, in order
 abbrev pub AreAnswers : Request → List Object → List ℕ → Type 0

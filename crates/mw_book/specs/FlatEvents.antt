@@ -1,8 +1,8 @@
 -- Events with numbers in place of their proofs, as they are made.
 use Rattle.std.specs.Prelude.{◌≡◌, ℕ, List, [], ◌∷◌, ◌++◌}
-use Rattle.mw_model.specs.Object.{Object, Natural, Pair, NIL}
-use Rattle.mw_model.specs.Written.{IsDatumLine}
-use Rattle.mw_model.specs.Flattening.{StepsWritten}
+use Rattle.mw_model.specs.Terms.Object.{Object, Natural, Pair, NIL}
+use Rattle.mw_model.specs.Texts.Written.{IsDatumLine}
+use Rattle.mw_model.specs.Commands.Flattening.{StepsWritten}
 use Rattle.mw_heap.specs.Objects.{object_at}
 
 -- the members up to the end of a list, whatever ends it

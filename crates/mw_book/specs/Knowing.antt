@@ -1,11 +1,11 @@
 -- Where the judging of a book stands.
 use Rattle.std.specs.Prelude.{◌≡◌, ℕ, List, length}
-use Rattle.mw_model.specs.Object.{Object}
-use Rattle.mw_model.specs.Request.{Request, Check}
-use Rattle.mw_model.specs.Primitive.{One}
-use Rattle.mw_model.specs.Theory.{initial}
-use Rattle.mw_model.specs.Fate.{after}
-use Rattle.mw_model.specs.Report.{refused_among}
+use Rattle.mw_model.specs.Terms.Object.{Object}
+use Rattle.mw_model.specs.Reports.Request.{Request, Check}
+use Rattle.mw_model.specs.Values.Primitive.{One}
+use Rattle.mw_model.specs.Events.Theory.{initial}
+use Rattle.mw_model.specs.Events.Fate.{after}
+use Rattle.mw_model.specs.Reports.Report.{refused_among}
 use Rattle.mw_kernel.specs.Knowledge.{theory_of}
 use Rattle.mw_book.specs.Answering.{AnsweredBy}
 use Rattle.mw_book.specs.declared.judging.Judging.{Judging}

@@ -1,9 +1,9 @@
 -- The parts of a line, as they are written.
 use Rattle.std.specs.Prelude.{ℕ, ◌-◌, List, [], ◌∷◌, ◌++◌, codes}
-use Rattle.mw_model.specs.Object.{Object}
-use Rattle.mw_model.specs.Lexemes.{SyntaxKind}
-use Rattle.mw_model.specs.Printing.{numeral}
-use Rattle.mw_model.specs.Report.{spaced, word_text, label_text, kind_word}
+use Rattle.mw_model.specs.Terms.Object.{Object}
+use Rattle.mw_model.specs.Texts.Lexemes.{SyntaxKind}
+use Rattle.mw_model.specs.Texts.Printing.{numeral}
+use Rattle.mw_model.specs.Reports.Report.{spaced, word_text, label_text, kind_word}
 
 -- the line of event number k up to its fate
 abbrev pub line_begun : ℕ → Object → List ℕ

@@ -1,11 +1,11 @@
 -- Where the slicing of a book stands.
 use Rattle.std.specs.Prelude.{◌≡◌, ℕ, List, length}
-use Rattle.mw_model.specs.Object.{Name, Object, name_of_bytes}
-use Rattle.mw_model.specs.Primitive.{One}
-use Rattle.mw_model.specs.Request.{Request, Slice}
-use Rattle.mw_model.specs.Theory.{initial}
-use Rattle.mw_model.specs.Fate.{after}
-use Rattle.mw_model.specs.Slicing.{accepted_events}
+use Rattle.mw_model.specs.Terms.Object.{Name, Object, name_of_bytes}
+use Rattle.mw_model.specs.Values.Primitive.{One}
+use Rattle.mw_model.specs.Reports.Request.{Request, Slice}
+use Rattle.mw_model.specs.Events.Theory.{initial}
+use Rattle.mw_model.specs.Events.Fate.{after}
+use Rattle.mw_model.specs.Commands.Slicing.{accepted_events}
 use Rattle.mw_kernel.specs.Knowledge.{theory_of}
 use Rattle.mw_slice.specs.Slices.{events_of}
 use Rattle.mw_book.specs.Answering.{AnsweredBy}

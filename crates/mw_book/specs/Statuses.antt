@@ -1,12 +1,12 @@
 -- How the program ends, and what is then true.
 use Rattle.std.specs.Prelude.{◌≡◌, ℕ, Bool, true, false, List, Option, Some, None}
-use Rattle.mw_model.specs.Request.{Request, Check, Trial, Taut, Lower, Slice, Flat, Recheck, Help, Usage}
+use Rattle.mw_model.specs.Reports.Request.{Request, Check, Trial, Taut, Lower, Slice, Flat, Recheck, Help, Usage}
 use Rattle.mw_book.specs.Commands.{asked, help_text}
-use Rattle.mw_model.specs.Lexemes.{Goes}
-use Rattle.mw_model.specs.Grammar.{reading, trees}
-use Rattle.mw_model.specs.Report.{Status, Done, SomeRefused, Syntax, last_line}
-use Rattle.mw_model.specs.Trial.{trial_book}
-use Rattle.mw_model.specs.Headlines.{Promised, IsBegun}
+use Rattle.mw_model.specs.Texts.Lexemes.{Goes}
+use Rattle.mw_model.specs.Texts.Grammar.{reading, trees}
+use Rattle.mw_model.specs.Reports.Report.{Status, Done, SomeRefused, Syntax, last_line}
+use Rattle.mw_model.specs.Reports.Trial.{trial_book}
+use Rattle.mw_model.specs.Reports.Headlines.{Promised, IsBegun}
 use Rattle.mw_port.specs.Ports.{Gives, Takes}
 use Rattle.mw_read.specs.Piles.{kind_of}
 use Rattle.mw_port.specs.declared.sink.Halt.{Halt}

@@ -1,9 +1,9 @@
 -- What is found of a datum that may give a formula.
 use Rattle.std.specs.Prelude.{◌≡◌, Bool, true, false, List, Some, None}
-use Rattle.mw_model.specs.Object.{Object, list4, symbol, car, second_of}
-use Rattle.mw_model.specs.Term.{Formula}
-use Rattle.mw_model.specs.Tautology.{Choice, Many as HasMany, FailsUnder, Holds, decision, choice_object}
-use Rattle.mw_model.specs.TautologyBook.{IsPureProof, formula_given, initial_arities}
+use Rattle.mw_model.specs.Terms.Object.{Object, list4, symbol, car, second_of}
+use Rattle.mw_model.specs.Terms.Term.{Formula}
+use Rattle.mw_model.specs.Commands.Tautology.{Choice, Many as HasMany, FailsUnder, Holds, decision, choice_object}
+use Rattle.mw_model.specs.Commands.TautologyBook.{IsPureProof, formula_given, initial_arities}
 use Rattle.mw_heap.specs.Objects.{object_at, IsIn}
 use Rattle.mw_book.specs.declared.verdict.Verdict.{Verdict}
 use Rattle.mw_book.specs.declared.verdict.Verdict.TheVariants.{Shape, Many, Fails, Theorem}

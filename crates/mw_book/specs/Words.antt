@@ -2,8 +2,8 @@
 use Rattle.std.specs.Prelude.{true, [], ◌∷◌, codes}
 use Rattle.clap.specs.Simple.{App, new_app, on_top}
 use Rattle.mw_book.specs.Arguments.{steps_command, trial_command}
-use Rattle.mw_model.specs.Object.{name_of_bytes}
-use Rattle.mw_model.specs.Request.{Request, Check, Trial, Taut, Lower, Slice, Flat, Recheck, Help, Usage}
+use Rattle.mw_model.specs.Terms.Object.{name_of_bytes}
+use Rattle.mw_model.specs.Reports.Request.{Request, Check, Trial, Taut, Lower, Slice, Flat, Recheck, Help, Usage}
 use Rattle.mw_book.specs.Commands.{plain_command, with_subcommands}
 use Rattle.mw_book.specs.declared.words.Request.{Request as Asked}
 use Rattle.mw_book.specs.declared.words.Request.TheVariants as words

@@ -1,11 +1,11 @@
 //! The lines of the answers to a book of formulas.
 ghost use Rattle.std.specs.Prelude.{◌≡◌, ◌≤◌, ◌-◌, ◌++◌, ◌∷◌, [], List, ℕ, None, Some, OnOk, codes};
-ghost use Rattle.mw_model.specs.Object.{Object};
-ghost use Rattle.mw_model.specs.Printing.{numeral};
-ghost use Rattle.mw_model.specs.Report.{spaced, word_text};
-ghost use Rattle.mw_model.specs.Tautology.{Choice, choice_object};
-ghost use Rattle.mw_model.specs.TautologyBook.{OwesTautology, remark};
-ghost use Rattle.mw_model.specs.Written.{IsWritten, IsDatumLine};
+ghost use Rattle.mw_model.specs.Terms.Object.{Object};
+ghost use Rattle.mw_model.specs.Texts.Printing.{numeral};
+ghost use Rattle.mw_model.specs.Reports.Report.{spaced, word_text};
+ghost use Rattle.mw_model.specs.Commands.Tautology.{Choice, choice_object};
+ghost use Rattle.mw_model.specs.Commands.TautologyBook.{OwesTautology, remark};
+ghost use Rattle.mw_model.specs.Texts.Written.{IsWritten, IsDatumLine};
 ghost use Rattle.mw_heap.specs.Objects.{object_at, IsIn};
 ghost use Rattle.mw_book.specs.Answered.{ShowsWord};
 ghost use Rattle.mw_book.specs.Lines.{formulas_line};

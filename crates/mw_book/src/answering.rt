@@ -1,8 +1,8 @@
 //! Answering the data of a book as they are read.
 ghost use Rattle.std.specs.Prelude.{◌≡◌, ℕ, ◌+◌, ◌<◌, ◌≤◌, ◌^◌, true, false, List, [], ◌∷◌, ◌++◌, length, None, IfOk, OnOk};
-ghost use Rattle.mw_model.specs.Object.{Object};
-ghost use Rattle.mw_model.specs.Fate.{is_out_of_range};
-ghost use Rattle.mw_model.specs.Request.{Request};
+ghost use Rattle.mw_model.specs.Terms.Object.{Object};
+ghost use Rattle.mw_model.specs.Events.Fate.{is_out_of_range};
+ghost use Rattle.mw_model.specs.Reports.Request.{Request};
 ghost use Rattle.mw_heap.specs.Objects.{object_at, IsIn};
 ghost use Rattle.mw_read.specs.Standing.{Stands, IsStanding, Follows, Says};
 ghost use Rattle.mw_read.specs.Feeding.{IsAwaiting, IsReady, Continues};

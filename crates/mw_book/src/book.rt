@@ -1,8 +1,8 @@
 //! A book from its bytes to the answers to its data.
 ghost use Rattle.std.specs.Prelude.{◌≡◌, ℕ, List, [], ◌++◌, Some, OnOk, OnErr, IfOk, IfErr};
-ghost use Rattle.mw_model.specs.Object.{Object};
-ghost use Rattle.mw_model.specs.Request.{Request};
-ghost use Rattle.mw_model.specs.Report.{status_of as status_with};
+ghost use Rattle.mw_model.specs.Terms.Object.{Object};
+ghost use Rattle.mw_model.specs.Reports.Request.{Request};
+ghost use Rattle.mw_model.specs.Reports.Report.{status_of as status_with};
 ghost use Rattle.mw_port.specs.Ports.{Takes};
 ghost use Rattle.mw_book.specs.Books.{TakesSome};
 ghost use Rattle.mw_book.specs.Due.{AreAnswers, IsLastText, refused_for};

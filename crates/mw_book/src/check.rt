@@ -1,7 +1,7 @@
 //! The commands that judge a book.
 ghost use Rattle.std.specs.Prelude.{◌≡◌, ℕ, [], Some, IfOk};
-ghost use Rattle.mw_model.specs.Request.{Check};
-ghost use Rattle.mw_model.specs.Trial.{trial_book};
+ghost use Rattle.mw_model.specs.Reports.Request.{Check};
+ghost use Rattle.mw_model.specs.Reports.Trial.{trial_book};
 ghost use Rattle.mw_port.specs.Memories.{no_faults};
 ghost use Rattle.mw_book.specs.Knowing.{Judged};
 ghost use Rattle.mw_book.specs.Checks.{BookEnds, TrialEnds, SourceCounts, SinkCounts};

@@ -1,6 +1,6 @@
 //! The program, but for its words, its source and its sink, which it is handed.
 ghost use Rattle.std.specs.Prelude.{◌≡◌, ◌≢◌, ◌⊎◌, true, false, IfSome, IfErr, OnOk, OnErr};
-ghost use Rattle.mw_model.specs.Request.{Help, Usage};
+ghost use Rattle.mw_model.specs.Reports.Request.{Help, Usage};
 ghost use Rattle.mw_book.specs.Commands.{asked, help_text};
 ghost use Rattle.mw_port.specs.Ports.{Rises, Takes, HasEnded};
 ghost use Rattle.mw_book.specs.Books.{TakesSome};

@@ -1,6 +1,6 @@
 //! The command that turns a book to a log.
 ghost use Rattle.std.specs.Prelude.{◌≡◌, [], IfOk};
-ghost use Rattle.mw_model.specs.Request.{Flat};
+ghost use Rattle.mw_model.specs.Reports.Request.{Flat};
 ghost use Rattle.mw_book.specs.Flattened.{Flattened};
 ghost use Rattle.mw_book.specs.Checks.{BookEnds, SourceCounts, SinkCounts};
 

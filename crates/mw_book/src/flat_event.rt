@@ -1,11 +1,11 @@
 //! Events with the numbers of steps in place of their proofs.
 ghost use Rattle.std.specs.Prelude.{◌≡◌, ℕ, ◌≤◌, true, false, List, [], ◌∷◌, ◌++◌, length, All, IfOk, OnOk};
-ghost use Rattle.mw_model.specs.Object.{Natural, Pair, list1};
-ghost use Rattle.mw_model.specs.Fate.{event_word, longest};
-ghost use Rattle.mw_model.specs.Printing.{text_of};
-ghost use Rattle.mw_model.specs.Written.{IsDatumLine};
-ghost use Rattle.mw_model.specs.Subproofs.{distinct_proofs};
-ghost use Rattle.mw_model.specs.Flattening.{numbers_among, is_logged_word, OwesFlat};
+ghost use Rattle.mw_model.specs.Terms.Object.{Natural, Pair, list1};
+ghost use Rattle.mw_model.specs.Events.Fate.{event_word, longest};
+ghost use Rattle.mw_model.specs.Texts.Printing.{text_of};
+ghost use Rattle.mw_model.specs.Texts.Written.{IsDatumLine};
+ghost use Rattle.mw_model.specs.Commands.Subproofs.{distinct_proofs};
+ghost use Rattle.mw_model.specs.Commands.Flattening.{numbers_among, is_logged_word, OwesFlat};
 ghost use Rattle.mw_heap.specs.Objects.{object_at, IsIn, Grows};
 ghost use Rattle.mw_heap.specs.Lists.{list_object};
 ghost use Rattle.mw_heap.specs.Words.{word_object};

@@ -1,9 +1,9 @@
 //! Judging events as they are read, and turning those that are accepted to steps.
 ghost use Rattle.std.specs.Prelude.{◌≡◌, ◌+◌, ◌<◌, ◌^◌, ◌&&◌, not, true, [], ◌++◌, IfOk, OnOk};
-ghost use Rattle.mw_model.specs.Request.{Flat};
-ghost use Rattle.mw_model.specs.Fate.{event_word};
-ghost use Rattle.mw_model.specs.Report.{is_accepted};
-ghost use Rattle.mw_model.specs.Flattening.{OwesFlat, is_logged_word};
+ghost use Rattle.mw_model.specs.Reports.Request.{Flat};
+ghost use Rattle.mw_model.specs.Events.Fate.{event_word};
+ghost use Rattle.mw_model.specs.Reports.Report.{is_accepted};
+ghost use Rattle.mw_model.specs.Commands.Flattening.{OwesFlat, is_logged_word};
 ghost use Rattle.mw_heap.specs.Objects.{object_at, IsIn};
 ghost use Rattle.mw_kernel.specs.Fates.{fate_of};
 ghost use Rattle.mw_book.specs.Flattened.{Flattened, FlattenedFor, HasEndedEvent};

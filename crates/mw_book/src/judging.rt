@@ -1,7 +1,7 @@
 //! Judging data as they are read.
 ghost use Rattle.std.specs.Prelude.{◌≡◌, ◌+◌, ◌<◌, ◌^◌, true, cond, [], ◌∷◌, ◌++◌, OnOk, IfOk};
-ghost use Rattle.mw_model.specs.Request.{Check};
-ghost use Rattle.mw_model.specs.Report.{fate_text, is_accepted};
+ghost use Rattle.mw_model.specs.Reports.Request.{Check};
+ghost use Rattle.mw_model.specs.Reports.Report.{fate_text, is_accepted};
 ghost use Rattle.mw_kernel.specs.Fates.{fate_of};
 ghost use Rattle.mw_book.specs.Knowing.{Judged, JudgedFor};
 

@@ -1,10 +1,10 @@
 //! The events of a slice, as they are written.
 ghost use Rattle.std.specs.Prelude.{◌≡◌, ℕ, ◌<◌, All, List, ◌++◌, map, length, codes, OnOk};
-ghost use Rattle.mw_model.specs.Printing.{numeral};
-ghost use Rattle.mw_model.specs.Report.{spaced};
-ghost use Rattle.mw_model.specs.Written.{IsDatumLine};
-ghost use Rattle.mw_model.specs.Pieces.{InOrder, comment};
-ghost use Rattle.mw_model.specs.Slice.{event_at};
+ghost use Rattle.mw_model.specs.Texts.Printing.{numeral};
+ghost use Rattle.mw_model.specs.Reports.Report.{spaced};
+ghost use Rattle.mw_model.specs.Texts.Written.{IsDatumLine};
+ghost use Rattle.mw_model.specs.Texts.Pieces.{InOrder, comment};
+ghost use Rattle.mw_model.specs.Commands.Slice.{event_at};
 ghost use Rattle.mw_slice.specs.Slices.{events_of};
 
 use crate::answer::write_line;

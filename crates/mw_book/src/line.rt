@@ -1,9 +1,9 @@
 //! The lines of the report.
 ghost use Rattle.std.specs.Prelude.{◌≡◌, ◌≤◌, ◌++◌, ◌∷◌, [], true, OnOk};
-ghost use Rattle.mw_model.specs.Object.{Object};
-ghost use Rattle.mw_model.specs.Primitive.{is_symbol};
-ghost use Rattle.mw_model.specs.Printing.{numeral};
-ghost use Rattle.mw_model.specs.Report.{dash, fate_text, kind_word, symbol_text};
+ghost use Rattle.mw_model.specs.Terms.Object.{Object};
+ghost use Rattle.mw_model.specs.Values.Primitive.{is_symbol};
+ghost use Rattle.mw_model.specs.Texts.Printing.{numeral};
+ghost use Rattle.mw_model.specs.Reports.Report.{dash, fate_text, kind_word, symbol_text};
 ghost use Rattle.mw_heap.specs.Objects.{object_at, IsIn};
 ghost use Rattle.mw_read.specs.Piles.{kind_of};
 ghost use Rattle.mw_read.specs.Shown.{ShowsEvent, IsShown, shown_text};

@@ -1,6 +1,6 @@
 //! The command that turns the derivations of a book to proofs.
 ghost use Rattle.std.specs.Prelude.{◌≡◌, [], IfOk};
-ghost use Rattle.mw_model.specs.Request.{Lower};
+ghost use Rattle.mw_model.specs.Reports.Request.{Lower};
 ghost use Rattle.mw_book.specs.Lowered.{Lowered};
 ghost use Rattle.mw_book.specs.Checks.{BookEnds, SourceCounts, SinkCounts};
 

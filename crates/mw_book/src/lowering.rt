@@ -1,11 +1,11 @@
 //! Judging events whose derivations are turned to proofs, as they are read.
 ghost use Rattle.std.specs.Prelude.{◌≡◌, ◌+◌, ◌<◌, ◌^◌, cond, [], ◌∷◌, ◌++◌, codes, OnOk, IfOk};
-ghost use Rattle.mw_model.specs.Object.{Object};
-ghost use Rattle.mw_model.specs.Request.{Lower as ToLower};
-ghost use Rattle.mw_model.specs.Derivation.{Turns};
-ghost use Rattle.mw_model.specs.Rewriting.{IsRewritten};
-ghost use Rattle.mw_model.specs.Report.{fate_text, is_accepted};
-ghost use Rattle.mw_model.specs.Written.{IsDatumLine};
+ghost use Rattle.mw_model.specs.Terms.Object.{Object};
+ghost use Rattle.mw_model.specs.Reports.Request.{Lower as ToLower};
+ghost use Rattle.mw_model.specs.Commands.Derivation.{Turns};
+ghost use Rattle.mw_model.specs.Laws.Rewriting.{IsRewritten};
+ghost use Rattle.mw_model.specs.Reports.Report.{fate_text, is_accepted};
+ghost use Rattle.mw_model.specs.Texts.Written.{IsDatumLine};
 ghost use Rattle.mw_heap.specs.Objects.{object_at, IsIn};
 ghost use Rattle.mw_read.specs.Shown.{ShowsEvent};
 ghost use Rattle.mw_kernel.specs.Fates.{fate_of};

@@ -1,6 +1,6 @@
 //! The numbers among the words of the command line.
 ghost use Rattle.std.specs.Prelude.{◌≡◌, ◌≤◌, Some, None, length, cond};
-ghost use Rattle.mw_model.specs.Lexemes.{all_are, is_digit, decimal_value};
+ghost use Rattle.mw_model.specs.Texts.Lexemes.{all_are, is_digit, decimal_value};
 ghost use Rattle.mw_book.specs.Arguments as model;
 
 /// The number that the text is: at most so many decimal digits, and a value from the least to the most.

@@ -1,10 +1,10 @@
 //! What the commands write keeps their promises.
 ghost use Rattle.std.specs.Prelude.{◌≡◌, ℕ, List, ◌++◌};
-ghost use Rattle.mw_model.specs.Object.{Object};
-ghost use Rattle.mw_model.specs.Request.{Request};
-ghost use Rattle.mw_model.specs.Grammar.{trees};
-ghost use Rattle.mw_model.specs.Report.{status_of};
-ghost use Rattle.mw_model.specs.Headlines.{Promised, IsBegun};
+ghost use Rattle.mw_model.specs.Terms.Object.{Object};
+ghost use Rattle.mw_model.specs.Reports.Request.{Request};
+ghost use Rattle.mw_model.specs.Texts.Grammar.{trees};
+ghost use Rattle.mw_model.specs.Reports.Report.{status_of};
+ghost use Rattle.mw_model.specs.Reports.Headlines.{Promised, IsBegun};
 ghost use Rattle.mw_book.specs.Due.{AreAnswers, IsLastText, refused_for};
 
 use mw_model::commands::{slices, tautologies_again};

@@ -1,8 +1,8 @@
 //! Proving formulas as they are read.
 ghost use Rattle.std.specs.Prelude.{◌≡◌, ◌+◌, ◌<◌, ◌^◌, true, cond, List, [], ◌∷◌, ◌++◌, OnOk, IfOk};
-ghost use Rattle.mw_model.specs.Object.{Object};
-ghost use Rattle.mw_model.specs.Request.{Taut};
-ghost use Rattle.mw_model.specs.TautologyBook.{initial_arities};
+ghost use Rattle.mw_model.specs.Terms.Object.{Object};
+ghost use Rattle.mw_model.specs.Reports.Request.{Taut};
+ghost use Rattle.mw_model.specs.Commands.TautologyBook.{initial_arities};
 ghost use Rattle.mw_book.specs.Answered.{IsProving, Answered, ProvedFor, ShowsWord, lines_of};
 ghost use Rattle.mw_book.specs.Answering.{Answers};
 ghost use Rattle.mw_book.specs.Verdicts.{IsVerdict, is_theorem};

@@ -1,6 +1,6 @@
 //! Reading a book and answering its data as they come.
 ghost use Rattle.std.specs.Prelude.{◌≡◌, ℕ, ◌+◌, ◌≤◌, ◌<◌, ◌^◌, List, [], IfOk, OnOk};
-ghost use Rattle.mw_model.specs.Object.{Object};
+ghost use Rattle.mw_model.specs.Terms.Object.{Object};
 ghost use Rattle.mw_read.specs.Standing.{Stands, IsStanding, IsFree, work};
 ghost use Rattle.mw_read.specs.Feeding.{IsAwaiting};
 ghost use Rattle.mw_book.specs.Answering.{HasAnswered, Takes, Ends};

@@ -1,6 +1,6 @@
 //! The command that judges a log.
 ghost use Rattle.std.specs.Prelude.{◌≡◌, [], IfOk};
-ghost use Rattle.mw_model.specs.Request.{Recheck};
+ghost use Rattle.mw_model.specs.Reports.Request.{Recheck};
 ghost use Rattle.mw_book.specs.Rechecked.{Rechecked};
 ghost use Rattle.mw_book.specs.Checks.{BookEnds, SourceCounts, SinkCounts};
 

@@ -1,7 +1,7 @@
 //! Judging the data of a log as they are read.
 ghost use Rattle.std.specs.Prelude.{◌≡◌, ◌+◌, ◌<◌, ◌≤◌, ◌^◌, cond, [], ◌++◌, IfOk, IfSome, OnOk};
-ghost use Rattle.mw_model.specs.Object.{Object};
-ghost use Rattle.mw_model.specs.Request.{Recheck};
+ghost use Rattle.mw_model.specs.Terms.Object.{Object};
+ghost use Rattle.mw_model.specs.Reports.Request.{Recheck};
 ghost use Rattle.mw_heap.specs.Objects.{IsIn};
 ghost use Rattle.mw_read.specs.Shown.{ShowsEvent};
 ghost use Rattle.mw_flat.specs.Going.{is_step_word};

@@ -1,7 +1,7 @@
 //! The command that keeps what a theorem of a book rests on.
 ghost use Rattle.std.specs.Prelude.{◌≡◌, [], IfOk};
-ghost use Rattle.mw_model.specs.Object.{name_of_bytes};
-ghost use Rattle.mw_model.specs.Request.{Slice};
+ghost use Rattle.mw_model.specs.Terms.Object.{name_of_bytes};
+ghost use Rattle.mw_model.specs.Reports.Request.{Slice};
 ghost use Rattle.mw_book.specs.Sliced.{Sliced};
 ghost use Rattle.mw_book.specs.Checks.{BookEnds, SourceCounts, SinkCounts};
 

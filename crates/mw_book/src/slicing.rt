@@ -1,9 +1,9 @@
 //! Judging events as they are read, and keeping those that are accepted.
 ghost use Rattle.std.specs.Prelude.{◌≡◌, ◌+◌, ◌<◌, ◌^◌, cond, [], ◌∷◌, ◌++◌, IfOk, OnOk};
-ghost use Rattle.mw_model.specs.Object.{name_of_bytes};
-ghost use Rattle.mw_model.specs.Request.{Slice};
-ghost use Rattle.mw_model.specs.Fate.{fate, next};
-ghost use Rattle.mw_model.specs.Report.{is_accepted};
+ghost use Rattle.mw_model.specs.Terms.Object.{name_of_bytes};
+ghost use Rattle.mw_model.specs.Reports.Request.{Slice};
+ghost use Rattle.mw_model.specs.Events.Fate.{fate, next};
+ghost use Rattle.mw_model.specs.Reports.Report.{is_accepted};
 ghost use Rattle.mw_heap.specs.Objects.{object_at, IsIn};
 ghost use Rattle.mw_kernel.specs.Knowledge.{theory_of};
 ghost use Rattle.mw_slice.specs.Slices.{events_of};

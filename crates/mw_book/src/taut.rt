@@ -1,6 +1,6 @@
 //! The command that proves the formulas of a book.
 ghost use Rattle.std.specs.Prelude.{◌≡◌, [], IfOk};
-ghost use Rattle.mw_model.specs.Request.{Taut};
+ghost use Rattle.mw_model.specs.Reports.Request.{Taut};
 ghost use Rattle.mw_book.specs.Answered.{IsProving, Answered};
 ghost use Rattle.mw_book.specs.Checks.{BookEnds, SourceCounts, SinkCounts};
 

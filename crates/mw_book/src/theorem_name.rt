@@ -1,8 +1,8 @@
 //! The name of a theorem, as the command line spells it.
 ghost use Rattle.std.specs.Prelude.{◌≡◌, ℕ, true, List, [], ◌∷◌, ◌++◌, Some, None, IfOk, IfSome, IfNone, option_map};
-ghost use Rattle.mw_model.specs.Object.{Name, Object, Symbol, is_name, name_of_bytes};
-ghost use Rattle.mw_model.specs.Primitive.{is_symbol};
-ghost use Rattle.mw_model.specs.Grammar.{book, trees};
+ghost use Rattle.mw_model.specs.Terms.Object.{Name, Object, Symbol, is_name, name_of_bytes};
+ghost use Rattle.mw_model.specs.Values.Primitive.{is_symbol};
+ghost use Rattle.mw_model.specs.Texts.Grammar.{book, trees};
 ghost use Rattle.mw_book.specs.Arguments as arguments;
 ghost use Rattle.mw_heap.specs.Objects.{object_at, IsIn};
 ghost use Rattle.mw_read.specs.Standing.{Stands};
@@ -21,7 +21,7 @@ pub(crate) struct TheoremName {
 
 impl Model for TheoremName {
     ghost use Rattle.std.specs.Prelude.{◌≡◌, ℕ, true, List};
-    ghost use Rattle.mw_model.specs.Object.{is_name};
+    ghost use Rattle.mw_model.specs.Terms.Object.{is_name};
 
     ghost Value = { List ℕ };
 

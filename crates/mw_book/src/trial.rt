@@ -1,8 +1,8 @@
 //! The trial book as a source of bytes, which makes each line as it is read.
 ghost use Rattle.std.specs.Prelude.{◌≡◌, ◌+◌, ◌*◌, ◌%◌, ◌<◌, ◌≤◌, List, [], ◌++◌, length, take, min, Some, IfOk, OnOk, OnErr, IsOk};
 ghost use Rattle.arrayvec.specs.ArrayString.{array_string_len};
-ghost use Rattle.mw_model.specs.Printing.{numeral};
-ghost use Rattle.mw_model.specs.Trial.{sum_formula, x_formula, odd_line, even_line, trial_line, trial_book};
+ghost use Rattle.mw_model.specs.Texts.Printing.{numeral};
+ghost use Rattle.mw_model.specs.Reports.Trial.{sum_formula, x_formula, odd_line, even_line, trial_line, trial_book};
 ghost use Rattle.mw_port.specs.Ports.{Rises, Gives, HasEnded};
 ghost use Rattle.mw_port.specs.Memories.{no_faults};
 

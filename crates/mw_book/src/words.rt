@@ -1,8 +1,8 @@
 //! The words of the command line.
 ghost use Rattle.std.specs.Prelude.{◌≡◌, ℕ, IfOk, option_map};
 ghost use Rattle.clap.specs.Words.{subcommand_rows_of};
-ghost use Rattle.mw_model.specs.Object.{name_of_bytes};
-ghost use Rattle.mw_model.specs.Request.{Check, Lower, Flat};
+ghost use Rattle.mw_model.specs.Terms.Object.{name_of_bytes};
+ghost use Rattle.mw_model.specs.Reports.Request.{Check, Lower, Flat};
 ghost use Rattle.mw_book.specs.Commands as commands;
 ghost use Rattle.mw_book.specs.Arguments as numbers;
 ghost use Rattle.mw_book.specs.Words.{meaning_of};

@@ -1,7 +1,7 @@
 -- What is left to do for jobs, in a row and for the parts of terms.
 use Rattle.std.proofs.Common.{◌≡◌, ℕ, ◌+◌, List, [], ◌∷◌, ◌++◌, ap, ap₂, ◌∙◌, arith}
-use Rattle.mw_model.specs.Object.{Name, Object}
-use Rattle.mw_model.specs.Term.{Terms, NoTerms, More, ArityTable}
+use Rattle.mw_model.specs.Terms.Object.{Name, Object}
+use Rattle.mw_model.specs.Terms.Term.{Terms, NoTerms, More, ArityTable}
 use Rattle.mw_code.specs.declared.job.Scope.{Scope}
 use Rattle.mw_code.specs.declared.job.Job.{Job}
 use Rattle.mw_code.specs.Weights.{all_jobs}

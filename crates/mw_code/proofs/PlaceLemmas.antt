@@ -2,10 +2,10 @@
 use Rattle.std.proofs.Common.{◌≡◌, ℕ, zero, suc, ◌+◌, ◌<◌, Bool, true, false, ◌||◌, cond, nat_eq, List, [], ◌∷◌, length, drop, Some, refl, sym, ap, ◌∙◌, subst, arith, eqb-true}
 use Rattle.std.specs.Map.{lookup}
 use Rattle.std.proofs.lemmas.Bool.{and_parts}
-use Rattle.mw_model.specs.Object.{Name, Object, Symbol, Pair, same_name}
-use Rattle.mw_model.specs.Term.{is_among}
-use Rattle.mw_model.specs.Primitive.{name_of}
-use Rattle.mw_model.specs.Reading.{names_of}
+use Rattle.mw_model.specs.Terms.Object.{Name, Object, Symbol, Pair, same_name}
+use Rattle.mw_model.specs.Terms.Term.{is_among}
+use Rattle.mw_model.specs.Values.Primitive.{name_of}
+use Rattle.mw_model.specs.Terms.Reading.{names_of}
 use Rattle.mw_model.proofs.ReadBack.{some_one}
 use Rattle.mw_model.proofs.SameObject.{same_object-swap}
 use Rattle.mw_heap.specs.Objects.{object_at}

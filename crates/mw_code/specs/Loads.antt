@@ -1,8 +1,8 @@
 -- How much is left to do for jobs.
 use Rattle.std.specs.Prelude.{ℕ, ◌+◌, List, [], ◌∷◌, Option, Some, None}
-use Rattle.mw_model.specs.Object.{Object}
-use Rattle.mw_model.specs.Term.{Term}
-use Rattle.mw_model.specs.Reading.{term_of}
+use Rattle.mw_model.specs.Terms.Object.{Object}
+use Rattle.mw_model.specs.Terms.Term.{Term}
+use Rattle.mw_model.specs.Terms.Reading.{term_of}
 use Rattle.mw_heap.specs.Objects.{object_at}
 use Rattle.mw_code.specs.declared.job.Job.{Job}
 use Rattle.mw_code.specs.declared.job.Job.TheVariants.{Value as TheValue, Rest as TheRest, Branch as TheBranch}

@@ -1,10 +1,10 @@
 -- The places of variables that are known, by the list of formals and the symbol.
 use Rattle.std.specs.Prelude.{◌≡◌, ℕ, Bool, true, ◌&&◌, nat_eq, List, Some}
 use Rattle.std.specs.Map.{lookup}
-use Rattle.mw_model.specs.Object.{Name, Object}
-use Rattle.mw_model.specs.Term.{are_distinct}
-use Rattle.mw_model.specs.Primitive.{name_of}
-use Rattle.mw_model.specs.Reading.{names_of}
+use Rattle.mw_model.specs.Terms.Object.{Name, Object}
+use Rattle.mw_model.specs.Terms.Term.{are_distinct}
+use Rattle.mw_model.specs.Values.Primitive.{name_of}
+use Rattle.mw_model.specs.Terms.Reading.{names_of}
 use Rattle.mw_heap.specs.Objects.{object_at}
 use Rattle.mw_code.specs.Jobs.{place_in}
 

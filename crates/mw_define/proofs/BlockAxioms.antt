@@ -1,10 +1,10 @@
 -- The axioms of a block, one after another.
 use Rattle.std.proofs.Common.{◌≡◌, ℕ, ◌+◌, ◌<◌, ◌≤◌, List, [], ◌∷◌, ◌++◌, length, get_or, take, refl, sym, ap, ap₂, ◌∙◌, subst}
-use Rattle.mw_model.specs.Object.{Object, Symbol, Pair, NIL}
-use Rattle.mw_model.specs.Term.{terms_object, formula_object}
-use Rattle.mw_model.specs.Rules.{equal_object}
-use Rattle.mw_model.specs.Definition.{variable_terms, function_axiom, function_axioms}
-use Rattle.mw_model.specs.RulesInduction.{formulas_object}
+use Rattle.mw_model.specs.Terms.Object.{Object, Symbol, Pair, NIL}
+use Rattle.mw_model.specs.Terms.Term.{terms_object, formula_object}
+use Rattle.mw_model.specs.Laws.Rules.{equal_object}
+use Rattle.mw_model.specs.Values.Definition.{variable_terms, function_axiom, function_axioms}
+use Rattle.mw_model.specs.Laws.RulesInduction.{formulas_object}
 use Rattle.mw_model.proofs.ReadBack.{names_back, term_back}
 use Rattle.mw_heap.specs.Objects.{object_at, IsIn, Grows}
 use Rattle.mw_heap.proofs.Objects.{object_at-Grows, IsIn-Grows, Grows-refl, Grows-trans}

@@ -1,13 +1,13 @@
 -- Drafts that passed their first tests, as functions and measures.
 use Rattle.std.proofs.Common.{◌≡◌, ℕ, true, ◌&&◌, List, [], ◌∷◌, length, map, Option, Some, None, inl, inr, refl, sym, ap, ap₂, ◌∙◌, subst}
 use Rattle.std.proofs.lemmas.Bool.{and_parts, and_from}
-use Rattle.mw_model.specs.Object.{Name, Object}
-use Rattle.mw_model.specs.Term.{Term, ArityTable, are_distinct, is_closed}
-use Rattle.mw_model.specs.Reading.{term_of, that, when, both, and_more}
-use Rattle.mw_model.specs.Primitive.{is_symbol, name_of}
-use Rattle.mw_model.specs.Definition.{Function}
-use Rattle.mw_model.specs.Expansion.{expand}
-use Rattle.mw_model.specs.Admission.{Draft, all_of, new_name, formals_of, add_names, functions, measures, are_closed_by}
+use Rattle.mw_model.specs.Terms.Object.{Name, Object}
+use Rattle.mw_model.specs.Terms.Term.{Term, ArityTable, are_distinct, is_closed}
+use Rattle.mw_model.specs.Terms.Reading.{term_of, that, when, both, and_more}
+use Rattle.mw_model.specs.Values.Primitive.{is_symbol, name_of}
+use Rattle.mw_model.specs.Values.Definition.{Function}
+use Rattle.mw_model.specs.Events.Expansion.{expand}
+use Rattle.mw_model.specs.Events.Admission.{Draft, all_of, new_name, formals_of, add_names, functions, measures, are_closed_by}
 use Rattle.mw_heap.specs.Objects.{object_at, IsIn, Grows}
 use Rattle.mw_heap.proofs.Objects.{object_at-Grows, IsIn-Grows}
 use Rattle.mw_term.specs.Parts.{names_at, AreSymbols}

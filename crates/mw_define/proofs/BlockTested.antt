@@ -1,14 +1,14 @@
 -- The tests of a block, from its formals on.
 use Rattle.std.proofs.Common.{◌≡◌, ℕ, List, map, Some, None, inl, inr, sym, ap, ap₂, ◌∙◌, subst}
-use Rattle.mw_model.specs.Object.{Name, Object}
-use Rattle.mw_model.specs.Term.{Term, ArityTable}
-use Rattle.mw_model.specs.Reading.{both}
-use Rattle.mw_model.specs.Definition.{function_axioms}
-use Rattle.mw_model.specs.Obligation.{obligations, is_nested}
-use Rattle.mw_model.specs.Expansion.{expand}
-use Rattle.mw_model.specs.Admission.{all_of, formals_of, add_names, functions}
-use Rattle.mw_model.specs.Refusal.{FORMALS, TERM}
-use Rattle.mw_model.specs.RulesInduction.{formulas_object}
+use Rattle.mw_model.specs.Terms.Object.{Name, Object}
+use Rattle.mw_model.specs.Terms.Term.{Term, ArityTable}
+use Rattle.mw_model.specs.Terms.Reading.{both}
+use Rattle.mw_model.specs.Values.Definition.{function_axioms}
+use Rattle.mw_model.specs.Events.Obligation.{obligations, is_nested}
+use Rattle.mw_model.specs.Events.Expansion.{expand}
+use Rattle.mw_model.specs.Events.Admission.{all_of, formals_of, add_names, functions}
+use Rattle.mw_model.specs.Events.Refusal.{FORMALS, TERM}
+use Rattle.mw_model.specs.Laws.RulesInduction.{formulas_object}
 use Rattle.mw_model.proofs.ReadBack.{some_one}
 use Rattle.mw_heap.specs.Objects.{Grows}
 use Rattle.mw_term.specs.Parts.{names_at, AreSymbols}

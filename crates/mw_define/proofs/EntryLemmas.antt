@@ -1,9 +1,9 @@
 -- What a caller cites of the entries that it keeps: their names, formals and bodies, as its heap shows them.
 use Rattle.std.proofs.Common.{◌≡◌, ℕ, List, ◌∷◌, Some, sym, ap, ◌∙◌, subst}
-use Rattle.mw_model.specs.Object.{Name, Object, Natural, Symbol, Pair}
-use Rattle.mw_model.specs.Term.{Term, ArityTable, names_object, term_object}
-use Rattle.mw_model.specs.Definition.{Function, is_new}
-use Rattle.mw_model.specs.Admission.{Draft, new_name, functions}
+use Rattle.mw_model.specs.Terms.Object.{Name, Object, Natural, Symbol, Pair}
+use Rattle.mw_model.specs.Terms.Term.{Term, ArityTable, names_object, term_object}
+use Rattle.mw_model.specs.Values.Definition.{Function, is_new}
+use Rattle.mw_model.specs.Events.Admission.{Draft, new_name, functions}
 use Rattle.mw_model.proofs.ReadBack.{some_one, when_some}
 use Rattle.mw_heap.specs.Objects.{object_at, IsIn, Grows}
 use Rattle.mw_heap.proofs.Objects.{object_at-Grows, IsIn-Grows}

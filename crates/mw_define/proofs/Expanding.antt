@@ -1,13 +1,13 @@
 -- Drafts and their expansions, as the heap grows.
 use Rattle.std.proofs.Common.{◌≡◌, ℕ, zero, suc, ◌+◌, ◌<◌, ◌≤◌, Bool, true, false, ◌&&◌, List, [], ◌∷◌, ◌++◌, length, get_or, take, take_all, Some, None, inl, inr, refl, sym, ap, ap₂, ◌∙◌, subst, arith}
 use Rattle.std.proofs.lemmas.List.{take_more}
-use Rattle.mw_model.specs.Object.{Object}
-use Rattle.mw_model.specs.Term.{Term, ArityTable, term_object, is_closed}
-use Rattle.mw_model.specs.Reading.{term_of}
-use Rattle.mw_model.specs.Primitive.{is_symbol, name_of}
-use Rattle.mw_model.specs.Definition.{Function}
-use Rattle.mw_model.specs.Expansion.{expand}
-use Rattle.mw_model.specs.Admission.{formals_of, all_of}
+use Rattle.mw_model.specs.Terms.Object.{Object}
+use Rattle.mw_model.specs.Terms.Term.{Term, ArityTable, term_object, is_closed}
+use Rattle.mw_model.specs.Terms.Reading.{term_of}
+use Rattle.mw_model.specs.Values.Primitive.{is_symbol, name_of}
+use Rattle.mw_model.specs.Values.Definition.{Function}
+use Rattle.mw_model.specs.Events.Expansion.{expand}
+use Rattle.mw_model.specs.Events.Admission.{formals_of, all_of}
 use Rattle.mw_model.proofs.Formed.{formed}
 use Rattle.mw_model.proofs.Read.{term_read}
 use Rattle.mw_heap.specs.Objects.{object_at, IsIn, Grows}

@@ -1,8 +1,8 @@
 -- Two lists member by member, and what some function gives of each member.
 use Rattle.std.proofs.Common.{◌≡◌, ℕ, zero, suc, ◌+◌, ◌<◌, ◌≤◌, List, [], ◌∷◌, ◌++◌, length, get_or, take, take_all, drop, map, Option, Some, None, refl, sym, ap, ap₂, ◌∙◌, subst, arith}
 use Rattle.std.proofs.lemmas.List.{take-append-drop, take_more, drop_more}
-use Rattle.mw_model.specs.Reading.{and_more}
-use Rattle.mw_model.specs.Admission.{all_of}
+use Rattle.mw_model.specs.Terms.Reading.{and_more}
+use Rattle.mw_model.specs.Events.Admission.{all_of}
 use Rattle.mw_model.proofs.ReadBack.{some_one, and_more-back}
 use Rattle.mw_define.specs.Blocks.{Each2}
 

@@ -2,12 +2,12 @@
 use Rattle.std.proofs.Common.{◌≡◌, ℕ, zero, suc, ◌+◌, ◌<◌, ◌≤◌, Bool, true, false, ◌&&◌, not, List, [], ◌∷◌, ◌++◌, length, get_or, take, drop, take_all, Option, Some, None, refl, sym, ap, ◌∙◌, subst, arith}
 use Rattle.std.proofs.lemmas.List.{take_more}
 use Rattle.std.proofs.lemmas.Bool.{and_parts, not-true}
-use Rattle.mw_model.specs.Object.{Name, Object}
-use Rattle.mw_model.specs.Term.{ArityTable, is_among, are_distinct}
-use Rattle.mw_model.specs.Reading.{that, when}
-use Rattle.mw_model.specs.Primitive.{is_symbol, name_of}
-use Rattle.mw_model.specs.Definition.{is_new}
-use Rattle.mw_model.specs.Admission.{new_name, all_of}
+use Rattle.mw_model.specs.Terms.Object.{Name, Object}
+use Rattle.mw_model.specs.Terms.Term.{ArityTable, is_among, are_distinct}
+use Rattle.mw_model.specs.Terms.Reading.{that, when}
+use Rattle.mw_model.specs.Values.Primitive.{is_symbol, name_of}
+use Rattle.mw_model.specs.Values.Definition.{is_new}
+use Rattle.mw_model.specs.Events.Admission.{new_name, all_of}
 use Rattle.mw_heap.specs.Objects.{object_at, IsIn}
 use Rattle.mw_term.specs.Parts.{names_at}
 use Rattle.mw_term.proofs.FormalList.{names_at-push, symbols-push, distinct-refused, distinct-push}

@@ -1,14 +1,14 @@
 -- The items that a part is opened into have its calls.
 use Rattle.std.proofs.Common.{◌≡◌, ℕ, true, false, List, [], ◌∷◌, ◌++◌, map, Option, Some, None, refl, sym, ap, ap₂, ◌∙◌, subst}
 use Rattle.std.proofs.lemmas.List.{append-nil, append_assoc}
-use Rattle.mw_model.specs.Object.{Name, Object, Pair, symbol, NIL}
-use Rattle.mw_model.specs.Term.{Term, Terms, Variable, Constant, If, Call, Lambda, NoTerms, More, is_among}
-use Rattle.mw_model.specs.Reading.{term_of, terms_of, more_terms, if_of}
-use Rattle.mw_model.specs.Primitive.{is_symbol, is_pair, name_of}
-use Rattle.mw_model.specs.Rules.{beta_object}
-use Rattle.mw_model.specs.Substitution.{substitute, actuals_for}
-use Rattle.mw_model.specs.Definition.{function_named}
-use Rattle.mw_model.specs.Obligation.{IsNotNil, IsNil, call_or}
+use Rattle.mw_model.specs.Terms.Object.{Name, Object, Pair, symbol, NIL}
+use Rattle.mw_model.specs.Terms.Term.{Term, Terms, Variable, Constant, If, Call, Lambda, NoTerms, More, is_among}
+use Rattle.mw_model.specs.Terms.Reading.{term_of, terms_of, more_terms, if_of}
+use Rattle.mw_model.specs.Values.Primitive.{is_symbol, is_pair, name_of}
+use Rattle.mw_model.specs.Laws.Rules.{beta_object}
+use Rattle.mw_model.specs.Terms.Substitution.{substitute, actuals_for}
+use Rattle.mw_model.specs.Values.Definition.{function_named}
+use Rattle.mw_model.specs.Events.Obligation.{IsNotNil, IsNil, call_or}
 use Rattle.mw_heap.specs.Objects.{object_at, IsIn, Grows}
 use Rattle.mw_heap.proofs.Objects.{object_at-Grows, IsIn-Grows}
 use Rattle.mw_define.specs.declared.item.Part.TheVariants as part

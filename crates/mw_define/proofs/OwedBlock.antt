@@ -1,11 +1,11 @@
 -- What a block owes, call by call and function by function, as the heap grows.
 use Rattle.std.proofs.Common.{◌≡◌, ℕ, zero, suc, ◌+◌, ◌<◌, ◌≤◌, Bool, true, false, ◌||◌, cond, eqb, List, [], ◌∷◌, ◌++◌, length, get_or, take, take_all, map, Some, refl, sym, ap, ap₂, ◌∙◌, subst, arith, append_assoc}
 use Rattle.std.proofs.lemmas.List.{append-nil, take_more, map-append}
-use Rattle.mw_model.specs.Object.{Name, Object}
-use Rattle.mw_model.specs.Term.{Formula, are_distinct}
-use Rattle.mw_model.specs.Primitive.{name_of}
-use Rattle.mw_model.specs.Definition.{Function, function_named}
-use Rattle.mw_model.specs.Obligation.{Measures, RecursiveCall, recursive_calls, obligation, ordinal_formula, measure_of, is_empty, some_nested, is_nested, calls_none, owed}
+use Rattle.mw_model.specs.Terms.Object.{Name, Object}
+use Rattle.mw_model.specs.Terms.Term.{Formula, are_distinct}
+use Rattle.mw_model.specs.Values.Primitive.{name_of}
+use Rattle.mw_model.specs.Values.Definition.{Function, function_named}
+use Rattle.mw_model.specs.Events.Obligation.{Measures, RecursiveCall, recursive_calls, obligation, ordinal_formula, measure_of, is_empty, some_nested, is_nested, calls_none, owed}
 use Rattle.mw_heap.specs.Objects.{object_at, IsIn, Grows}
 use Rattle.mw_heap.proofs.Objects.{object_at-Grows, Grows-refl, Grows-trans}
 use Rattle.mw_define.specs.declared.draft.Draft.{Draft as Given}

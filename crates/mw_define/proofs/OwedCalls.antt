@@ -3,13 +3,13 @@ use Rattle.std.proofs.Common.{◌≡◌, ℕ, zero, suc, ◌<◌, Bool, true, fa
 use Rattle.std.specs.List.{position}
 use Rattle.std.proofs.lemmas.Bool.{and_parts, not-true}
 use Rattle.std.proofs.lemmas.List.Quantifiers.{position-Some}
-use Rattle.mw_model.specs.Object.{Name, Object, Natural, Symbol, Pair, same_name}
-use Rattle.mw_model.specs.Term.{Term, Terms, Formula, Or, formula_object, names_object, is_among, are_distinct}
-use Rattle.mw_model.specs.Reading.{term_of, terms_of}
-use Rattle.mw_model.specs.Primitive.{name_of}
-use Rattle.mw_model.specs.Substitution.{substitute, actuals_for}
-use Rattle.mw_model.specs.Definition.{Function, function_named}
-use Rattle.mw_model.specs.Obligation.{Test, IsNotNil, IsNil, Measures, mentions, tested, test_formula, under_tests, ordinal_formula, below_formula, falls, obligation, measure_of}
+use Rattle.mw_model.specs.Terms.Object.{Name, Object, Natural, Symbol, Pair, same_name}
+use Rattle.mw_model.specs.Terms.Term.{Term, Terms, Formula, Or, formula_object, names_object, is_among, are_distinct}
+use Rattle.mw_model.specs.Terms.Reading.{term_of, terms_of}
+use Rattle.mw_model.specs.Values.Primitive.{name_of}
+use Rattle.mw_model.specs.Terms.Substitution.{substitute, actuals_for}
+use Rattle.mw_model.specs.Values.Definition.{Function, function_named}
+use Rattle.mw_model.specs.Events.Obligation.{Test, IsNotNil, IsNil, Measures, mentions, tested, test_formula, under_tests, ordinal_formula, below_formula, falls, obligation, measure_of}
 use Rattle.mw_model.proofs.Names.{same_name-refl}
 use Rattle.mw_model.proofs.ReadBack.{some_one, names_back}
 use Rattle.mw_model.proofs.Readable.{Readable, ReadableFormula, readable_formula, substitute-readable, actuals_for-readable}

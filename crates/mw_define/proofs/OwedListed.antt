@@ -1,10 +1,10 @@
 -- The list of the obligations of a block.
 use Rattle.std.proofs.Common.{◌≡◌, ℕ, Bool, true, false, cond, List, [], Option, Some, None, MatchOption, sym, ap, ◌∙◌, subst}
-use Rattle.mw_model.specs.Object.{Object}
-use Rattle.mw_model.specs.Term.{firsts}
-use Rattle.mw_model.specs.Same.{same_formula}
-use Rattle.mw_model.specs.Obligation.{is_nested, owed}
-use Rattle.mw_model.specs.RulesInduction.{formulas_object}
+use Rattle.mw_model.specs.Terms.Object.{Object}
+use Rattle.mw_model.specs.Terms.Term.{firsts}
+use Rattle.mw_model.specs.Terms.Same.{same_formula}
+use Rattle.mw_model.specs.Events.Obligation.{is_nested, owed}
+use Rattle.mw_model.specs.Laws.RulesInduction.{formulas_object}
 use Rattle.mw_translate.specs.Lets.{AreAllIn}
 use Rattle.mw_define.specs.declared.draft.Draft.{Draft as Given}
 use Rattle.mw_define.specs.declared.recursion.Recursion.{Recursion}

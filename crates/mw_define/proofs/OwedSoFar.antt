@@ -3,11 +3,11 @@ use Rattle.std.proofs.Common.{◌≡◌, ℕ, Bool, true, false, ◌||◌, not, 
 use Rattle.std.specs.List.{list_any}
 use Rattle.std.specs.Cmp.{both_ways as same_test}
 use Rattle.std.proofs.lemmas.List.{append-nil}
-use Rattle.mw_model.specs.Object.{Object, Pair, NIL}
-use Rattle.mw_model.specs.Term.{Formula, formula_object, firsts}
-use Rattle.mw_model.specs.Same.{same_formula}
-use Rattle.mw_model.specs.Reading.{formula_of}
-use Rattle.mw_model.specs.RulesInduction.{formulas_object}
+use Rattle.mw_model.specs.Terms.Object.{Object, Pair, NIL}
+use Rattle.mw_model.specs.Terms.Term.{Formula, formula_object, firsts}
+use Rattle.mw_model.specs.Terms.Same.{same_formula}
+use Rattle.mw_model.specs.Terms.Reading.{formula_of}
+use Rattle.mw_model.specs.Laws.RulesInduction.{formulas_object}
 use Rattle.mw_model.proofs.ReadBack.{some_one}
 use Rattle.mw_model.proofs.SameTerms.{same_formula-eq, same_formula-refl}
 use Rattle.mw_heap.specs.Objects.{object_at, IsIn, Grows, AreDistinct}

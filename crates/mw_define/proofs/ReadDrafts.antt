@@ -1,10 +1,10 @@
 -- The drafts of a list, read from the front.
 use Rattle.std.proofs.Common.{◌≡◌, ℕ, true, false, List, [], ◌∷◌, ◌++◌, map, Option, Some, None, refl, sym, ap, ◌∙◌, subst, append_assoc}
 use Rattle.std.proofs.lemmas.List.{append-nil, map-append}
-use Rattle.mw_model.specs.Object.{Object, Natural, Symbol, Pair, same_object, NIL}
-use Rattle.mw_model.specs.Primitive.{is_pair}
-use Rattle.mw_model.specs.Reading.{and_more, when}
-use Rattle.mw_model.specs.Admission.{Draft, drafts_of, draft_of, some_drafts}
+use Rattle.mw_model.specs.Terms.Object.{Object, Natural, Symbol, Pair, same_object, NIL}
+use Rattle.mw_model.specs.Values.Primitive.{is_pair}
+use Rattle.mw_model.specs.Terms.Reading.{and_more, when}
+use Rattle.mw_model.specs.Events.Admission.{Draft, drafts_of, draft_of, some_drafts}
 use Rattle.mw_heap.specs.Objects.{object_at, IsIn}
 use Rattle.mw_define.specs.declared.draft.Draft.{Draft as Given}
 use Rattle.mw_define.specs.Blocks.{draft_at, IsDraftIn, AreDraftsIn}

@@ -1,10 +1,10 @@
 -- A term that mentions no function of the block has no calls of it.
 use Rattle.std.proofs.Common.{◌≡◌, Bool, true, false, ◌||◌, cond, List, [], ◌∷◌, ◌++◌, map, Option, Some, None, refl, ap₂}
-use Rattle.mw_model.specs.Object.{Name, same_name}
-use Rattle.mw_model.specs.Term.{Term, Terms, Variable, Constant, If, Call, Lambda, NoTerms, More}
-use Rattle.mw_model.specs.Substitution.{substitute, substitute_each}
-use Rattle.mw_model.specs.Definition.{Function, function_named, is_present}
-use Rattle.mw_model.specs.Obligation.{IsNotNil, IsNil, RecursiveCall, Actual, Pending, mentions, any_mentions, under_test, pend, pending_terms, pending_calls, all_calls, call_or, collect, actuals_with}
+use Rattle.mw_model.specs.Terms.Object.{Name, same_name}
+use Rattle.mw_model.specs.Terms.Term.{Term, Terms, Variable, Constant, If, Call, Lambda, NoTerms, More}
+use Rattle.mw_model.specs.Terms.Substitution.{substitute, substitute_each}
+use Rattle.mw_model.specs.Values.Definition.{Function, function_named, is_present}
+use Rattle.mw_model.specs.Events.Obligation.{IsNotNil, IsNil, RecursiveCall, Actual, Pending, mentions, any_mentions, under_test, pend, pending_terms, pending_calls, all_calls, call_or, collect, actuals_with}
 
 or-parts : (a b : Bool) → (a || b) ≡ false → (a ≡ false) × (b ≡ false)
 or-parts true b h = cc

@@ -1,12 +1,12 @@
 -- The tests of a witness, and its axiom.
 use Rattle.std.proofs.Common.{◌≡◌, ℕ, Bool, true, false, ◌&&◌, cond, List, [], ◌∷◌, Option, Some, None, refl, sym, ap, ap₂, ◌∙◌, subst}
-use Rattle.mw_model.specs.Object.{Name, Object, Natural, Symbol, Pair, list1}
-use Rattle.mw_model.specs.Term.{Term, ArityTable, names_object, term_object, terms_object, formula_object, are_formals, is_closed, is_term}
-use Rattle.mw_model.specs.Reading.{names_of, that, when}
-use Rattle.mw_model.specs.Primitive.{is_symbol, name_of}
-use Rattle.mw_model.specs.Definition.{is_new, variable_terms, choice_axiom}
-use Rattle.mw_model.specs.Expansion.{expand, expanded}
-use Rattle.mw_model.specs.Admission.{new_name, formals_of}
+use Rattle.mw_model.specs.Terms.Object.{Name, Object, Natural, Symbol, Pair, list1}
+use Rattle.mw_model.specs.Terms.Term.{Term, ArityTable, names_object, term_object, terms_object, formula_object, are_formals, is_closed, is_term}
+use Rattle.mw_model.specs.Terms.Reading.{names_of, that, when}
+use Rattle.mw_model.specs.Values.Primitive.{is_symbol, name_of}
+use Rattle.mw_model.specs.Values.Definition.{is_new, variable_terms, choice_axiom}
+use Rattle.mw_model.specs.Events.Expansion.{expand, expanded}
+use Rattle.mw_model.specs.Events.Admission.{new_name, formals_of}
 use Rattle.mw_model.proofs.ReadBack.{some_one, names_back, when_some, and_more-back}
 use Rattle.mw_heap.specs.Objects.{object_at, IsIn, Grows}
 use Rattle.mw_heap.specs.Variants.{refusal_of}

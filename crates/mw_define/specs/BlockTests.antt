@@ -1,14 +1,14 @@
 -- The tests of a block of functions, in their order, and what is handed back where they pass.
 use Rattle.std.specs.Prelude.{◌≡◌, true, false, List, ◌⊎◌, map, Option, Some, None}
-use Rattle.mw_model.specs.Object.{Name, Object, Symbol}
-use Rattle.mw_model.specs.Term.{Term, ArityTable, names_object, term_object}
-use Rattle.mw_model.specs.Reading.{both}
-use Rattle.mw_model.specs.Definition.{Function, function_axioms}
-use Rattle.mw_model.specs.Obligation.{obligations, is_nested}
-use Rattle.mw_model.specs.Expansion.{expand}
-use Rattle.mw_model.specs.Refusal.{Refusal, EVENT, NAME, FORMALS, TERM, VARIABLES, NESTED}
-use Rattle.mw_model.specs.RulesInduction.{formulas_object}
-use Rattle.mw_model.specs.Admission.{Draft, all_of, new_names, formals_of, add_names, functions, measures, are_closed_by}
+use Rattle.mw_model.specs.Terms.Object.{Name, Object, Symbol}
+use Rattle.mw_model.specs.Terms.Term.{Term, ArityTable, names_object, term_object}
+use Rattle.mw_model.specs.Terms.Reading.{both}
+use Rattle.mw_model.specs.Values.Definition.{Function, function_axioms}
+use Rattle.mw_model.specs.Events.Obligation.{obligations, is_nested}
+use Rattle.mw_model.specs.Events.Expansion.{expand}
+use Rattle.mw_model.specs.Events.Refusal.{Refusal, EVENT, NAME, FORMALS, TERM, VARIABLES, NESTED}
+use Rattle.mw_model.specs.Laws.RulesInduction.{formulas_object}
+use Rattle.mw_model.specs.Events.Admission.{Draft, all_of, new_names, formals_of, add_names, functions, measures, are_closed_by}
 use Rattle.mw_heap.specs.Objects.{object_at, IsIn}
 use Rattle.mw_heap.specs.Variants.{refusal_of}
 use Rattle.mw_define.specs.declared.admitted.Admitted.{Admitted}

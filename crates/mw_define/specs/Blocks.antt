@@ -1,13 +1,13 @@
 -- Drafts by references: what their names, formals, bodies and measures read as, and the functions that expanded ones give.
 use Rattle.std.specs.Prelude.{◌≡◌, ℕ, Bool, true, ◌&&◌, not, List, [], ◌∷◌, ◌⊎◌, length, map, Option, Some, None}
-use Rattle.mw_model.specs.Object.{Name, Object}
-use Rattle.mw_model.specs.Term.{Term, ArityTable, formula_object, are_distinct, is_among, is_closed}
-use Rattle.mw_model.specs.Reading.{term_of}
-use Rattle.mw_model.specs.Primitive.{is_symbol, name_of}
-use Rattle.mw_model.specs.Definition.{Function, is_new, function_axiom}
-use Rattle.mw_model.specs.Obligation.{Measures}
-use Rattle.mw_model.specs.Expansion.{expand}
-use Rattle.mw_model.specs.Admission.{Draft, all_of, new_name, formals_of}
+use Rattle.mw_model.specs.Terms.Object.{Name, Object}
+use Rattle.mw_model.specs.Terms.Term.{Term, ArityTable, formula_object, are_distinct, is_among, is_closed}
+use Rattle.mw_model.specs.Terms.Reading.{term_of}
+use Rattle.mw_model.specs.Values.Primitive.{is_symbol, name_of}
+use Rattle.mw_model.specs.Values.Definition.{Function, is_new, function_axiom}
+use Rattle.mw_model.specs.Events.Obligation.{Measures}
+use Rattle.mw_model.specs.Events.Expansion.{expand}
+use Rattle.mw_model.specs.Events.Admission.{Draft, all_of, new_name, formals_of}
 use Rattle.mw_heap.specs.Objects.{object_at, IsIn}
 use Rattle.mw_term.specs.Parts.{names_at, AreSymbols}
 use Rattle.mw_define.specs.declared.draft.Draft.{Draft as Given}

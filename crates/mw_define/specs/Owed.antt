@@ -1,13 +1,13 @@
 -- What a block owes, as references to its formulas.
 use Rattle.std.specs.Prelude.{◌≡◌, ℕ, Bool, true, false, List, [], ◌∷◌, ◌++◌, map, Option, Some, None, MatchOption}
-use Rattle.mw_model.specs.Object.{Object, NIL}
-use Rattle.mw_model.specs.Term.{Formula, formula_object, firsts, are_distinct}
-use Rattle.mw_model.specs.Same.{same_formula}
-use Rattle.mw_model.specs.Reading.{formula_of}
-use Rattle.mw_model.specs.Primitive.{name_of}
-use Rattle.mw_model.specs.Definition.{function_named}
-use Rattle.mw_model.specs.Obligation.{RecursiveCall, recursive_calls, obligation, ordinal_formula, measure_of, is_empty, some_nested, is_nested, calls_none, owed, obligations}
-use Rattle.mw_model.specs.RulesInduction.{formulas_object}
+use Rattle.mw_model.specs.Terms.Object.{Object, NIL}
+use Rattle.mw_model.specs.Terms.Term.{Formula, formula_object, firsts, are_distinct}
+use Rattle.mw_model.specs.Terms.Same.{same_formula}
+use Rattle.mw_model.specs.Terms.Reading.{formula_of}
+use Rattle.mw_model.specs.Values.Primitive.{name_of}
+use Rattle.mw_model.specs.Values.Definition.{function_named}
+use Rattle.mw_model.specs.Events.Obligation.{RecursiveCall, recursive_calls, obligation, ordinal_formula, measure_of, is_empty, some_nested, is_nested, calls_none, owed, obligations}
+use Rattle.mw_model.specs.Laws.RulesInduction.{formulas_object}
 use Rattle.mw_heap.specs.Objects.{object_at, IsIn}
 use Rattle.mw_term.specs.Parts.{names_at, AreSymbols}
 use Rattle.mw_translate.specs.Lets.{prepend, AreAllIn}

@@ -1,11 +1,11 @@
 -- The tests of a witness, in their order, and what is handed back where they pass.
 use Rattle.std.specs.Prelude.{◌≡◌, ℕ, true, false, List, [], ◌∷◌, Some, None}
-use Rattle.mw_model.specs.Object.{Name, Object, Pair, NIL, list1}
-use Rattle.mw_model.specs.Term.{Term, ArityTable, names_object, term_object, formula_object, is_closed}
-use Rattle.mw_model.specs.Definition.{choice_axiom}
-use Rattle.mw_model.specs.Expansion.{expand}
-use Rattle.mw_model.specs.Refusal.{Refusal, NAME, FORMALS, TERM, VARIABLES}
-use Rattle.mw_model.specs.Admission.{new_name, formals_of}
+use Rattle.mw_model.specs.Terms.Object.{Name, Object, Pair, NIL, list1}
+use Rattle.mw_model.specs.Terms.Term.{Term, ArityTable, names_object, term_object, formula_object, is_closed}
+use Rattle.mw_model.specs.Values.Definition.{choice_axiom}
+use Rattle.mw_model.specs.Events.Expansion.{expand}
+use Rattle.mw_model.specs.Events.Refusal.{Refusal, NAME, FORMALS, TERM, VARIABLES}
+use Rattle.mw_model.specs.Events.Admission.{new_name, formals_of}
 use Rattle.mw_heap.specs.Objects.{object_at, IsIn}
 use Rattle.mw_heap.specs.Variants.{refusal_of}
 use Rattle.mw_term.specs.Parts.{names_at}

@@ -1,6 +1,6 @@
 //! Admission of blocks of functions.
 ghost use Rattle.std.specs.Prelude.{◌∷◌, [], map, IfOk};
-ghost use Rattle.mw_model.specs.Admission.{some_drafts};
+ghost use Rattle.mw_model.specs.Events.Admission.{some_drafts};
 ghost use Rattle.mw_heap.specs.Objects.{object_at, IsIn, Grows};
 ghost use Rattle.mw_define.specs.Blocks.{draft_at, IsDraftIn, AreDraftsIn, AreNames};
 ghost use Rattle.mw_define.specs.Owed.{AreBlock};

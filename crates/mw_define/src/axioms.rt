@@ -1,7 +1,7 @@
 //! Axioms of definitions.
 ghost use Rattle.std.specs.Prelude.{◌≡◌, IfOk};
-ghost use Rattle.mw_model.specs.Object.{Pair, symbol, list3};
-ghost use Rattle.mw_model.specs.Rules.{equal_object};
+ghost use Rattle.mw_model.specs.Terms.Object.{Pair, symbol, list3};
+ghost use Rattle.mw_model.specs.Laws.Rules.{equal_object};
 ghost use Rattle.mw_heap.specs.Objects.{object_at, IsIn, Grows};
 ghost use Rattle.mw_define.specs.Axioms.{quoted_nil, choice_object};
 

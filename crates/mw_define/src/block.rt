@@ -1,10 +1,10 @@
 //! The tests of a block of functions: each is made for all of them before the next.
 ghost use Rattle.std.specs.Prelude.{◌≡◌, ◌++◌, ◌∷◌, [], length, true, false, None, Some, List, IfOk, MatchOption, if◌then◌else◌};
-ghost use Rattle.mw_model.specs.Object.{Name};
-ghost use Rattle.mw_model.specs.Reading.{that};
-ghost use Rattle.mw_model.specs.Term.{are_distinct};
-ghost use Rattle.mw_model.specs.Admission.{formals_of};
-ghost use Rattle.mw_model.specs.Expansion.{expand};
+ghost use Rattle.mw_model.specs.Terms.Object.{Name};
+ghost use Rattle.mw_model.specs.Terms.Reading.{that};
+ghost use Rattle.mw_model.specs.Terms.Term.{are_distinct};
+ghost use Rattle.mw_model.specs.Events.Admission.{formals_of};
+ghost use Rattle.mw_model.specs.Events.Expansion.{expand};
 ghost use Rattle.mw_heap.specs.Objects.{object_at, IsIn, Grows};
 ghost use Rattle.mw_term.specs.Parts.{names_at, AreSymbols};
 ghost use Rattle.mw_translate.specs.Expands.{ArePairsOfSymbols, pair_names, with_pairs};

@@ -1,8 +1,8 @@
 //! Names of the functions of a block.
 ghost use Rattle.std.specs.Prelude.{◌≡◌, true, nat_eq};
 ghost use Rattle.std.specs.List.{list_any};
-ghost use Rattle.mw_model.specs.Primitive.{is_symbol, name_of};
-ghost use Rattle.mw_model.specs.Term.{is_among};
+ghost use Rattle.mw_model.specs.Values.Primitive.{is_symbol, name_of};
+ghost use Rattle.mw_model.specs.Terms.Term.{is_among};
 ghost use Rattle.mw_heap.specs.Objects.{object_at, IsIn};
 ghost use Rattle.mw_term.specs.Parts.{names_at, AreSymbols};
 

@@ -1,9 +1,9 @@
 //! The calls of a block of functions in a term.
 ghost use Rattle.std.specs.Prelude.{◌≡◌, List, [], Some, IfOk, OnOk};
-ghost use Rattle.mw_model.specs.Term.{Term};
-ghost use Rattle.mw_model.specs.Reading.{term_of};
-ghost use Rattle.mw_model.specs.Definition.{Function};
-ghost use Rattle.mw_model.specs.Obligation.{collect};
+ghost use Rattle.mw_model.specs.Terms.Term.{Term};
+ghost use Rattle.mw_model.specs.Terms.Reading.{term_of};
+ghost use Rattle.mw_model.specs.Values.Definition.{Function};
+ghost use Rattle.mw_model.specs.Events.Obligation.{collect};
 ghost use Rattle.mw_heap.specs.Objects.{object_at, IsIn, Grows};
 ghost use Rattle.mw_term.specs.Parts.{names_at, AreSymbols};
 ghost use Rattle.mw_define.specs.Collecting.{Advances, IsPartOf, AreFoundCalls, HasNames, found_calls, HasTests};

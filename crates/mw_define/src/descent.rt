@@ -1,8 +1,8 @@
 //! The formula that a measure falls at a call, and that one is an ordinal.
 ghost use Rattle.std.specs.Prelude.{◌≡◌, List, Some, IfOk};
-ghost use Rattle.mw_model.specs.Term.{Term, formula_object};
-ghost use Rattle.mw_model.specs.Reading.{term_of};
-ghost use Rattle.mw_model.specs.Obligation.{ordinal_formula};
+ghost use Rattle.mw_model.specs.Terms.Term.{Term, formula_object};
+ghost use Rattle.mw_model.specs.Terms.Reading.{term_of};
+ghost use Rattle.mw_model.specs.Events.Obligation.{ordinal_formula};
 ghost use Rattle.mw_heap.specs.Objects.{object_at, IsIn, Grows};
 ghost use Rattle.mw_define.specs.Descent.{Falls};
 

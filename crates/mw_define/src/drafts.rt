@@ -1,7 +1,7 @@
 //! Lists of definitions as an event gives them.
 ghost use Rattle.std.specs.Prelude.{◌≡◌, Some, None, map, IfOk, MatchOption};
-ghost use Rattle.mw_model.specs.Definition.{is_present};
-ghost use Rattle.mw_model.specs.Admission.{some_drafts, drafts_of, draft_of};
+ghost use Rattle.mw_model.specs.Values.Definition.{is_present};
+ghost use Rattle.mw_model.specs.Events.Admission.{some_drafts, drafts_of, draft_of};
 ghost use Rattle.mw_heap.specs.Objects.{object_at, IsIn};
 ghost use Rattle.mw_define.specs.Blocks.{draft_at, IsDraftIn, AreDraftsIn};
 

@@ -1,9 +1,9 @@
 //! The lists of the obligations and of the axioms of a block.
 ghost use Rattle.std.specs.Prelude.{◌≡◌, true, IfOk, MatchOption};
-ghost use Rattle.mw_model.specs.Object.{NIL};
-ghost use Rattle.mw_model.specs.Definition.{function_axioms};
-ghost use Rattle.mw_model.specs.Obligation.{is_nested};
-ghost use Rattle.mw_model.specs.RulesInduction.{formulas_object};
+ghost use Rattle.mw_model.specs.Terms.Object.{NIL};
+ghost use Rattle.mw_model.specs.Values.Definition.{function_axioms};
+ghost use Rattle.mw_model.specs.Events.Obligation.{is_nested};
+ghost use Rattle.mw_model.specs.Laws.RulesInduction.{formulas_object};
 ghost use Rattle.mw_heap.specs.Objects.{object_at, IsIn, Grows};
 ghost use Rattle.mw_translate.specs.Lets.{prepend, AreAllIn};
 ghost use Rattle.mw_define.specs.Blocks.{functions_at, AreExpanded, Each2, IsAxiomOf};

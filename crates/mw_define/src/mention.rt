@@ -1,10 +1,10 @@
 //! Whether a term mentions a function of a block.
 ghost use Rattle.std.specs.Prelude.{◌≡◌, ◌<◌, List, true, false, Some, IfOk};
-ghost use Rattle.mw_model.specs.Object.{Pair, symbol};
-ghost use Rattle.mw_model.specs.Term.{Term, Terms, Call};
-ghost use Rattle.mw_model.specs.Reading.{term_of, terms_of};
-ghost use Rattle.mw_model.specs.Primitive.{is_symbol, name_of};
-ghost use Rattle.mw_model.specs.Definition.{Function};
+ghost use Rattle.mw_model.specs.Terms.Object.{Pair, symbol};
+ghost use Rattle.mw_model.specs.Terms.Term.{Term, Terms, Call};
+ghost use Rattle.mw_model.specs.Terms.Reading.{term_of, terms_of};
+ghost use Rattle.mw_model.specs.Values.Primitive.{is_symbol, name_of};
+ghost use Rattle.mw_model.specs.Values.Definition.{Function};
 ghost use Rattle.mw_heap.specs.Objects.{object_at, IsIn};
 ghost use Rattle.mw_term.specs.Parts.{names_at, AreSymbols};
 ghost use Rattle.mw_define.specs.Collecting.{HasNames};

@@ -1,7 +1,7 @@
 //! Calls of a block in actuals of its calls.
 ghost use Rattle.std.specs.Prelude.{◌≡◌, List, IfOk};
-ghost use Rattle.mw_model.specs.Definition.{Function};
-ghost use Rattle.mw_model.specs.Obligation.{some_nested};
+ghost use Rattle.mw_model.specs.Values.Definition.{Function};
+ghost use Rattle.mw_model.specs.Events.Obligation.{some_nested};
 ghost use Rattle.mw_heap.specs.Objects.{object_at, IsIn};
 ghost use Rattle.mw_term.specs.Parts.{names_at, AreSymbols};
 ghost use Rattle.mw_define.specs.Collecting.{AreFoundCalls, HasNames, found_calls};

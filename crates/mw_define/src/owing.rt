@@ -1,8 +1,8 @@
 //! What calls of a block owe.
 ghost use Rattle.std.specs.Prelude.{◌≡◌, ◌∷◌, [], true, IfOk, OnOk};
-ghost use Rattle.mw_model.specs.Term.{Formula, formula_object, is_among};
-ghost use Rattle.mw_model.specs.Primitive.{is_symbol, name_of};
-ghost use Rattle.mw_model.specs.Obligation.{ordinal_formula, measure_of};
+ghost use Rattle.mw_model.specs.Terms.Term.{Formula, formula_object, is_among};
+ghost use Rattle.mw_model.specs.Values.Primitive.{is_symbol, name_of};
+ghost use Rattle.mw_model.specs.Events.Obligation.{ordinal_formula, measure_of};
 ghost use Rattle.mw_heap.specs.Objects.{object_at, IsIn, Grows};
 ghost use Rattle.mw_term.specs.Parts.{names_at, AreSymbols};
 ghost use Rattle.mw_define.specs.Collecting.{HasTests, IsPartOf, AreFoundCalls, found_calls};

@@ -1,8 +1,8 @@
 //! Formulas under tests.
 ghost use Rattle.std.specs.Prelude.{◌≡◌, List, IfOk};
-ghost use Rattle.mw_model.specs.Term.{Formula, formula_object};
-ghost use Rattle.mw_model.specs.Definition.{Function};
-ghost use Rattle.mw_model.specs.Obligation.{under_tests};
+ghost use Rattle.mw_model.specs.Terms.Term.{Formula, formula_object};
+ghost use Rattle.mw_model.specs.Values.Definition.{Function};
+ghost use Rattle.mw_model.specs.Events.Obligation.{under_tests};
 ghost use Rattle.mw_heap.specs.Objects.{object_at, IsIn, Grows};
 ghost use Rattle.mw_term.specs.Parts.{names_at, AreSymbols};
 ghost use Rattle.mw_define.specs.Collecting.{HasNames, IsTest, AreTests, test_of, tests_of};

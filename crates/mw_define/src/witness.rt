@@ -1,8 +1,8 @@
 //! Witnesses.
 ghost use Rattle.std.specs.Prelude.{◌≡◌, true, Some, IfOk};
-ghost use Rattle.mw_model.specs.Object.{Pair};
-ghost use Rattle.mw_model.specs.Term.{Term, IsTerm, term_object};
-ghost use Rattle.mw_model.specs.Reading.{term_of};
+ghost use Rattle.mw_model.specs.Terms.Object.{Pair};
+ghost use Rattle.mw_model.specs.Terms.Term.{Term, IsTerm, term_object};
+ghost use Rattle.mw_model.specs.Terms.Reading.{term_of};
 ghost use Rattle.mw_heap.specs.Objects.{object_at, IsIn, Grows};
 ghost use Rattle.mw_term.specs.Parts.{AreSymbols, names_at};
 ghost use Rattle.mw_define.specs.Tests.{IsWitness, IsClosedWitness};

@@ -1,8 +1,8 @@
 -- The pairs of formals and arguments, one after another.
 use Rattle.std.proofs.Common.{◌≡◌, ℕ, false, ◌&&◌, List, [], ◌∷◌, ◌++◌, refl, sym, ap, ap₂, ◌∙◌}
-use Rattle.mw_model.specs.Object.{Object, Natural, Symbol, Pair, NIL}
-use Rattle.mw_model.specs.Primitive.{is_pair}
-use Rattle.mw_model.specs.Rules.{actuals_object}
+use Rattle.mw_model.specs.Terms.Object.{Object, Natural, Symbol, Pair, NIL}
+use Rattle.mw_model.specs.Values.Primitive.{is_pair}
+use Rattle.mw_model.specs.Laws.Rules.{actuals_object}
 use Rattle.mw_heap.specs.Objects.{object_at}
 use Rattle.mw_subst.proofs.PairLists.{pairs_before, pairs_before-push}
 

@@ -1,7 +1,7 @@
 //! Equal arguments give equal values.
 ghost use Rattle.std.specs.Prelude.{◌≡◌, ◌<◌, true, false, IfSome, MatchOption};
-ghost use Rattle.mw_model.specs.Object.{same_object};
-ghost use Rattle.mw_model.specs.Rules.{last_disjunct_object, unless_equal_object, object_ends_with_equality, object_is_functional_equality};
+ghost use Rattle.mw_model.specs.Terms.Object.{same_object};
+ghost use Rattle.mw_model.specs.Laws.Rules.{last_disjunct_object, unless_equal_object, object_ends_with_equality, object_is_functional_equality};
 ghost use Rattle.mw_heap.specs.Objects.{object_at, IsIn};
 
 use crate::shapes::{arguments_of_one, is_inequality, members};

@@ -1,7 +1,7 @@
 //! From a formula, what it is with terms for its variables.
 ghost use Rattle.std.specs.Prelude.{◌≡◌, ◌<◌, true, length, IfOk};
-ghost use Rattle.mw_model.specs.Term.{ArityTable};
-ghost use Rattle.mw_model.specs.Rules.{is_formula_object, object_is_instance};
+ghost use Rattle.mw_model.specs.Terms.Term.{ArityTable};
+ghost use Rattle.mw_model.specs.Laws.Rules.{is_formula_object, object_is_instance};
 ghost use Rattle.mw_heap.specs.Objects.{object_at, IsIn};
 ghost use Rattle.mw_term.specs.Marking.{AreMarks};
 

@@ -1,7 +1,7 @@
 //! A lambda call equals its body with the arguments for the formals.
 ghost use Rattle.std.specs.Prelude.{◌≡◌, IfOk};
-ghost use Rattle.mw_model.specs.Object.{Pair, same_object, second_of};
-ghost use Rattle.mw_model.specs.Rules.{beta_object, actuals_object, object_is_beta};
+ghost use Rattle.mw_model.specs.Terms.Object.{Pair, same_object, second_of};
+ghost use Rattle.mw_model.specs.Laws.Rules.{beta_object, actuals_object, object_is_beta};
 ghost use Rattle.mw_heap.specs.Objects.{object_at, IsIn, Grows};
 ghost use Rattle.mw_heap.specs.Parts.{part_at, IsPart};
 ghost use Rattle.mw_subst.specs.Sigma.{sigma_object, AreIn};

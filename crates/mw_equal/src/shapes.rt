@@ -1,10 +1,10 @@
 //! The shapes of formulas and of calls.
 ghost use Rattle.std.specs.Prelude.{◌≡◌, ◌<◌, ◌&&◌, true, false, IfSome, MatchOption, is_some};
 ghost use Rattle.std.specs.List.{list_any};
-ghost use Rattle.mw_model.specs.Object.{same_bytes, Object, Pair, is_name, name_of_bytes, same_object, cdr};
-ghost use Rattle.mw_model.specs.Term.{is_function_name};
-ghost use Rattle.mw_model.specs.Primitive.{is_pair, is_symbol, name_of};
-ghost use Rattle.mw_model.specs.Rules.{or_object, not_object, equal_object, are_calls_of_one};
+ghost use Rattle.mw_model.specs.Terms.Object.{same_bytes, Object, Pair, is_name, name_of_bytes, same_object, cdr};
+ghost use Rattle.mw_model.specs.Terms.Term.{is_function_name};
+ghost use Rattle.mw_model.specs.Values.Primitive.{is_pair, is_symbol, name_of};
+ghost use Rattle.mw_model.specs.Laws.Rules.{or_object, not_object, equal_object, are_calls_of_one};
 ghost use Rattle.mw_heap.specs.Objects.{object_at, IsIn};
 ghost use Rattle.mw_heap.specs.Parts.{part_at, IsPart};
 

@@ -1,13 +1,13 @@
 -- A datum with a natural past the range: a step that is not good, or an event of no form.
 use Rattle.std.proofs.Common.{◌≡◌, ◌+◌, Bool, true, false, ◌&&◌, not, List, [], ◌∷◌, ◌++◌, length, map, Option, Some, None, option_map, refl, sym, ap, ◌∙◌, subst, arith, length-append}
-use Rattle.mw_model.specs.Object.{Object, Natural, Symbol, Pair, symbol, car, same_object, second_of, has_members}
-use Rattle.mw_model.specs.Term.{Formula, ArityTable}
-use Rattle.mw_model.specs.Reading.{when}
-use Rattle.mw_model.specs.Primitive.{Profile}
-use Rattle.mw_model.specs.Definition.{arity_table}
-use Rattle.mw_model.specs.Theory.{Theory}
-use Rattle.mw_model.specs.Fate.{is_out_of_range, event_word}
-use Rattle.mw_model.specs.Log.{SHAPE, No, conclusion, conclusions, entry_by, entry_of, answer_to_entry, logged, is_step}
+use Rattle.mw_model.specs.Terms.Object.{Object, Natural, Symbol, Pair, symbol, car, same_object, second_of, has_members}
+use Rattle.mw_model.specs.Terms.Term.{Formula, ArityTable}
+use Rattle.mw_model.specs.Terms.Reading.{when}
+use Rattle.mw_model.specs.Values.Primitive.{Profile}
+use Rattle.mw_model.specs.Values.Definition.{arity_table}
+use Rattle.mw_model.specs.Events.Theory.{Theory}
+use Rattle.mw_model.specs.Events.Fate.{is_out_of_range, event_word}
+use Rattle.mw_model.specs.Commands.Log.{SHAPE, No, conclusion, conclusions, entry_by, entry_of, answer_to_entry, logged, is_step}
 use Rattle.mw_heap.specs.Objects.{object_at}
 use Rattle.mw_flat.specs.Collecting.{AreConclusions}
 use Rattle.mw_flat.specs.Going.{Going, theory_of, HasCollected}

@@ -1,7 +1,7 @@
 -- The conclusion of a number, and those of a list of numbers.
 use Rattle.std.proofs.Common.{◌≡◌, ℕ, zero, suc, ◌<◌, List, [], ◌∷◌, ◌++◌, length, All, Option, Some, None, slice_index_or, refl, sym, ap, ◌∙◌, subst, arith}
 use Rattle.std.proofs.lemmas.List.Elements.{All-cons, All-tail}
-use Rattle.mw_model.specs.Object.{Object, Natural, Symbol, Pair, same_name, nil_name}
+use Rattle.mw_model.specs.Terms.Object.{Object, Natural, Symbol, Pair, same_name, nil_name}
 use Rattle.mw_model.proofs.ReadBack.{some_one, cond_some, and_more-back}
 use Rattle.mw_heap.specs.Objects.{object_at, IsIn}
 use Rattle.mw_flat.specs.Collecting.{conclusion_numbered, conclusions_listed}

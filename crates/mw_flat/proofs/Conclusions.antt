@@ -1,15 +1,15 @@
 -- The conclusions of steps with one step more, and that they are formulas.
 use Rattle.std.proofs.Common.{◌≡◌, ◌+◌, List, [], ◌∷◌, ◌++◌, Option, Some, None, option_map, ◌&&◌, not, length, refl, subst}
 use Rattle.std.proofs.lemmas.Bool.{and_parts}
-use Rattle.mw_model.specs.Object.{Object, Natural, same_object, second_of, third_of, fourth_of, fifth_of, sixth_of, has_members}
-use Rattle.mw_model.specs.Term.{Formula, ArityTable, is_formula, IsFormula}
-use Rattle.mw_model.specs.Truth.{Each}
-use Rattle.mw_model.specs.Primitive.{Profile}
-use Rattle.mw_model.specs.Fate.{is_out_of_range}
-use Rattle.mw_model.specs.Proof.{Method}
-use Rattle.mw_model.specs.Judgment.{methods, method_among, follows, judge_step}
-use Rattle.mw_model.specs.Reading.{formula_of}
-use Rattle.mw_model.specs.Log.{naturals_of, formulas_at, conclusion, and_conclusions, conclusions_after, conclusions}
+use Rattle.mw_model.specs.Terms.Object.{Object, Natural, same_object, second_of, third_of, fourth_of, fifth_of, sixth_of, has_members}
+use Rattle.mw_model.specs.Terms.Term.{Formula, ArityTable, is_formula, IsFormula}
+use Rattle.mw_model.specs.Values.Truth.{Each}
+use Rattle.mw_model.specs.Values.Primitive.{Profile}
+use Rattle.mw_model.specs.Events.Fate.{is_out_of_range}
+use Rattle.mw_model.specs.Proofs.Proof.{Method}
+use Rattle.mw_model.specs.Proofs.Judgment.{methods, method_among, follows, judge_step}
+use Rattle.mw_model.specs.Terms.Reading.{formula_of}
+use Rattle.mw_model.specs.Commands.Log.{naturals_of, formulas_at, conclusion, and_conclusions, conclusions_after, conclusions}
 use Rattle.mw_model.proofs.ReadBack.{some_one, when_some}
 use Rattle.mw_flat.proofs.Formulas.{Each-push}
 

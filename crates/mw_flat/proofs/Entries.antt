@@ -1,10 +1,10 @@
 -- Which events are entries of a log.
 use Rattle.std.proofs.Common.{◌≡◌, ℕ, false, not, List, Option, Some, None, refl, ap, ◌∙◌}
-use Rattle.mw_model.specs.Object.{Object}
-use Rattle.mw_model.specs.Reading.{when}
-use Rattle.mw_model.specs.Definition.{is_present}
-use Rattle.mw_model.specs.Fate.{EventWord, event_word, is_out_of_range}
-use Rattle.mw_model.specs.Log.{one_number, numbers_of, entry_with, entry_by, entry_of}
+use Rattle.mw_model.specs.Terms.Object.{Object}
+use Rattle.mw_model.specs.Terms.Reading.{when}
+use Rattle.mw_model.specs.Values.Definition.{is_present}
+use Rattle.mw_model.specs.Events.Fate.{EventWord, event_word, is_out_of_range}
+use Rattle.mw_model.specs.Commands.Log.{one_number, numbers_of, entry_with, entry_by, entry_of}
 
 pub one-present : (o : Option ℕ) → is_present (one_number o) ≡ is_present o
 one-present None = refl

@@ -1,19 +1,19 @@
 -- The entries of a log, word by word: what is answered to them after good steps.
 use Rattle.std.proofs.Common.{◌≡◌, ℕ, Bool, true, false, ◌&&◌, cond, not, List, [], ◌∷◌, map, Option, Some, None, refl, sym, ap, ◌∙◌, subst}
-use Rattle.mw_model.specs.Object.{Name, Object, Pair, second_of, third_of, fourth_of, fifth_of}
-use Rattle.mw_model.specs.Term.{Term, Formula, formula_object, ArityTable, is_formula, is_closed}
-use Rattle.mw_model.specs.Reading.{formula_of, formula_under, that, when}
-use Rattle.mw_model.specs.Primitive.{is_symbol}
-use Rattle.mw_model.specs.Truth.{Each}
-use Rattle.mw_model.specs.Definition.{Choice, arity_table, is_present}
-use Rattle.mw_model.specs.Expansion.{expand}
-use Rattle.mw_model.specs.Theory.{Theory}
-use Rattle.mw_model.specs.Refusal.{Refusal, EVENT, NAME, FORMALS, TERM, FORMULA, VARIABLES, PROOF, PROFILE, Fate, accept, need, must}
-use Rattle.mw_model.specs.Admission.{Draft, new_name, formals_of, add_to_theory, some_drafts, add_witness, skolem}
-use Rattle.mw_model.specs.Fate as fate
-use Rattle.mw_model.specs.Fate.{EventWord, event_word, is_out_of_range, is_initial, profile}
-use Rattle.mw_model.specs.Demand.{Demand, Denied, Wants, wants_some, wants_that, define_demand, verify_demand, without_proofs, demand, settled}
-use Rattle.mw_model.specs.Log.{natural_of, naturals_of, one_number, formula_numbered, is_that_formula, numbers_of, entry_with, entry_by, entry_of, conclusions, answer_to_goal, answer_to_demand, answer_to_steps, answer_to_entry, logged}
+use Rattle.mw_model.specs.Terms.Object.{Name, Object, Pair, second_of, third_of, fourth_of, fifth_of}
+use Rattle.mw_model.specs.Terms.Term.{Term, Formula, formula_object, ArityTable, is_formula, is_closed}
+use Rattle.mw_model.specs.Terms.Reading.{formula_of, formula_under, that, when}
+use Rattle.mw_model.specs.Values.Primitive.{is_symbol}
+use Rattle.mw_model.specs.Values.Truth.{Each}
+use Rattle.mw_model.specs.Values.Definition.{Choice, arity_table, is_present}
+use Rattle.mw_model.specs.Events.Expansion.{expand}
+use Rattle.mw_model.specs.Events.Theory.{Theory}
+use Rattle.mw_model.specs.Events.Refusal.{Refusal, EVENT, NAME, FORMALS, TERM, FORMULA, VARIABLES, PROOF, PROFILE, Fate, accept, need, must}
+use Rattle.mw_model.specs.Events.Admission.{Draft, new_name, formals_of, add_to_theory, some_drafts, add_witness, skolem}
+use Rattle.mw_model.specs.Events.Fate as fate
+use Rattle.mw_model.specs.Events.Fate.{EventWord, event_word, is_out_of_range, is_initial, profile}
+use Rattle.mw_model.specs.Commands.Demand.{Demand, Denied, Wants, wants_some, wants_that, define_demand, verify_demand, without_proofs, demand, settled}
+use Rattle.mw_model.specs.Commands.Log.{natural_of, naturals_of, one_number, formula_numbered, is_that_formula, numbers_of, entry_with, entry_by, entry_of, conclusions, answer_to_goal, answer_to_demand, answer_to_steps, answer_to_entry, logged}
 use Rattle.mw_model.proofs.Readable.{ReadableFormula, formula_readable}
 use Rattle.mw_model.proofs.ReadBack.{some_one, when_some, formula_back}
 use Rattle.mw_model.proofs.Leading.{Asks}

@@ -1,13 +1,13 @@
 -- Formulas under a table: those that objects stand for, and those with numbers.
 use Rattle.std.proofs.Common.{◌≡◌, ℕ, zero, suc, Bool, true, false, List, [], ◌∷◌, ◌++◌, map, Option, Some, None, refl, sym, ap, ap₂, ◌∙◌, subst}
 use Rattle.std.proofs.lemmas.List.Elements.{All-head, All-tail}
-use Rattle.mw_model.specs.Object.{Object}
-use Rattle.mw_model.specs.Term.{Formula, ArityTable, formula_object, is_formula, IsFormula}
-use Rattle.mw_model.specs.Truth.{Each}
-use Rattle.mw_model.specs.Definition.{is_present}
-use Rattle.mw_model.specs.Reading.{that, when, formula_of}
-use Rattle.mw_model.specs.Rules.{is_formula_object}
-use Rattle.mw_model.specs.Log.{formula_numbered, formulas_numbered, formulas_at}
+use Rattle.mw_model.specs.Terms.Object.{Object}
+use Rattle.mw_model.specs.Terms.Term.{Formula, ArityTable, formula_object, is_formula, IsFormula}
+use Rattle.mw_model.specs.Values.Truth.{Each}
+use Rattle.mw_model.specs.Values.Definition.{is_present}
+use Rattle.mw_model.specs.Terms.Reading.{that, when, formula_of}
+use Rattle.mw_model.specs.Laws.Rules.{is_formula_object}
+use Rattle.mw_model.specs.Commands.Log.{formula_numbered, formulas_numbered, formulas_at}
 use Rattle.mw_model.proofs.Read.{formula_read}
 use Rattle.mw_model.proofs.ReadBack.{some_one, and_more-back, formula_back}
 use Rattle.mw_heap.specs.Objects.{object_at, IsIn}

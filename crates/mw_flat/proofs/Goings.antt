@@ -1,11 +1,11 @@
 -- What going through a log holds, as the heap grows.
 use Rattle.std.proofs.Common.{◌≡◌, ℕ, Bool, true, List, [], ◌∷◌, map, Option, Some, None, refl, sym, ap, ap₂, ◌∙◌, subst, arith}
 use Rattle.std.proofs.lemmas.List.Elements.{All-head, All-tail}
-use Rattle.mw_model.specs.Object.{Object}
-use Rattle.mw_model.specs.Term.{Formula, ArityTable}
-use Rattle.mw_model.specs.Definition.{arity_table}
-use Rattle.mw_model.specs.Rules.{is_formula_object}
-use Rattle.mw_model.specs.Log.{conclusions}
+use Rattle.mw_model.specs.Terms.Object.{Object}
+use Rattle.mw_model.specs.Terms.Term.{Formula, ArityTable}
+use Rattle.mw_model.specs.Values.Definition.{arity_table}
+use Rattle.mw_model.specs.Laws.Rules.{is_formula_object}
+use Rattle.mw_model.specs.Commands.Log.{conclusions}
 use Rattle.mw_heap.specs.Objects.{object_at, IsIn, Grows}
 use Rattle.mw_heap.proofs.Objects.{IsIn-Grows, object_at-Grows}
 use Rattle.mw_heap.specs.Contents.{Contents}

@@ -1,10 +1,10 @@
 -- An entry of a log after good steps: what a judge by their numbers has it come to is what the log answers, and sound.
 use Rattle.std.proofs.Common.{◌≡◌, ℕ, true, List, Option, Some, None, refl, sym, ap, ◌∙◌, subst, true≢false}
-use Rattle.mw_model.specs.Object.{Object}
-use Rattle.mw_model.specs.Term.{Formula}
-use Rattle.mw_model.specs.Definition.{arity_table, is_present}
-use Rattle.mw_model.specs.Theory.{Theory, IsSound}
-use Rattle.mw_model.specs.Log.{entry_of, conclusions, logged}
+use Rattle.mw_model.specs.Terms.Object.{Object}
+use Rattle.mw_model.specs.Terms.Term.{Formula}
+use Rattle.mw_model.specs.Values.Definition.{arity_table, is_present}
+use Rattle.mw_model.specs.Events.Theory.{Theory, IsSound}
+use Rattle.mw_model.specs.Commands.Log.{entry_of, conclusions, logged}
 use Rattle.mw_truth.specs.Logged.{LoggedKeeps}
 use Rattle.mw_heap.specs.Objects.{object_at}
 use Rattle.mw_theory.specs.declared.world.World.{World}

@@ -1,7 +1,7 @@
 -- A judge by numbers stays the same as the heap grows.
 use Rattle.std.proofs.Common.{◌≡◌, ℕ, cond, List, All, Option, Some, None, refl, sym, ap}
-use Rattle.mw_model.specs.Object.{Object, Natural, Symbol, Pair, same_object}
-use Rattle.mw_model.specs.Refusal.{PROOF}
+use Rattle.mw_model.specs.Terms.Object.{Object, Natural, Symbol, Pair, same_object}
+use Rattle.mw_model.specs.Events.Refusal.{PROOF}
 use Rattle.mw_heap.specs.Objects.{IsIn, Grows}
 use Rattle.mw_heap.proofs.Objects.{object_at-Grows}
 use Rattle.mw_flat.specs.Collecting.{conclusion_numbered, is_concluded, by_number}

@@ -5,7 +5,7 @@ use Rattle.std.proofs.lemmas.Bool.{eq-eqb, ne_eqb}
 use Rattle.std.proofs.lemmas.List.{map-append}
 use Rattle.std.proofs.lemmas.List.Elements.{All-head, All-tail}
 use Rattle.indexmap.specs.IndexSet.{insert_key}
-use Rattle.mw_model.specs.Object.{Object, same_object}
+use Rattle.mw_model.specs.Terms.Object.{Object, same_object}
 use Rattle.mw_model.proofs.Names.{same_object-eq, same_object-refl, object_cases}
 use Rattle.mw_heap.specs.Objects.{object_at, IsIn, AreDistinct}
 use Rattle.mw_term.proofs.Gathered.{IsListing}

@@ -1,14 +1,14 @@
 -- The steps that were collected, with one step more.
 use Rattle.std.proofs.Common.{◌≡◌, ℕ, ◌+◌, Bool, true, false, List, [], ◌∷◌, ◌++◌, map, Option, Some, None, option_map, refl, sym, ap, ◌∙◌, subst, arith, length-append}
 use Rattle.std.proofs.lemmas.List.{map-append}
-use Rattle.mw_model.specs.Object.{Object}
-use Rattle.mw_model.specs.Term.{Formula, ArityTable, formula_object, IsFormula}
-use Rattle.mw_model.specs.Truth.{Each}
-use Rattle.mw_model.specs.Primitive.{Profile}
-use Rattle.mw_model.specs.Definition.{arity_table}
-use Rattle.mw_model.specs.Theory.{Theory}
-use Rattle.mw_model.specs.Rules.{is_formula_object}
-use Rattle.mw_model.specs.Log.{conclusion, conclusions}
+use Rattle.mw_model.specs.Terms.Object.{Object}
+use Rattle.mw_model.specs.Terms.Term.{Formula, ArityTable, formula_object, IsFormula}
+use Rattle.mw_model.specs.Values.Truth.{Each}
+use Rattle.mw_model.specs.Values.Primitive.{Profile}
+use Rattle.mw_model.specs.Values.Definition.{arity_table}
+use Rattle.mw_model.specs.Events.Theory.{Theory}
+use Rattle.mw_model.specs.Laws.Rules.{is_formula_object}
+use Rattle.mw_model.specs.Commands.Log.{conclusion, conclusions}
 use Rattle.mw_heap.specs.Objects.{object_at}
 use Rattle.mw_flat.specs.Collecting.{AreConclusions}
 use Rattle.mw_flat.specs.Steps.{IsConclusion}

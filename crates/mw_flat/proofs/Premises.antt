@@ -1,11 +1,11 @@
 -- The conclusions that a step names, as objects and as formulas.
 use Rattle.std.proofs.Common.{◌≡◌, ℕ, zero, suc, true, false, cond, List, [], ◌∷◌, length, map, Option, Some, None, refl, sym, ap, ap₂, ◌∙◌}
 use Rattle.std.proofs.lemmas.List.{length-map}
-use Rattle.mw_model.specs.Object.{Object, Natural, Symbol, Pair, same_name, nil_name}
-use Rattle.mw_model.specs.Term.{Formula, formula_object}
-use Rattle.mw_model.specs.Reading.{and_more}
-use Rattle.mw_model.specs.RulesInduction.{formulas_object}
-use Rattle.mw_model.specs.Log.{naturals_of, formula_numbered, formulas_numbered, formulas_at}
+use Rattle.mw_model.specs.Terms.Object.{Object, Natural, Symbol, Pair, same_name, nil_name}
+use Rattle.mw_model.specs.Terms.Term.{Formula, formula_object}
+use Rattle.mw_model.specs.Terms.Reading.{and_more}
+use Rattle.mw_model.specs.Laws.RulesInduction.{formulas_object}
+use Rattle.mw_model.specs.Commands.Log.{naturals_of, formula_numbered, formulas_numbered, formulas_at}
 use Rattle.mw_model.proofs.ReadBack.{some_one}
 use Rattle.mw_heap.specs.Objects.{object_at}
 use Rattle.mw_heap.specs.Lists.{list_object}

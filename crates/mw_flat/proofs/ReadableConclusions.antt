@@ -1,9 +1,9 @@
 -- Conclusions that are read back from their objects, so that objects tell them apart.
 use Rattle.std.proofs.Common.{◌≡◌, ℕ, zero, suc, List, [], ◌∷◌, Option, Some, None, ap, ◌∙◌, refl}
-use Rattle.mw_model.specs.Object.{Object, same_object}
-use Rattle.mw_model.specs.Term.{Formula, formula_object, ArityTable, IsFormula}
-use Rattle.mw_model.specs.Truth.{Each}
-use Rattle.mw_model.specs.Log.{formula_numbered, is_that_formula}
+use Rattle.mw_model.specs.Terms.Object.{Object, same_object}
+use Rattle.mw_model.specs.Terms.Term.{Formula, formula_object, ArityTable, IsFormula}
+use Rattle.mw_model.specs.Values.Truth.{Each}
+use Rattle.mw_model.specs.Commands.Log.{formula_numbered, is_that_formula}
 use Rattle.mw_model.proofs.Readable.{ReadableFormula, formula_readable, same_object-formulas}
 use Rattle.mw_flat.specs.Collecting.{conclusion_numbered, is_concluded}
 use Rattle.mw_flat.proofs.Premises.{IsOne}

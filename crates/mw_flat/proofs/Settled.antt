@@ -1,18 +1,18 @@
 -- An event after good steps: the log answers what a judge by their numbers has the event come to.
 use Rattle.std.proofs.Common.{◌≡◌, ℕ, Bool, true, false, ◌&&◌, not, cond, List, [], ◌∷◌, length, map, Option, Some, None, refl, sym, ap, ap₂, ◌∙◌}
-use Rattle.mw_model.specs.Object.{Name, Object, Natural, Symbol, Pair, same_name, nil_name, has_members}
-use Rattle.mw_model.specs.Term.{Formula, formula_object}
-use Rattle.mw_model.specs.Reading.{both}
-use Rattle.mw_model.specs.Truth.{Each}
-use Rattle.mw_model.specs.Definition.{Functions, arity_table}
-use Rattle.mw_model.specs.Obligation.{obligations, is_nested}
-use Rattle.mw_model.specs.Expansion.{expand}
-use Rattle.mw_model.specs.Theory.{Theory}
-use Rattle.mw_model.specs.Refusal.{Refusal, NAME, FORMALS, TERM, VARIABLES, NESTED, COUNT, PROOF, Fate, Accepted, Refused, accept, must, unless}
-use Rattle.mw_model.specs.Checking.{or_else}
-use Rattle.mw_model.specs.Admission.{Draft, all_of, new_names, formals_of, add_names, functions, measures, are_closed_by, add_to_theory}
-use Rattle.mw_model.specs.Demand.{Demand, Denied, Wants, wants_some, wants_that, define_demand, each_judged, settled}
-use Rattle.mw_model.specs.Log.{Answer, Yes, No, ADMIT, natural_of, naturals_of, formula_numbered, is_that_formula, are_concluded, answer_to_goal, answer_to_demand}
+use Rattle.mw_model.specs.Terms.Object.{Name, Object, Natural, Symbol, Pair, same_name, nil_name, has_members}
+use Rattle.mw_model.specs.Terms.Term.{Formula, formula_object}
+use Rattle.mw_model.specs.Terms.Reading.{both}
+use Rattle.mw_model.specs.Values.Truth.{Each}
+use Rattle.mw_model.specs.Values.Definition.{Functions, arity_table}
+use Rattle.mw_model.specs.Events.Obligation.{obligations, is_nested}
+use Rattle.mw_model.specs.Events.Expansion.{expand}
+use Rattle.mw_model.specs.Events.Theory.{Theory}
+use Rattle.mw_model.specs.Events.Refusal.{Refusal, NAME, FORMALS, TERM, VARIABLES, NESTED, COUNT, PROOF, Fate, Accepted, Refused, accept, must, unless}
+use Rattle.mw_model.specs.Events.Checking.{or_else}
+use Rattle.mw_model.specs.Events.Admission.{Draft, all_of, new_names, formals_of, add_names, functions, measures, are_closed_by, add_to_theory}
+use Rattle.mw_model.specs.Commands.Demand.{Demand, Denied, Wants, wants_some, wants_that, define_demand, each_judged, settled}
+use Rattle.mw_model.specs.Commands.Log.{Answer, Yes, No, ADMIT, natural_of, naturals_of, formula_numbered, is_that_formula, are_concluded, answer_to_goal, answer_to_demand}
 use Rattle.mw_model.proofs.Readable.{ReadableFormula}
 use Rattle.mw_model.proofs.ReadBack.{some_one, and_more-back}
 use Rattle.mw_model.proofs.Leading.{Asks}

@@ -1,7 +1,7 @@
 -- What is left of an item weighs less than the item.
 use Rattle.std.proofs.Common.{◌≡◌, ℕ, zero, suc, ◌+◌, ◌<◌, ◌≤◌, List, [], ◌∷◌, ◌++◌, Option, Some, None, IfSome, inl, inr, append-nil, sym, ap, ◌∙◌, arith}
 use Rattle.std.proofs.lemmas.Bool.{cases_lt}
-use Rattle.mw_model.specs.Object.{Object}
+use Rattle.mw_model.specs.Terms.Object.{Object}
 use Rattle.mw_flat.specs.declared.item.Item.{Item}
 use Rattle.mw_flat.specs.declared.item.Item.TheVariants.{Proof, Proofs, Complete, AllComplete}
 use Rattle.mw_flat.specs.Walk.{subproofs_met, MeetsProof, MeetsProofs, Advances}

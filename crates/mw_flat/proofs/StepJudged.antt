@@ -1,13 +1,13 @@
 -- The conclusion of a step, test by test.
 use Rattle.std.proofs.Common.{◌≡◌, ℕ, ◌+◌, Bool, true, false, ◌&&◌, not, List, length, Option, Some, None, refl, sym, ap, ◌∙◌, subst}
-use Rattle.mw_model.specs.Object.{Object, Natural, same_object, second_of, fifth_of, has_members}
-use Rattle.mw_model.specs.Term.{Formula, ArityTable}
-use Rattle.mw_model.specs.Reading.{when}
-use Rattle.mw_model.specs.Primitive.{Profile}
-use Rattle.mw_model.specs.Fate.{is_out_of_range}
-use Rattle.mw_model.specs.Proof.{Method}
-use Rattle.mw_model.specs.Judgment.{judge_step}
-use Rattle.mw_model.specs.Log.{naturals_of, formulas_at, conclusion}
+use Rattle.mw_model.specs.Terms.Object.{Object, Natural, same_object, second_of, fifth_of, has_members}
+use Rattle.mw_model.specs.Terms.Term.{Formula, ArityTable}
+use Rattle.mw_model.specs.Terms.Reading.{when}
+use Rattle.mw_model.specs.Values.Primitive.{Profile}
+use Rattle.mw_model.specs.Events.Fate.{is_out_of_range}
+use Rattle.mw_model.specs.Proofs.Proof.{Method}
+use Rattle.mw_model.specs.Proofs.Judgment.{judge_step}
+use Rattle.mw_model.specs.Commands.Log.{naturals_of, formulas_at, conclusion}
 use Rattle.mw_flat.specs.Steps.{IsConclusion}
 
 -- nothing of what is none

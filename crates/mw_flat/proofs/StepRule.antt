@@ -1,18 +1,18 @@
 -- The conclusion of a step by the rule of its method, once its other tests hold.
 use Rattle.std.proofs.Common.{◌≡◌, ℕ, ◌+◌, Bool, true, false, ◌&&◌, not, List, length, Option, Some, None, refl, sym, ap, ap₂, ◌∙◌, subst}
 use Rattle.std.proofs.lemmas.Bool.{and_left}
-use Rattle.mw_model.specs.Object.{Object, Natural, same_object, second_of, third_of, fourth_of, fifth_of, sixth_of, has_members}
-use Rattle.mw_model.specs.Term.{Formula, ArityTable, formula_object, is_formula, IsFormula}
-use Rattle.mw_model.specs.Truth.{Each}
-use Rattle.mw_model.specs.Definition.{is_present}
-use Rattle.mw_model.specs.Reading.{that, when, formula_of}
-use Rattle.mw_model.specs.Primitive.{Profile}
-use Rattle.mw_model.specs.Fate.{is_out_of_range}
-use Rattle.mw_model.specs.Proof.{Method}
-use Rattle.mw_model.specs.Judgment.{methods, method_among, follows, judge_step}
-use Rattle.mw_model.specs.Rules.{is_formula_object}
-use Rattle.mw_model.specs.RulesInduction.{formulas_object}
-use Rattle.mw_model.specs.Log.{naturals_of, formulas_at, conclusion}
+use Rattle.mw_model.specs.Terms.Object.{Object, Natural, same_object, second_of, third_of, fourth_of, fifth_of, sixth_of, has_members}
+use Rattle.mw_model.specs.Terms.Term.{Formula, ArityTable, formula_object, is_formula, IsFormula}
+use Rattle.mw_model.specs.Values.Truth.{Each}
+use Rattle.mw_model.specs.Values.Definition.{is_present}
+use Rattle.mw_model.specs.Terms.Reading.{that, when, formula_of}
+use Rattle.mw_model.specs.Values.Primitive.{Profile}
+use Rattle.mw_model.specs.Events.Fate.{is_out_of_range}
+use Rattle.mw_model.specs.Proofs.Proof.{Method}
+use Rattle.mw_model.specs.Proofs.Judgment.{methods, method_among, follows, judge_step}
+use Rattle.mw_model.specs.Laws.Rules.{is_formula_object}
+use Rattle.mw_model.specs.Laws.RulesInduction.{formulas_object}
+use Rattle.mw_model.specs.Commands.Log.{naturals_of, formulas_at, conclusion}
 use Rattle.mw_heap.specs.Objects.{object_at}
 use Rattle.mw_rules.specs.Step.{rule_holds}
 use Rattle.mw_rules.proofs.CallerLemmas.{rule_holds-is}

@@ -1,14 +1,14 @@
 -- The conclusion of a step as the code finds it, once its other tests hold.
 use Rattle.std.proofs.Common.{◌≡◌, ℕ, ◌+◌, Bool, true, false, List, length, map, Option, Some, None, refl, sym, ap, ap₂, ◌∙◌, subst}
-use Rattle.mw_model.specs.Object.{Object, Natural, same_object}
-use Rattle.mw_model.specs.Term.{Formula, ArityTable, formula_object, IsFormula}
-use Rattle.mw_model.specs.Truth.{Each}
-use Rattle.mw_model.specs.Definition.{arity_table}
-use Rattle.mw_model.specs.Fate.{is_out_of_range}
-use Rattle.mw_model.specs.Proof.{Method}
-use Rattle.mw_model.specs.Judgment.{methods, method_among}
-use Rattle.mw_model.specs.Rules.{is_formula_object}
-use Rattle.mw_model.specs.Log.{naturals_of, formulas_at, conclusion}
+use Rattle.mw_model.specs.Terms.Object.{Object, Natural, same_object}
+use Rattle.mw_model.specs.Terms.Term.{Formula, ArityTable, formula_object, IsFormula}
+use Rattle.mw_model.specs.Values.Truth.{Each}
+use Rattle.mw_model.specs.Values.Definition.{arity_table}
+use Rattle.mw_model.specs.Events.Fate.{is_out_of_range}
+use Rattle.mw_model.specs.Proofs.Proof.{Method}
+use Rattle.mw_model.specs.Proofs.Judgment.{methods, method_among}
+use Rattle.mw_model.specs.Laws.Rules.{is_formula_object}
+use Rattle.mw_model.specs.Commands.Log.{naturals_of, formulas_at, conclusion}
 use Rattle.mw_heap.specs.Objects.{object_at}
 use Rattle.mw_heap.specs.Lists.{list_object}
 use Rattle.mw_heap.specs.Variants.{profile_of}

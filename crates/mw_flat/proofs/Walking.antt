@@ -3,9 +3,9 @@ use Rattle.std.proofs.Common.{◌≡◌, ℕ, nat_eq, Bool, true, false, if◌th
 use Rattle.std.specs.List.{list_any}
 use Rattle.std.proofs.lemmas.List.Elements.{All-append, All-cons, All-nil, All-push, All-pop}
 use Rattle.indexmap.specs.IndexSet.{insert_key}
-use Rattle.mw_model.specs.Object.{Object, Natural, Symbol, Pair, third_of}
-use Rattle.mw_model.specs.Primitive.{is_pair}
-use Rattle.mw_model.specs.Subproofs.{proofs_within}
+use Rattle.mw_model.specs.Terms.Object.{Object, Natural, Symbol, Pair, third_of}
+use Rattle.mw_model.specs.Values.Primitive.{is_pair}
+use Rattle.mw_model.specs.Commands.Subproofs.{proofs_within}
 use Rattle.mw_heap.specs.Objects.{object_at, IsIn, AreDistinct}
 use Rattle.mw_heap.specs.Parts.{part_at, IsPart}
 use Rattle.mw_term.specs.Occurrences.{gather}

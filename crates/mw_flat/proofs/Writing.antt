@@ -1,9 +1,9 @@
 -- Members one after another, and steps one after another.
 use Rattle.std.proofs.Common.{◌≡◌, ℕ, suc, ◌+◌, ◌<◌, List, [], ◌∷◌, ◌++◌, length, map, take, get_or, append-nil, append_assoc, refl, sym, ap, ◌∙◌, subst, arith}
 use Rattle.std.proofs.lemmas.List.{map-append, length-map, take_more, length-take-le}
-use Rattle.mw_model.specs.Object.{Object}
-use Rattle.mw_model.specs.Printing.{text_of}
-use Rattle.mw_model.specs.Pieces.{InOrder, numbered}
+use Rattle.mw_model.specs.Terms.Object.{Object}
+use Rattle.mw_model.specs.Texts.Printing.{text_of}
+use Rattle.mw_model.specs.Texts.Pieces.{InOrder, numbered}
 use Rattle.mw_model.proofs.TextWritten.{text_is_written}
 use Rattle.mw_flat.specs.Members.{WritesMember, WritesMembers}
 

@@ -1,7 +1,7 @@
 -- A code of what going through a log holds, as a value that clauses see must have one.
 use Rattle.std.specs.Prelude.{ℕ, Bool, List, refl}
 use Rattle.std.specs.Coded.{Coded, code_by, coded_list, coded×, coded_ℕ, coded_bool}
-use Rattle.mw_model.specs.Object.{Object}
+use Rattle.mw_model.specs.Terms.Object.{Object}
 use Rattle.mw_heap.specs.Code.{coded_object}
 use Rattle.mw_theory.specs.Knowledge.{Parts}
 use Rattle.mw_theory.specs.Code.{coded_parts}

@@ -1,10 +1,10 @@
 -- The steps that were collected for the next event, and what they conclude.
 use Rattle.std.specs.Prelude.{◌≡◌, ℕ, zero, suc, Bool, true, false, cond, List, [], ◌∷◌, map, All, Option, Some, None}
-use Rattle.mw_model.specs.Object.{Object, Natural, Symbol, Pair, same_object}
-use Rattle.mw_model.specs.Term.{ArityTable, Formula, formula_object}
-use Rattle.mw_model.specs.Rules.{is_formula_object}
-use Rattle.mw_model.specs.Reading.{and_more, if_nil}
-use Rattle.mw_model.specs.Refusal.{Refusal, PROOF}
+use Rattle.mw_model.specs.Terms.Object.{Object, Natural, Symbol, Pair, same_object}
+use Rattle.mw_model.specs.Terms.Term.{ArityTable, Formula, formula_object}
+use Rattle.mw_model.specs.Laws.Rules.{is_formula_object}
+use Rattle.mw_model.specs.Terms.Reading.{and_more, if_nil}
+use Rattle.mw_model.specs.Events.Refusal.{Refusal, PROOF}
 use Rattle.mw_heap.specs.Objects.{object_at, IsIn}
 use Rattle.mw_theory.specs.Proofs.{Judge}
 

@@ -1,7 +1,7 @@
 -- What writing the members of a step does.
 use Rattle.std.specs.Prelude.{◌≡◌, ℕ, List, ◌∷◌, ◌++◌}
-use Rattle.mw_model.specs.Object.{Object}
-use Rattle.mw_model.specs.Written.{IsWritten, AreWritten}
+use Rattle.mw_model.specs.Terms.Object.{Object}
+use Rattle.mw_model.specs.Texts.Written.{IsWritten, AreWritten}
 
 -- x is added to the old bytes, after a space; next is the first label that is unused then
 abbrev pub WritesMember : Object → ℕ → List ℕ → List ℕ → ℕ → Type 0

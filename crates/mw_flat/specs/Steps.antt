@@ -1,7 +1,7 @@
 -- Steps of a log as the code finds them.
 use Rattle.std.specs.Prelude.{◌≡◌, ℕ, ◌<◌, true, List, Option, Some, None}
-use Rattle.mw_model.specs.Object.{Object, second_of, third_of, fourth_of, fifth_of, sixth_of, has_members}
-use Rattle.mw_model.specs.Term.{Formula, formula_object}
+use Rattle.mw_model.specs.Terms.Object.{Object, second_of, third_of, fourth_of, fifth_of, sixth_of, has_members}
+use Rattle.mw_model.specs.Terms.Term.{Formula, formula_object}
 use Rattle.mw_heap.specs.Objects.{object_at}
 use Rattle.mw_flat.specs.declared.conclusion.Members.{Members}
 

@@ -2,9 +2,9 @@
 use Rattle.std.specs.Prelude.{◌≡◌, ℕ, ◌<◌, nat_eq, true, false, List, [], ◌∷◌, ◌++◌, map, All, Option, Some, None, IfSome, ◌⊎◌, Bool}
 use Rattle.std.specs.List.{list_any}
 use Rattle.indexmap.specs.IndexSet.{insert_key}
-use Rattle.mw_model.specs.Object.{Object, Pair, same_object, third_of}
-use Rattle.mw_model.specs.Primitive.{is_pair}
-use Rattle.mw_model.specs.Subproofs.{proofs_within, each_within}
+use Rattle.mw_model.specs.Terms.Object.{Object, Pair, same_object, third_of}
+use Rattle.mw_model.specs.Values.Primitive.{is_pair}
+use Rattle.mw_model.specs.Commands.Subproofs.{proofs_within, each_within}
 use Rattle.mw_heap.specs.Objects.{object_at, IsIn}
 use Rattle.mw_heap.specs.Parts.{part_at, IsPart}
 use Rattle.mw_flat.specs.declared.item.Item.{Item}

@@ -1,8 +1,8 @@
 //! The steps that were collected for the next event of a log, as a judge of its goals.
 ghost use Rattle.std.specs.Prelude.{◌≡◌, ◌+◌, ◌<◌, ◌^◌, false, true, [], ◌∷◌, ◌++◌, All, OnOk, OnErr};
 ghost use Rattle.mw_heap.specs.Objects.{object_at, IsIn};
-ghost use Rattle.mw_model.specs.Object.{Object};
-ghost use Rattle.mw_model.specs.Refusal.{PROOF};
+ghost use Rattle.mw_model.specs.Terms.Object.{Object};
+ghost use Rattle.mw_model.specs.Events.Refusal.{PROOF};
 ghost use Rattle.mw_flat.specs.Collecting.{conclusion_numbered, by_number, judged_by_number};
 
 use crate::numbered::numbered;

@@ -1,11 +1,11 @@
 //! Whether a step of a log is good.
 ghost use Rattle.std.specs.Prelude.{◌≡◌, ◌+◌, ◌<◌, List, false, length, map, All, IfOk, IfSome, MatchOption};
-ghost use Rattle.mw_model.specs.Object.{Natural, has_members, same_object};
-ghost use Rattle.mw_model.specs.Term.{Formula, IsFormula, formula_object};
-ghost use Rattle.mw_model.specs.Truth.{Each};
-ghost use Rattle.mw_model.specs.Definition.{arity_table};
-ghost use Rattle.mw_model.specs.Log.{conclusion};
-ghost use Rattle.mw_model.specs.Theory.{Theory as Meant};
+ghost use Rattle.mw_model.specs.Terms.Object.{Natural, has_members, same_object};
+ghost use Rattle.mw_model.specs.Terms.Term.{Formula, IsFormula, formula_object};
+ghost use Rattle.mw_model.specs.Values.Truth.{Each};
+ghost use Rattle.mw_model.specs.Values.Definition.{arity_table};
+ghost use Rattle.mw_model.specs.Commands.Log.{conclusion};
+ghost use Rattle.mw_model.specs.Events.Theory.{Theory as Meant};
 ghost use Rattle.mw_heap.specs.Objects.{object_at, IsIn, Grows};
 ghost use Rattle.mw_term.specs.Marking.{AreMarks};
 ghost use Rattle.mw_theory.specs.Knowledge.{parts_of, meant, IsHeld};

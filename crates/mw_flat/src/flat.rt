@@ -1,17 +1,17 @@
 //! Going through a log.
 ghost use Rattle.std.specs.Prelude.{◌≡◌, ℕ, ◌+◌, ◌<◌, ◌≤◌, ◌^◌, ◌⊎◌, true, false, List, [], ◌∷◌, ◌++◌, length, map, All, Option, Some, None, IfOk, IfSome, OnOk, OnErr, option_map};
-ghost use Rattle.mw_model.specs.Object.{Object};
-ghost use Rattle.mw_model.specs.Primitive.{One};
-ghost use Rattle.mw_model.specs.Theory.{initial, IsSound};
-ghost use Rattle.mw_model.specs.Term.{Formula, IsFormula, formula_object};
-ghost use Rattle.mw_model.specs.Truth.{Each};
-ghost use Rattle.mw_model.specs.Definition.{arity_table};
-ghost use Rattle.mw_model.specs.Rules.{is_formula_object};
-ghost use Rattle.mw_model.specs.Log.{conclusion, is_step, logged};
+ghost use Rattle.mw_model.specs.Terms.Object.{Object};
+ghost use Rattle.mw_model.specs.Values.Primitive.{One};
+ghost use Rattle.mw_model.specs.Events.Theory.{initial, IsSound};
+ghost use Rattle.mw_model.specs.Terms.Term.{Formula, IsFormula, formula_object};
+ghost use Rattle.mw_model.specs.Values.Truth.{Each};
+ghost use Rattle.mw_model.specs.Values.Definition.{arity_table};
+ghost use Rattle.mw_model.specs.Laws.Rules.{is_formula_object};
+ghost use Rattle.mw_model.specs.Commands.Log.{conclusion, is_step, logged};
 ghost use Rattle.mw_heap.specs.Objects.{object_at, IsIn, Grows};
 ghost use Rattle.mw_read.specs.Standing.{Stands, IsStanding, Follows, Says, IsLast, HasEndedWith, HasEnded};
 ghost use Rattle.mw_read.specs.Feeding.{IsAwaiting, IsReady, Continues};
-ghost use Rattle.mw_model.specs.Fate.{is_out_of_range};
+ghost use Rattle.mw_model.specs.Events.Fate.{is_out_of_range};
 ghost use Rattle.mw_heap.specs.Variants.{refusal_of};
 ghost use Rattle.mw_theory.specs.Settling.{fate_by};
 ghost use Rattle.mw_theory.specs.Words.{IsEvent};

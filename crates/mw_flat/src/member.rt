@@ -1,7 +1,7 @@
 //! The members of a step.
 ghost use Rattle.std.specs.Prelude.{◌≡◌, ◌<◌, ◌++◌, IfOk, OnOk};
-ghost use Rattle.mw_model.specs.Object.{NIL};
-ghost use Rattle.mw_model.specs.Printing.{numeral, text_of};
+ghost use Rattle.mw_model.specs.Terms.Object.{NIL};
+ghost use Rattle.mw_model.specs.Texts.Printing.{numeral, text_of};
 ghost use Rattle.mw_heap.specs.Parts.{part_at, IsPart};
 ghost use Rattle.mw_flat.specs.Members.{WritesMember};
 

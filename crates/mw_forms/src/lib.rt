@@ -3,8 +3,8 @@
 #![tactic(auto)]
 
 ghost use Rattle.std.specs.Prelude.{◌≡◌, ◌↔◌, true, [], All, IsTrue, IfOk, OnOk};
-ghost use Rattle.mw_model.specs.Object.{Symbol, Pair, is_name, name_of_bytes, symbol, list2};
-ghost use Rattle.mw_model.specs.Rules.{equal_object, or_object, not_object};
+ghost use Rattle.mw_model.specs.Terms.Object.{Symbol, Pair, is_name, name_of_bytes, symbol, list2};
+ghost use Rattle.mw_model.specs.Laws.Rules.{equal_object, or_object, not_object};
 ghost use Rattle.mw_heap.specs.Objects.{object_at, IsIn, Grows};
 ghost use Rattle.mw_heap.specs.Lists.{list_object};
 

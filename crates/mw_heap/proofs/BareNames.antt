@@ -2,9 +2,9 @@
 use Rattle.std.proofs.Common.{◌≡◌, ℕ, Bool, true, false, ◌-◌, ◌&&◌, ◌||◌, not, List, [], ◌∷◌, map, refl, sym, ap, ap₂, ◌∙◌, if◌then◌else◌}
 use Rattle.std.specs.List.{list_all}
 use Rattle.std.proofs.lemmas.Bool.{and_parts}
-use Rattle.mw_model.specs.Object.{Name, Natural, Symbol, is_name, name_of_bytes, same_bytes, same_name}
-use Rattle.mw_model.specs.Lexemes.{TokenForm, Whole, Point, Bad, all_are, decimal_value, is_constituent, is_digit, digit_first, is_sign, is_dot, is_small, like_number, raised, token_form}
-use Rattle.mw_model.specs.Printing.{is_bare, is_read_as}
+use Rattle.mw_model.specs.Terms.Object.{Name, Natural, Symbol, is_name, name_of_bytes, same_bytes, same_name}
+use Rattle.mw_model.specs.Texts.Lexemes.{TokenForm, Whole, Point, Bad, all_are, decimal_value, is_constituent, is_digit, digit_first, is_sign, is_dot, is_small, like_number, raised, token_form}
+use Rattle.mw_model.specs.Texts.Printing.{is_bare, is_read_as}
 use Rattle.mw_model.proofs.Names.{same_bytes-eq, same_name-from, bytes-name_of_bytes, name_of_bytes-bytes}
 
 differ : false ≡ true → ⊥

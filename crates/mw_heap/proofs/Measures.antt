@@ -1,7 +1,7 @@
 -- The lengths of naturals, symbols and pairs by those of their parts.
 use Rattle.std.proofs.Common.{◌≡◌, ℕ, ◌+◌, ◌-◌, ◌≤◌, Bool, true, false, List, [], ◌∷◌, ◌++◌, length, refl, sym, ap, if◌then◌else◌, arith, length-append}
-use Rattle.mw_model.specs.Object.{Object, Natural, Symbol, Pair, Name, nil_name, same_name}
-use Rattle.mw_model.specs.Printing.{text_of, tail_text, end_text, name_text, is_bare}
+use Rattle.mw_model.specs.Terms.Object.{Object, Natural, Symbol, Pair, Name, nil_name, same_name}
+use Rattle.mw_model.specs.Texts.Printing.{text_of, tail_text, end_text, name_text, is_bare}
 use Rattle.mw_heap.specs.Lengths.{cut_off, text_length, tail_length, lengths_of, atom_lengths}
 
 -- a text as the rest of a list has its closing parenthesis

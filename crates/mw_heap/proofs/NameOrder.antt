@@ -2,7 +2,7 @@
 use Rattle.std.proofs.Common.{◌≡◌, ℕ, Bool, true, false, ◌&&◌, ◌||◌, cond, Some, List, [], ◌∷◌, refl, eqb, ltb, Less, Equal, Greater}
 use Rattle.std.specs.Cmp.Lexicographic.{slice_partial_cmp}
 use Rattle.std.specs.Ordering.{is_some_and, nat_cmp, is_lt, partial_ordering_then}
-use Rattle.mw_model.specs.Object.{is_before_bytes}
+use Rattle.mw_model.specs.Terms.Object.{is_before_bytes}
 
 pub is_before_bytes-slices : (xs ys : List ℕ) → is_some_and is_lt (slice_partial_cmp (λ x y. Some (nat_cmp x y)) xs ys) ≡ is_before_bytes xs ys
 is_before_bytes-slices [] [] = refl

@@ -7,7 +7,7 @@ use Rattle.std.proofs.lemmas.List.Quantifiers.{position-Some}
 use Rattle.std.proofs.lemmas.Option.{slice_get-map, slice_get-get_or, slice_get_within, get_or_from_slice_get}
 use Rattle.std.specs.Option.{option_map, IfSome}
 use Rattle.indexmap.specs.IndexSet.{insert_key}
-use Rattle.mw_model.specs.Object.{same_bytes}
+use Rattle.mw_model.specs.Terms.Object.{same_bytes}
 use Rattle.mw_model.proofs.Names.{same_bytes-eq, same_bytes-refl}
 use Rattle.mw_heap.specs.Cells.{bytes_of, IsInjective}
 use Rattle.mw_heap.specs.Inserted.{Inserts}

@@ -2,8 +2,8 @@
 use Rattle.std.proofs.Common.{◌≡◌, ℕ, ◌+◌, suc, ◌<◌, add-one, Bool, true, false, cond, List, Option, Some, None, length, take, drop, get_or, refl, sym, ap, ◌∙◌}
 use Rattle.std.specs.Prelude.{option_map}
 use Rattle.std.proofs.Math.Seq.{drop-cons}
-use Rattle.mw_model.specs.Object.{Name, named, same_bytes, same_name}
-use Rattle.mw_model.specs.Primitive.{Profile, One, Two, Equality, IsPair, Cons, Car, Cdr, IsSymbol, SymbolLess, IsNatural, Less, Plus, Minus, Times, or_product}
+use Rattle.mw_model.specs.Terms.Object.{Name, named, same_bytes, same_name}
+use Rattle.mw_model.specs.Values.Primitive.{Profile, One, Two, Equality, IsPair, Cons, Car, Cdr, IsSymbol, SymbolLess, IsNatural, Less, Plus, Minus, Times, or_product}
 use Rattle.mw_heap.specs.declared.primitive.Primitive.{Primitive as Word}
 use Rattle.mw_heap.specs.declared.primitive.Primitive.TheVariants as word
 use Rattle.mw_heap.specs.declared.primitive_name.TheConstants.{PRIMITIVES}

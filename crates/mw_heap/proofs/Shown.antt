@@ -3,10 +3,10 @@ use Rattle.std.proofs.Common.{◌≡◌, ℕ, zero, suc, ◌<◌, ◌≤◌, ◌
 use Rattle.std.proofs.lemmas.Bool.{both_ways}
 use Rattle.std.proofs.lemmas.List.{length-take}
 use Rattle.std.proofs.lemmas.Option.{slice_get_within, slice_get-get_or, get_or_from_slice_get}
-use Rattle.mw_model.specs.Object.{Object, Natural, Symbol, Pair, name_of_bytes, car, cdr, is_name, same_object}
-use Rattle.mw_model.specs.Primitive.{is_symbol, name_of, number}
-use Rattle.mw_model.specs.Evaluation.{range}
-use Rattle.mw_model.specs.Fate.{is_out_of_range}
+use Rattle.mw_model.specs.Terms.Object.{Object, Natural, Symbol, Pair, name_of_bytes, car, cdr, is_name, same_object}
+use Rattle.mw_model.specs.Values.Primitive.{is_symbol, name_of, number}
+use Rattle.mw_model.specs.Events.Evaluation.{range}
+use Rattle.mw_model.specs.Events.Fate.{is_out_of_range}
 use Rattle.mw_model.proofs.Names.{bytes-name_of_bytes, same_object-from, same_object-eq}
 use Rattle.mw_heap.specs.declared.cell.Cell.{Cell}
 use Rattle.mw_heap.specs.declared.cell.Cell.TheVariants.{Small, Large, Symbol as Named, Pair as Parts}

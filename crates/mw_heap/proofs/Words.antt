@@ -1,7 +1,7 @@
 -- Where the words stand.
 use Rattle.std.proofs.Common.{◌≡◌, ℕ, ◌+◌, ◌<◌, ◌≤◌, Bool, true, eqb, List, take, length, get_or, refl, sym, ap, ◌∙◌, arith, ◌⊎◌, inl, inr}
 use Rattle.std.proofs.Math.Nat.{eq-or-lt_of_le}
-use Rattle.mw_model.specs.Object.{Object, same_object, NIL}
+use Rattle.mw_model.specs.Terms.Object.{Object, same_object, NIL}
 use Rattle.mw_heap.specs.Objects.{object_at, IsIn, Grows}
 use Rattle.mw_heap.specs.declared.word.Word.{Word}
 use Rattle.mw_heap.specs.declared.word.Word.TheVariants as word

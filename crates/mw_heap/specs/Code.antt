@@ -3,7 +3,7 @@ use Rattle.std.specs.Prelude.{◌≡◌, ℕ, zero, suc, List, [], ◌∷◌, �
 use Rattle.std.specs.Coded.{Coded, code_by, coded_list, coded×, coded_ℕ}
 use mathlib.Core.Path.{sym, ap, ◌∙◌}
 use mathlib.Core.List.{append_assoc, append-nil}
-use Rattle.mw_model.specs.Object.{Object, Natural, Symbol, Pair, name_of_bytes, NIL}
+use Rattle.mw_model.specs.Terms.Object.{Object, Natural, Symbol, Pair, name_of_bytes, NIL}
 use Rattle.mw_model.proofs.Names.{name_of_bytes-bytes}
 
 -- a kind and its data

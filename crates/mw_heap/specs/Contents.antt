@@ -1,7 +1,7 @@
 -- What clauses see of a heap: its objects, and how many more it has room for.
 use Rattle.std.specs.Prelude.{ℕ, min, List, refl}
 use Rattle.std.specs.Coded.{Coded, code_by, coded_list, coded×, coded_ℕ}
-use Rattle.mw_model.specs.Object.{Object}
+use Rattle.mw_model.specs.Terms.Object.{Object}
 use Rattle.mw_heap.specs.Code.{coded_object}
 
 -- So many cells of naturals and pairs can still be made without memory that is asked for.

@@ -1,7 +1,7 @@
 -- How long the texts of objects are, cut off at a bound.
 use Rattle.std.specs.Prelude.{◌≡◌, ℕ, ◌+◌, ◌-◌, ◌<◌, min, true, List, [], ◌∷◌, ◌++◌, length, map, get_or, ◌⊎◌}
-use Rattle.mw_model.specs.Object.{Object, is_name}
-use Rattle.mw_model.specs.Printing.{text_of, tail_text}
+use Rattle.mw_model.specs.Terms.Object.{Object, is_name}
+use Rattle.mw_model.specs.Texts.Printing.{text_of, tail_text}
 use Rattle.mw_heap.specs.Cells.{object}
 use Rattle.mw_heap.specs.declared.cell.Cell.{Cell}
 use Rattle.mw_heap.specs.declared.cell.Cell.TheVariants.{Small, Large, Symbol as Named, Pair as Parts}

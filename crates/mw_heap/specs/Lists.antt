@@ -1,6 +1,6 @@
 -- Lists of objects of a heap.
 use Rattle.std.specs.Prelude.{ℕ, List, [], ◌∷◌}
-use Rattle.mw_model.specs.Object.{Object, Pair, NIL}
+use Rattle.mw_model.specs.Terms.Object.{Object, Pair, NIL}
 use Rattle.mw_heap.specs.Objects.{object_at}
 
 -- the list of the objects of these references

@@ -1,7 +1,7 @@
 -- Objects in a heap, which is seen as the list of its objects. A reference is the index of its object.
 use Rattle.std.specs.Prelude.{◌≡◌, ℕ, ◌<◌, true, List, ◌++◌, length, get_or}
-use Rattle.mw_model.specs.Object.{Object, Natural, Pair, NIL}
-use Rattle.mw_model.specs.Primitive.{is_symbol}
+use Rattle.mw_model.specs.Terms.Object.{Object, Natural, Pair, NIL}
+use Rattle.mw_model.specs.Values.Primitive.{is_symbol}
 use Rattle.mw_heap.specs.declared.view.View.{View}
 use Rattle.mw_heap.specs.declared.view.View.TheVariants.{Nat, Symbol, Pair as Parts}
 

@@ -1,6 +1,6 @@
 -- Parts of objects by their place. A part is a reference, or nothing where there is none, which counts as NIL.
 use Rattle.std.specs.Prelude.{ℕ, List, Option, Some, None}
-use Rattle.mw_model.specs.Object.{Object, NIL}
+use Rattle.mw_model.specs.Terms.Object.{Object, NIL}
 use Rattle.mw_heap.specs.Objects.{object_at, IsIn}
 
 -- the object of a part

@@ -1,7 +1,7 @@
 -- The names of the primitives and of IF.
 use Rattle.std.specs.Prelude.{ℕ, cond, List, [], ◌∷◌, Option, Some, None, codes, option_map}
-use Rattle.mw_model.specs.Object.{Name, named, same_bytes, same_name}
-use Rattle.mw_model.specs.Primitive.{Profile, Primitive, Equality, IsPair, Cons, Car, Cdr, IsSymbol, SymbolLess, IsNatural, Less, Plus, Minus, Times, primitive_named}
+use Rattle.mw_model.specs.Terms.Object.{Name, named, same_bytes, same_name}
+use Rattle.mw_model.specs.Values.Primitive.{Profile, Primitive, Equality, IsPair, Cons, Car, Cdr, IsSymbol, SymbolLess, IsNatural, Less, Plus, Minus, Times, primitive_named}
 use Rattle.mw_heap.specs.declared.primitive.Primitive.{Primitive as Word}
 use Rattle.mw_heap.specs.declared.primitive.Primitive.TheVariants as word
 

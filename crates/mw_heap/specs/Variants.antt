@@ -1,7 +1,7 @@
 -- The primitives, profiles and refusals of the program, as those of the logic.
 use Rattle.std.specs.Prelude.{Option, Some, None}
-use Rattle.mw_model.specs.Primitive.{Primitive, Equality, IsPair, Cons, Car, Cdr, IsSymbol, SymbolLess, IsNatural, Less, Plus, Minus, Times, Profile, One, Two}
-use Rattle.mw_model.specs.Refusal.{Refusal, RANGE, EVENT, NAME, FORMALS, TERM, FORMULA, VARIABLES, NESTED, COUNT, CONCLUSION, PROOF, NILVALUE, STEPS, OVERFLOW, WITNESS, CLAIM, CHECKER, LONG, PROFILE}
+use Rattle.mw_model.specs.Values.Primitive.{Primitive, Equality, IsPair, Cons, Car, Cdr, IsSymbol, SymbolLess, IsNatural, Less, Plus, Minus, Times, Profile, One, Two}
+use Rattle.mw_model.specs.Events.Refusal.{Refusal, RANGE, EVENT, NAME, FORMALS, TERM, FORMULA, VARIABLES, NESTED, COUNT, CONCLUSION, PROOF, NILVALUE, STEPS, OVERFLOW, WITNESS, CLAIM, CHECKER, LONG, PROFILE}
 use Rattle.mw_heap.specs.declared.primitive.Primitive.{Primitive as Word}
 use Rattle.mw_heap.specs.declared.primitive.Primitive.TheVariants as word
 use Rattle.mw_heap.specs.declared.profile.Profile.{Profile as Level}

@@ -1,6 +1,6 @@
 -- The words of the logic, and where they stand in a heap that keeps them.
 use Rattle.std.specs.Prelude.{◌≡◌, ℕ, Bool, true, List, map, codes}
-use Rattle.mw_model.specs.Object.{Object, Symbol, name_of_bytes}
+use Rattle.mw_model.specs.Terms.Object.{Object, Symbol, name_of_bytes}
 use Rattle.mw_heap.specs.Objects.{object_at, IsIn}
 use Rattle.mw_heap.specs.Cells.{objects, IsSound}
 use Rattle.mw_heap.specs.Lengths.{lengths_of}

@@ -1,9 +1,9 @@
 //! Names that are written without bars.
 ghost use Rattle.std.specs.Prelude.{◌≡◌, ◌&&◌, true, not};
 ghost use Rattle.std.specs.List.{list_all};
-ghost use Rattle.mw_model.specs.Object.{is_name, name_of_bytes};
-ghost use Rattle.mw_model.specs.Lexemes.{is_constituent, is_dot, is_small, like_number};
-ghost use Rattle.mw_model.specs.Printing.{is_bare};
+ghost use Rattle.mw_model.specs.Terms.Object.{is_name, name_of_bytes};
+ghost use Rattle.mw_model.specs.Texts.Lexemes.{is_constituent, is_dot, is_small, like_number};
+ghost use Rattle.mw_model.specs.Texts.Printing.{is_bare};
 
 // Whether a byte may stand in a name without bars: a digit, a capital letter or a mark.
 fn is_bare_byte(b: u8) -> bool

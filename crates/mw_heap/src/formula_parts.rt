@@ -2,8 +2,8 @@
 //! the logic's own checker tells it: of what begins with POR* or PEQUAL* the parts are the second and the third member, and a missing one
 //! counts as NIL.
 ghost use Rattle.std.specs.Prelude.{◌≡◌, IfSome, is_some};
-ghost use Rattle.mw_model.specs.Object.{same_object, second_of, third_of};
-ghost use Rattle.mw_model.specs.Rules.{is_or_object, is_equal_object, or_object, not_object, equal_object};
+ghost use Rattle.mw_model.specs.Terms.Object.{same_object, second_of, third_of};
+ghost use Rattle.mw_model.specs.Laws.Rules.{is_or_object, is_equal_object, or_object, not_object, equal_object};
 ghost use Rattle.mw_heap.specs.Parts.{part_at, IsPart};
 
 use crate::{Heap, Ref, Word};

@@ -1,8 +1,8 @@
 //! The heap.
 ghost use Rattle.std.specs.Prelude.{◌≡◌, ℕ, ◌+◌, ◌<◌, ◌≤◌, ◌^◌, List, [], true, false, length, take, IfOk, IfSome, IsOk, OnOk, OnErr, IsTrue};
-ghost use Rattle.mw_model.specs.Object.{Symbol, Natural, Pair, NIL, name_of_bytes, is_name, same_object, is_before_bytes};
-ghost use Rattle.mw_model.specs.Primitive.{is_symbol, name_of};
-ghost use Rattle.mw_model.specs.Fate.{is_out_of_range};
+ghost use Rattle.mw_model.specs.Terms.Object.{Symbol, Natural, Pair, NIL, name_of_bytes, is_name, same_object, is_before_bytes};
+ghost use Rattle.mw_model.specs.Values.Primitive.{is_symbol, name_of};
+ghost use Rattle.mw_model.specs.Events.Fate.{is_out_of_range};
 ghost use Rattle.mw_heap.specs.Lengths.{text_length, tail_length};
 ghost use Rattle.mw_heap.specs.Parts.{part_at, IsPart};
 ghost use Rattle.mw_heap.specs.Words.{word_object};

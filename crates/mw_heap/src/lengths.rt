@@ -1,6 +1,6 @@
 //! How long the texts of objects are.
 ghost use Rattle.std.specs.Prelude.{◌≡◌, ◌+◌, ◌<◌, ◌≤◌, ◌^◌, ℕ, length, min, true};
-ghost use Rattle.mw_model.specs.Object.{Object, Natural, Symbol, Pair, is_name, name_of_bytes};
+ghost use Rattle.mw_model.specs.Terms.Object.{Object, Natural, Symbol, Pair, is_name, name_of_bytes};
 ghost use Rattle.mw_heap.specs.Cells.{bytes_of};
 ghost use Rattle.mw_heap.specs.Lengths.{lengths_of, atom_lengths, IsMeasurable, IsLengthsOf};
 

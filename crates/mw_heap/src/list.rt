@@ -1,6 +1,6 @@
 //! Lists of objects.
 ghost use Rattle.std.specs.Prelude.{◌≡◌, All, IfOk};
-ghost use Rattle.mw_model.specs.Object.{Pair};
+ghost use Rattle.mw_model.specs.Terms.Object.{Pair};
 ghost use Rattle.mw_heap.specs.Objects.{object_at, IsIn, Grows};
 ghost use Rattle.mw_heap.specs.Lists.{list_object};
 ghost use Rattle.mw_heap.specs.Words.{word_object};

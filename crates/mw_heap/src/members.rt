@@ -1,6 +1,6 @@
 //! Members of lists.
 ghost use Rattle.std.specs.Prelude.{◌≡◌, true, false, IfSome, MatchOption};
-ghost use Rattle.mw_model.specs.Object.{Object, same_object, list2, list3};
+ghost use Rattle.mw_model.specs.Terms.Object.{Object, same_object, list2, list3};
 ghost use Rattle.mw_heap.specs.Objects.{object_at, IsIn};
 ghost use Rattle.mw_heap.specs.Words.{word_object};
 

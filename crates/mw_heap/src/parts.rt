@@ -1,8 +1,8 @@
 //! Parts of objects by their place, and tests of what a part is. A part is a reference, or nothing where the object has no such
 //! part, which counts as NIL: so each call here has an answer for each object.
 ghost use Rattle.std.specs.Prelude.{◌≡◌, ◌<◌, true, IfSome};
-ghost use Rattle.mw_model.specs.Object.{Symbol, Pair, name_of_bytes, is_name, same_object, car, cdr, second_of, third_of, NIL, list1, list2, list3};
-ghost use Rattle.mw_model.specs.Primitive.{number, is_pair};
+ghost use Rattle.mw_model.specs.Terms.Object.{Symbol, Pair, name_of_bytes, is_name, same_object, car, cdr, second_of, third_of, NIL, list1, list2, list3};
+ghost use Rattle.mw_model.specs.Values.Primitive.{number, is_pair};
 ghost use Rattle.mw_heap.specs.Objects.{object_at, IsIn};
 ghost use Rattle.mw_heap.specs.Parts.{part_at, IsPart};
 ghost use Rattle.mw_heap.specs.Words.{word_object};

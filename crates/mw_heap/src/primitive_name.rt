@@ -1,6 +1,6 @@
 //! The names of the primitive functions.
 ghost use Rattle.std.specs.Prelude.{◌≡◌};
-ghost use Rattle.mw_model.specs.Object.{Name};
+ghost use Rattle.mw_model.specs.Terms.Object.{Name};
 ghost use Rattle.mw_heap.specs.Variants.{profile_of};
 ghost use Rattle.mw_heap.specs.PrimitiveNames.{primitive_bytes, word_named, first_named};
 

@@ -1,6 +1,6 @@
 //! Why an event is refused.
 ghost use Rattle.std.specs.Prelude.{◌≡◌};
-ghost use Rattle.mw_model.specs.Refusal.{number_of, reason_of};
+ghost use Rattle.mw_model.specs.Events.Refusal.{number_of, reason_of};
 ghost use Rattle.mw_heap.specs.Variants.{refusal_of};
 
 /// The reason for which an event is refused, and its place in the order in which the reasons are tested.

@@ -1,12 +1,12 @@
 -- Where the conditions end the cases must end.
 use Rattle.std.proofs.Common.{◌≡◌, ℕ, ◌+◌, Bool, true, false, ◌&&◌, eqb, refl, sym, ap, ap₂, ◌∙◌, one-add}
-use Rattle.mw_model.specs.Object.{Object, Natural, Symbol, Pair, NIL, same_object, list3, car, second_of, third_of, has_members}
-use Rattle.mw_model.specs.Term.{ArityTable}
-use Rattle.mw_model.specs.Rules.{is_substitution_object}
-use Rattle.mw_model.specs.RulesInduction.{is_list_object, length_object, are_substitution_objects, are_case_objects, premises_object, object_is_induction}
+use Rattle.mw_model.specs.Terms.Object.{Object, Natural, Symbol, Pair, NIL, same_object, list3, car, second_of, third_of, has_members}
+use Rattle.mw_model.specs.Terms.Term.{ArityTable}
+use Rattle.mw_model.specs.Laws.Rules.{is_substitution_object}
+use Rattle.mw_model.specs.Laws.RulesInduction.{is_list_object, length_object, are_substitution_objects, are_case_objects, premises_object, object_is_induction}
 use Rattle.std.proofs.Math.Dec.{eqb-zero-suc, eqb-suc-zero, eqb-suc-suc}
 use Rattle.std.proofs.Math.Bool.{and-false}
-use Rattle.mw_model.specs.Primitive.{is_pair}
+use Rattle.mw_model.specs.Values.Primitive.{is_pair}
 use Rattle.std.proofs.lemmas.Bool.{and_parts, and_left, and_right}
 use Rattle.mw_subst.proofs.PairLists.{substitution_pairs}
 use Rattle.mw_induct.specs.Pairs.{are_lists_of_pairs, are_cases_of_pairs}

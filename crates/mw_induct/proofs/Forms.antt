@@ -1,10 +1,10 @@
 -- Lists with one head are the same where their members are.
 use Rattle.std.proofs.Common.{◌≡◌, true, false, ◌&&◌, refl, sym, ap, ◌∙◌}
 use Rattle.std.proofs.Math.Bool.{and-true, and-false}
-use Rattle.mw_model.specs.Object.{Object, Natural, Symbol, Pair, symbol, same_object, list2, list3, NIL, T}
-use Rattle.mw_model.specs.Primitive.{is_pair}
-use Rattle.mw_model.specs.Rules.{or_object, not_object, substitute_formula_object}
-use Rattle.mw_model.specs.RulesInduction.{true_object, disjunction_object, hypotheses_object, steps_object, fall_object, falls_object, all_falls_object}
+use Rattle.mw_model.specs.Terms.Object.{Object, Natural, Symbol, Pair, symbol, same_object, list2, list3, NIL, T}
+use Rattle.mw_model.specs.Values.Primitive.{is_pair}
+use Rattle.mw_model.specs.Laws.Rules.{or_object, not_object, substitute_formula_object}
+use Rattle.mw_model.specs.Laws.RulesInduction.{true_object, disjunction_object, hypotheses_object, steps_object, fall_object, falls_object, all_falls_object}
 use Rattle.mw_model.proofs.Names.{same_object-refl}
 
 pub same_list3 : (h a b c d : Object) → same_object (list3 h a b) (list3 h c d) ≡ (same_object a c && same_object b d)

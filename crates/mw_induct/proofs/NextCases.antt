@@ -1,8 +1,8 @@
 -- One more condition and its case, while the heap stays: what they make of the premises that are left.
 use Rattle.std.proofs.Common.{◌≡◌, ℕ, ◌+◌, ◌-◌, ◌<◌, ◌≤◌, Bool, true, false, List, length, take, drop, get_or, Option, Some, None, sym, ap, ◌∙◌, subst}
 use Rattle.std.proofs.lemmas.Bool.{and_parts}
-use Rattle.mw_model.specs.Object.{Object, Pair, same_object}
-use Rattle.mw_model.specs.RulesInduction.{length_object, steps_object, falls_object, all_falls_object}
+use Rattle.mw_model.specs.Terms.Object.{Object, Pair, same_object}
+use Rattle.mw_model.specs.Laws.RulesInduction.{length_object, steps_object, falls_object, all_falls_object}
 use Rattle.mw_heap.specs.Objects.{object_at, IsIn}
 use Rattle.mw_induct.specs.Conclusions.{conclusions_object, Takes}
 use Rattle.mw_induct.specs.Pairs.{are_lists_of_pairs, are_cases_of_pairs}

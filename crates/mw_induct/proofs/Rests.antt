@@ -4,9 +4,9 @@ use Rattle.std.proofs.Math.Dec.{eqb-zero-suc, eqb-suc-suc}
 use Rattle.std.proofs.lemmas.List.{drop_more, drop_all, length-drop}
 use Rattle.std.proofs.lemmas.Bool.{and_left, and_right}
 use Rattle.std.proofs.Math.Seq.{take-length}
-use Rattle.mw_model.specs.Object.{Object, Natural, Symbol, Pair, NIL, same_object}
+use Rattle.mw_model.specs.Terms.Object.{Object, Natural, Symbol, Pair, NIL, same_object}
 use Rattle.mw_heap.specs.Objects.{object_at, IsIn}
-use Rattle.mw_model.specs.RulesInduction.{disjunction_object, steps_object, ordinal_object, all_falls_object, premises_object}
+use Rattle.mw_model.specs.Laws.RulesInduction.{disjunction_object, steps_object, ordinal_object, all_falls_object, premises_object}
 use Rattle.mw_induct.specs.Conclusions.{conclusions_object, Takes}
 
 -- the parts of a pair, over the heap at the start

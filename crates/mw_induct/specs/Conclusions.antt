@@ -1,6 +1,6 @@
 -- Conclusions that are kept as references, and how many of them some premises take.
 use Rattle.std.specs.Prelude.{◌≡◌, ℕ, ◌≤◌, false, List, [], ◌∷◌, length, drop, Option, Some, None}
-use Rattle.mw_model.specs.Object.{Object, Pair, NIL, same_object}
+use Rattle.mw_model.specs.Terms.Object.{Object, Pair, NIL, same_object}
 use Rattle.mw_heap.specs.Objects.{object_at}
 
 -- the list of the conclusions, as an object

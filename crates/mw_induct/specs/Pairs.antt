@@ -1,7 +1,7 @@
 -- Lists of substitutions, as lists of lists of pairs, and formulas, by what substitution does to them.
 use Rattle.std.specs.Prelude.{◌≡◌, Bool, true, ◌&&◌}
-use Rattle.mw_model.specs.Object.{Object, Natural, Symbol, Pair}
-use Rattle.mw_model.specs.Rules.{substitute_object, substitute_formula_object}
+use Rattle.mw_model.specs.Terms.Object.{Object, Natural, Symbol, Pair}
+use Rattle.mw_model.specs.Laws.Rules.{substitute_object, substitute_formula_object}
 use Rattle.mw_subst.specs.Pairs.{is_list_of_pairs}
 
 -- each member is a proper list of pairs

@@ -1,8 +1,8 @@
 //! The data of an induction: conditions, and for each a list of substitutions.
 ghost use Rattle.std.specs.Prelude.{◌≡◌, ◌<◌, ◌&&◌, eqb, false, length, IfSome, MatchOption};
-ghost use Rattle.mw_model.specs.Object.{has_members, list3};
-ghost use Rattle.mw_model.specs.Term.{ArityTable};
-ghost use Rattle.mw_model.specs.RulesInduction.{is_list_object, length_object, are_substitution_objects, are_case_objects};
+ghost use Rattle.mw_model.specs.Terms.Object.{has_members, list3};
+ghost use Rattle.mw_model.specs.Terms.Term.{ArityTable};
+ghost use Rattle.mw_model.specs.Laws.RulesInduction.{is_list_object, length_object, are_substitution_objects, are_case_objects};
 ghost use Rattle.mw_heap.specs.Objects.{object_at, IsIn};
 ghost use Rattle.mw_term.specs.Marking.{AreMarks};
 

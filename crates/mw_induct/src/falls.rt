@@ -1,7 +1,7 @@
 //! The premises by which the measure falls.
 ghost use Rattle.std.specs.Prelude.{◌≡◌, true, All, IfOk};
-ghost use Rattle.mw_model.specs.Object.{same_object};
-ghost use Rattle.mw_model.specs.RulesInduction.{length_object, fall_object, falls_object, all_falls_object};
+ghost use Rattle.mw_model.specs.Terms.Object.{same_object};
+ghost use Rattle.mw_model.specs.Laws.RulesInduction.{length_object, fall_object, falls_object, all_falls_object};
 ghost use Rattle.mw_heap.specs.Objects.{object_at, IsIn};
 ghost use Rattle.mw_subst.specs.Pairs.{is_list_of_pairs};
 ghost use Rattle.mw_induct.specs.Conclusions.{conclusions_object, Takes};

@@ -1,7 +1,7 @@
 //! Instances by a substitution in the heap.
 ghost use Rattle.std.specs.Prelude.{◌≡◌, true, IfOk};
-ghost use Rattle.mw_model.specs.Object.{same_object};
-ghost use Rattle.mw_model.specs.Rules.{not_object, substitute_object, substitute_formula_object};
+ghost use Rattle.mw_model.specs.Terms.Object.{same_object};
+ghost use Rattle.mw_model.specs.Laws.Rules.{not_object, substitute_object, substitute_formula_object};
 ghost use Rattle.mw_heap.specs.Objects.{object_at, IsIn};
 ghost use Rattle.mw_subst.specs.Pairs.{is_list_of_pairs};
 ghost use Rattle.mw_induct.specs.Pairs.{IsLikeFormula};

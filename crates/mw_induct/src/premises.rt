@@ -1,9 +1,9 @@
 //! The premises of an induction.
 ghost use Rattle.std.specs.Prelude.{◌≡◌, ◌<◌, true, length, All, IfOk};
-ghost use Rattle.mw_model.specs.Term.{ArityTable};
-ghost use Rattle.mw_model.specs.Rules.{is_formula_object};
-ghost use Rattle.mw_model.specs.Object.{Pair, same_object};
-ghost use Rattle.mw_model.specs.RulesInduction.{length_object, ordinal_object, all_falls_object, premises_object, object_is_induction};
+ghost use Rattle.mw_model.specs.Terms.Term.{ArityTable};
+ghost use Rattle.mw_model.specs.Laws.Rules.{is_formula_object};
+ghost use Rattle.mw_model.specs.Terms.Object.{Pair, same_object};
+ghost use Rattle.mw_model.specs.Laws.RulesInduction.{length_object, ordinal_object, all_falls_object, premises_object, object_is_induction};
 ghost use Rattle.mw_heap.specs.Objects.{object_at, IsIn};
 ghost use Rattle.mw_term.specs.Marking.{AreMarks};
 ghost use Rattle.mw_induct.specs.Conclusions.{conclusions_object};

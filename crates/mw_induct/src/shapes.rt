@@ -1,7 +1,7 @@
 //! Premises that need no substitution, and the shapes of the others.
 ghost use Rattle.std.specs.Prelude.{◌≡◌, true, false, IfSome, MatchOption};
-ghost use Rattle.mw_model.specs.Object.{Object, Pair, same_object};
-ghost use Rattle.mw_model.specs.RulesInduction.{disjunction_object, true_object, ordinal_object};
+ghost use Rattle.mw_model.specs.Terms.Object.{Object, Pair, same_object};
+ghost use Rattle.mw_model.specs.Laws.RulesInduction.{disjunction_object, true_object, ordinal_object};
 ghost use Rattle.mw_heap.specs.Objects.{object_at, IsIn};
 
 use mw_heap::{Heap, Ref, View, Word};

@@ -1,8 +1,8 @@
 //! The step premises: A follows from a condition and from what its substitutions make of A.
 ghost use Rattle.std.specs.Prelude.{◌≡◌, true, All, IfOk};
-ghost use Rattle.mw_model.specs.Object.{Pair, same_object};
-ghost use Rattle.mw_model.specs.Rules.{not_object};
-ghost use Rattle.mw_model.specs.RulesInduction.{length_object, disjunction_object, hypotheses_object, steps_object};
+ghost use Rattle.mw_model.specs.Terms.Object.{Pair, same_object};
+ghost use Rattle.mw_model.specs.Laws.Rules.{not_object};
+ghost use Rattle.mw_model.specs.Laws.RulesInduction.{length_object, disjunction_object, hypotheses_object, steps_object};
 ghost use Rattle.mw_heap.specs.Objects.{object_at, IsIn};
 ghost use Rattle.mw_subst.specs.Pairs.{is_list_of_pairs};
 ghost use Rattle.mw_induct.specs.Conclusions.{Takes};

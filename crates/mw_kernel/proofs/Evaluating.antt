@@ -1,14 +1,14 @@
 -- The tests of an EVAL, and its fate by its run.
 use Rattle.std.proofs.Common.{◌≡◌, ℕ, suc, true, false, nat_eq, List, [], ◌∷◌, length, map, Some, None, refl, sym, ap, ◌∙◌, subst, rules}
-use Rattle.mw_model.specs.Object.{Name, Object, Symbol}
-use Rattle.mw_model.specs.Term.{Term, ArityTable, variables, is_term, is_closed, term_object}
-use Rattle.mw_model.specs.Reading.{term_of, when}
-use Rattle.mw_model.specs.Definition.{Definitions, arity_table}
-use Rattle.mw_model.specs.Expansion.{expand}
-use Rattle.mw_model.specs.Evaluation.{evaluate}
-use Rattle.mw_model.specs.Theory.{Theory}
-use Rattle.mw_model.specs.Refusal.{TERM, VARIABLES, refuse, need}
-use Rattle.mw_model.specs.Fate.{eval, show_outcome}
+use Rattle.mw_model.specs.Terms.Object.{Name, Object, Symbol}
+use Rattle.mw_model.specs.Terms.Term.{Term, ArityTable, variables, is_term, is_closed, term_object}
+use Rattle.mw_model.specs.Terms.Reading.{term_of, when}
+use Rattle.mw_model.specs.Values.Definition.{Definitions, arity_table}
+use Rattle.mw_model.specs.Events.Expansion.{expand}
+use Rattle.mw_model.specs.Events.Evaluation.{evaluate}
+use Rattle.mw_model.specs.Events.Theory.{Theory}
+use Rattle.mw_model.specs.Events.Refusal.{TERM, VARIABLES, refuse, need}
+use Rattle.mw_model.specs.Events.Fate.{eval, show_outcome}
 use Rattle.mw_model.proofs.Closed.{each_among, closed_variables}
 use Rattle.mw_model.proofs.Formed.{formed}
 use Rattle.mw_model.proofs.Read.{term_read}

@@ -1,21 +1,21 @@
 -- What happens by an event, whose object is told.
 use Rattle.std.proofs.Common.{◌≡◌, ℕ, Bool, true, false, cond, ltb, List, [], ◌∷◌, length, Option, Some, None, refl, sym, ap, ◌∙◌, subst}
-use Rattle.mw_model.specs.Object.{Object, symbol, second_of, car, cdr, has_members}
-use Rattle.mw_model.specs.Term.{Term, Formula, is_closed}
-use Rattle.mw_model.specs.Reading.{when}
-use Rattle.mw_model.specs.Definition.{arity_table}
-use Rattle.mw_model.specs.Expansion.{expand}
-use Rattle.mw_model.specs.Evaluation.{Outcome, Value, Steps, Overflow, Witness, evaluate}
-use Rattle.mw_model.specs.Theory.{Theory, IsSound}
-use Rattle.mw_model.specs.Printing.{text_of}
-use Rattle.mw_model.specs.Refusal.{TERM, VARIABLES, LONG, EVENT, COUNT, Fate, Accepted, refuse, accept, need, must, unless}
-use Rattle.mw_model.specs.Checking.{judged_as, or_else}
-use Rattle.mw_model.specs.Admission.{Draft}
-use Rattle.mw_model.specs.Demand.{Demand, Denied, Wants, wants_some, define_demand, each_judged, settled}
+use Rattle.mw_model.specs.Terms.Object.{Object, symbol, second_of, car, cdr, has_members}
+use Rattle.mw_model.specs.Terms.Term.{Term, Formula, is_closed}
+use Rattle.mw_model.specs.Terms.Reading.{when}
+use Rattle.mw_model.specs.Values.Definition.{arity_table}
+use Rattle.mw_model.specs.Events.Expansion.{expand}
+use Rattle.mw_model.specs.Events.Evaluation.{Outcome, Value, Steps, Overflow, Witness, evaluate}
+use Rattle.mw_model.specs.Events.Theory.{Theory, IsSound}
+use Rattle.mw_model.specs.Texts.Printing.{text_of}
+use Rattle.mw_model.specs.Events.Refusal.{TERM, VARIABLES, LONG, EVENT, COUNT, Fate, Accepted, refuse, accept, need, must, unless}
+use Rattle.mw_model.specs.Events.Checking.{judged_as, or_else}
+use Rattle.mw_model.specs.Events.Admission.{Draft}
+use Rattle.mw_model.specs.Commands.Demand.{Demand, Denied, Wants, wants_some, define_demand, each_judged, settled}
 use Rattle.mw_model.proofs.Demands.{by_word as judged_by_word}
-use Rattle.mw_model.specs.Keeping.{EventKeeps}
-use Rattle.mw_model.specs.Fate.{EventWord, SetProfile, is_out_of_range, event_word, longest, happens, happens_by, show, show_outcome, eval, profile}
-use Rattle.mw_model.specs.Fate as word
+use Rattle.mw_model.specs.Reports.Keeping.{EventKeeps}
+use Rattle.mw_model.specs.Events.Fate.{EventWord, SetProfile, is_out_of_range, event_word, longest, happens, happens_by, show, show_outcome, eval, profile}
+use Rattle.mw_model.specs.Events.Fate as word
 use Rattle.mw_heap.specs.Objects.{object_at}
 use Rattle.mw_kernel.specs.Knowledge.{Knowledge, theory_of}
 use Rattle.mw_theory.specs.Words.{event_object, IsEvent, eval_event, profile_event}

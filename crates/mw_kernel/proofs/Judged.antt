@@ -1,14 +1,14 @@
 -- What the theory's checker finds of a proof, by its answer.
 use Rattle.std.proofs.Common.{◌≡◌, ℕ, Bool, true, false, cond, List, [], ◌∷◌, length, Option, Some, None, refl, sym, ap, ◌∙◌, subst}
-use Rattle.mw_model.specs.Object.{Name, Object, NIL, name_of_bytes, same_object, second_of}
-use Rattle.mw_model.specs.Term.{Term, Call, Formula, table_object}
-use Rattle.mw_model.specs.Primitive.{name_of}
-use Rattle.mw_model.specs.Definition.{Function, Block, Definitions, is_present}
-use Rattle.mw_model.specs.Proof.{constants}
-use Rattle.mw_model.specs.Evaluation.{Value, evaluate, code_of}
-use Rattle.mw_model.specs.Theory.{Theory, IsClaimed}
-use Rattle.mw_model.specs.Refusal.{CONCLUSION, PROOF, NILVALUE}
-use Rattle.mw_model.specs.Checking.{no_unless, verdict, judged, judged_by}
+use Rattle.mw_model.specs.Terms.Object.{Name, Object, NIL, name_of_bytes, same_object, second_of}
+use Rattle.mw_model.specs.Terms.Term.{Term, Call, Formula, table_object}
+use Rattle.mw_model.specs.Values.Primitive.{name_of}
+use Rattle.mw_model.specs.Values.Definition.{Function, Block, Definitions, is_present}
+use Rattle.mw_model.specs.Proofs.Proof.{constants}
+use Rattle.mw_model.specs.Events.Evaluation.{Value, evaluate, code_of}
+use Rattle.mw_model.specs.Events.Theory.{Theory, IsClaimed}
+use Rattle.mw_model.specs.Events.Refusal.{CONCLUSION, PROOF, NILVALUE}
+use Rattle.mw_model.specs.Events.Checking.{no_unless, verdict, judged, judged_by}
 use Rattle.mw_model.proofs.Names.{name_of_bytes-bytes}
 use Rattle.mw_heap.specs.Objects.{object_at}
 use Rattle.mw_code.specs.declared.table.Table.{Table}

@@ -1,14 +1,14 @@
 -- A VERIFY as the rules test it comes to what it comes to by the theory's checker.
 use Rattle.std.proofs.Common.{◌≡◌, ℕ, Bool, true, false, Option, Some, None, refl, ap, ◌∙◌}
-use Rattle.mw_model.specs.Object.{Object, Pair, list3}
-use Rattle.mw_model.specs.Term.{ArityTable, Formula, is_formula, formula_object}
-use Rattle.mw_model.specs.Reading.{that, formula_of, formula_under}
-use Rattle.mw_model.specs.Primitive.{is_symbol}
-use Rattle.mw_model.specs.Definition.{arity_table, is_present}
-use Rattle.mw_model.specs.Theory.{Theory}
-use Rattle.mw_model.specs.Refusal.{Refusal, NAME, FORMULA, accept, need, must, unless}
-use Rattle.mw_model.specs.Checking.{judged_as}
-use Rattle.mw_model.specs.Fate.{verify}
+use Rattle.mw_model.specs.Terms.Object.{Object, Pair, list3}
+use Rattle.mw_model.specs.Terms.Term.{ArityTable, Formula, is_formula, formula_object}
+use Rattle.mw_model.specs.Terms.Reading.{that, formula_of, formula_under}
+use Rattle.mw_model.specs.Values.Primitive.{is_symbol}
+use Rattle.mw_model.specs.Values.Definition.{arity_table, is_present}
+use Rattle.mw_model.specs.Events.Theory.{Theory}
+use Rattle.mw_model.specs.Events.Refusal.{Refusal, NAME, FORMULA, accept, need, must, unless}
+use Rattle.mw_model.specs.Events.Checking.{judged_as}
+use Rattle.mw_model.specs.Events.Fate.{verify}
 use Rattle.mw_model.proofs.ReadBack.{when_some, formula_back}
 use Rattle.mw_theory.specs.Knowledge.{with_theorem}
 use Rattle.mw_kernel.specs.Proofs.{judged_for}

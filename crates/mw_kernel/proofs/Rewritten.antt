@@ -2,12 +2,12 @@
 use Rattle.std.proofs.Common.{◌≡◌, ℕ, ◌<◌, true, false, Some, None, List, [], ◌∷◌, ◌++◌, refl, sym, ap, ap₂, ◌∙◌, subst, arith}
 use Rattle.std.specs.List.{All}
 use Rattle.std.proofs.lemmas.List.Elements.{All-head, All-tail, All-nil}
-use Rattle.mw_model.specs.Object.{Object, Pair, NIL, list1}
-use Rattle.mw_model.specs.Primitive.{is_pair}
-use Rattle.mw_model.specs.RulesInduction.{is_list_object}
-use Rattle.mw_model.specs.Theory.{Theory}
-use Rattle.mw_model.specs.Fate.{Verify}
-use Rattle.mw_model.specs.Rewriting.{Turning, TurnsOrStays, EachTurnsOrStays, IsRewrittenBy, IsRewritten}
+use Rattle.mw_model.specs.Terms.Object.{Object, Pair, NIL, list1}
+use Rattle.mw_model.specs.Values.Primitive.{is_pair}
+use Rattle.mw_model.specs.Laws.RulesInduction.{is_list_object}
+use Rattle.mw_model.specs.Events.Theory.{Theory}
+use Rattle.mw_model.specs.Events.Fate.{Verify}
+use Rattle.mw_model.specs.Laws.Rewriting.{Turning, TurnsOrStays, EachTurnsOrStays, IsRewrittenBy, IsRewritten}
 use Rattle.mw_heap.specs.Objects.{object_at, IsIn, Grows}
 use Rattle.mw_heap.specs.Lists.{list_object}
 use Rattle.mw_heap.proofs.Objects.{Grows-refl, Grows-trans, object_at-Grows}

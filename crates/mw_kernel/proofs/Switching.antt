@@ -1,14 +1,14 @@
 -- The tests of a SWITCH, what it comes to, and what is kept of the theory after it.
 use Rattle.std.proofs.Common.{◌≡◌, ℕ, suc, ◌+◌, Bool, true, false, ◌&&◌, cond, eqb, List, length, Option, Some, None, refl, sym, ap, ap₂, ◌∙◌, subst, arith}
-use Rattle.mw_model.specs.Object.{Name, Object, Natural, Symbol, Pair, NIL, same_object, is_member}
-use Rattle.mw_model.specs.Term.{formula_object}
-use Rattle.mw_model.specs.Primitive.{One, is_symbol, name_of}
-use Rattle.mw_model.specs.Reading.{when}
-use Rattle.mw_model.specs.Definition.{Function, is_present}
-use Rattle.mw_model.specs.Evaluation.{code_of}
-use Rattle.mw_model.specs.Theory.{Theory, claim, initial, IsSound}
-use Rattle.mw_model.specs.Refusal.{CHECKER, CLAIM, accept, need, must}
-use Rattle.mw_model.specs.Fate.{same_blocks, is_one, has_four_formals, checker_named, switch}
+use Rattle.mw_model.specs.Terms.Object.{Name, Object, Natural, Symbol, Pair, NIL, same_object, is_member}
+use Rattle.mw_model.specs.Terms.Term.{formula_object}
+use Rattle.mw_model.specs.Values.Primitive.{One, is_symbol, name_of}
+use Rattle.mw_model.specs.Terms.Reading.{when}
+use Rattle.mw_model.specs.Values.Definition.{Function, is_present}
+use Rattle.mw_model.specs.Events.Evaluation.{code_of}
+use Rattle.mw_model.specs.Events.Theory.{Theory, claim, initial, IsSound}
+use Rattle.mw_model.specs.Events.Refusal.{CHECKER, CLAIM, accept, need, must}
+use Rattle.mw_model.specs.Events.Fate.{same_blocks, is_one, has_four_formals, checker_named, switch}
 use Rattle.mw_heap.specs.Objects.{object_at, Grows}
 use Rattle.mw_heap.specs.Lists.{list_object}
 use Rattle.mw_theory.specs.declared.theory.Theory.{Theory as Kept}

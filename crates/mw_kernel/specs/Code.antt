@@ -1,7 +1,7 @@
 -- A code of what a kernel holds, as a value that clauses see must have one.
 use Rattle.std.specs.Prelude.{ℕ, List, refl}
 use Rattle.std.specs.Coded.{Coded, code_by, coded_list, coded×, coded_ℕ}
-use Rattle.mw_model.specs.Object.{Object}
+use Rattle.mw_model.specs.Terms.Object.{Object}
 use Rattle.mw_heap.specs.Code.{coded_object}
 use Rattle.mw_theory.specs.Code.{coded_parts}
 use Rattle.mw_theory.specs.Knowledge.{Parts}

@@ -1,12 +1,12 @@
 -- What the tests of an EVAL tell of a raw term.
 use Rattle.std.specs.Prelude.{◌≡◌, ℕ, true, List, [], Some}
-use Rattle.mw_model.specs.Object.{Object}
-use Rattle.mw_model.specs.Term.{Term, ArityTable, term_object, is_closed}
-use Rattle.mw_model.specs.Definition.{arity_table}
-use Rattle.mw_model.specs.Expansion.{expand}
-use Rattle.mw_model.specs.Theory.{Theory}
-use Rattle.mw_model.specs.Refusal.{refuse}
-use Rattle.mw_model.specs.Fate.{eval}
+use Rattle.mw_model.specs.Terms.Object.{Object}
+use Rattle.mw_model.specs.Terms.Term.{Term, ArityTable, term_object, is_closed}
+use Rattle.mw_model.specs.Values.Definition.{arity_table}
+use Rattle.mw_model.specs.Events.Expansion.{expand}
+use Rattle.mw_model.specs.Events.Theory.{Theory}
+use Rattle.mw_model.specs.Events.Refusal.{refuse}
+use Rattle.mw_model.specs.Events.Fate.{eval}
 use Rattle.mw_heap.specs.Objects.{object_at, IsIn}
 use Rattle.mw_heap.specs.Variants.{refusal_of}
 use Rattle.mw_theory.specs.Words.{eval_event}

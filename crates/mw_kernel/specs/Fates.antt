@@ -1,6 +1,6 @@
 -- The fate of an event, as the program answers it.
 use Rattle.std.specs.Prelude.{◌≡◌, ℕ, ◌<◌, length}
-use Rattle.mw_model.specs.Refusal.{Fate, Accepted, Refused}
+use Rattle.mw_model.specs.Events.Refusal.{Fate, Accepted, Refused}
 use Rattle.mw_heap.specs.Variants.{refusal_of}
 use Rattle.mw_kernel.specs.declared.fate.Fate.{Fate as Outcome}
 use Rattle.mw_kernel.specs.declared.fate.Fate.TheVariants as outcome

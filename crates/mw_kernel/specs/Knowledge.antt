@@ -1,7 +1,7 @@
 -- What a kernel holds, and its theory.
 use Rattle.std.specs.Prelude.{ℕ, List}
-use Rattle.mw_model.specs.Object.{Object}
-use Rattle.mw_model.specs.Theory.{Theory}
+use Rattle.mw_model.specs.Terms.Object.{Object}
+use Rattle.mw_model.specs.Events.Theory.{Theory}
 use Rattle.mw_theory.specs.Knowledge.{Parts, meant}
 
 -- The objects of the heap, of which the first ones are needed by the theory, what that is read from, and the step limit.

@@ -1,11 +1,11 @@
 -- Why a SWITCH is refused, where it is, and what it comes to.
 use Rattle.std.specs.Prelude.{suc, cond, Option, Some, None}
-use Rattle.mw_model.specs.Object.{Name, Object, is_member}
-use Rattle.mw_model.specs.Term.{formula_object}
-use Rattle.mw_model.specs.Primitive.{name_of}
-use Rattle.mw_model.specs.Theory.{Theory, claim}
-use Rattle.mw_model.specs.Refusal.{Refusal, CHECKER, CLAIM, Fate, refuse, accept}
-use Rattle.mw_model.specs.Fate.{checker_named}
+use Rattle.mw_model.specs.Terms.Object.{Name, Object, is_member}
+use Rattle.mw_model.specs.Terms.Term.{formula_object}
+use Rattle.mw_model.specs.Values.Primitive.{name_of}
+use Rattle.mw_model.specs.Events.Theory.{Theory, claim}
+use Rattle.mw_model.specs.Events.Refusal.{Refusal, CHECKER, CLAIM, Fate, refuse, accept}
+use Rattle.mw_model.specs.Events.Fate.{checker_named}
 
 abbrev pub claim_refusal : Theory → Option Name → Option Refusal
 claim_refusal t None = Some CHECKER

@@ -1,9 +1,9 @@
 //! The claim of a checker.
 ghost use Rattle.std.specs.Prelude.{◌≡◌, true, IfOk};
-ghost use Rattle.mw_model.specs.Object.{Name, Symbol, NIL};
-ghost use Rattle.mw_model.specs.Term.{Term, Constant, Equal, term_object, formula_object};
-ghost use Rattle.mw_model.specs.Primitive.{is_symbol, name_of};
-ghost use Rattle.mw_model.specs.Theory.{on_the_theory, claim};
+ghost use Rattle.mw_model.specs.Terms.Object.{Name, Symbol, NIL};
+ghost use Rattle.mw_model.specs.Terms.Term.{Term, Constant, Equal, term_object, formula_object};
+ghost use Rattle.mw_model.specs.Values.Primitive.{is_symbol, name_of};
+ghost use Rattle.mw_model.specs.Events.Theory.{on_the_theory, claim};
 ghost use Rattle.mw_heap.specs.Objects.{object_at, IsIn, Grows};
 
 use mw_heap::{Heap, Memory, Ref, form_of, list_of};

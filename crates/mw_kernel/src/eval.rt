@@ -1,12 +1,12 @@
 //! EVAL.
 ghost use Rattle.std.specs.Prelude.{◌≡◌, [], List, Some, IfOk};
-ghost use Rattle.mw_model.specs.Object.{Object};
-ghost use Rattle.mw_model.specs.Term.{Term, is_closed};
-ghost use Rattle.mw_model.specs.Reading.{term_of};
-ghost use Rattle.mw_model.specs.Definition.{Definitions, arity_table};
-ghost use Rattle.mw_model.specs.Evaluation.{Outcome as Due, evaluate};
-ghost use Rattle.mw_model.specs.Theory.{Theory};
-ghost use Rattle.mw_model.specs.Fate.{eval, show_outcome};
+ghost use Rattle.mw_model.specs.Terms.Object.{Object};
+ghost use Rattle.mw_model.specs.Terms.Term.{Term, is_closed};
+ghost use Rattle.mw_model.specs.Terms.Reading.{term_of};
+ghost use Rattle.mw_model.specs.Values.Definition.{Definitions, arity_table};
+ghost use Rattle.mw_model.specs.Events.Evaluation.{Outcome as Due, evaluate};
+ghost use Rattle.mw_model.specs.Events.Theory.{Theory};
+ghost use Rattle.mw_model.specs.Events.Fate.{eval, show_outcome};
 ghost use Rattle.mw_heap.specs.Objects.{object_at, IsIn, Grows};
 ghost use Rattle.mw_code.specs.Tables.{StandsFor, IsClosedTerm};
 ghost use Rattle.mw_machine.specs.State.{Answers};

@@ -1,9 +1,9 @@
 //! The fate of an event.
 ghost use Rattle.std.specs.Prelude.{◌≡◌, ℕ, [], IfOk, IfSome, option_map};
-ghost use Rattle.mw_model.specs.Refusal.{Accepted};
-ghost use Rattle.mw_model.specs.Theory.{Theory};
-ghost use Rattle.mw_model.specs.Fate.{show};
-ghost use Rattle.mw_model.specs.Printing.{text_of};
+ghost use Rattle.mw_model.specs.Events.Refusal.{Accepted};
+ghost use Rattle.mw_model.specs.Events.Theory.{Theory};
+ghost use Rattle.mw_model.specs.Events.Fate.{show};
+ghost use Rattle.mw_model.specs.Texts.Printing.{text_of};
 ghost use Rattle.mw_heap.specs.Objects.{object_at, IsIn};
 ghost use Rattle.mw_heap.specs.Variants.{refusal_of};
 ghost use Rattle.mw_kernel.specs.Fates.{fate_of, KeepsRoom};

@@ -1,7 +1,7 @@
 //! The verdict of a theory's checker on a proof.
 ghost use Rattle.std.specs.Prelude.{◌≡◌, ℕ, None, Some, IfOk, option_map};
-ghost use Rattle.mw_model.specs.Evaluation.{Outcome as Due, Value};
-ghost use Rattle.mw_model.specs.Checking.{verdict, judged_by};
+ghost use Rattle.mw_model.specs.Events.Evaluation.{Outcome as Due, Value};
+ghost use Rattle.mw_model.specs.Events.Checking.{verdict, judged_by};
 ghost use Rattle.mw_heap.specs.Objects.{object_at, IsIn, Grows};
 ghost use Rattle.mw_heap.specs.Variants.{refusal_of};
 ghost use Rattle.mw_term.specs.Marking.{AreMarks};

@@ -1,12 +1,12 @@
 //! The kernel.
 ghost use Rattle.std.specs.Prelude.{◌≡◌, ℕ, ◌+◌, ◌≤◌, ◌⊎◌, true, List, [], length, option_map, IfOk, IfSome, OnOk, OnErr};
-ghost use Rattle.mw_model.specs.Object.{Object, Symbol};
-ghost use Rattle.mw_model.specs.Term.{formula_object, table_object};
-ghost use Rattle.mw_model.specs.Primitive.{One, is_symbol, name_of};
-ghost use Rattle.mw_model.specs.Definition.{arity_table};
-ghost use Rattle.mw_model.specs.Theory.{initial, claim, IsSound};
-ghost use Rattle.mw_model.specs.Fate.{fate, next, eval, profile};
-ghost use Rattle.mw_model.specs.Rewriting.{IsRewritten};
+ghost use Rattle.mw_model.specs.Terms.Object.{Object, Symbol};
+ghost use Rattle.mw_model.specs.Terms.Term.{formula_object, table_object};
+ghost use Rattle.mw_model.specs.Values.Primitive.{One, is_symbol, name_of};
+ghost use Rattle.mw_model.specs.Values.Definition.{arity_table};
+ghost use Rattle.mw_model.specs.Events.Theory.{initial, claim, IsSound};
+ghost use Rattle.mw_model.specs.Events.Fate.{fate, next, eval, profile};
+ghost use Rattle.mw_model.specs.Laws.Rewriting.{IsRewritten};
 ghost use Rattle.mw_heap.specs.Objects.{object_at, IsIn, Grows};
 ghost use Rattle.mw_read.specs.Standing.{Stands, IsStanding, Follows, Says, IsLast, HasEndedWith, HasEnded};
 ghost use Rattle.mw_read.specs.Feeding.{IsAwaiting, IsReady, Continues};

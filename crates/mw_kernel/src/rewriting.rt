@@ -1,8 +1,8 @@
 //! Events whose proofs are rewritten.
 ghost use Rattle.std.specs.Prelude.{◌≡◌, true, None, All, IfOk};
-ghost use Rattle.mw_model.specs.Object.{Object};
-ghost use Rattle.mw_model.specs.RulesInduction.{is_list_object};
-ghost use Rattle.mw_model.specs.Rewriting.{TurnsOrStays, EachTurnsOrStays, IsRewritten};
+ghost use Rattle.mw_model.specs.Terms.Object.{Object};
+ghost use Rattle.mw_model.specs.Laws.RulesInduction.{is_list_object};
+ghost use Rattle.mw_model.specs.Laws.Rewriting.{TurnsOrStays, EachTurnsOrStays, IsRewritten};
 ghost use Rattle.mw_heap.specs.Objects.{object_at, IsIn, Grows};
 ghost use Rattle.mw_heap.specs.Lists.{list_object};
 ghost use Rattle.mw_define.specs.Blocks.{IsDraftIn};

@@ -1,8 +1,8 @@
 //! Runs, for which room is made first where they may take few units.
 ghost use Rattle.std.specs.Prelude.{◌≡◌, ◌+◌, ◌*◌, ◌≤◌, ◌^◌, true, [], length, map, All};
-ghost use Rattle.mw_model.specs.Term.{Term};
-ghost use Rattle.mw_model.specs.Definition.{Definitions};
-ghost use Rattle.mw_model.specs.Evaluation.{evaluate};
+ghost use Rattle.mw_model.specs.Terms.Term.{Term};
+ghost use Rattle.mw_model.specs.Values.Definition.{Definitions};
+ghost use Rattle.mw_model.specs.Events.Evaluation.{evaluate};
 ghost use Rattle.mw_heap.specs.Objects.{object_at, IsIn, Grows};
 ghost use Rattle.mw_code.specs.Needs.{IsWide};
 ghost use Rattle.mw_code.specs.Tables.{StandsFor, IsEntry};

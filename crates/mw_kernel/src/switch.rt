@@ -1,9 +1,9 @@
 //! The tests of a SWITCH.
 ghost use Rattle.std.specs.Prelude.{◌≡◌, All, IfOk, option_map};
-ghost use Rattle.mw_model.specs.Object.{is_member};
-ghost use Rattle.mw_model.specs.Definition.{Definitions, is_present};
-ghost use Rattle.mw_model.specs.Theory.{Theory as Meant};
-ghost use Rattle.mw_model.specs.Fate.{checker_named};
+ghost use Rattle.mw_model.specs.Terms.Object.{is_member};
+ghost use Rattle.mw_model.specs.Values.Definition.{Definitions, is_present};
+ghost use Rattle.mw_model.specs.Events.Theory.{Theory as Meant};
+ghost use Rattle.mw_model.specs.Events.Fate.{checker_named};
 ghost use Rattle.mw_heap.specs.Objects.{object_at, IsIn, Grows};
 ghost use Rattle.mw_heap.specs.Variants.{refusal_of};
 ghost use Rattle.mw_heap.specs.Lists.{list_object};

@@ -1,11 +1,11 @@
 -- Steps of proof by the methods that the schemes use, as objects.
 use Rattle.std.proofs.Common.{List, [], ◌∷◌, refl}
 use Rattle.std.proofs.lemmas.Bool.{and_parts, and_from}
-use Rattle.mw_model.specs.Object.{Object, Symbol, Pair, named, symbol, NIL, list1, list2, list3, list4}
-use Rattle.mw_model.specs.Term.{Term, Formula, Equal, Not, Or, term_object, formula_object, is_term, is_formula, IsTerm, IsFormula}
-use Rattle.mw_model.specs.Substitution.{substitution_object}
-use Rattle.mw_model.specs.Proof.{four, Method, Axiom, PropositionalSchema, Expansion, Contraction, Cut, Instantiation, method_name, Follows, by_axiom, by_schema, by_expansion, by_contraction, by_cut, by_instantiation, proof, ProveEach, no_proofs, more_proofs}
-use Rattle.mw_model.specs.Axioms.{axiom_1, axiom_2}
+use Rattle.mw_model.specs.Terms.Object.{Object, Symbol, Pair, named, symbol, NIL, list1, list2, list3, list4}
+use Rattle.mw_model.specs.Terms.Term.{Term, Formula, Equal, Not, Or, term_object, formula_object, is_term, is_formula, IsTerm, IsFormula}
+use Rattle.mw_model.specs.Terms.Substitution.{substitution_object}
+use Rattle.mw_model.specs.Proofs.Proof.{four, Method, Axiom, PropositionalSchema, Expansion, Contraction, Cut, Instantiation, method_name, Follows, by_axiom, by_schema, by_expansion, by_contraction, by_cut, by_instantiation, proof, ProveEach, no_proofs, more_proofs}
+use Rattle.mw_model.specs.Proofs.Axioms.{axiom_1, axiom_2}
 use Rattle.mw_model.proofs.Judging.{good_judge}
 use Rattle.mw_proof.specs.Judging.{Basis}
 use Rattle.mw_lower.specs.Schemes.{IsProof, HasEquality}

@@ -1,13 +1,13 @@
 -- A derivation by its members: it has the shape of a proof, its conclusion is a formula, its subproofs are derivations, and its rule holds.
 use Rattle.std.proofs.Common.{◌≡◌, ℕ, Bool, true, false, ◌&&◌, ◌||◌, cond, List, [], Option, Some, None, refl, sym, ap, ap₂, ◌∙◌, ◌⊎◌, inl, inr}
 use Rattle.std.proofs.lemmas.Bool.{or_cases}
-use Rattle.mw_model.specs.Object.{Object, Natural, Symbol, Pair, NIL, same_name, same_object, nil_name, car, second_of, fourth_of, is_member}
-use Rattle.mw_model.specs.Term.{ArityTable, Formula, formula_object, is_formula, IsFormula}
-use Rattle.mw_model.specs.Reading.{formula_of, and_more, that, when}
-use Rattle.mw_model.specs.Definition.{is_present}
-use Rattle.mw_model.specs.Rules.{is_formula_object}
-use Rattle.mw_model.specs.Derivation.{Rule}
-use Rattle.mw_model.specs.DerivationTest.{rules, rule_among, derives, derive_step}
+use Rattle.mw_model.specs.Terms.Object.{Object, Natural, Symbol, Pair, NIL, same_name, same_object, nil_name, car, second_of, fourth_of, is_member}
+use Rattle.mw_model.specs.Terms.Term.{ArityTable, Formula, formula_object, is_formula, IsFormula}
+use Rattle.mw_model.specs.Terms.Reading.{formula_of, and_more, that, when}
+use Rattle.mw_model.specs.Values.Definition.{is_present}
+use Rattle.mw_model.specs.Laws.Rules.{is_formula_object}
+use Rattle.mw_model.specs.Commands.Derivation.{Rule}
+use Rattle.mw_model.specs.Commands.DerivationTest.{rules, rule_among, derives, derive_step}
 use Rattle.mw_model.proofs.Names.{same_object-eq}
 use Rattle.mw_model.proofs.ReadBack.{formula_back}
 use Rattle.mw_heap.specs.Objects.{object_at}

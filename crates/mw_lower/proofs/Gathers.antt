@@ -1,6 +1,6 @@
 -- Taking the members of a list from a stack: what is still to be taken gives what all of it gave.
 use Rattle.std.proofs.Common.{◌≡◌, ℕ, suc, ◌+◌, ◌-◌, ◌<◌, ◌≤◌, List, [], ◌∷◌, ◌++◌, refl, sym, ap, ap₂, ◌∙◌, arith}
-use Rattle.mw_model.specs.Object.{Object, Pair, NIL}
+use Rattle.mw_model.specs.Terms.Object.{Object, Pair, NIL}
 use Rattle.mw_heap.specs.Objects.{object_at, IsIn, Grows}
 use Rattle.mw_heap.proofs.Objects.{Grows-trans, object_at-Grows}
 use Rattle.mw_axioms.specs.Stacks.{stack_of, AreIn}

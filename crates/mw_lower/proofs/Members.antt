@@ -4,9 +4,9 @@ use Rattle.std.specs.List.{All}
 use Rattle.std.specs.Map.{lookup}
 use Rattle.std.proofs.lemmas.Bool.{and_parts}
 use Rattle.std.proofs.lemmas.List.Elements.{All-append, All-cons}
-use Rattle.mw_model.specs.Object.{Object, Natural, Symbol, Pair, NIL, same_object}
-use Rattle.mw_model.specs.Reading.{and_more}
-use Rattle.mw_model.specs.Proof.{no_proofs, more_proofs}
+use Rattle.mw_model.specs.Terms.Object.{Object, Natural, Symbol, Pair, NIL, same_object}
+use Rattle.mw_model.specs.Terms.Reading.{and_more}
+use Rattle.mw_model.specs.Proofs.Proof.{no_proofs, more_proofs}
 use Rattle.mw_heap.specs.Objects.{object_at, IsIn, Shows}
 use Rattle.mw_heap.specs.declared.view.View.{View}
 use Rattle.mw_heap.specs.declared.view.View.TheVariants.{Nat, Symbol as Word, Pair as Parts}

@@ -1,11 +1,11 @@
 -- Steps by the methods of proof: the conclusions are formulas, and the step that is made.
 use Rattle.std.proofs.Common.{◌≡◌, ℕ, Bool, true, List, inl, inr, sym, ap, ap₂, ◌∙◌}
 use Rattle.std.specs.List.{All}
-use Rattle.mw_model.specs.Object.{Object, list4}
-use Rattle.mw_model.specs.Term.{ArityTable}
-use Rattle.mw_model.specs.Definition.{is_present}
-use Rattle.mw_model.specs.Judgment.{methods, method_among}
-use Rattle.mw_model.specs.Rules.{is_formula_object}
+use Rattle.mw_model.specs.Terms.Object.{Object, list4}
+use Rattle.mw_model.specs.Terms.Term.{ArityTable}
+use Rattle.mw_model.specs.Values.Definition.{is_present}
+use Rattle.mw_model.specs.Proofs.Judgment.{methods, method_among}
+use Rattle.mw_model.specs.Laws.Rules.{is_formula_object}
 use Rattle.mw_model.proofs.Judging.{goods_judge}
 use Rattle.mw_heap.specs.Objects.{object_at, IsIn, Grows}
 use Rattle.mw_heap.proofs.Objects.{object_at-Grows}

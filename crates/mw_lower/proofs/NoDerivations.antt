@@ -1,15 +1,15 @@
 -- What has a subproof without a conclusion, or more subproofs than its rule takes, is no derivation.
 use Rattle.std.proofs.Common.{◌≡◌, ℕ, ◌<◌, Bool, true, false, ◌&&◌, cond, List, [], ◌∷◌, length, Option, Some, None, refl, sym, ap, ◌∙◌, subst, arith}
 use Rattle.std.proofs.lemmas.Bool.{and_right}
-use Rattle.mw_model.specs.Object.{Object, Natural, Symbol, Pair, NIL, same_name, same_object, nil_name, second_of}
-use Rattle.mw_model.specs.Term.{Formula, is_formula}
-use Rattle.mw_model.specs.Reading.{formula_of, and_more, when}
-use Rattle.mw_model.specs.Proof.{Axiom, Theorem, PropositionalSchema, FunctionalEquality, BetaReduction, BaseEval, Expansion, Contraction, Associativity, Cut, Instantiation, Induction}
-use Rattle.mw_model.specs.Judgment.{of_none, of_one, of_two}
-use Rattle.mw_model.specs.Rules.{is_formula_object}
-use Rattle.mw_model.specs.RulesInduction.{length_object}
-use Rattle.mw_model.specs.Derivation.{Rule, By, CommuteOr, ModusPonens, Symmetry, Transitivity, Replace}
-use Rattle.mw_model.specs.DerivationTest.{rules, rule_among, derives}
+use Rattle.mw_model.specs.Terms.Object.{Object, Natural, Symbol, Pair, NIL, same_name, same_object, nil_name, second_of}
+use Rattle.mw_model.specs.Terms.Term.{Formula, is_formula}
+use Rattle.mw_model.specs.Terms.Reading.{formula_of, and_more, when}
+use Rattle.mw_model.specs.Proofs.Proof.{Axiom, Theorem, PropositionalSchema, FunctionalEquality, BetaReduction, BaseEval, Expansion, Contraction, Associativity, Cut, Instantiation, Induction}
+use Rattle.mw_model.specs.Proofs.Judgment.{of_none, of_one, of_two}
+use Rattle.mw_model.specs.Laws.Rules.{is_formula_object}
+use Rattle.mw_model.specs.Laws.RulesInduction.{length_object}
+use Rattle.mw_model.specs.Commands.Derivation.{Rule, By, CommuteOr, ModusPonens, Symmetry, Transitivity, Replace}
+use Rattle.mw_model.specs.Commands.DerivationTest.{rules, rule_among, derives}
 use Rattle.mw_model.proofs.ReadBack.{some_one, cond_some, and_more-back}
 use Rattle.mw_heap.specs.Objects.{object_at}
 use Rattle.mw_proof.specs.Step.{has_proof_shape, subproofs_of}

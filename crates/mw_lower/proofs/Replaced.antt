@@ -1,15 +1,15 @@
 -- A step by REPLACE holds exactly where functional equality proves its conclusion or else that a premise does not hold.
 use Rattle.std.proofs.Common.{◌≡◌, true, false, ◌&&◌, eqb, List, [], ◌∷◌, refl, sym, ap, ◌∙◌, subst}
 use Rattle.std.proofs.lemmas.Bool.{true≢false, and_from}
-use Rattle.mw_model.specs.Object.{Object, symbol, same_name, same_object, NIL, car}
-use Rattle.mw_model.specs.Term.{Term, Terms, Variable, Constant, If, Call, Lambda, NoTerms, More, Formula, Equal, Not, Or, formula_object, count, is_function_name, is_formula, IsFormula, ArityTable}
-use Rattle.mw_model.specs.Same.{same_formula, same_formulas}
-use Rattle.mw_model.specs.Truth.{Each}
-use Rattle.mw_model.specs.Proof.{FunctionalEquality, unless_equal, three_terms, no_proofs, ProveEach}
-use Rattle.mw_model.specs.Judgment.{last_disjunct, is_functional_equality}
-use Rattle.mw_model.specs.Rules.{object_is_functional_equality}
-use Rattle.mw_model.specs.Derivation.{equalities}
-use Rattle.mw_model.specs.DerivationTest.{is_replaced}
+use Rattle.mw_model.specs.Terms.Object.{Object, symbol, same_name, same_object, NIL, car}
+use Rattle.mw_model.specs.Terms.Term.{Term, Terms, Variable, Constant, If, Call, Lambda, NoTerms, More, Formula, Equal, Not, Or, formula_object, count, is_function_name, is_formula, IsFormula, ArityTable}
+use Rattle.mw_model.specs.Terms.Same.{same_formula, same_formulas}
+use Rattle.mw_model.specs.Values.Truth.{Each}
+use Rattle.mw_model.specs.Proofs.Proof.{FunctionalEquality, unless_equal, three_terms, no_proofs, ProveEach}
+use Rattle.mw_model.specs.Proofs.Judgment.{last_disjunct, is_functional_equality}
+use Rattle.mw_model.specs.Laws.Rules.{object_is_functional_equality}
+use Rattle.mw_model.specs.Commands.Derivation.{equalities}
+use Rattle.mw_model.specs.Commands.DerivationTest.{is_replaced}
 use Rattle.mw_model.proofs.SameTerms.{same_formula-refl}
 use Rattle.mw_model.proofs.Follows.{row_is}
 use Rattle.mw_model.proofs.Judging.{goods_judge}

@@ -1,10 +1,10 @@
 -- Which rule a symbol names: a further one, or a method.
 use Rattle.std.proofs.Common.{◌≡◌, Bool, true, false, cond, List, [], ◌∷◌, ◌++◌, map, Some, None, option_map, refl, sym, ap, ◌∙◌}
-use Rattle.mw_model.specs.Object.{Object, Symbol, same_object}
-use Rattle.mw_model.specs.Proof.{Method, method_name}
-use Rattle.mw_model.specs.Judgment.{methods, method_among}
-use Rattle.mw_model.specs.Derivation.{Rule, By, rule_name}
-use Rattle.mw_model.specs.DerivationTest.{rules, rule_among}
+use Rattle.mw_model.specs.Terms.Object.{Object, Symbol, same_object}
+use Rattle.mw_model.specs.Proofs.Proof.{Method, method_name}
+use Rattle.mw_model.specs.Proofs.Judgment.{methods, method_among}
+use Rattle.mw_model.specs.Commands.Derivation.{Rule, By, rule_name}
+use Rattle.mw_model.specs.Commands.DerivationTest.{rules, rule_among}
 use Rattle.mw_model.proofs.Names.{same_object-eq}
 use Rattle.mw_model.proofs.ReadBack.{some_one}
 use Rattle.mw_model.proofs.SameObject.{same_object-swap}

@@ -1,7 +1,7 @@
 -- The schemes make proofs of proofs.
 use Rattle.std.proofs.Common.{[], ◌∷◌, sym, subst}
-use Rattle.mw_model.specs.Object.{Object}
-use Rattle.mw_model.specs.Term.{Term, Equal, Not, Or, term_object, formula_object}
+use Rattle.mw_model.specs.Terms.Object.{Object}
+use Rattle.mw_model.specs.Terms.Term.{Term, Equal, Not, Or, term_object, formula_object}
 use Rattle.mw_proof.specs.Judging.{Basis}
 use Rattle.mw_lower.specs.declared.scheme.TheConstants.{COMMUTED, DETACHED}
 use Rattle.mw_lower.specs.declared.derivations.TheConstants.{TURNED, CHAINED}

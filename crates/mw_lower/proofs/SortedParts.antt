@@ -2,7 +2,7 @@
 use Rattle.std.proofs.Common.{◌≡◌, ℕ, ◌==◌, List, sym, ◌∙◌}
 use Rattle.std.specs.List.{list_any}
 use Rattle.std.specs.List.Sorted.{IsNonDecreasing}
-use Rattle.mw_model.specs.Object.{Object, Natural, Symbol, Pair}
+use Rattle.mw_model.specs.Terms.Object.{Object, Natural, Symbol, Pair}
 use Rattle.mw_heap.specs.Objects.{object_at}
 use Rattle.mw_proof.specs.Step.{subproofs_of}
 use Rattle.mw_proof.specs.Gathered.{HasMembers, AreGathered}

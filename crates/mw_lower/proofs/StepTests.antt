@@ -1,10 +1,10 @@
 -- The tests of the further rules on objects of formulas, which stand in the heap, are those on the formulas.
 use Rattle.std.proofs.Common.{◌≡◌, false, List, Option, Some, None, MatchOption, IfSome, ℕ, refl, sym, ap, ap₂, ◌∙◌, subst}
 use Rattle.std.proofs.lemmas.Bool.{true≢false, and_parts}
-use Rattle.mw_model.specs.Object.{Object, symbol, same_object, NIL, car, list3, second_of, third_of}
-use Rattle.mw_model.specs.Term.{Term, Formula, Equal, Not, Or, term_object, formula_object, is_formula, is_term, IsFormula, IsTerm}
-use Rattle.mw_model.specs.Same.{same_term, same_formula}
-use Rattle.mw_model.specs.DerivationTest.{is_commuted, is_detached, is_turned, is_chained}
+use Rattle.mw_model.specs.Terms.Object.{Object, symbol, same_object, NIL, car, list3, second_of, third_of}
+use Rattle.mw_model.specs.Terms.Term.{Term, Formula, Equal, Not, Or, term_object, formula_object, is_formula, is_term, IsFormula, IsTerm}
+use Rattle.mw_model.specs.Terms.Same.{same_term, same_formula}
+use Rattle.mw_model.specs.Commands.DerivationTest.{is_commuted, is_detached, is_turned, is_chained}
 use Rattle.mw_model.proofs.Names.{same_object-from}
 use Rattle.mw_model.proofs.Formed.{formed}
 use Rattle.mw_model.proofs.Readable.{term_readable, formula_readable, same_object-terms, same_object-formulas}

@@ -1,16 +1,16 @@
 -- A step by a further rule, or by a method, becomes what is made in its place.
 use Rattle.std.proofs.Common.{◌≡◌, ℕ, Bool, true, false, ◌||◌, List, Option, Some, None, option_map, refl, sym, ap, ap₂, ◌∙◌, subst, inl, inr}
 use Rattle.std.proofs.lemmas.Bool.{true≢false, and_parts}
-use Rattle.mw_model.specs.Object.{Object, Natural, Symbol, Pair, NIL, same_name, nil_name, car, second_of, fourth_of, list4}
-use Rattle.mw_model.specs.Term.{formula_object, IsFormula}
-use Rattle.mw_model.specs.Truth.{Each}
-use Rattle.mw_model.specs.Reading.{formula_of}
-use Rattle.mw_model.specs.Rules.{is_formula_object}
-use Rattle.mw_model.specs.RulesInduction.{formulas_object}
-use Rattle.mw_model.specs.Proof.{HasMembers, two, three, four, Method, method_name, proof, ProveEach}
-use Rattle.mw_model.specs.Judgment.{methods, method_among, follows}
-use Rattle.mw_model.specs.Derivation.{Rule, By}
-use Rattle.mw_model.specs.DerivationTest.{rules, rule_among}
+use Rattle.mw_model.specs.Terms.Object.{Object, Natural, Symbol, Pair, NIL, same_name, nil_name, car, second_of, fourth_of, list4}
+use Rattle.mw_model.specs.Terms.Term.{formula_object, IsFormula}
+use Rattle.mw_model.specs.Values.Truth.{Each}
+use Rattle.mw_model.specs.Terms.Reading.{formula_of}
+use Rattle.mw_model.specs.Laws.Rules.{is_formula_object}
+use Rattle.mw_model.specs.Laws.RulesInduction.{formulas_object}
+use Rattle.mw_model.specs.Proofs.Proof.{HasMembers, two, three, four, Method, method_name, proof, ProveEach}
+use Rattle.mw_model.specs.Proofs.Judgment.{methods, method_among, follows}
+use Rattle.mw_model.specs.Commands.Derivation.{Rule, By}
+use Rattle.mw_model.specs.Commands.DerivationTest.{rules, rule_among}
 use Rattle.mw_model.proofs.Names.{same_object-eq}
 use Rattle.mw_model.proofs.ReadBack.{nil_is}
 use Rattle.mw_model.proofs.Follows.{row_is}

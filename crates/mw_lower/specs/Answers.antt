@@ -1,10 +1,10 @@
 -- What is answered for a step by one of the further rules.
 use Rattle.std.specs.Prelude.{◌≡◌, ℕ, true, false, List, [], ◌∷◌, Option, Some, None}
-use Rattle.mw_model.specs.Object.{Object, NIL, list3}
-use Rattle.mw_model.specs.Term.{Formula, formula_object, IsFormula}
-use Rattle.mw_model.specs.Proof.{ProveEach}
-use Rattle.mw_model.specs.Derivation.{Rule}
-use Rattle.mw_model.specs.DerivationTest.{derives}
+use Rattle.mw_model.specs.Terms.Object.{Object, NIL, list3}
+use Rattle.mw_model.specs.Terms.Term.{Formula, formula_object, IsFormula}
+use Rattle.mw_model.specs.Proofs.Proof.{ProveEach}
+use Rattle.mw_model.specs.Commands.Derivation.{Rule}
+use Rattle.mw_model.specs.Commands.DerivationTest.{derives}
 use Rattle.mw_heap.specs.Objects.{object_at, IsIn}
 use Rattle.mw_proof.specs.Judging.{Basis}
 use Rattle.mw_lower.specs.Schemes.{IsProof, HasEquality}

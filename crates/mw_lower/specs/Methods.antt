@@ -1,9 +1,9 @@
 -- Steps by the methods of proof, with other proofs of their premises.
 use Rattle.std.specs.Prelude.{◌≡◌, ◌≢◌, ℕ, Bool, true, false, List, Option, Some, None, ◌⊎◌}
-use Rattle.mw_model.specs.Object.{Object, list4}
-use Rattle.mw_model.specs.Term.{Formula}
-use Rattle.mw_model.specs.Judgment.{methods, method_among}
-use Rattle.mw_model.specs.Proof.{ProveEach}
+use Rattle.mw_model.specs.Terms.Object.{Object, list4}
+use Rattle.mw_model.specs.Terms.Term.{Formula}
+use Rattle.mw_model.specs.Proofs.Judgment.{methods, method_among}
+use Rattle.mw_model.specs.Proofs.Proof.{ProveEach}
 use Rattle.mw_heap.specs.Objects.{object_at, IsIn}
 use Rattle.mw_rules.specs.Step.{rule_holds}
 use Rattle.mw_proof.specs.Step.{conclusions_object}

@@ -1,6 +1,6 @@
 -- What a derivation is made of, as references.
 use Rattle.std.specs.Prelude.{ℕ, ◌<◌, ◌≤◌, List, length, get_or}
-use Rattle.mw_model.specs.Object.{Object}
+use Rattle.mw_model.specs.Terms.Object.{Object}
 use Rattle.mw_heap.specs.Objects.{object_at}
 use Rattle.mw_proof.specs.Gathered.{IsAmong, AreIn, HasSubproofs, IsMadeOf}
 

@@ -1,7 +1,7 @@
 -- What is made in the place of a step by one of the further rules: from proofs of the premises a proof of the conclusion.
 use Rattle.std.specs.Prelude.{◌≡◌}
-use Rattle.mw_model.specs.Object.{Object}
-use Rattle.mw_model.specs.Term.{Term, Formula, Equal, Not, Or, term_object, formula_object}
+use Rattle.mw_model.specs.Terms.Object.{Object}
+use Rattle.mw_model.specs.Terms.Term.{Term, Formula, Equal, Not, Or, term_object, formula_object}
 use Rattle.mw_proof.specs.Judging.{Basis}
 use Rattle.mw_lower.specs.Schemes.{IsProof, HasEquality}
 

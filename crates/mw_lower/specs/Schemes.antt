@@ -1,8 +1,8 @@
 -- Proofs as objects, and what the steps of the schemes make.
-use Rattle.mw_model.specs.Object.{Object, Member}
-use Rattle.mw_model.specs.Term.{Formula, formula_object}
-use Rattle.mw_model.specs.Axioms.{axiom_1, axiom_2}
-use Rattle.mw_model.specs.Proof.{Proves}
+use Rattle.mw_model.specs.Terms.Object.{Object, Member}
+use Rattle.mw_model.specs.Terms.Term.{Formula, formula_object}
+use Rattle.mw_model.specs.Proofs.Axioms.{axiom_1, axiom_2}
+use Rattle.mw_model.specs.Proofs.Proof.{Proves}
 use Rattle.mw_proof.specs.Judging.{Basis}
 
 -- the object is a proof of the formula

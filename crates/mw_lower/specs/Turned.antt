@@ -1,10 +1,10 @@
 -- What derivations turn to in a heap.
 use Rattle.std.specs.Prelude.{◌≡◌, ℕ, nat_eq, true, List, Option, Some, None}
 use Rattle.std.specs.Map.{lookup}
-use Rattle.mw_model.specs.Object.{Object, Natural, Symbol, Pair}
-use Rattle.mw_model.specs.Term.{Formula}
-use Rattle.mw_model.specs.Proof.{ProveEach}
-use Rattle.mw_model.specs.DerivationTest.{derive, derive_each}
+use Rattle.mw_model.specs.Terms.Object.{Object, Natural, Symbol, Pair}
+use Rattle.mw_model.specs.Terms.Term.{Formula}
+use Rattle.mw_model.specs.Proofs.Proof.{ProveEach}
+use Rattle.mw_model.specs.Commands.DerivationTest.{derive, derive_each}
 use Rattle.mw_heap.specs.Objects.{object_at, IsIn}
 use Rattle.mw_proof.specs.Step.{has_proof_shape, subproofs_of}
 use Rattle.mw_heap.specs.Lists.{list_object}

@@ -1,8 +1,8 @@
 -- A disjunction of the negations of premises and of a conclusion.
 use Rattle.std.specs.Prelude.{◌≡◌, List, [], ◌∷◌}
-use Rattle.mw_model.specs.Object.{Object}
-use Rattle.mw_model.specs.Term.{Formula, Not, Or, formula_object}
-use Rattle.mw_model.specs.Proof.{ProveEach}
+use Rattle.mw_model.specs.Terms.Object.{Object}
+use Rattle.mw_model.specs.Terms.Term.{Formula, Not, Or, formula_object}
+use Rattle.mw_model.specs.Proofs.Proof.{ProveEach}
 use Rattle.mw_proof.specs.Judging.{Basis}
 use Rattle.mw_lower.specs.Schemes.{IsProof}
 

@@ -1,6 +1,6 @@
 //! The lines of a derivation.
 ghost use Rattle.std.specs.Prelude.{◌≡◌, All, map, get_or, IfOk};
-ghost use Rattle.mw_model.specs.Object.{NIL};
+ghost use Rattle.mw_model.specs.Terms.Object.{NIL};
 ghost use Rattle.mw_heap.specs.Objects.{object_at, IsIn, Grows};
 ghost use Rattle.mw_axioms.specs.Stacks.{AreIn};
 ghost use Rattle.mw_lower.specs.Lines.{line_of, of_two, of_four, last_line};

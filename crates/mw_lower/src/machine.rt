@@ -1,6 +1,6 @@
 //! The stack machine that makes objects of pieces.
 ghost use Rattle.std.specs.Prelude.{◌≡◌, All, [], ◌∷◌, map, get_or, IfOk, OnOk, OnErr};
-ghost use Rattle.mw_model.specs.Object.{NIL, Pair};
+ghost use Rattle.mw_model.specs.Terms.Object.{NIL, Pair};
 ghost use Rattle.mw_heap.specs.Objects.{object_at, IsIn, Grows};
 ghost use Rattle.mw_axioms.specs.Stacks.{stack_of, AreIn};
 ghost use Rattle.mw_lower.specs.Pieces.{newest, older, gather, step, run, made_of};

@@ -3,10 +3,10 @@ ghost use Rattle.std.specs.Prelude.{◌≡◌, ◌<◌, true, All, List, length,
 ghost use Rattle.mw_heap.specs.Objects.{object_at, IsIn, Grows};
 ghost use Rattle.mw_heap.specs.Variants.{profile_of};
 ghost use Rattle.mw_term.specs.Marking.{AreMarks};
-ghost use Rattle.mw_model.specs.Term.{ArityTable, Formula};
-ghost use Rattle.mw_model.specs.Proof.{ProveEach};
-ghost use Rattle.mw_model.specs.Judgment.{methods, method_among};
-ghost use Rattle.mw_model.specs.Rules.{is_formula_object};
+ghost use Rattle.mw_model.specs.Terms.Term.{ArityTable, Formula};
+ghost use Rattle.mw_model.specs.Proofs.Proof.{ProveEach};
+ghost use Rattle.mw_model.specs.Proofs.Judgment.{methods, method_among};
+ghost use Rattle.mw_model.specs.Laws.Rules.{is_formula_object};
 ghost use Rattle.mw_rules.specs.Step.{rule_holds};
 ghost use Rattle.mw_proof.specs.Judging.{basis};
 ghost use Rattle.mw_heap.specs.Lists.{list_object};

@@ -1,10 +1,10 @@
 -- Terms that are made of others.
 use Rattle.std.proofs.Common.{◌≡◌, ℕ, true, List, [], Some, refl, ap, ap₂, ◌∙◌}
 use Rattle.std.proofs.lemmas.Bool.{and_from}
-use Rattle.mw_model.specs.Object.{Object, Natural, Pair, symbol, named, NIL}
-use Rattle.mw_model.specs.Term.{Call, Constant, NoTerms, More, is_term, is_closed}
-use Rattle.mw_model.specs.Reading.{term_of, more_terms, plain_call}
-use Rattle.mw_model.specs.Definition.{arity_table}
+use Rattle.mw_model.specs.Terms.Object.{Object, Natural, Pair, symbol, named, NIL}
+use Rattle.mw_model.specs.Terms.Term.{Call, Constant, NoTerms, More, is_term, is_closed}
+use Rattle.mw_model.specs.Terms.Reading.{term_of, more_terms, plain_call}
+use Rattle.mw_model.specs.Values.Definition.{arity_table}
 use Rattle.mw_heap.specs.Objects.{object_at, IsIn, Grows}
 use Rattle.mw_heap.proofs.Objects.{IsIn-Grows, object_at-Grows}
 use Rattle.mw_machine_tests.specs.Tested.{no_functions, IsSomeTerm}

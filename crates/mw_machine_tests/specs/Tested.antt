@@ -1,9 +1,9 @@
 -- Terms over the primitive functions alone.
 use Rattle.std.specs.Prelude.{ℕ, List, []}
-use Rattle.mw_model.specs.Object.{Object}
-use Rattle.mw_model.specs.Term.{Term}
-use Rattle.mw_model.specs.Primitive.{Two}
-use Rattle.mw_model.specs.Definition.{Definitions, definitions}
+use Rattle.mw_model.specs.Terms.Object.{Object}
+use Rattle.mw_model.specs.Terms.Term.{Term}
+use Rattle.mw_model.specs.Values.Primitive.{Two}
+use Rattle.mw_model.specs.Values.Definition.{Definitions, definitions}
 use Rattle.mw_code.specs.declared.table.Table.{Table}
 use Rattle.mw_code.specs.Tables.{StandsFor, IsClosedTerm}
 

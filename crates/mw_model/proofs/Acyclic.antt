@@ -1,6 +1,6 @@
 -- The order of objects has no cycles, since each way down ends; so it is irreflexive and, being total, transitive.
 use Rattle.std.proofs.Common.{◌≡◌, ℕ, suc, true, ◌⊎◌, inl, inr, refl, sym, subst}
-use Rattle.mw_model.specs.Object.{Object, is_before}
+use Rattle.mw_model.specs.Terms.Object.{Object, is_before}
 use Rattle.mw_model.proofs.Order.{is_before_tri, Ends, ends, all_end}
 
 no_cycle1 : (x : Object) → Ends x → is_before x x ≡ true → ⊥

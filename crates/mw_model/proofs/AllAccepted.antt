@@ -1,11 +1,11 @@
 -- Lists of events that are all accepted, one after another: the accepted events of any list, alone, are such a list.
 use Rattle.std.proofs.Common.{◌≡◌, ℕ, suc, ◌+◌, true, cond, List, [], ◌∷◌, length, map, filter, refl, sym, ap, ◌∙◌, subst, arith}
-use Rattle.mw_model.specs.Object.{Object}
-use Rattle.mw_model.specs.Theory.{Theory}
-use Rattle.mw_model.specs.Refusal.{Fate, Accepted, Refused}
-use Rattle.mw_model.specs.Fate.{happens}
-use Rattle.mw_model.specs.Report.{is_accepted, accepted_among, refused_among}
-use Rattle.mw_model.specs.Transition.{Transition, course_from, is_acceptance}
+use Rattle.mw_model.specs.Terms.Object.{Object}
+use Rattle.mw_model.specs.Events.Theory.{Theory}
+use Rattle.mw_model.specs.Events.Refusal.{Fate, Accepted, Refused}
+use Rattle.mw_model.specs.Events.Fate.{happens}
+use Rattle.mw_model.specs.Reports.Report.{is_accepted, accepted_among, refused_among}
+use Rattle.mw_model.specs.Commands.Transition.{Transition, course_from, is_acceptance}
 use Rattle.mw_model.proofs.Unchanged.{unchanged}
 
 -- each event is accepted, one after another

@@ -1,11 +1,11 @@
 -- Base evaluation: the test on objects of formulas is the test on formulas, in each profile.
 use Rattle.std.proofs.Common.{◌≡◌, Bool, true, false, ◌&&◌, cond, List, ◌∷◌, Option, Some, None, refl, sym, ap, ap₂, ◌∙◌}
-use Rattle.mw_model.specs.Object.{Name, Object, Pair, named, same_name, same_object, second_of, NIL}
-use Rattle.mw_model.specs.Term.{Term, Terms, Variable, Constant, If, Call, Lambda, NoTerms, More, Formula, Equal, Not, Or, term_object, terms_object, formula_object}
-use Rattle.mw_model.specs.Primitive.{Profile, Primitive, primitive_named, choose, first_value, second_value}
-use Rattle.mw_model.specs.Reading.{and_more}
-use Rattle.mw_model.specs.Judgment.{constant_values, is_value, is_base_eval}
-use Rattle.mw_model.specs.Rules.{is_constant_object, are_constant_objects, unquoted, third_value, value_by, primitive_value, is_that_value, is_call_with_value, object_is_base_eval}
+use Rattle.mw_model.specs.Terms.Object.{Name, Object, Pair, named, same_name, same_object, second_of, NIL}
+use Rattle.mw_model.specs.Terms.Term.{Term, Terms, Variable, Constant, If, Call, Lambda, NoTerms, More, Formula, Equal, Not, Or, term_object, terms_object, formula_object}
+use Rattle.mw_model.specs.Values.Primitive.{Profile, Primitive, primitive_named, choose, first_value, second_value}
+use Rattle.mw_model.specs.Terms.Reading.{and_more}
+use Rattle.mw_model.specs.Proofs.Judgment.{constant_values, is_value, is_base_eval}
+use Rattle.mw_model.specs.Laws.Rules.{is_constant_object, are_constant_objects, unquoted, third_value, value_by, primitive_value, is_that_value, is_call_with_value, object_is_base_eval}
 use Rattle.mw_model.proofs.Readable.{Readable, AreReadable, ReadableFormula, not_quote, not_if}
 
 abbrev pub is_constant : Term → Bool

@@ -1,11 +1,11 @@
 -- Where newer blocks stand before older ones, older arities and calls stay.
 use Rattle.std.proofs.Common.{◌≡◌, ℕ, true, List, [], ◌∷◌, ◌++◌, Some, refl, sym, ap, ◌∙◌, subst}
-use Rattle.mw_model.specs.Object.{Name, Object}
-use Rattle.mw_model.specs.Term.{Term, arity_of}
-use Rattle.mw_model.specs.Primitive.{Profile}
-use Rattle.mw_model.specs.Definition.{Block, arities, are_blocks}
-use Rattle.mw_model.specs.Value.{Environment, HasValue, block_calls}
-use Rattle.mw_model.specs.Theory.{BeginsWith}
+use Rattle.mw_model.specs.Terms.Object.{Name, Object}
+use Rattle.mw_model.specs.Terms.Term.{Term, arity_of}
+use Rattle.mw_model.specs.Values.Primitive.{Profile}
+use Rattle.mw_model.specs.Values.Definition.{Block, arities, are_blocks}
+use Rattle.mw_model.specs.Values.Value.{Environment, HasValue, block_calls}
+use Rattle.mw_model.specs.Events.Theory.{BeginsWith}
 use Rattle.mw_model.proofs.Formed.{Formed}
 use Rattle.mw_model.proofs.Values.{ev_along}
 use Rattle.mw_model.proofs.Older.{older_made, arity_stays, call_stays}

@@ -1,12 +1,12 @@
 -- The names of a new block: none was known, each is a name that its event adds, and each axiom of the block has one of them in it.
 use Rattle.std.proofs.Common.{◌≡◌, Bool, true, false, cond, List, [], ◌∷◌, map, Some, None, refl, sym, ap, ◌∙◌, subst}
 use Rattle.std.proofs.lemmas.Bool.{or_left, or_right}
-use Rattle.mw_model.specs.Object.{Name, Object, Natural, Symbol, Pair, symbol, same_name, same_object, NIL, car, second_of, third_of, fourth_of, has_members, list2, list3}
-use Rattle.mw_model.specs.Term.{Term, ArityTable, arity_of, names_object, term_object, terms_object, formula_object}
-use Rattle.mw_model.specs.Definition.{Function, Block, Functions, Choice, function_named, is_present, is_new, variable_terms, function_axiom, function_axioms, choice_axiom, block_axioms}
-use Rattle.mw_model.specs.Truth.{Each}
-use Rattle.mw_model.specs.Admission.{Draft, all_of, new_name, draft_of, drafts_of, functions}
-use Rattle.mw_model.specs.Slice.{some_passes, occurs, first_members}
+use Rattle.mw_model.specs.Terms.Object.{Name, Object, Natural, Symbol, Pair, symbol, same_name, same_object, NIL, car, second_of, third_of, fourth_of, has_members, list2, list3}
+use Rattle.mw_model.specs.Terms.Term.{Term, ArityTable, arity_of, names_object, term_object, terms_object, formula_object}
+use Rattle.mw_model.specs.Values.Definition.{Function, Block, Functions, Choice, function_named, is_present, is_new, variable_terms, function_axiom, function_axioms, choice_axiom, block_axioms}
+use Rattle.mw_model.specs.Values.Truth.{Each}
+use Rattle.mw_model.specs.Events.Admission.{Draft, all_of, new_name, draft_of, drafts_of, functions}
+use Rattle.mw_model.specs.Commands.Slice.{some_passes, occurs, first_members}
 use Rattle.mw_model.proofs.Names.{same_name-eq, same_name-refl}
 use Rattle.mw_model.proofs.ReadBack.{some_one, and_more-back, when_some}
 use Rattle.mw_model.proofs.NewNames.{new_absent}

@@ -1,13 +1,13 @@
 -- The built-in functions: each call has the value of a total function, which is the value of its body.
 use Rattle.std.proofs.Common.{◌≡◌, true, List, [], ◌∷◌, Option, Some, None, refl}
 use Prim.Native.String.{String}
-use Rattle.mw_model.specs.Object.{Name, Object, named}
-use Rattle.mw_model.specs.Term.{is_among}
-use Rattle.mw_model.specs.Primitive.{Profile, One, Two}
-use Rattle.mw_model.specs.Definition.{Function, Block, Functions, Choice, function_named}
-use Rattle.mw_model.specs.Value.{bind, block_calls}
-use Rattle.mw_model.specs.BuiltIn.{block_of, built_in}
-use Rattle.mw_model.specs.BuiltInProofs.{logic_provable_witness, logic_provablep}
+use Rattle.mw_model.specs.Terms.Object.{Name, Object, named}
+use Rattle.mw_model.specs.Terms.Term.{is_among}
+use Rattle.mw_model.specs.Values.Primitive.{Profile, One, Two}
+use Rattle.mw_model.specs.Values.Definition.{Function, Block, Functions, Choice, function_named}
+use Rattle.mw_model.specs.Values.Value.{bind, block_calls}
+use Rattle.mw_model.specs.BuiltIns.BuiltIn.{block_of, built_in}
+use Rattle.mw_model.specs.BuiltIns.BuiltInProofs.{logic_provable_witness, logic_provablep}
 use Rattle.mw_model.proofs.BuiltInValue.{value_at, names, are_descending, answers}
 use Rattle.mw_model.proofs.BuiltInCalls.{alone, answers_agree}
 use Rattle.mw_model.proofs.BuiltInBodies.{answers-body}

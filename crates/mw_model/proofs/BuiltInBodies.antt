@@ -1,11 +1,11 @@
 -- Each answer of descending functions is the value of the body, where calls have these answers.
 use Rattle.std.proofs.Common.{◌≡◌, ◌≢◌, Bool, true, false, ◌&&◌, ◌||◌, cond, List, [], ◌∷◌, Option, Some, None, refl, sym, ap, ap₂, ◌∙◌, subst, ◌⊎◌, inl, inr}
 use Rattle.std.proofs.lemmas.Bool.{and_parts, and_from, or_cases, or_left, or_right}
-use Rattle.mw_model.specs.Object.{Name, Object, same_name}
-use Rattle.mw_model.specs.Term.{Term, Terms, Variable, Constant, If, Call, Lambda, NoTerms, More, is_among}
-use Rattle.mw_model.specs.Primitive.{Profile, Primitive, primitive_named, choose}
-use Rattle.mw_model.specs.Definition.{Function, function_named, is_present}
-use Rattle.mw_model.specs.Value.{Environment, bind, block_calls}
+use Rattle.mw_model.specs.Terms.Object.{Name, Object, same_name}
+use Rattle.mw_model.specs.Terms.Term.{Term, Terms, Variable, Constant, If, Call, Lambda, NoTerms, More, is_among}
+use Rattle.mw_model.specs.Values.Primitive.{Profile, Primitive, primitive_named, choose}
+use Rattle.mw_model.specs.Values.Definition.{Function, function_named, is_present}
+use Rattle.mw_model.specs.Values.Value.{Environment, bind, block_calls}
 use Rattle.mw_model.proofs.Names.{same_name-eq, same_name-refl, name_cases}
 use Rattle.mw_model.proofs.Values.{ev_det}
 use Rattle.mw_model.proofs.Depth.{block_unfold, block_calls-det}

@@ -1,12 +1,12 @@
 -- The answers of descending functions are values: those of their blocks, by the levels that their falling arguments need.
 use Rattle.std.proofs.Common.{◌≡◌, ◌≢◌, ℕ, zero, suc, ◌<◌, ◌≤◌, Bool, true, false, ◌&&◌, ◌||◌, not, cond, List, [], ◌∷◌, map, Option, Some, None, refl, sym, subst, ◌⊎◌, inl, inr, arith}
 use Rattle.std.proofs.lemmas.Bool.{and_parts, or_cases, both_ways, not-true, false≢true}
-use Rattle.mw_model.specs.Object.{Name, Object, same_name, same_object, NIL}
-use Rattle.mw_model.specs.Term.{Term, Terms, Variable, Constant, If, Call, Lambda, NoTerms, More, is_among}
-use Rattle.mw_model.specs.Primitive.{Profile, Primitive, primitive_named, is_pair, choose}
-use Rattle.mw_model.specs.Definition.{Function, Block, is_present}
-use Rattle.mw_model.specs.Value.{Environment, lookup, bind, Calls, OnCall, HasValue, HaveValues, OnFunction, CallAtSomeDepth, block_calls}
-use Rattle.mw_model.specs.BuiltIn.{block_of}
+use Rattle.mw_model.specs.Terms.Object.{Name, Object, same_name, same_object, NIL}
+use Rattle.mw_model.specs.Terms.Term.{Term, Terms, Variable, Constant, If, Call, Lambda, NoTerms, More, is_among}
+use Rattle.mw_model.specs.Values.Primitive.{Profile, Primitive, primitive_named, is_pair, choose}
+use Rattle.mw_model.specs.Values.Definition.{Function, Block, is_present}
+use Rattle.mw_model.specs.Values.Value.{Environment, lookup, bind, Calls, OnCall, HasValue, HaveValues, OnFunction, CallAtSomeDepth, block_calls}
+use Rattle.mw_model.specs.BuiltIns.BuiltIn.{block_of}
 use Rattle.mw_model.proofs.Names.{same_name-eq, same_name-refl, name_cases, object_cases}
 use Rattle.mw_model.proofs.Depth.{Now, block_fold}
 use Rattle.mw_model.proofs.BuiltInValue.{Answers, answer_on, value_at, values_at, value_for, pairs, except, answer_within, calls_among, all_calls_among, is_part, tests_pair, actual_for, descends, all_descend, falling, names, are_descending, levels, answers}

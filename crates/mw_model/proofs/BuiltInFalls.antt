@@ -1,10 +1,10 @@
 -- What a test finds to fall does fall: a part has fewer pairs than the whole.
 use Rattle.std.proofs.Common.{◌≡◌, ◌≢◌, ℕ, ◌<◌, ◌≤◌, Bool, true, false, cond, List, [], ◌∷◌, Option, Some, refl, sym, ap, ◌∙◌, subst, arith}
 use Rattle.std.proofs.lemmas.Bool.{and_parts, false≢true}
-use Rattle.mw_model.specs.Object.{Name, Object, Natural, Symbol, Pair, same_name, NIL, truth_of, car, cdr}
-use Rattle.mw_model.specs.Term.{Term, Terms, Variable, Constant, If, Call, Lambda, NoTerms, More}
-use Rattle.mw_model.specs.Primitive.{Profile, Primitive, Car, Cdr, IsPair, primitive_named, first_value, is_pair}
-use Rattle.mw_model.specs.Value.{Environment, lookup, bind}
+use Rattle.mw_model.specs.Terms.Object.{Name, Object, Natural, Symbol, Pair, same_name, NIL, truth_of, car, cdr}
+use Rattle.mw_model.specs.Terms.Term.{Term, Terms, Variable, Constant, If, Call, Lambda, NoTerms, More}
+use Rattle.mw_model.specs.Values.Primitive.{Profile, Primitive, Car, Cdr, IsPair, primitive_named, first_value, is_pair}
+use Rattle.mw_model.specs.Values.Value.{Environment, lookup, bind}
 use Rattle.mw_model.proofs.Names.{same_name-eq}
 use Rattle.mw_model.proofs.BuiltInValue.{Answers, answer_on, value_at, values_at, rest_values, value_for, pairs, takes_part, is_within, first_is_within, is_part, is_pair_test, is_variable_of, first_is_variable, tests_pair, first_term, rest_terms, actual_for}
 

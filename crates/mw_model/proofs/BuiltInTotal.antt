@@ -2,14 +2,14 @@
 use Rattle.std.proofs.Common.{◌≡◌, ◌≢◌, Bool, true, false, ◌||◌, cond, List, [], ◌∷◌, ◌++◌, append_assoc, Some, None, refl, sym, ap, ◌∙◌, subst, ◌⊎◌, inl, inr}
 use Rattle.std.proofs.lemmas.Bool.{or_cases, or_left, or_right, false≢true}
 use Prim.Native.String.{String}
-use Rattle.mw_model.specs.Object.{Name, Object, named, same_name}
-use Rattle.mw_model.specs.Term.{is_among}
-use Rattle.mw_model.specs.Primitive.{Profile, One, Two}
-use Rattle.mw_model.specs.Definition.{Function, Block, Functions, Choice, arities, are_blocks, is_present, is_defined}
-use Rattle.mw_model.specs.Value.{bind, OnFunction, pick, CallAtSomeDepth, IsWitness, block_calls, IsTotal}
-use Rattle.mw_model.specs.BuiltIn.{block_of, built_in, built_in_definitions}
-use Rattle.mw_model.specs.BuiltInProofs.{logic_provable_witness, logic_provablep}
-use Rattle.mw_model.specs.Theory.{BeginsWith}
+use Rattle.mw_model.specs.Terms.Object.{Name, Object, named, same_name}
+use Rattle.mw_model.specs.Terms.Term.{is_among}
+use Rattle.mw_model.specs.Values.Primitive.{Profile, One, Two}
+use Rattle.mw_model.specs.Values.Definition.{Function, Block, Functions, Choice, arities, are_blocks, is_present, is_defined}
+use Rattle.mw_model.specs.Values.Value.{bind, OnFunction, pick, CallAtSomeDepth, IsWitness, block_calls, IsTotal}
+use Rattle.mw_model.specs.BuiltIns.BuiltIn.{block_of, built_in, built_in_definitions}
+use Rattle.mw_model.specs.BuiltIns.BuiltInProofs.{logic_provable_witness, logic_provablep}
+use Rattle.mw_model.specs.Events.Theory.{BeginsWith}
 use Rattle.mw_model.proofs.Names.{same_name-eq, same_name-from, name_cases}
 use Rattle.mw_model.proofs.Formed.{Formed, formed}
 use Rattle.mw_model.proofs.Depth.{block_fold, block_calls-det, one_value}

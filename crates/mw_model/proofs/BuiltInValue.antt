@@ -1,10 +1,10 @@
 -- Functions as total ones: the value of a term where each call has an answer, and answers by as many levels as the falling argument has pairs.
 use Rattle.std.specs.Prelude.{ℕ, zero, suc, ◌+◌, Bool, true, false, ◌&&◌, ◌||◌, not, cond, List, [], ◌∷◌, Option, Some, None}
-use Rattle.mw_model.specs.Object.{Name, Object, Natural, Symbol, Pair, same_name, nil_name, NIL}
-use Rattle.mw_model.specs.Term.{Term, Terms, Variable, Constant, If, Call, Lambda, NoTerms, More, is_among}
-use Rattle.mw_model.specs.Primitive.{Profile, Primitive, Car, Cdr, IsPair, primitive_named, apply, first_value, choose}
-use Rattle.mw_model.specs.Definition.{Function, is_present}
-use Rattle.mw_model.specs.Value.{Environment, lookup, bind}
+use Rattle.mw_model.specs.Terms.Object.{Name, Object, Natural, Symbol, Pair, same_name, nil_name, NIL}
+use Rattle.mw_model.specs.Terms.Term.{Term, Terms, Variable, Constant, If, Call, Lambda, NoTerms, More, is_among}
+use Rattle.mw_model.specs.Values.Primitive.{Profile, Primitive, Car, Cdr, IsPair, primitive_named, apply, first_value, choose}
+use Rattle.mw_model.specs.Values.Definition.{Function, is_present}
+use Rattle.mw_model.specs.Values.Value.{Environment, lookup, bind}
 
 -- an answer for each call
 abbrev pub Answers : Type 0

@@ -1,6 +1,6 @@
 -- The order of names, byte by byte, is irreflexive and transitive.
 use Rattle.std.proofs.Common.{◌≡◌, ℕ, ◌<◌, true, List, [], ◌∷◌, refl, ◌∙◌, ◌⊎◌, inl, inr, arith}
-use Rattle.mw_model.specs.Object.{is_before_bytes}
+use Rattle.mw_model.specs.Terms.Object.{is_before_bytes}
 use Rattle.mw_model.proofs.Order.{lex_lt, lex_eq, lex_cases}
 
 pub bytes_irreflexive : (x : List ℕ) → is_before_bytes x x ≡ true → ⊥

@@ -1,12 +1,12 @@
 -- The value of a call, by its depth: what the calls of the last block and of an earlier one come to.
 use Rattle.std.proofs.Common.{◌≡◌, ℕ, zero, suc, Bool, true, false, ◌||◌, List, [], ◌∷◌, Option, Some, None, refl, sym, ap₂, ◌∙◌, subst}
-use Rattle.mw_model.specs.Object.{Name, Object, same_name}
-use Rattle.mw_model.specs.Term.{Terms, Call}
-use Rattle.mw_model.specs.Primitive.{Profile, Primitive, primitive_named}
-use Rattle.mw_model.specs.Definition.{Function, Block, Functions, Choice, definitions, function_named, is_present, is_defined}
-use Rattle.mw_model.specs.Value.{Environment, bind, Calls, BlockCalls, OnCall, HaveValues, OnFunction, CallWithin, IsWitness, pick, block_calls, block_calls_within, IsValueWithin}
-use Rattle.mw_model.specs.Proof.{constants}
-use Rattle.mw_model.specs.CallDepth.{CallOfFunction, CallOfWitness, CallOfEarlier}
+use Rattle.mw_model.specs.Terms.Object.{Name, Object, same_name}
+use Rattle.mw_model.specs.Terms.Term.{Terms, Call}
+use Rattle.mw_model.specs.Values.Primitive.{Profile, Primitive, primitive_named}
+use Rattle.mw_model.specs.Values.Definition.{Function, Block, Functions, Choice, definitions, function_named, is_present, is_defined}
+use Rattle.mw_model.specs.Values.Value.{Environment, bind, Calls, BlockCalls, OnCall, HaveValues, OnFunction, CallWithin, IsWitness, pick, block_calls, block_calls_within, IsValueWithin}
+use Rattle.mw_model.specs.Proofs.Proof.{constants}
+use Rattle.mw_model.specs.Laws.CallDepth.{CallOfFunction, CallOfWitness, CallOfEarlier}
 use Rattle.mw_model.proofs.Names.{same_name-refl}
 use Rattle.mw_model.proofs.Depth.{at_some_depth, from_some_depth}
 

@@ -1,14 +1,14 @@
 -- What an accepted event does to a theory before any switch.
 use Rattle.std.proofs.Common.{◌≡◌, true, false, List, ◌∷◌, None, refl}
-use Rattle.mw_model.specs.Object.{Object, Pair, NIL, third_of}
-use Rattle.mw_model.specs.Term.{Formula, formula_object}
-use Rattle.mw_model.specs.Primitive.{Profile, Two}
-use Rattle.mw_model.specs.Definition.{Block, definitions, arity_table}
-use Rattle.mw_model.specs.BuiltIn.{built_in}
-use Rattle.mw_model.specs.Theory.{Theory, axioms_of, initial}
-use Rattle.mw_model.specs.Admission.{add_to_theory}
-use Rattle.mw_model.specs.Fate.{is_initial}
-use Rattle.mw_model.specs.Slice.{begins_with, names_added, sets_profile}
+use Rattle.mw_model.specs.Terms.Object.{Object, Pair, NIL, third_of}
+use Rattle.mw_model.specs.Terms.Term.{Formula, formula_object}
+use Rattle.mw_model.specs.Values.Primitive.{Profile, Two}
+use Rattle.mw_model.specs.Values.Definition.{Block, definitions, arity_table}
+use Rattle.mw_model.specs.BuiltIns.BuiltIn.{built_in}
+use Rattle.mw_model.specs.Events.Theory.{Theory, axioms_of, initial}
+use Rattle.mw_model.specs.Events.Admission.{add_to_theory}
+use Rattle.mw_model.specs.Events.Fate.{is_initial}
+use Rattle.mw_model.specs.Commands.Slice.{begins_with, names_added, sets_profile}
 use Rattle.mw_model.proofs.BlockNames.{NewBlock}
 
 -- BeginsSecond: the second profile, which begins at its initial theory

@@ -1,8 +1,8 @@
 -- The events at ascending places are those that the set of the places chooses, in order; and the greatest place is the last.
 use Rattle.std.proofs.Common.{◌≡◌, ℕ, suc, ◌+◌, ◌<◌, ◌≤◌, Bool, true, false, ◌||◌, cond, eqb, List, [], ◌∷◌, ◌++◌, length, map, inl, inr, refl, sym, ap, ◌∙◌, arith}
 use Rattle.std.proofs.lemmas.Bool.{or_cases, or_left, or_right, true≢false, cases_Bool, eqb-true, eqb-false, eq-eqb, ne_eqb, false_from_ne_true}
-use Rattle.mw_model.specs.Object.{Object}
-use Rattle.mw_model.specs.Slice.{event_at, is_ascending}
+use Rattle.mw_model.specs.Terms.Object.{Object}
+use Rattle.mw_model.specs.Commands.Slice.{event_at, is_ascending}
 use Rattle.mw_model.proofs.SlicePlaces.{among, first_least, rest_ascending}
 use Rattle.mw_model.proofs.SliceWalk.{chosen, StandsAt, stands_first, stands_rest}
 

@@ -1,10 +1,10 @@
 -- The code of a name has the name's arity, and a newer block changes no code.
 use Rattle.std.proofs.Common.{◌≡◌, Bool, true, false, cond, List, [], ◌∷◌, length, Option, Some, None, refl, ap, ◌∙◌}
-use Rattle.mw_model.specs.Object.{Name, same_name}
-use Rattle.mw_model.specs.Term.{arity_of}
-use Rattle.mw_model.specs.Primitive.{Profile}
-use Rattle.mw_model.specs.Definition.{Function, Block, Functions, Choice, function_named, arities, are_blocks}
-use Rattle.mw_model.specs.Evaluation.{function_or, code_of}
+use Rattle.mw_model.specs.Terms.Object.{Name, same_name}
+use Rattle.mw_model.specs.Terms.Term.{arity_of}
+use Rattle.mw_model.specs.Values.Primitive.{Profile}
+use Rattle.mw_model.specs.Values.Definition.{Function, Block, Functions, Choice, function_named, arities, are_blocks}
+use Rattle.mw_model.specs.Events.Evaluation.{function_or, code_of}
 use Rattle.mw_model.proofs.Older.{arity_here, not_known, not_named, functions_new, choice_new, arity_stays}
 
 module _ (P : Profile) where

@@ -1,11 +1,11 @@
 -- Comments between data, and the comment at the end, leave a text of data the text that it is.
 use Rattle.std.proofs.Common.{◌≡◌, ℕ, true, List, [], ◌∷◌, ◌++◌, append-nil, Option, Some, None, codes, refl, sym, ap, subst, append_assoc}
-use Rattle.mw_model.specs.Object.{Object}
-use Rattle.mw_model.specs.Lexemes.{Fault}
-use Rattle.mw_model.specs.Printing.{numeral}
-use Rattle.mw_model.specs.Report.{spaced, kind_word}
-use Rattle.mw_model.specs.Written.{IsBookText, no_lines, comment_line}
-use Rattle.mw_model.specs.Pieces.{comment, comment_ending}
+use Rattle.mw_model.specs.Terms.Object.{Object}
+use Rattle.mw_model.specs.Texts.Lexemes.{Fault}
+use Rattle.mw_model.specs.Texts.Printing.{numeral}
+use Rattle.mw_model.specs.Reports.Report.{spaced, kind_word}
+use Rattle.mw_model.specs.Texts.Written.{IsBookText, no_lines, comment_line}
+use Rattle.mw_model.specs.Texts.Pieces.{comment, comment_ending}
 use Rattle.mw_model.proofs.LexingLines.{no_newline}
 use Rattle.mw_model.proofs.OneLine.{spaced_line, numeral_line, kind_line}
 

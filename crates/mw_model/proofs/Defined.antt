@@ -1,10 +1,10 @@
 -- The names that blocks define are those of the arity table other than IF and the primitives.
 use Rattle.std.proofs.Common.{◌≡◌, ◌≢◌, ℕ, Bool, true, false, ◌||◌, cond, List, [], ◌∷◌, length, Option, Some, None, refl, sym, ap, ◌∙◌, subst, ◌⊎◌, inl, inr, ⊎_elim}
 use Rattle.std.proofs.lemmas.Bool.{or_cases, both_ways, false≢true}
-use Rattle.mw_model.specs.Object.{Name, named, same_name}
-use Rattle.mw_model.specs.Term.{ArityTable, arity_of, is_call_name}
-use Rattle.mw_model.specs.Primitive.{Profile, One, Two, Primitive, Times, or_product, primitive_name, primitive_arity, primitive_among, primitive_named, primitive_arities, add_primitives, shared_primitives}
-use Rattle.mw_model.specs.Definition.{Function, Block, Functions, Choice, function_named, add_functions, arities, is_present, is_defined}
+use Rattle.mw_model.specs.Terms.Object.{Name, named, same_name}
+use Rattle.mw_model.specs.Terms.Term.{ArityTable, arity_of, is_call_name}
+use Rattle.mw_model.specs.Values.Primitive.{Profile, One, Two, Primitive, Times, or_product, primitive_name, primitive_arity, primitive_among, primitive_named, primitive_arities, add_primitives, shared_primitives}
+use Rattle.mw_model.specs.Values.Definition.{Function, Block, Functions, Choice, function_named, add_functions, arities, is_present, is_defined}
 use Rattle.mw_model.proofs.Names.{name_cases}
 use Rattle.mw_model.proofs.Older.{add_keeps}
 

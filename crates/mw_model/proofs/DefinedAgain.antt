@@ -1,19 +1,19 @@
 -- A definition that is wanted at a theory is wanted at another one that says the same of what occurs in it.
 use Rattle.std.proofs.Common.{◌≡◌, ℕ, Bool, true, false, not, cond, List, [], ◌∷◌, length, map, Option, Some, None, refl, sym, ap, ap₂, ◌∙◌, subst}
 use Rattle.std.proofs.lemmas.Bool.{and_parts, and_from}
-use Rattle.mw_model.specs.Object.{Name, Object, Natural, Symbol, Pair, named, same_name}
-use Rattle.mw_model.specs.Term.{Term, Formula, ArityTable, arity_of, are_distinct, is_function_name}
-use Rattle.mw_model.specs.Reading.{and_more, both, when, that}
-use Rattle.mw_model.specs.Definition.{Functions, arity_table, is_absent, is_new}
-use Rattle.mw_model.specs.Truth.{Each}
-use Rattle.mw_model.specs.Obligation.{obligations, is_nested}
-use Rattle.mw_model.specs.Expansion.{expand}
-use Rattle.mw_model.specs.Theory.{Theory}
-use Rattle.mw_model.specs.Refusal.{Refusal, NAME, FORMALS, TERM, VARIABLES, NESTED}
-use Rattle.mw_model.specs.Admission.{Draft, all_of, new_name, new_names, formals_of, add_names, functions, measures, are_closed_by, add_to_theory}
-use Rattle.mw_model.specs.Fate.{EventWord, is_initial}
-use Rattle.mw_model.specs.Demand.{Demand, Wants, wants_some, wants_that, define_demand, demand}
-use Rattle.mw_model.specs.Slice.{without_name}
+use Rattle.mw_model.specs.Terms.Object.{Name, Object, Natural, Symbol, Pair, named, same_name}
+use Rattle.mw_model.specs.Terms.Term.{Term, Formula, ArityTable, arity_of, are_distinct, is_function_name}
+use Rattle.mw_model.specs.Terms.Reading.{and_more, both, when, that}
+use Rattle.mw_model.specs.Values.Definition.{Functions, arity_table, is_absent, is_new}
+use Rattle.mw_model.specs.Values.Truth.{Each}
+use Rattle.mw_model.specs.Events.Obligation.{obligations, is_nested}
+use Rattle.mw_model.specs.Events.Expansion.{expand}
+use Rattle.mw_model.specs.Events.Theory.{Theory}
+use Rattle.mw_model.specs.Events.Refusal.{Refusal, NAME, FORMALS, TERM, VARIABLES, NESTED}
+use Rattle.mw_model.specs.Events.Admission.{Draft, all_of, new_name, new_names, formals_of, add_names, functions, measures, are_closed_by, add_to_theory}
+use Rattle.mw_model.specs.Events.Fate.{EventWord, is_initial}
+use Rattle.mw_model.specs.Commands.Demand.{Demand, Wants, wants_some, wants_that, define_demand, demand}
+use Rattle.mw_model.specs.Commands.Slice.{without_name}
 use Rattle.mw_model.proofs.ReadBack.{some_one, and_more-back, when_some}
 use Rattle.mw_model.proofs.SameArities.{Agree}
 use Rattle.mw_model.proofs.SameExpansion.{BringSame, expand_agrees}

@@ -2,18 +2,18 @@
 -- changing the theory alike.
 use Rattle.std.proofs.Common.{◌≡◌, Bool, true, false, ◌||◌, cond, List, [], ◌∷◌, map, Option, Some, None, refl, sym, ap, ◌∙◌, subst}
 use Rattle.std.proofs.lemmas.Bool.{and_from}
-use Rattle.mw_model.specs.Object.{Name, Object, Natural, Symbol, Pair, symbol, same_object, NIL, car, second_of, third_of, fourth_of, fifth_of, has_members}
-use Rattle.mw_model.specs.Term.{are_distinct, Term, Formula, formula_object, is_formula, is_closed}
-use Rattle.mw_model.specs.Reading.{formula_of, formula_under, when}
-use Rattle.mw_model.specs.Primitive.{Profile, One, Two, is_symbol}
-use Rattle.mw_model.specs.Definition.{Functions, Choice, arity_table}
-use Rattle.mw_model.specs.Expansion.{expand}
-use Rattle.mw_model.specs.Theory.{Theory, initial}
-use Rattle.mw_model.specs.Refusal.{Refusal, EVENT, NAME, FORMALS, TERM, FORMULA, VARIABLES, PROFILE, Fate, accept, need, must}
-use Rattle.mw_model.specs.Admission.{Draft, all_of, new_name, formals_of, functions, add_to_theory, draft_of, drafts_of, some_drafts, add_witness, skolem}
-use Rattle.mw_model.specs.Fate.{EventWord, Verify, Define, Skolem, Switch, Eval, Print, DefineAll, SetProfile, is_initial, profile_of, begin_profile}
-use Rattle.mw_model.specs.Demand.{Demand, Wants, wants_some, wants_that, verify_demand, define_demand, without_proofs, demand}
-use Rattle.mw_model.specs.Slice.{names_added, begins_with, without_name, first_members}
+use Rattle.mw_model.specs.Terms.Object.{Name, Object, Natural, Symbol, Pair, symbol, same_object, NIL, car, second_of, third_of, fourth_of, fifth_of, has_members}
+use Rattle.mw_model.specs.Terms.Term.{are_distinct, Term, Formula, formula_object, is_formula, is_closed}
+use Rattle.mw_model.specs.Terms.Reading.{formula_of, formula_under, when}
+use Rattle.mw_model.specs.Values.Primitive.{Profile, One, Two, is_symbol}
+use Rattle.mw_model.specs.Values.Definition.{Functions, Choice, arity_table}
+use Rattle.mw_model.specs.Events.Expansion.{expand}
+use Rattle.mw_model.specs.Events.Theory.{Theory, initial}
+use Rattle.mw_model.specs.Events.Refusal.{Refusal, EVENT, NAME, FORMALS, TERM, FORMULA, VARIABLES, PROFILE, Fate, accept, need, must}
+use Rattle.mw_model.specs.Events.Admission.{Draft, all_of, new_name, formals_of, functions, add_to_theory, draft_of, drafts_of, some_drafts, add_witness, skolem}
+use Rattle.mw_model.specs.Events.Fate.{EventWord, Verify, Define, Skolem, Switch, Eval, Print, DefineAll, SetProfile, is_initial, profile_of, begin_profile}
+use Rattle.mw_model.specs.Commands.Demand.{Demand, Wants, wants_some, wants_that, verify_demand, define_demand, without_proofs, demand}
+use Rattle.mw_model.specs.Commands.Slice.{names_added, begins_with, without_name, first_members}
 use Rattle.mw_model.proofs.ReadBack.{some_one, and_more-back, when_some, formula_back}
 use Rattle.mw_model.proofs.SameArities.{formula_under_agrees}
 use Rattle.mw_model.proofs.EventParts.{HasWord, begins_as, claim_within, draft_parts, body_within, measure_within, drafts_within, witness_within}

@@ -1,12 +1,12 @@
 -- Functional equality: the test on objects of formulas is the test on formulas.
 use Rattle.std.proofs.Common.{◌≡◌, Bool, true, false, ◌&&◌, eqb, refl, sym, ap, ◌∙◌, eq-eqb}
 use Rattle.std.proofs.lemmas.Bool.{and_parts}
-use Rattle.mw_model.specs.Object.{Name, named, symbol, same_name, same_object, list2, list3}
-use Rattle.mw_model.specs.Term.{Term, Terms, Variable, Constant, If, Call, Lambda, NoTerms, More, Formula, Equal, Not, Or, term_object, terms_object, formula_object, count, is_function_name, is_call_name, ArityTable, arity_of, is_term, is_formula, IsFormula}
-use Rattle.mw_model.specs.Same.{same_formula}
-use Rattle.mw_model.specs.Proof.{unless_equal, three_terms}
-use Rattle.mw_model.specs.Judgment.{last_disjunct, is_functional_equality}
-use Rattle.mw_model.specs.Rules.{last_disjunct_object, unless_equal_object, object_ends_with_equality, object_is_functional_equality}
+use Rattle.mw_model.specs.Terms.Object.{Name, named, symbol, same_name, same_object, list2, list3}
+use Rattle.mw_model.specs.Terms.Term.{Term, Terms, Variable, Constant, If, Call, Lambda, NoTerms, More, Formula, Equal, Not, Or, term_object, terms_object, formula_object, count, is_function_name, is_call_name, ArityTable, arity_of, is_term, is_formula, IsFormula}
+use Rattle.mw_model.specs.Terms.Same.{same_formula}
+use Rattle.mw_model.specs.Proofs.Proof.{unless_equal, three_terms}
+use Rattle.mw_model.specs.Proofs.Judgment.{last_disjunct, is_functional_equality}
+use Rattle.mw_model.specs.Laws.Rules.{last_disjunct_object, unless_equal_object, object_ends_with_equality, object_is_functional_equality}
 use Rattle.mw_model.proofs.Names.{same_name-eq}
 use Rattle.mw_model.proofs.Formed.{Formed, formed}
 use Rattle.mw_model.proofs.Readable.{AreReadable, ReadableFormula, term_readable, terms_readable, formula_readable, not_quote, not_if, same_object-formulas}

@@ -1,22 +1,22 @@
 -- An event that the built-in checker accepts at a theory, accepted at another one with the same profile that has what the event uses.
 use Rattle.std.proofs.Common.{◌≡◌, ℕ, Bool, true, false, ltb, cond, List, [], ◌∷◌, length, Option, Some, None, refl, sym, ap, ap₂, ◌∙◌, subst}
 use Rattle.std.proofs.lemmas.Bool.{false≢true}
-use Rattle.mw_model.specs.Object.{Object, Natural, Symbol, Pair, symbol, same_object, second_of, has_members, Member}
-use Rattle.mw_model.specs.Term.{Formula, formula_object}
-use Rattle.mw_model.specs.Primitive.{Profile}
-use Rattle.mw_model.specs.Definition.{Block, arities}
-use Rattle.mw_model.specs.Truth.{Each}
-use Rattle.mw_model.specs.Judgment.{judge}
-use Rattle.mw_model.specs.Evaluation.{Outcome, Value, Steps, Overflow, Witness, evaluate}
-use Rattle.mw_model.specs.Printing.{text_of}
-use Rattle.mw_model.specs.Theory.{Theory, axioms_of}
-use Rattle.mw_model.specs.Refusal.{Refusal, COUNT, CONCLUSION, PROOF, LONG, Fate, Accepted, refuse, accept, need, must, unless}
-use Rattle.mw_model.specs.Checking.{no_unless, judged, judged_as, or_else}
-use Rattle.mw_model.specs.Fate.{EventWord, Verify, Define, Skolem, Switch, Eval, Print, DefineAll, SetProfile, event_word, longest, show, show_outcome, eval, is_out_of_range, happens}
-use Rattle.mw_model.specs.Demand.{Wants, demand, proofs_of, each_judged, settled, happens_by_under, happens_under}
-use Rattle.mw_model.specs.Report.{is_accepted}
-use Rattle.mw_model.specs.Subproofs.{proofs_within, each_within}
-use Rattle.mw_model.specs.Slice.{begins_with, without_name, proofs_by_word}
+use Rattle.mw_model.specs.Terms.Object.{Object, Natural, Symbol, Pair, symbol, same_object, second_of, has_members, Member}
+use Rattle.mw_model.specs.Terms.Term.{Formula, formula_object}
+use Rattle.mw_model.specs.Values.Primitive.{Profile}
+use Rattle.mw_model.specs.Values.Definition.{Block, arities}
+use Rattle.mw_model.specs.Values.Truth.{Each}
+use Rattle.mw_model.specs.Proofs.Judgment.{judge}
+use Rattle.mw_model.specs.Events.Evaluation.{Outcome, Value, Steps, Overflow, Witness, evaluate}
+use Rattle.mw_model.specs.Texts.Printing.{text_of}
+use Rattle.mw_model.specs.Events.Theory.{Theory, axioms_of}
+use Rattle.mw_model.specs.Events.Refusal.{Refusal, COUNT, CONCLUSION, PROOF, LONG, Fate, Accepted, refuse, accept, need, must, unless}
+use Rattle.mw_model.specs.Events.Checking.{no_unless, judged, judged_as, or_else}
+use Rattle.mw_model.specs.Events.Fate.{EventWord, Verify, Define, Skolem, Switch, Eval, Print, DefineAll, SetProfile, event_word, longest, show, show_outcome, eval, is_out_of_range, happens}
+use Rattle.mw_model.specs.Commands.Demand.{Wants, demand, proofs_of, each_judged, settled, happens_by_under, happens_under}
+use Rattle.mw_model.specs.Reports.Report.{is_accepted}
+use Rattle.mw_model.specs.Commands.Subproofs.{proofs_within, each_within}
+use Rattle.mw_model.specs.Commands.Slice.{begins_with, without_name, proofs_by_word}
 use Rattle.mw_model.proofs.Judging.{judge_good, good_judge}
 use Rattle.mw_model.proofs.Demands.{as_before}
 use Rattle.mw_model.proofs.Settling.{or_else_none, without_word, accepted_in_range, satisfied}

@@ -1,10 +1,10 @@
 -- The word that an event begins with, and what its members are parts of.
 use Rattle.std.proofs.Common.{◌≡◌, Bool, true, false, cond, List, [], ◌∷◌, Option, Some, None, refl, sym, ap, ◌∙◌, subst}
-use Rattle.mw_model.specs.Object.{Name, Object, Natural, Symbol, Pair, named, symbol, same_name, same_object, NIL, car, cdr, second_of, third_of, fourth_of, fifth_of, sixth_of, has_members, list1}
-use Rattle.mw_model.specs.Truth.{Each}
-use Rattle.mw_model.specs.Fate.{EventWord, Verify, Define, Skolem, Switch, Eval, Print, DefineAll, SetProfile, event_words, event_word_among, member_count, with_members, event_word}
-use Rattle.mw_model.specs.Demand.{proofs_of}
-use Rattle.mw_model.specs.Slice.{without_name}
+use Rattle.mw_model.specs.Terms.Object.{Name, Object, Natural, Symbol, Pair, named, symbol, same_name, same_object, NIL, car, cdr, second_of, third_of, fourth_of, fifth_of, sixth_of, has_members, list1}
+use Rattle.mw_model.specs.Values.Truth.{Each}
+use Rattle.mw_model.specs.Events.Fate.{EventWord, Verify, Define, Skolem, Switch, Eval, Print, DefineAll, SetProfile, event_words, event_word_among, member_count, with_members, event_word}
+use Rattle.mw_model.specs.Commands.Demand.{proofs_of}
+use Rattle.mw_model.specs.Commands.Slice.{without_name}
 use Rattle.mw_model.proofs.Names.{same_name-eq}
 use Rattle.mw_model.proofs.ReadBack.{some_one, when_some}
 use Rattle.mw_model.proofs.Within.{Within, rest_within, within_trans, members_first, members_rest, members_after, end_within, one_member, second_there, third_there, fourth_there, fifth_there}

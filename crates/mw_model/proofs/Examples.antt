@@ -1,8 +1,8 @@
 -- Examples are books whose report is computed from their bytes.
 use Rattle.std.proofs.Common.{ℕ, List, codes}
 use Prim.Native.String.{String}
-use Rattle.mw_model.specs.BuiltInText.{joined}
-use Rattle.mw_model.specs.Report.{Report, report, Status}
+use Rattle.mw_model.specs.Laws.BuiltInText.{joined}
+use Rattle.mw_model.specs.Reports.Report.{Report, report, Status}
 
 -- the report where the step limit does not matter, and within a limit
 abbrev pub check : String → Report

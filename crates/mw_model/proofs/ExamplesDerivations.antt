@@ -1,16 +1,16 @@
 -- Derivations: what is owed for books of them. The proofs in the texts are some of many.
 use Rattle.std.proofs.Common.{◌≡◌, ℕ, true, List, [], ◌∷◌, ◌++◌, map, refl, codes}
 use Prim.Native.String.{String}
-use Rattle.mw_model.specs.Object.{Object}
-use Rattle.mw_model.specs.Refusal.{need, must, unless}
-use Rattle.mw_model.specs.BuiltInText.{joined}
-use Rattle.mw_model.specs.Lexemes.{DOT}
-use Rattle.mw_model.specs.Grammar.{Book, trees}
-use Rattle.mw_model.specs.Fate.{event_word}
-use Rattle.mw_model.specs.Report.{Status, Done, SomeRefused, Syntax}
-use Rattle.mw_model.specs.Pieces.{comment_ending}
-use Rattle.mw_model.specs.Slice.{proofs_by_word}
-use Rattle.mw_model.specs.Lowering.{derived_course, course_summary, LoweredWritten, lowering_status}
+use Rattle.mw_model.specs.Terms.Object.{Object}
+use Rattle.mw_model.specs.Events.Refusal.{need, must, unless}
+use Rattle.mw_model.specs.Laws.BuiltInText.{joined}
+use Rattle.mw_model.specs.Texts.Lexemes.{DOT}
+use Rattle.mw_model.specs.Texts.Grammar.{Book, trees}
+use Rattle.mw_model.specs.Events.Fate.{event_word}
+use Rattle.mw_model.specs.Reports.Report.{Status, Done, SomeRefused, Syntax}
+use Rattle.mw_model.specs.Texts.Pieces.{comment_ending}
+use Rattle.mw_model.specs.Commands.Slice.{proofs_by_word}
+use Rattle.mw_model.specs.Commands.Lowering.{derived_course, course_summary, LoweredWritten, lowering_status}
 use Rattle.mw_model.proofs.TurnsTest.{pieces, are_right, right}
 
 -- what may be written for the book, and the status

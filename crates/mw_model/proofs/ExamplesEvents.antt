@@ -1,7 +1,7 @@
 -- The shape of events, and the report on them.
 use Rattle.std.proofs.Common.{◌≡◌, [], ◌∷◌, refl}
-use Rattle.mw_model.specs.Refusal.{need, must, unless}
-use Rattle.mw_model.specs.Report.{Done, SomeRefused}
+use Rattle.mw_model.specs.Events.Refusal.{need, must, unless}
+use Rattle.mw_model.specs.Reports.Report.{Done, SomeRefused}
 use Rattle.mw_model.proofs.Examples.{check, says}
 
 empty_book_has_no_event : check "" ≡ says ("events 0 accepted 0 refused 0 level 1" ∷ []) Done

@@ -1,14 +1,14 @@
 -- Logs of books: what is owed where a book is turned to one.
 use Rattle.std.proofs.Common.{◌≡◌, ℕ, List, [], ◌∷◌, ◌++◌, refl}
 use Prim.Native.String.{String}
-use Rattle.mw_model.specs.Refusal.{need, must, unless}
-use Rattle.mw_model.specs.BuiltInText.{joined}
-use Rattle.mw_model.specs.Lexemes.{TOKEN}
-use Rattle.mw_model.specs.Grammar.{Book, trees}
-use Rattle.mw_model.specs.Report.{Status, Done, SomeRefused, Syntax}
-use Rattle.mw_model.specs.Pieces.{comment_ending}
-use Rattle.mw_model.specs.LogReport.{log_report}
-use Rattle.mw_model.specs.Flattening.{plain_course, flat_events, flat_summary, FlatWritten, flattening_status}
+use Rattle.mw_model.specs.Events.Refusal.{need, must, unless}
+use Rattle.mw_model.specs.Laws.BuiltInText.{joined}
+use Rattle.mw_model.specs.Texts.Lexemes.{TOKEN}
+use Rattle.mw_model.specs.Texts.Grammar.{Book, trees}
+use Rattle.mw_model.specs.Reports.Report.{Status, Done, SomeRefused, Syntax}
+use Rattle.mw_model.specs.Texts.Pieces.{comment_ending}
+use Rattle.mw_model.specs.Commands.LogReport.{log_report}
+use Rattle.mw_model.specs.Commands.Flattening.{plain_course, flat_events, flat_summary, FlatWritten, flattening_status}
 use Rattle.mw_model.proofs.Examples.{says}
 use Rattle.mw_model.proofs.FlatData.{joined_by, flat_text, flat_owed}
 

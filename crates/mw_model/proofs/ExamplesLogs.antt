@@ -1,11 +1,11 @@
 -- Logs: their reports are computed from their bytes.
 use Rattle.std.proofs.Common.{◌≡◌, [], ◌∷◌, refl, codes}
 use Prim.Native.String.{String}
-use Rattle.mw_model.specs.Refusal.{need, must, unless}
-use Rattle.mw_model.specs.BuiltInText.{joined}
-use Rattle.mw_model.specs.Lexemes.{CLOSE}
-use Rattle.mw_model.specs.Report.{Report, Done, SomeRefused, Syntax}
-use Rattle.mw_model.specs.LogReport.{log_report}
+use Rattle.mw_model.specs.Events.Refusal.{need, must, unless}
+use Rattle.mw_model.specs.Laws.BuiltInText.{joined}
+use Rattle.mw_model.specs.Texts.Lexemes.{CLOSE}
+use Rattle.mw_model.specs.Reports.Report.{Report, Done, SomeRefused, Syntax}
+use Rattle.mw_model.specs.Commands.LogReport.{log_report}
 use Rattle.mw_model.proofs.Examples.{says}
 
 abbrev pub recheck : String → Report

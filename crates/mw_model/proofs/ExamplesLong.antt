@@ -1,8 +1,8 @@
 -- Long proofs: an induction, and the claim of a checker that calls the built-in one.
 use Rattle.std.proofs.Common.{◌≡◌, ℕ, List, [], ◌∷◌, refl}
-use Rattle.mw_model.specs.BuiltInText.{joined}
-use Rattle.mw_model.specs.Refusal.{need, must, unless}
-use Rattle.mw_model.specs.Report.{report, Done, SomeRefused}
+use Rattle.mw_model.specs.Laws.BuiltInText.{joined}
+use Rattle.mw_model.specs.Events.Refusal.{need, must, unless}
+use Rattle.mw_model.specs.Reports.Report.{report, Done, SomeRefused}
 use Rattle.mw_model.proofs.Examples.{says}
 
 abbrev induction_book : List ℕ

@@ -1,18 +1,18 @@
 -- Obligations, and recursive definitions where the obligations are theorems already.
 use Rattle.std.proofs.Common.{◌≡◌, List, [], ◌∷◌, refl, map, codes}
 use Prim.Native.String.{String}
-use Rattle.mw_model.specs.Object.{Object, Pair, named, NIL, T}
-use Rattle.mw_model.specs.Term.{Constant, If, formula_object}
-use Rattle.mw_model.specs.Primitive.{One}
-use Rattle.mw_model.specs.Definition.{Function}
-use Rattle.mw_model.specs.Obligation.{obligations}
-use Rattle.mw_model.specs.Writing.{call, var}
-use Rattle.mw_model.specs.BuiltInText.{joined}
-use Rattle.mw_model.specs.Theory.{Theory, initial}
-use Rattle.mw_model.specs.Lexemes.{Ends}
-use Rattle.mw_model.specs.Grammar.{reading}
-use Rattle.mw_model.specs.Refusal.{need, must, unless}
-use Rattle.mw_model.specs.Report.{lines}
+use Rattle.mw_model.specs.Terms.Object.{Object, Pair, named, NIL, T}
+use Rattle.mw_model.specs.Terms.Term.{Constant, If, formula_object}
+use Rattle.mw_model.specs.Values.Primitive.{One}
+use Rattle.mw_model.specs.Values.Definition.{Function}
+use Rattle.mw_model.specs.Events.Obligation.{obligations}
+use Rattle.mw_model.specs.Events.Writing.{call, var}
+use Rattle.mw_model.specs.Laws.BuiltInText.{joined}
+use Rattle.mw_model.specs.Events.Theory.{Theory, initial}
+use Rattle.mw_model.specs.Texts.Lexemes.{Ends}
+use Rattle.mw_model.specs.Texts.Grammar.{reading}
+use Rattle.mw_model.specs.Events.Refusal.{need, must, unless}
+use Rattle.mw_model.specs.Reports.Report.{lines}
 
 abbrev data_in : String → List Object
 data_in text = (reading Ends (codes text)).events

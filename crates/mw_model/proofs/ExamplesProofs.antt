@@ -1,7 +1,7 @@
 -- Proofs that are accepted and proofs that are refused.
 use Rattle.std.proofs.Common.{◌≡◌, [], ◌∷◌, refl}
-use Rattle.mw_model.specs.Refusal.{need, must, unless}
-use Rattle.mw_model.specs.Report.{Done, SomeRefused}
+use Rattle.mw_model.specs.Events.Refusal.{need, must, unless}
+use Rattle.mw_model.specs.Reports.Report.{Done, SomeRefused}
 use Rattle.mw_model.proofs.Examples.{check, check_lines, says}
 
 verify_by_an_axiom_is_accepted : check "(verify refl (pequal* x x) (axiom (pequal* x x)))" ≡ says ("1 VERIFY REFL accepted" ∷ "events 1 accepted 1 refused 0 level 1" ∷ []) Done

@@ -1,16 +1,16 @@
 -- Slices: what is owed for the book and the name.
 use Rattle.std.proofs.Common.{◌≡◌, ℕ, true, List, [], ◌∷◌, ◌++◌, length, map, Option, Some, None, refl, subst, codes}
 use Prim.Native.String.{String}
-use Rattle.mw_model.specs.Object.{Name, Object, named}
-use Rattle.mw_model.specs.Refusal.{need, must, unless}
-use Rattle.mw_model.specs.BuiltInText.{joined}
-use Rattle.mw_model.specs.Lexemes.{Fault, CLOSE}
-use Rattle.mw_model.specs.Grammar.{Book, trees}
-use Rattle.mw_model.specs.Printing.{text_lines}
-use Rattle.mw_model.specs.Report.{Status, Done, SomeRefused, Syntax, spaced}
-use Rattle.mw_model.specs.Pieces.{comment}
-use Rattle.mw_model.specs.Slice.{event_at, target, IsSlice}
-use Rattle.mw_model.specs.Slicing.{accepted_events, of_events, SliceOwed, SliceWritten, slicing_status}
+use Rattle.mw_model.specs.Terms.Object.{Name, Object, named}
+use Rattle.mw_model.specs.Events.Refusal.{need, must, unless}
+use Rattle.mw_model.specs.Laws.BuiltInText.{joined}
+use Rattle.mw_model.specs.Texts.Lexemes.{Fault, CLOSE}
+use Rattle.mw_model.specs.Texts.Grammar.{Book, trees}
+use Rattle.mw_model.specs.Texts.Printing.{text_lines}
+use Rattle.mw_model.specs.Reports.Report.{Status, Done, SomeRefused, Syntax, spaced}
+use Rattle.mw_model.specs.Texts.Pieces.{comment}
+use Rattle.mw_model.specs.Commands.Slice.{event_at, target, IsSlice}
+use Rattle.mw_model.specs.Commands.Slicing.{accepted_events, of_events, SliceOwed, SliceWritten, slicing_status}
 use Rattle.mw_model.proofs.SlicePlaces.{slice_places, slice_exists}
 use Rattle.mw_model.proofs.WrittenData.{are_short, short_lines}
 

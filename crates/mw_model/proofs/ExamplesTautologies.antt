@@ -1,15 +1,15 @@
 -- Tautologies: what is owed for books of formulas.
 use Rattle.std.proofs.Common.{◌≡◌, ℕ, List, [], ◌∷◌, ◌++◌, refl, codes}
 use Prim.Native.String.{String}
-use Rattle.mw_model.specs.Object.{Object, NIL}
-use Rattle.mw_model.specs.Term.{Formula, Equal, Not, Or}
-use Rattle.mw_model.specs.Primitive.{One}
-use Rattle.mw_model.specs.BuiltInText.{joined}
-use Rattle.mw_model.specs.Writing.{var}
-use Rattle.mw_model.specs.Grammar.{trees}
-use Rattle.mw_model.specs.Lexemes.{CLOSE}
-use Rattle.mw_model.specs.Report.{Status, Done, SomeRefused, Syntax}
-use Rattle.mw_model.specs.TautologyBook.{TautologiesWritten, tautology_status, initial_arities, IsPureProof}
+use Rattle.mw_model.specs.Terms.Object.{Object, NIL}
+use Rattle.mw_model.specs.Terms.Term.{Formula, Equal, Not, Or}
+use Rattle.mw_model.specs.Values.Primitive.{One}
+use Rattle.mw_model.specs.Laws.BuiltInText.{joined}
+use Rattle.mw_model.specs.Events.Writing.{var}
+use Rattle.mw_model.specs.Texts.Grammar.{trees}
+use Rattle.mw_model.specs.Texts.Lexemes.{CLOSE}
+use Rattle.mw_model.specs.Reports.Report.{Status, Done, SomeRefused, Syntax}
+use Rattle.mw_model.specs.Commands.TautologyBook.{TautologiesWritten, tautology_status, initial_arities, IsPureProof}
 use Rattle.mw_model.proofs.Judging.{judge_good}
 
 -- what may be written for the book, and the status

@@ -3,7 +3,7 @@ use Rattle.std.proofs.Common.{◌≡◌, ℕ, zero, suc, ◌≤◌, ◌<◌, Boo
 use Rattle.std.specs.List.{Contains}
 use Rattle.std.proofs.lemmas.List.Elements.{Contains-append_left, Contains-append_right, Contains-append_cases, Contains-push, Contains-push_cases}
 use Rattle.std.proofs.lemmas.Bool.{cases_order}
-use Rattle.mw_model.specs.Object.{Object, Natural, Symbol, Pair, name_of_bytes, bytes_weight, weight, is_before_bytes, is_before, by_weight, same_object}
+use Rattle.mw_model.specs.Terms.Object.{Object, Natural, Symbol, Pair, name_of_bytes, bytes_weight, weight, is_before_bytes, is_before, by_weight, same_object}
 use Rattle.mw_model.proofs.Order.{lex_cases}
 use Rattle.mw_model.proofs.Lexing.{name_of_bytes-bytes}
 

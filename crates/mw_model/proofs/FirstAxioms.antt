@@ -1,17 +1,17 @@
 -- The first two axioms are among the axioms of each theory of a course, whoever judges the proofs.
 use Rattle.std.proofs.Common.{ℕ, suc, List, [], ◌∷◌, Some}
-use Rattle.mw_model.specs.Object.{Name, Object, Pair, NIL, Member, first, later}
-use Rattle.mw_model.specs.Term.{Formula, formula_object}
-use Rattle.mw_model.specs.Primitive.{Profile, Two}
-use Rattle.mw_model.specs.Definition.{Block, block_axioms}
-use Rattle.mw_model.specs.Truth.{Each}
-use Rattle.mw_model.specs.Axioms.{axiom_1, axiom_2, primitive_axioms}
-use Rattle.mw_model.specs.BuiltIn.{built_in}
-use Rattle.mw_model.specs.Theory.{Theory, add_formulas, axioms_of, initial}
-use Rattle.mw_model.specs.Admission.{add_to_theory}
-use Rattle.mw_model.specs.Fate.{EventWord, Verify, Define, Skolem, Switch, Eval, Print, DefineAll, SetProfile}
-use Rattle.mw_model.specs.Demand.{Demand, Denied, Wants, demand, proofs_of, Judge, settled, happens_by_under, happens_under}
-use Rattle.mw_model.specs.Transition.{course_from, last_theory_from}
+use Rattle.mw_model.specs.Terms.Object.{Name, Object, Pair, NIL, Member, first, later}
+use Rattle.mw_model.specs.Terms.Term.{Formula, formula_object}
+use Rattle.mw_model.specs.Values.Primitive.{Profile, Two}
+use Rattle.mw_model.specs.Values.Definition.{Block, block_axioms}
+use Rattle.mw_model.specs.Values.Truth.{Each}
+use Rattle.mw_model.specs.Proofs.Axioms.{axiom_1, axiom_2, primitive_axioms}
+use Rattle.mw_model.specs.BuiltIns.BuiltIn.{built_in}
+use Rattle.mw_model.specs.Events.Theory.{Theory, add_formulas, axioms_of, initial}
+use Rattle.mw_model.specs.Events.Admission.{add_to_theory}
+use Rattle.mw_model.specs.Events.Fate.{EventWord, Verify, Define, Skolem, Switch, Eval, Print, DefineAll, SetProfile}
+use Rattle.mw_model.specs.Commands.Demand.{Demand, Denied, Wants, demand, proofs_of, Judge, settled, happens_by_under, happens_under}
+use Rattle.mw_model.specs.Commands.Transition.{course_from, last_theory_from}
 use Rattle.mw_model.proofs.Leading.{Asks, Leads, refuse_leads, accept_leads, need_leads, must_leads, unless_leads, eval_leads, print_leads, asks}
 
 -- the axioms of equality

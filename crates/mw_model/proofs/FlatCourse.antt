@@ -1,20 +1,20 @@
 -- The data of a log that a course was turned to, one event after another: each event gets a yes, and the theories are those of the course.
 use Rattle.std.proofs.Common.{◌≡◌, ℕ, suc, ◌+◌, ◌<◌, Bool, true, false, ◌&&◌, cond, List, [], ◌∷◌, ◌++◌, length, map, filter, Option, Some, None, refl, sym, ap, ◌∙◌, subst, append_assoc, append-nil}
 use Rattle.std.proofs.lemmas.Bool.{and_parts}
-use Rattle.mw_model.specs.Object.{Object}
-use Rattle.mw_model.specs.Truth.{Each}
-use Rattle.mw_model.specs.Evaluation.{range}
-use Rattle.mw_model.specs.Theory.{Theory}
-use Rattle.mw_model.specs.Report.{is_accepted}
-use Rattle.mw_model.specs.Fate.{EventWord, event_word, happens}
-use Rattle.mw_model.specs.Pieces.{numbered}
-use Rattle.mw_model.specs.Transition.{Transition, course_from, last_theory_from, is_acceptance}
-use Rattle.mw_model.specs.Subproofs.{distinct_proofs}
-use Rattle.mw_model.specs.Slice.{proofs_by_word}
-use Rattle.mw_model.specs.Demand.{proofs_of, with_proofs}
-use Rattle.mw_model.specs.Log.{Yes, logged, is_step}
-use Rattle.mw_model.specs.LogReport.{Log, with_event, log_from, theory_after, denied}
-use Rattle.mw_model.specs.Flattening.{numbers_among, step_datum, flat_event_by, flat_event, is_switch, before_switch, is_logged_word, flat_events}
+use Rattle.mw_model.specs.Terms.Object.{Object}
+use Rattle.mw_model.specs.Values.Truth.{Each}
+use Rattle.mw_model.specs.Events.Evaluation.{range}
+use Rattle.mw_model.specs.Events.Theory.{Theory}
+use Rattle.mw_model.specs.Reports.Report.{is_accepted}
+use Rattle.mw_model.specs.Events.Fate.{EventWord, event_word, happens}
+use Rattle.mw_model.specs.Texts.Pieces.{numbered}
+use Rattle.mw_model.specs.Commands.Transition.{Transition, course_from, last_theory_from, is_acceptance}
+use Rattle.mw_model.specs.Commands.Subproofs.{distinct_proofs}
+use Rattle.mw_model.specs.Commands.Slice.{proofs_by_word}
+use Rattle.mw_model.specs.Commands.Demand.{proofs_of, with_proofs}
+use Rattle.mw_model.specs.Commands.Log.{Yes, logged, is_step}
+use Rattle.mw_model.specs.Commands.LogReport.{Log, with_event, log_from, theory_after, denied}
+use Rattle.mw_model.specs.Commands.Flattening.{numbers_among, step_datum, flat_event_by, flat_event, is_switch, before_switch, is_logged_word, flat_events}
 use Rattle.mw_model.proofs.LogAccepted.{same_word}
 use Rattle.mw_model.proofs.FlatData.{steps_of_event}
 use Rattle.mw_model.proofs.FlatRead.{steps_data, flat_data}

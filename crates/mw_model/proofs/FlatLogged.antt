@@ -1,26 +1,26 @@
 -- The steps of an accepted event, and the event with their numbers, get a yes and lead to the same theory.
 use Rattle.std.proofs.Common.{◌≡◌, ℕ, suc, ◌+◌, ◌<◌, ◌≤◌, Bool, true, false, ◌&&◌, ◌||◌, not, cond, eqb, List, [], ◌∷◌, ◌++◌, length, map, filter, Option, Some, None, ◌⊎◌, inl, inr, refl, sym, ap, ap₂, ◌∙◌, subst, arith, append_assoc, append-nil, length-append}
 use Rattle.std.proofs.lemmas.Bool.{true≢false, and_parts, and_from, or_cases, or_left, or_right, not-true, lt-ltb, eq-eqb}
-use Rattle.mw_model.specs.Object.{Object, Natural, Symbol, Pair, symbol, same_object, NIL, car, second_of, third_of, fourth_of, has_members, list1, list2, list3, list4}
-use Rattle.mw_model.specs.Term.{Formula, formula_object, ArityTable, is_formula, firsts}
-use Rattle.mw_model.specs.Reading.{formula_of, when, and_more}
-use Rattle.mw_model.specs.Primitive.{Profile}
-use Rattle.mw_model.specs.Definition.{arity_table, is_present}
-use Rattle.mw_model.specs.Truth.{Each}
-use Rattle.mw_model.specs.Evaluation.{range}
-use Rattle.mw_model.specs.Proof.{HasMembers, two, three, four, method_name, Proves, proof, ProveEach, no_proofs, more_proofs}
-use Rattle.mw_model.specs.Judgment.{methods, method_among, follows, judge, judge_step}
-use Rattle.mw_model.specs.Theory.{Theory}
-use Rattle.mw_model.specs.Refusal.{Refusal, RANGE, EVENT, COUNT, CONCLUSION, PROOF, Fate, Accepted, Refused, refuse, accept, need, must, unless}
-use Rattle.mw_model.specs.Checking.{no_unless, judged_by, judged_as, or_else}
-use Rattle.mw_model.specs.Admission.{Draft, some_drafts}
-use Rattle.mw_model.specs.Fate.{EventWord, Verify, Define, Skolem, Switch, Eval, Print, DefineAll, SetProfile, event_word, is_out_of_range, happens}
-use Rattle.mw_model.specs.Demand.{Demand, Denied, Wants, wants_some, define_demand, demand, proofs_of, with_proofs, each_judged, settled, happens_by_under}
-use Rattle.mw_model.specs.Subproofs.{proofs_within, each_within, distinct_proofs}
-use Rattle.mw_model.specs.Slice.{some_passes}
-use Rattle.mw_model.specs.Pieces.{numbered}
-use Rattle.mw_model.specs.Log.{naturals_of, formula_numbered, formulas_numbered, formulas_at, conclusion, and_conclusions, conclusions_after, conclusions, Yes, Entry, numbers_of, entry_with, entry_by, entry_of, is_that_formula, are_concluded, answer_to_goal, answer_to_demand, answer_to_steps, answer_to_entry, logged}
-use Rattle.mw_model.specs.Flattening.{number_among, numbers_among, step_datum, flat_event_by, flat_event, is_logged_word}
+use Rattle.mw_model.specs.Terms.Object.{Object, Natural, Symbol, Pair, symbol, same_object, NIL, car, second_of, third_of, fourth_of, has_members, list1, list2, list3, list4}
+use Rattle.mw_model.specs.Terms.Term.{Formula, formula_object, ArityTable, is_formula, firsts}
+use Rattle.mw_model.specs.Terms.Reading.{formula_of, when, and_more}
+use Rattle.mw_model.specs.Values.Primitive.{Profile}
+use Rattle.mw_model.specs.Values.Definition.{arity_table, is_present}
+use Rattle.mw_model.specs.Values.Truth.{Each}
+use Rattle.mw_model.specs.Events.Evaluation.{range}
+use Rattle.mw_model.specs.Proofs.Proof.{HasMembers, two, three, four, method_name, Proves, proof, ProveEach, no_proofs, more_proofs}
+use Rattle.mw_model.specs.Proofs.Judgment.{methods, method_among, follows, judge, judge_step}
+use Rattle.mw_model.specs.Events.Theory.{Theory}
+use Rattle.mw_model.specs.Events.Refusal.{Refusal, RANGE, EVENT, COUNT, CONCLUSION, PROOF, Fate, Accepted, Refused, refuse, accept, need, must, unless}
+use Rattle.mw_model.specs.Events.Checking.{no_unless, judged_by, judged_as, or_else}
+use Rattle.mw_model.specs.Events.Admission.{Draft, some_drafts}
+use Rattle.mw_model.specs.Events.Fate.{EventWord, Verify, Define, Skolem, Switch, Eval, Print, DefineAll, SetProfile, event_word, is_out_of_range, happens}
+use Rattle.mw_model.specs.Commands.Demand.{Demand, Denied, Wants, wants_some, define_demand, demand, proofs_of, with_proofs, each_judged, settled, happens_by_under}
+use Rattle.mw_model.specs.Commands.Subproofs.{proofs_within, each_within, distinct_proofs}
+use Rattle.mw_model.specs.Commands.Slice.{some_passes}
+use Rattle.mw_model.specs.Texts.Pieces.{numbered}
+use Rattle.mw_model.specs.Commands.Log.{naturals_of, formula_numbered, formulas_numbered, formulas_at, conclusion, and_conclusions, conclusions_after, conclusions, Yes, Entry, numbers_of, entry_with, entry_by, entry_of, is_that_formula, are_concluded, answer_to_goal, answer_to_demand, answer_to_steps, answer_to_entry, logged}
+use Rattle.mw_model.specs.Commands.Flattening.{number_among, numbers_among, step_datum, flat_event_by, flat_event, is_logged_word}
 use Rattle.mw_model.proofs.Names.{same_object-eq, same_object-refl}
 use Rattle.mw_model.proofs.SameTerms.{same_formula-refl}
 use Rattle.mw_model.proofs.Read.{formula_read}

@@ -1,16 +1,16 @@
 -- What an event comes to before the first switch: it is as a log takes it, or leaves the theory.
 use Rattle.std.proofs.Common.{◌≡◌, ℕ, Bool, true, false, ◌&&◌, cond, Option, Some, None, refl, sym, ap, ◌∙◌, subst}
 use Rattle.std.proofs.lemmas.Bool.{true≢false, false_from_ne_true}
-use Rattle.mw_model.specs.Object.{Name, Object, Natural, Symbol, Pair, named, same_name, has_members}
-use Rattle.mw_model.specs.Theory.{Theory}
-use Rattle.mw_model.specs.Refusal.{COUNT, Fate, Accepted, Refused, accept, must, unless}
-use Rattle.mw_model.specs.Checking.{judged_as}
-use Rattle.mw_model.specs.Report.{is_accepted}
-use Rattle.mw_model.specs.Fate.{EventWord, Verify, Define, Skolem, Switch, Eval, Print, DefineAll, SetProfile, event_words, event_word_among, member_count, with_members, event_word, is_out_of_range, happens}
-use Rattle.mw_model.specs.Demand.{Demand, demand, proofs_of, each_judged, settled}
-use Rattle.mw_model.specs.Slice.{begins_with}
-use Rattle.mw_model.specs.Log.{is_step}
-use Rattle.mw_model.specs.Flattening.{is_logged_word}
+use Rattle.mw_model.specs.Terms.Object.{Name, Object, Natural, Symbol, Pair, named, same_name, has_members}
+use Rattle.mw_model.specs.Events.Theory.{Theory}
+use Rattle.mw_model.specs.Events.Refusal.{COUNT, Fate, Accepted, Refused, accept, must, unless}
+use Rattle.mw_model.specs.Events.Checking.{judged_as}
+use Rattle.mw_model.specs.Reports.Report.{is_accepted}
+use Rattle.mw_model.specs.Events.Fate.{EventWord, Verify, Define, Skolem, Switch, Eval, Print, DefineAll, SetProfile, event_words, event_word_among, member_count, with_members, event_word, is_out_of_range, happens}
+use Rattle.mw_model.specs.Commands.Demand.{Demand, demand, proofs_of, each_judged, settled}
+use Rattle.mw_model.specs.Commands.Slice.{begins_with}
+use Rattle.mw_model.specs.Commands.Log.{is_step}
+use Rattle.mw_model.specs.Commands.Flattening.{is_logged_word}
 use Rattle.mw_model.proofs.Names.{same_name-eq, same_name-from}
 use Rattle.mw_model.proofs.ReadBack.{when_some}
 use Rattle.mw_model.proofs.Demands.{as_before}

@@ -1,9 +1,9 @@
 -- What is owed for events that are turned to a log is read as the steps of each, and then the event; no event has more steps than bytes.
 use Rattle.std.proofs.Common.{◌≡◌, ℕ, suc, ◌+◌, ◌≤◌, ◌<◌, List, [], ◌∷◌, ◌++◌, length, map, refl, sym, ap, ◌∙◌, subst, arith, append_assoc, length-append}
-use Rattle.mw_model.specs.Object.{Object}
-use Rattle.mw_model.specs.Truth.{Each}
-use Rattle.mw_model.specs.Pieces.{InOrder, numbered}
-use Rattle.mw_model.specs.Flattening.{step_datum, IsStepLine, flat_event, OwesFlat}
+use Rattle.mw_model.specs.Terms.Object.{Object}
+use Rattle.mw_model.specs.Values.Truth.{Each}
+use Rattle.mw_model.specs.Texts.Pieces.{InOrder, numbered}
+use Rattle.mw_model.specs.Commands.Flattening.{step_datum, IsStepLine, flat_event, OwesFlat}
 use Rattle.mw_model.proofs.WrittenRead.{datum_line_read}
 use Rattle.mw_model.proofs.StepLines.{Reads, steps_are_read}
 use Rattle.mw_model.proofs.FlatData.{steps_of_event}

@@ -1,16 +1,16 @@
 -- What is owed for a book that is turned to a log is read as a log whose events each get a yes.
 use Rattle.std.proofs.Common.{◌≡◌, ℕ, ◌≤◌, ◌<◌, true, List, [], length, map, None, codes, refl, sym, ap, ◌∙◌, subst, arith, length-append}
-use Rattle.mw_model.specs.Primitive.{One}
-use Rattle.mw_model.specs.Evaluation.{range}
-use Rattle.mw_model.specs.Theory.{initial}
-use Rattle.mw_model.specs.Grammar.{Book, book, limit, trees}
-use Rattle.mw_model.specs.Printing.{numeral}
-use Rattle.mw_model.specs.Report.{spaced}
-use Rattle.mw_model.specs.Pieces.{comment_ending}
-use Rattle.mw_model.specs.Transition.{Transition, last_theory_from}
-use Rattle.mw_model.specs.LogReport.{log_from}
-use Rattle.mw_model.specs.Flattening.{flat_event, before_switch, plain_course, flat_events, flat_summary, FlatWritten}
-use Rattle.mw_model.specs.Headlines.{LogAccepted}
+use Rattle.mw_model.specs.Values.Primitive.{One}
+use Rattle.mw_model.specs.Events.Evaluation.{range}
+use Rattle.mw_model.specs.Events.Theory.{initial}
+use Rattle.mw_model.specs.Texts.Grammar.{Book, book, limit, trees}
+use Rattle.mw_model.specs.Texts.Printing.{numeral}
+use Rattle.mw_model.specs.Reports.Report.{spaced}
+use Rattle.mw_model.specs.Texts.Pieces.{comment_ending}
+use Rattle.mw_model.specs.Commands.Transition.{Transition, last_theory_from}
+use Rattle.mw_model.specs.Commands.LogReport.{log_from}
+use Rattle.mw_model.specs.Commands.Flattening.{flat_event, before_switch, plain_course, flat_events, flat_summary, FlatWritten}
+use Rattle.mw_model.specs.Reports.Headlines.{LogAccepted}
 use Rattle.mw_model.proofs.LexingLines.{no_newline}
 use Rattle.mw_model.proofs.OneLine.{spaced_line, numeral_line}
 use Rattle.mw_model.proofs.Comments.{ending_reads}

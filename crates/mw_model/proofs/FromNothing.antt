@@ -1,9 +1,9 @@
 -- A proof that uses no axiom and no theorem is a proof whatever the axioms and the theorems are.
 use Rattle.std.proofs.Common.{List}
-use Rattle.mw_model.specs.Object.{Object, NIL, Member}
-use Rattle.mw_model.specs.Term.{Formula, ArityTable}
-use Rattle.mw_model.specs.Primitive.{Profile}
-use Rattle.mw_model.specs.Proof.{Method, Follows, by_axiom, by_theorem, by_schema, by_equality, by_if_equality, by_beta, by_base, by_base_if, by_expansion, by_contraction, by_associativity, by_cut, by_instantiation, by_induction, Proves, proof, ProveEach, no_proofs, more_proofs}
+use Rattle.mw_model.specs.Terms.Object.{Object, NIL, Member}
+use Rattle.mw_model.specs.Terms.Term.{Formula, ArityTable}
+use Rattle.mw_model.specs.Values.Primitive.{Profile}
+use Rattle.mw_model.specs.Proofs.Proof.{Method, Follows, by_axiom, by_theorem, by_schema, by_equality, by_if_equality, by_beta, by_base, by_base_if, by_expansion, by_contraction, by_associativity, by_cut, by_instantiation, by_induction, Proves, proof, ProveEach, no_proofs, more_proofs}
 
 pub no_member : (x : Object) → Member x NIL → ⊥
 no_member x h = elim h [ ]

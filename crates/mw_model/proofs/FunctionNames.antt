@@ -1,10 +1,10 @@
 -- A name in the arity table of well-made definitions is a function name.
 use Rattle.std.proofs.Common.{◌≡◌, ℕ, Bool, true, false, ◌&&◌, cond, List, [], ◌∷◌, length, Some, refl, subst}
 use Rattle.std.proofs.lemmas.Bool.{and_parts, and_from}
-use Rattle.mw_model.specs.Object.{Name, same_name}
-use Rattle.mw_model.specs.Term.{ArityTable, arity_of, is_function_name}
-use Rattle.mw_model.specs.Primitive.{Profile, One, Two, primitive_arities}
-use Rattle.mw_model.specs.Definition.{Function, Block, Functions, Choice, function_named, add_functions, arities, is_absent, is_new, are_new, are_blocks}
+use Rattle.mw_model.specs.Terms.Object.{Name, same_name}
+use Rattle.mw_model.specs.Terms.Term.{ArityTable, arity_of, is_function_name}
+use Rattle.mw_model.specs.Values.Primitive.{Profile, One, Two, primitive_arities}
+use Rattle.mw_model.specs.Values.Definition.{Function, Block, Functions, Choice, function_named, add_functions, arities, is_absent, is_new, are_new, are_blocks}
 use Rattle.mw_model.proofs.Names.{same_name-eq}
 use Rattle.mw_model.proofs.Older.{functions_new, choice_new}
 

@@ -1,10 +1,10 @@
 -- What a block puts in front of an arity table, and its axioms in front of a list.
 use Rattle.std.proofs.Common.{◌≡◌, Bool, true, false, cond, List, [], ◌∷◌, length, Option, Some, None, ◌⊎◌, inl, inr, refl, sym, ap, ◌∙◌}
-use Rattle.mw_model.specs.Object.{Name, Object, Pair, same_name, Member, first, later}
-use Rattle.mw_model.specs.Term.{Formula, ArityTable, arity_of, formula_object}
-use Rattle.mw_model.specs.Definition.{Function, Block, Functions, Choice, function_named, is_present, add_functions, add_block}
-use Rattle.mw_model.specs.Truth.{Each}
-use Rattle.mw_model.specs.Theory.{add_formulas}
+use Rattle.mw_model.specs.Terms.Object.{Name, Object, Pair, same_name, Member, first, later}
+use Rattle.mw_model.specs.Terms.Term.{Formula, ArityTable, arity_of, formula_object}
+use Rattle.mw_model.specs.Values.Definition.{Function, Block, Functions, Choice, function_named, is_present, add_functions, add_block}
+use Rattle.mw_model.specs.Values.Truth.{Each}
+use Rattle.mw_model.specs.Events.Theory.{add_formulas}
 use Rattle.mw_model.proofs.Older.{add_keeps}
 use Rattle.mw_model.proofs.BlockNames.{is_named}
 

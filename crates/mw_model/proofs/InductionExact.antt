@@ -3,16 +3,16 @@
 use Rattle.std.proofs.Common.{◌≡◌, ◌+◌, true, false, ◌&&◌, eqb, eqb-true, eq-eqb, List, [], ◌∷◌, Option, Some, None, refl, sym, ap, ap₂, ◌∙◌, subst, arith}
 use Rattle.std.proofs.lemmas.Bool.{and_parts, and_from}
 use Rattle.std.specs.Cmp.{both_ways as same_test}
-use Rattle.mw_model.specs.Object.{Object, Natural, Symbol, Pair, symbol, same_object, NIL, car, cdr, second_of, third_of, has_members, list2, list3, Member, first, later}
-use Rattle.mw_model.specs.Term.{Term, Variable, Constant, If, Call, Lambda, NoTerms, More, Formula, Equal, Not, Or, term_object, formula_object, ArityTable, is_term, is_formula, IsTerm, IsFormula}
-use Rattle.mw_model.specs.Primitive.{One}
-use Rattle.mw_model.specs.Substitution.{Substitution, substitution_object, substitution_of, is_substitution}
-use Rattle.mw_model.specs.Truth.{Each}
-use Rattle.mw_model.specs.Induction.{Case, premises, conditions_object, substitutions_object, cases_object, are_substitutions, are_cases}
-use Rattle.mw_model.specs.Proof.{Induction, Follows, by_induction}
-use Rattle.mw_model.specs.Judgment.{is_induction}
-use Rattle.mw_model.specs.Rules.{is_substitution_object}
-use Rattle.mw_model.specs.RulesInduction.{formulas_object, is_list_object, length_object, are_substitution_objects, are_case_objects, disjunction_object, steps_object, ordinal_object, all_falls_object, premises_object, object_is_induction_by, object_is_induction}
+use Rattle.mw_model.specs.Terms.Object.{Object, Natural, Symbol, Pair, symbol, same_object, NIL, car, cdr, second_of, third_of, has_members, list2, list3, Member, first, later}
+use Rattle.mw_model.specs.Terms.Term.{Term, Variable, Constant, If, Call, Lambda, NoTerms, More, Formula, Equal, Not, Or, term_object, formula_object, ArityTable, is_term, is_formula, IsTerm, IsFormula}
+use Rattle.mw_model.specs.Values.Primitive.{One}
+use Rattle.mw_model.specs.Terms.Substitution.{Substitution, substitution_object, substitution_of, is_substitution}
+use Rattle.mw_model.specs.Values.Truth.{Each}
+use Rattle.mw_model.specs.Proofs.Induction.{Case, premises, conditions_object, substitutions_object, cases_object, are_substitutions, are_cases}
+use Rattle.mw_model.specs.Proofs.Proof.{Induction, Follows, by_induction}
+use Rattle.mw_model.specs.Proofs.Judgment.{is_induction}
+use Rattle.mw_model.specs.Laws.Rules.{is_substitution_object}
+use Rattle.mw_model.specs.Laws.RulesInduction.{formulas_object, is_list_object, length_object, are_substitution_objects, are_case_objects, disjunction_object, steps_object, ordinal_object, all_falls_object, premises_object, object_is_induction_by, object_is_induction}
 use Rattle.mw_model.proofs.Names.{same_object-eq, same_object-from}
 use Rattle.mw_model.proofs.Formed.{formed, is_term-from}
 use Rattle.mw_model.proofs.Readable.{ReadableFormula, ReadableSubstitution, term_readable, formula_readable, substitution_readable}

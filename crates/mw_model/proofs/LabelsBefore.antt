@@ -1,10 +1,10 @@
 -- A datum is read alike after labels that it does not begin, and begins just its own.
 use Rattle.std.proofs.Common.{◌≡◌, ℕ, zero, suc, Bool, true, false, eqb, List, [], ◌∷◌, ◌++◌, Option, Some, None, refl, sym, ap, ap₂, ◌∙◌, subst, if◌then◌else◌}
-use Rattle.mw_model.specs.Object.{Object}
-use Rattle.mw_model.specs.Truth.{Each}
-use Rattle.mw_model.specs.Lexemes.{Lexeme, LABEL, Atom, Open, Close, Dot, Quote, Mark, Ref}
-use Rattle.mw_model.specs.Grammar.{Labels, Unused, Label, is_begun, labelled, complete, Read, Got, Stop, and_then, quoting, labelling, pairing, and_tail, halt, closing, reference, Part, Datum, First, Tail, Last, read}
-use Rattle.mw_model.specs.Written.{labels_begun}
+use Rattle.mw_model.specs.Terms.Object.{Object}
+use Rattle.mw_model.specs.Values.Truth.{Each}
+use Rattle.mw_model.specs.Texts.Lexemes.{Lexeme, LABEL, Atom, Open, Close, Dot, Quote, Mark, Ref}
+use Rattle.mw_model.specs.Texts.Grammar.{Labels, Unused, Label, is_begun, labelled, complete, Read, Got, Stop, and_then, quoting, labelling, pairing, and_tail, halt, closing, reference, Part, Datum, First, Tail, Last, read}
+use Rattle.mw_model.specs.Texts.Written.{labels_begun}
 use Rattle.mw_model.proofs.Locality.{then_got, closed, taken}
 
 -- the labels that are begun, the last one first

@@ -1,19 +1,19 @@
 -- What holds of the theory that an event meets, and of those that it may make, holds of the theory that it leads to.
 use Rattle.std.proofs.Common.{◌≡◌, ℕ, Bool, true, false, ltb, cond, List, [], ◌∷◌, length, map, not, Option, Some, None, refl}
-use Rattle.mw_model.specs.Object.{Name, Object, Pair, second_of, third_of, fourth_of, fifth_of}
-use Rattle.mw_model.specs.Term.{Term, Formula, formula_object}
-use Rattle.mw_model.specs.Reading.{formula_under, both}
-use Rattle.mw_model.specs.Primitive.{Profile, One, Two, is_symbol}
-use Rattle.mw_model.specs.Definition.{Block, Functions, Choice, arity_table}
-use Rattle.mw_model.specs.Obligation.{obligations, is_nested}
-use Rattle.mw_model.specs.Evaluation.{Outcome, Value, Steps, Overflow, Witness, evaluate}
-use Rattle.mw_model.specs.Expansion.{expand}
-use Rattle.mw_model.specs.Printing.{text_of}
-use Rattle.mw_model.specs.Theory.{Theory, initial}
-use Rattle.mw_model.specs.Refusal.{Refusal, EVENT, NAME, FORMALS, TERM, FORMULA, VARIABLES, NESTED, STEPS, OVERFLOW, WITNESS, LONG, Fate, Accepted, Refused, refuse, accept, need, must, unless}
-use Rattle.mw_model.specs.Admission.{Draft, all_of, new_names, formals_of, add_names, functions, measures, are_closed_by, add_to_theory, some_drafts, add_witness, skolem}
-use Rattle.mw_model.specs.Fate.{EventWord, Verify, Define, Skolem, Switch, Eval, Print, DefineAll, SetProfile, longest, show, show_outcome, eval, print, begin_profile, profile}
-use Rattle.mw_model.specs.Demand.{Demand, Denied, Wants, wants_some, wants_that, define_demand, without_proofs, demand}
+use Rattle.mw_model.specs.Terms.Object.{Name, Object, Pair, second_of, third_of, fourth_of, fifth_of}
+use Rattle.mw_model.specs.Terms.Term.{Term, Formula, formula_object}
+use Rattle.mw_model.specs.Terms.Reading.{formula_under, both}
+use Rattle.mw_model.specs.Values.Primitive.{Profile, One, Two, is_symbol}
+use Rattle.mw_model.specs.Values.Definition.{Block, Functions, Choice, arity_table}
+use Rattle.mw_model.specs.Events.Obligation.{obligations, is_nested}
+use Rattle.mw_model.specs.Events.Evaluation.{Outcome, Value, Steps, Overflow, Witness, evaluate}
+use Rattle.mw_model.specs.Events.Expansion.{expand}
+use Rattle.mw_model.specs.Texts.Printing.{text_of}
+use Rattle.mw_model.specs.Events.Theory.{Theory, initial}
+use Rattle.mw_model.specs.Events.Refusal.{Refusal, EVENT, NAME, FORMALS, TERM, FORMULA, VARIABLES, NESTED, STEPS, OVERFLOW, WITNESS, LONG, Fate, Accepted, Refused, refuse, accept, need, must, unless}
+use Rattle.mw_model.specs.Events.Admission.{Draft, all_of, new_names, formals_of, add_names, functions, measures, are_closed_by, add_to_theory, some_drafts, add_witness, skolem}
+use Rattle.mw_model.specs.Events.Fate.{EventWord, Verify, Define, Skolem, Switch, Eval, Print, DefineAll, SetProfile, longest, show, show_outcome, eval, print, begin_profile, profile}
+use Rattle.mw_model.specs.Commands.Demand.{Demand, Denied, Wants, wants_some, wants_that, define_demand, without_proofs, demand}
 
 -- ---- what is wanted, and the theory that it would lead to
 

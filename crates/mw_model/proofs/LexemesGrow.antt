@@ -1,8 +1,8 @@
 -- The lexemes of bytes after which more may follow are, whatever follows, the first lexemes of all the bytes, but for a last
 -- one that is not complete. What that one becomes begins at the same offset.
 use Rattle.std.proofs.Common.{◌≡◌, ℕ, zero, suc, ◌+◌, ◌≤◌, ◌<◌, Bool, true, false, eqb, ltb, List, [], ◌∷◌, ◌++◌, length, Some, None, refl, sym, ap, ap₂, ◌∙◌, subst, arith, length-append, ltb-true, lt-ltb, if◌then◌else◌}
-use Rattle.mw_model.specs.Object.{Object, Symbol, is_name_byte, name_of_bytes}
-use Rattle.mw_model.specs.Lexemes.{Lexeme, fault, TOKEN, BYTE, LABEL, Atom, Dot, Mark, Ref, Wrong, Stray, End, Ending, Ends, Goes, Class, White, Semicolon, Opening, Closing, Apostrophe, Bar, Hash, Constituent, Other, class, piece, extent, lexemes_from, run_of, after_run, is_constituent, is_digit, is_inside_comment, glued, glued_bar, atom, token, TokenForm, Whole, Point, Bad, token_form, bar_closed, barred, label, hashed, decimal_value}
+use Rattle.mw_model.specs.Terms.Object.{Object, Symbol, is_name_byte, name_of_bytes}
+use Rattle.mw_model.specs.Texts.Lexemes.{Lexeme, fault, TOKEN, BYTE, LABEL, Atom, Dot, Mark, Ref, Wrong, Stray, End, Ending, Ends, Goes, Class, White, Semicolon, Opening, Closing, Apostrophe, Bar, Hash, Constituent, Other, class, piece, extent, lexemes_from, run_of, after_run, is_constituent, is_digit, is_inside_comment, glued, glued_bar, atom, token, TokenForm, Whole, Point, Bad, token_form, bar_closed, barred, label, hashed, decimal_value}
 use Rattle.mw_model.proofs.LexingPieces.{run_and_after}
 
 -- ---- lexemes that grow

@@ -2,8 +2,8 @@
 pub use Rattle.mw_model.proofs.Names.{name_of_bytes-bytes}
 use Rattle.std.proofs.Common.{◌≡◌, ℕ, suc, ◌+◌, Bool, true, false, ◌||◌, ◌&&◌, List, [], ◌∷◌, ◌++◌, length, refl, sym, ap, ap₂, ◌∙◌, if◌then◌else◌, arith, append_assoc, length-append}
 use Rattle.std.proofs.lemmas.Bool.{and_parts, both_ways}
-use Rattle.mw_model.specs.Object.{Object, Symbol, Name, is_name, is_name_byte, are_name_bytes, name_of_bytes}
-use Rattle.mw_model.specs.Lexemes.{Atom, Stray, fault, TOKEN, Ending, Ends, Goes, lexemes_from, class_else, Constituent, piece, extent, token, atom, barred, glued, glued_bar, all_are, run_of, after_run, is_constituent, Whole, token_form}
+use Rattle.mw_model.specs.Terms.Object.{Object, Symbol, Name, is_name, is_name_byte, are_name_bytes, name_of_bytes}
+use Rattle.mw_model.specs.Texts.Lexemes.{Atom, Stray, fault, TOKEN, Ending, Ends, Goes, lexemes_from, class_else, Constituent, piece, extent, token, atom, barred, glued, glued_bar, all_are, run_of, after_run, is_constituent, Whole, token_form}
 
 -- nothing, or a byte that is not of the class
 abbrev pub StopsRun : (ℕ → Bool) → List ℕ → Type 0

@@ -2,8 +2,8 @@
 -- line before another delimiter, unless a comment is begun in it.
 use Rattle.std.proofs.Common.{◌≡◌, ℕ, zero, suc, ◌+◌, ◌≤◌, Bool, true, false, ◌&&◌, ◌||◌, not, eqb, ltb, List, [], ◌∷◌, ◌++◌, length, Option, Some, None, refl, sym, ap, ap₂, ◌∙◌, subst, arith, append_assoc, append-nil, if◌then◌else◌}
 use Rattle.std.proofs.lemmas.Bool.{and_parts, and_right}
-use Rattle.mw_model.specs.Object.{Object, Symbol, is_name_byte, name_of_bytes}
-use Rattle.mw_model.specs.Lexemes.{Lexeme, fault, TOKEN, BYTE, LABEL, Atom, Open, Close, Dot, Quote, Mark, Ref, Wrong, Stray, End, Fault, Ends, Class, White, Semicolon, Opening, Closing, Apostrophe, Bar, Hash, Constituent, Other, class, piece, extent, lexemes_from, unfinished, run_of, after_run, all_are, is_constituent, is_digit, is_inside_comment, glued, glued_bar, atom, dot, refused, token, TokenForm, Whole, Point, Bad, token_form, bar_closed, barred, label, hashed, decimal_value}
+use Rattle.mw_model.specs.Terms.Object.{Object, Symbol, is_name_byte, name_of_bytes}
+use Rattle.mw_model.specs.Texts.Lexemes.{Lexeme, fault, TOKEN, BYTE, LABEL, Atom, Open, Close, Dot, Quote, Mark, Ref, Wrong, Stray, End, Fault, Ends, Class, White, Semicolon, Opening, Closing, Apostrophe, Bar, Hash, Constituent, Other, class, piece, extent, lexemes_from, unfinished, run_of, after_run, all_are, is_constituent, is_digit, is_inside_comment, glued, glued_bar, atom, dot, refused, token, TokenForm, Whole, Point, Bad, token_form, bar_closed, barred, label, hashed, decimal_value}
 use Rattle.mw_model.proofs.Locality.{Alike, AllAlike, none_alike, more_alike, alike_both}
 use Rattle.mw_model.proofs.Numerals.{all_are-append}
 use Rattle.mw_model.proofs.Lexing.{Delimits, run_of-append, lexemes_from-taken}

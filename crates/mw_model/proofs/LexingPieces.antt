@@ -1,7 +1,7 @@
 -- A piece of bytes without faults has like lexemes before a delimiter and whatever follows it, wherever it stands.
 use Rattle.std.proofs.Common.{◌≡◌, ℕ, suc, ◌+◌, ◌≤◌, ◌<◌, Bool, true, false, ◌&&◌, ◌||◌, eqb, ltb, List, [], ◌∷◌, ◌++◌, length, Option, Some, refl, sym, ap, ap₂, subst, arith, if◌then◌else◌}
-use Rattle.mw_model.specs.Object.{Object, Symbol, is_name_byte, name_of_bytes}
-use Rattle.mw_model.specs.Lexemes.{Lexeme, fault, TOKEN, BYTE, LABEL, Atom, Open, Close, Dot, Quote, Mark, Ref, Wrong, Stray, Fault, Ends, Class, White, Semicolon, Opening, Closing, Apostrophe, Bar, Hash, Constituent, Other, piece, extent, unfinished, run_of, after_run, is_constituent, is_digit, is_inside_comment, glued, glued_bar, atom, dot, refused, token, TokenForm, Whole, Point, Bad, token_form, bar_closed, barred, label, hashed, decimal_value}
+use Rattle.mw_model.specs.Terms.Object.{Object, Symbol, is_name_byte, name_of_bytes}
+use Rattle.mw_model.specs.Texts.Lexemes.{Lexeme, fault, TOKEN, BYTE, LABEL, Atom, Open, Close, Dot, Quote, Mark, Ref, Wrong, Stray, Fault, Ends, Class, White, Semicolon, Opening, Closing, Apostrophe, Bar, Hash, Constituent, Other, piece, extent, unfinished, run_of, after_run, is_constituent, is_digit, is_inside_comment, glued, glued_bar, atom, dot, refused, token, TokenForm, Whole, Point, Bad, token_form, bar_closed, barred, label, hashed, decimal_value}
 use Rattle.mw_model.proofs.Locality.{Alike, atoms, opens, closes, dots, quotes, marks, refs, AllAlike, none_alike, more_alike}
 use Rattle.mw_model.proofs.Lexing.{Delimits}
 

@@ -1,13 +1,13 @@
 -- The lines due for bytes are a prefix of the lines and of the report on more bytes.
 use Rattle.std.proofs.Common.{◌≡◌, ℕ, suc, ◌+◌, ◌-◌, ◌≤◌, Bool, true, false, leb, List, [], ◌∷◌, ◌++◌, length, take, Option, Some, None, refl, sym, ap, ◌∙◌, subst, arith, append_assoc, append-nil, if◌then◌else◌}
 use Rattle.std.proofs.Math.Seq.{take-append-add}
-use Rattle.mw_model.specs.Object.{Object}
-use Rattle.mw_model.specs.Primitive.{One}
-use Rattle.mw_model.specs.Lexemes.{Fault, Ends, Goes}
-use Rattle.mw_model.specs.Grammar.{Book, book, reading, limit, cut_short, trees}
-use Rattle.mw_model.specs.Theory.{Theory, initial}
-use Rattle.mw_model.specs.Fate.{fate, next, after}
-use Rattle.mw_model.specs.Report.{line, lines, lines_so_far, report, last_line}
+use Rattle.mw_model.specs.Terms.Object.{Object}
+use Rattle.mw_model.specs.Values.Primitive.{One}
+use Rattle.mw_model.specs.Texts.Lexemes.{Fault, Ends, Goes}
+use Rattle.mw_model.specs.Texts.Grammar.{Book, book, reading, limit, cut_short, trees}
+use Rattle.mw_model.specs.Events.Theory.{Theory, initial}
+use Rattle.mw_model.specs.Events.Fate.{fate, next, after}
+use Rattle.mw_model.specs.Reports.Report.{line, lines, lines_so_far, report, last_line}
 use Rattle.mw_model.proofs.ReadingGrows.{BookGrows, reading_grows}
 
 -- ---- a whole book

@@ -1,8 +1,8 @@
 -- Reading a datum depends only on its own lexemes, and not on where they stand: so alike ones before anything are read alike.
 use Rattle.std.proofs.Common.{◌≡◌, ℕ, zero, suc, ◌+◌, ◌≤◌, ◌<◌, Bool, true, false, List, [], ◌∷◌, ◌++◌, length, Option, Some, None, refl, sym, ap, ap₂, ◌∙◌, subst, arith, append_assoc, length-append, if◌then◌else◌}
-use Rattle.mw_model.specs.Object.{Object, Pair, NIL}
-use Rattle.mw_model.specs.Lexemes.{Lexeme, Atom, Open, Close, Dot, Quote, Mark, Ref, LABEL}
-use Rattle.mw_model.specs.Grammar.{Labels, Label, Read, Got, Stop, and_then, quoted, quoting, labelling, pairing, and_tail, halt, closing, reference, complete, Part, Datum, First, Tail, Last, read, labelled, is_begun}
+use Rattle.mw_model.specs.Terms.Object.{Object, Pair, NIL}
+use Rattle.mw_model.specs.Texts.Lexemes.{Lexeme, Atom, Open, Close, Dot, Quote, Mark, Ref, LABEL}
+use Rattle.mw_model.specs.Texts.Grammar.{Labels, Label, Read, Got, Stop, and_then, quoted, quoting, labelling, pairing, and_tail, halt, closing, reference, complete, Part, Datum, First, Tail, Last, read, labelled, is_begun}
 
 -- ---- the same lexemes, at other places
 

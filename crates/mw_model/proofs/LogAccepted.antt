@@ -1,21 +1,21 @@
 -- An event of a log with a yes is accepted with some proofs in place of its numbers.
 use Rattle.std.proofs.Common.{◌≡◌, ℕ, Bool, true, false, not, cond, List, [], ◌∷◌, length, Option, Some, None, refl, sym, ap, ap₂, ◌∙◌, subst}
 use Rattle.std.proofs.lemmas.Bool.{and_parts, not-true}
-use Rattle.mw_model.specs.Object.{Name, Object, Natural, Symbol, Pair, same_object, NIL, car, second_of, third_of, fourth_of, fifth_of, has_members, list1}
-use Rattle.mw_model.specs.Term.{Formula, formula_object, ArityTable}
-use Rattle.mw_model.specs.Reading.{formula_under}
-use Rattle.mw_model.specs.Primitive.{Profile, is_symbol}
-use Rattle.mw_model.specs.Definition.{arity_table}
-use Rattle.mw_model.specs.Truth.{Each}
-use Rattle.mw_model.specs.Proof.{HasMembers, two, three, four, Proves, proof, ProveEach, no_proofs, more_proofs}
-use Rattle.mw_model.specs.Theory.{Theory}
-use Rattle.mw_model.specs.Refusal.{NAME, FORMULA, PROOF, CONCLUSION, COUNT, Fate, Accepted, Refused, accept, must, unless}
-use Rattle.mw_model.specs.Checking.{no_unless, judged_by, judged_as, or_else}
-use Rattle.mw_model.specs.Admission.{skolem}
-use Rattle.mw_model.specs.Fate.{EventWord, Verify, Define, Skolem, Switch, Eval, Print, DefineAll, SetProfile, event_words, event_word_among, member_count, with_members, event_word, profile, is_out_of_range, happens}
-use Rattle.mw_model.specs.Demand.{Demand, Denied, Wants, wants_some, wants_that, verify_demand, demand, without_proofs, proofs_of, with_proofs, each_judged, settled, happens_by_under}
-use Rattle.mw_model.specs.Keeping.{formulas_of_word}
-use Rattle.mw_model.specs.Log.{formula_numbered, conclusions, Objection, GOAL, SHAPE, STEP, ADMIT, Yes, No, Entry, numbers_of, entry_with, entry_by, entry_of, is_that_formula, are_concluded, answer_to_goal, answer_to_demand, answer_to_steps, answer_to_entry, logged}
+use Rattle.mw_model.specs.Terms.Object.{Name, Object, Natural, Symbol, Pair, same_object, NIL, car, second_of, third_of, fourth_of, fifth_of, has_members, list1}
+use Rattle.mw_model.specs.Terms.Term.{Formula, formula_object, ArityTable}
+use Rattle.mw_model.specs.Terms.Reading.{formula_under}
+use Rattle.mw_model.specs.Values.Primitive.{Profile, is_symbol}
+use Rattle.mw_model.specs.Values.Definition.{arity_table}
+use Rattle.mw_model.specs.Values.Truth.{Each}
+use Rattle.mw_model.specs.Proofs.Proof.{HasMembers, two, three, four, Proves, proof, ProveEach, no_proofs, more_proofs}
+use Rattle.mw_model.specs.Events.Theory.{Theory}
+use Rattle.mw_model.specs.Events.Refusal.{NAME, FORMULA, PROOF, CONCLUSION, COUNT, Fate, Accepted, Refused, accept, must, unless}
+use Rattle.mw_model.specs.Events.Checking.{no_unless, judged_by, judged_as, or_else}
+use Rattle.mw_model.specs.Events.Admission.{skolem}
+use Rattle.mw_model.specs.Events.Fate.{EventWord, Verify, Define, Skolem, Switch, Eval, Print, DefineAll, SetProfile, event_words, event_word_among, member_count, with_members, event_word, profile, is_out_of_range, happens}
+use Rattle.mw_model.specs.Commands.Demand.{Demand, Denied, Wants, wants_some, wants_that, verify_demand, demand, without_proofs, proofs_of, with_proofs, each_judged, settled, happens_by_under}
+use Rattle.mw_model.specs.Reports.Keeping.{formulas_of_word}
+use Rattle.mw_model.specs.Commands.Log.{formula_numbered, conclusions, Objection, GOAL, SHAPE, STEP, ADMIT, Yes, No, Entry, numbers_of, entry_with, entry_by, entry_of, is_that_formula, are_concluded, answer_to_goal, answer_to_demand, answer_to_steps, answer_to_entry, logged}
 use Rattle.mw_model.proofs.Names.{same_object-refl}
 use Rattle.mw_model.proofs.SameTerms.{same_formula-eq}
 use Rattle.mw_model.proofs.ReadBack.{some_one, when_some}

@@ -1,15 +1,15 @@
 -- Each conclusion of good steps has a proof, so that an event with a yes is accepted with some proofs. Without a yes the theory stays.
 use Rattle.std.proofs.Common.{◌≡◌, ℕ, zero, suc, ◌+◌, false, ◌&&◌, not, List, [], ◌∷◌, ◌++◌, length, Option, Some, None, refl, sym, ap, ◌∙◌, subst}
 use Rattle.std.proofs.lemmas.Bool.{and_parts, or_parts, or_from, not-true}
-use Rattle.mw_model.specs.Object.{Object, Natural, Symbol, Pair, NIL, same_object, car, cdr, second_of, third_of, fourth_of, fifth_of, sixth_of, has_members, list4}
-use Rattle.mw_model.specs.Term.{Formula, formula_object, ArityTable, is_formula}
-use Rattle.mw_model.specs.Reading.{formula_of}
-use Rattle.mw_model.specs.Primitive.{Profile}
-use Rattle.mw_model.specs.Truth.{Each}
-use Rattle.mw_model.specs.Proof.{four, Method, method_name, Proves, proof, ProveEach, no_proofs, more_proofs}
-use Rattle.mw_model.specs.Judgment.{methods, method_among, follows, judge_step}
-use Rattle.mw_model.specs.Fate.{is_out_of_range}
-use Rattle.mw_model.specs.Log.{formula_numbered, formulas_numbered, formulas_at, naturals_of, conclusion, and_conclusions, conclusions_after, conclusions}
+use Rattle.mw_model.specs.Terms.Object.{Object, Natural, Symbol, Pair, NIL, same_object, car, cdr, second_of, third_of, fourth_of, fifth_of, sixth_of, has_members, list4}
+use Rattle.mw_model.specs.Terms.Term.{Formula, formula_object, ArityTable, is_formula}
+use Rattle.mw_model.specs.Terms.Reading.{formula_of}
+use Rattle.mw_model.specs.Values.Primitive.{Profile}
+use Rattle.mw_model.specs.Values.Truth.{Each}
+use Rattle.mw_model.specs.Proofs.Proof.{four, Method, method_name, Proves, proof, ProveEach, no_proofs, more_proofs}
+use Rattle.mw_model.specs.Proofs.Judgment.{methods, method_among, follows, judge_step}
+use Rattle.mw_model.specs.Events.Fate.{is_out_of_range}
+use Rattle.mw_model.specs.Commands.Log.{formula_numbered, formulas_numbered, formulas_at, naturals_of, conclusion, and_conclusions, conclusions_after, conclusions}
 use Rattle.mw_model.proofs.ReadBack.{some_one, and_more-back, when_some, formula_back}
 use Rattle.mw_model.proofs.Follows.{row_is}
 

@@ -1,22 +1,22 @@
 -- An event that is accepted where derivations are as good as proofs can be written with proofs, and what is so written comes to the same.
 use Rattle.std.proofs.Common.{◌≡◌, ℕ, suc, Bool, true, false, cond, List, [], ◌∷◌, length, Option, Some, None, inl, inr, refl, sym, ap, ◌∙◌, subst}
 use Rattle.std.proofs.lemmas.Bool.{true≢false}
-use Rattle.mw_model.specs.Object.{Name, Object, Natural, Symbol, Pair, same_object, NIL, second_of, has_members}
-use Rattle.mw_model.specs.Term.{Formula, formula_object}
-use Rattle.mw_model.specs.Definition.{arity_table}
-use Rattle.mw_model.specs.Truth.{Each}
-use Rattle.mw_model.specs.RulesInduction.{is_list_object}
-use Rattle.mw_model.specs.Theory.{Theory}
-use Rattle.mw_model.specs.Refusal.{CONCLUSION, PROOF}
-use Rattle.mw_model.specs.Checking.{no_unless}
-use Rattle.mw_model.specs.Fate.{EventWord, Verify, Define, Skolem, Switch, Eval, Print, DefineAll, SetProfile, event_word, happens}
-use Rattle.mw_model.specs.Report.{is_accepted}
-use Rattle.mw_model.specs.Demand.{demand, proofs_of, with_proofs, each_judged, settled, happens_by_under, happens_under}
-use Rattle.mw_model.specs.Transition.{course_from, is_acceptance}
-use Rattle.mw_model.specs.Derivation.{Turns}
-use Rattle.mw_model.specs.DerivationTest.{derive, derived_by, derived_as}
-use Rattle.mw_model.specs.Rewriting.{TurnsAt, TurnsOrStays, EachTurnsOrStays, IsRewrittenList, IsRewrittenBy, IsRewritten}
-use Rattle.mw_model.specs.Lowering.{EachTurns, IsLoweredBy, IsLowered}
+use Rattle.mw_model.specs.Terms.Object.{Name, Object, Natural, Symbol, Pair, same_object, NIL, second_of, has_members}
+use Rattle.mw_model.specs.Terms.Term.{Formula, formula_object}
+use Rattle.mw_model.specs.Values.Definition.{arity_table}
+use Rattle.mw_model.specs.Values.Truth.{Each}
+use Rattle.mw_model.specs.Laws.RulesInduction.{is_list_object}
+use Rattle.mw_model.specs.Events.Theory.{Theory}
+use Rattle.mw_model.specs.Events.Refusal.{CONCLUSION, PROOF}
+use Rattle.mw_model.specs.Events.Checking.{no_unless}
+use Rattle.mw_model.specs.Events.Fate.{EventWord, Verify, Define, Skolem, Switch, Eval, Print, DefineAll, SetProfile, event_word, happens}
+use Rattle.mw_model.specs.Reports.Report.{is_accepted}
+use Rattle.mw_model.specs.Commands.Demand.{demand, proofs_of, with_proofs, each_judged, settled, happens_by_under, happens_under}
+use Rattle.mw_model.specs.Commands.Transition.{course_from, is_acceptance}
+use Rattle.mw_model.specs.Commands.Derivation.{Turns}
+use Rattle.mw_model.specs.Commands.DerivationTest.{derive, derived_by, derived_as}
+use Rattle.mw_model.specs.Laws.Rewriting.{TurnsAt, TurnsOrStays, EachTurnsOrStays, IsRewrittenList, IsRewrittenBy, IsRewritten}
+use Rattle.mw_model.specs.Commands.Lowering.{EachTurns, IsLoweredBy, IsLowered}
 use Rattle.mw_model.proofs.Settling.{or_else_none, under_word, accepted_in_range, satisfied}
 use Rattle.mw_model.proofs.FirstAxioms.{HasFirst, first_stay}
 use Rattle.mw_model.proofs.LoweredEvent.{listed, derived_turns, rewritten_same}

@@ -1,20 +1,20 @@
 -- An event with its derivations turned to proofs comes to the same as the event where derivations are as good as proofs.
 use Rattle.std.proofs.Common.{◌≡◌, ℕ, zero, suc, Bool, true, false, cond, List, [], ◌∷◌, length, Option, Some, None, inl, inr, refl, sym, ap, ap₂, ◌∙◌}
 use Rattle.std.proofs.lemmas.Bool.{true≢false}
-use Rattle.mw_model.specs.Object.{Name, Object, Natural, Symbol, Pair, same_object, NIL, car, second_of, fourth_of, has_members, list1}
-use Rattle.mw_model.specs.Term.{Formula, formula_object, ArityTable}
-use Rattle.mw_model.specs.Primitive.{Profile}
-use Rattle.mw_model.specs.Definition.{arity_table}
-use Rattle.mw_model.specs.Judgment.{judge}
-use Rattle.mw_model.specs.RulesInduction.{is_list_object}
-use Rattle.mw_model.specs.Theory.{Theory}
-use Rattle.mw_model.specs.Refusal.{CONCLUSION, PROOF, COUNT, accept, must, unless}
-use Rattle.mw_model.specs.Checking.{no_unless, judged_by, judged_as, or_else}
-use Rattle.mw_model.specs.Fate.{EventWord, Verify, Define, Skolem, Switch, Eval, Print, DefineAll, SetProfile, event_word, is_out_of_range, happens}
-use Rattle.mw_model.specs.Demand.{Demand, Denied, Wants, demand, proofs_of, with_proofs, each_judged, settled, happens_by_under, happens_under}
-use Rattle.mw_model.specs.Derivation.{IsDerivation, derivation, Turns}
-use Rattle.mw_model.specs.DerivationTest.{derive, derived_by, derived_as}
-use Rattle.mw_model.specs.Rewriting.{TurnsAt, TurnsOrStays, EachTurnsOrStays, IsRewrittenList, IsRewrittenBy, IsRewritten}
+use Rattle.mw_model.specs.Terms.Object.{Name, Object, Natural, Symbol, Pair, same_object, NIL, car, second_of, fourth_of, has_members, list1}
+use Rattle.mw_model.specs.Terms.Term.{Formula, formula_object, ArityTable}
+use Rattle.mw_model.specs.Values.Primitive.{Profile}
+use Rattle.mw_model.specs.Values.Definition.{arity_table}
+use Rattle.mw_model.specs.Proofs.Judgment.{judge}
+use Rattle.mw_model.specs.Laws.RulesInduction.{is_list_object}
+use Rattle.mw_model.specs.Events.Theory.{Theory}
+use Rattle.mw_model.specs.Events.Refusal.{CONCLUSION, PROOF, COUNT, accept, must, unless}
+use Rattle.mw_model.specs.Events.Checking.{no_unless, judged_by, judged_as, or_else}
+use Rattle.mw_model.specs.Events.Fate.{EventWord, Verify, Define, Skolem, Switch, Eval, Print, DefineAll, SetProfile, event_word, is_out_of_range, happens}
+use Rattle.mw_model.specs.Commands.Demand.{Demand, Denied, Wants, demand, proofs_of, with_proofs, each_judged, settled, happens_by_under, happens_under}
+use Rattle.mw_model.specs.Commands.Derivation.{IsDerivation, derivation, Turns}
+use Rattle.mw_model.specs.Commands.DerivationTest.{derive, derived_by, derived_as}
+use Rattle.mw_model.specs.Laws.Rewriting.{TurnsAt, TurnsOrStays, EachTurnsOrStays, IsRewrittenList, IsRewrittenBy, IsRewritten}
 use Rattle.mw_model.proofs.Judging.{judge_good, good_judge}
 use Rattle.mw_model.proofs.Demands.{as_before}
 use Rattle.mw_model.proofs.Deriving.{derive_good, good_derive, proof_derives}

@@ -1,20 +1,20 @@
 -- What is owed for a book of derivations is the text of a book that is accepted event by event, with comments between, and leads to the same theory.
 use Rattle.std.proofs.Common.{◌≡◌, ℕ, suc, ◌+◌, ◌≤◌, true, cond, List, [], ◌∷◌, ◌++◌, length, None, codes, refl, sym, ap, ◌∙◌, subst, arith, append_assoc}
-use Rattle.mw_model.specs.Object.{Object}
-use Rattle.mw_model.specs.Primitive.{One}
-use Rattle.mw_model.specs.Theory.{Theory, initial}
-use Rattle.mw_model.specs.Refusal.{Refusal, Fate, Accepted, Refused, reason_of}
-use Rattle.mw_model.specs.Fate.{after, happens}
-use Rattle.mw_model.specs.Grammar.{Book, book, limit, trees}
-use Rattle.mw_model.specs.Printing.{numeral}
-use Rattle.mw_model.specs.Report.{status_of, spaced, word_text, label_text, line, report_of, is_accepted, accepted_among, refused_among}
-use Rattle.mw_model.specs.Written.{IsDatumLine, IsBookText, datum_line}
-use Rattle.mw_model.specs.Pieces.{InOrder, how_many, comment_ending}
-use Rattle.mw_model.specs.Demand.{happens_under}
-use Rattle.mw_model.specs.Transition.{Effect, Transition, course_from, last_theory, last_theory_from, is_acceptance}
-use Rattle.mw_model.specs.DerivationTest.{derived_as}
-use Rattle.mw_model.specs.Lowering.{derived_course, OwesByFate, OwesLowered, refused_in, course_summary, LoweredWritten}
-use Rattle.mw_model.specs.Headlines.{AcceptsAll}
+use Rattle.mw_model.specs.Terms.Object.{Object}
+use Rattle.mw_model.specs.Values.Primitive.{One}
+use Rattle.mw_model.specs.Events.Theory.{Theory, initial}
+use Rattle.mw_model.specs.Events.Refusal.{Refusal, Fate, Accepted, Refused, reason_of}
+use Rattle.mw_model.specs.Events.Fate.{after, happens}
+use Rattle.mw_model.specs.Texts.Grammar.{Book, book, limit, trees}
+use Rattle.mw_model.specs.Texts.Printing.{numeral}
+use Rattle.mw_model.specs.Reports.Report.{status_of, spaced, word_text, label_text, line, report_of, is_accepted, accepted_among, refused_among}
+use Rattle.mw_model.specs.Texts.Written.{IsDatumLine, IsBookText, datum_line}
+use Rattle.mw_model.specs.Texts.Pieces.{InOrder, how_many, comment_ending}
+use Rattle.mw_model.specs.Commands.Demand.{happens_under}
+use Rattle.mw_model.specs.Commands.Transition.{Effect, Transition, course_from, last_theory, last_theory_from, is_acceptance}
+use Rattle.mw_model.specs.Commands.DerivationTest.{derived_as}
+use Rattle.mw_model.specs.Commands.Lowering.{derived_course, OwesByFate, OwesLowered, refused_in, course_summary, LoweredWritten}
+use Rattle.mw_model.specs.Reports.Headlines.{AcceptsAll}
 use Rattle.mw_model.proofs.LexingLines.{no_newline}
 use Rattle.mw_model.proofs.OneLine.{spaced_line, numeral_line, word_line, label_line, reason_line}
 use Rattle.mw_model.proofs.Comments.{comment_reads, ending_reads}

@@ -1,11 +1,11 @@
 -- A new name is no primitive's, and neither IF nor QUOTE; each name of a block that is well made was new.
 use Rattle.std.proofs.Common.{◌≡◌, Bool, true, false, ◌&&◌, not, cond, List, [], ◌∷◌, length, Option, Some, None, refl, sym, ap, ap₂, ◌∙◌, subst}
 use Rattle.std.proofs.lemmas.Bool.{and_parts, false≢true}
-use Rattle.mw_model.specs.Object.{Name, named, same_name}
-use Rattle.mw_model.specs.Term.{ArityTable, arity_of, is_function_name, is_call_name}
-use Rattle.mw_model.specs.Primitive.{Profile, One, Two, Primitive, Times, primitive_name, primitive_arity, shared_primitives, primitive_among, or_product, primitive_named, add_primitives, primitive_arities}
-use Rattle.mw_model.specs.Definition.{Function, Block, Functions, Choice, function_named, add_functions, arities, is_absent, is_present, is_new, are_new, are_blocks}
-use Rattle.mw_model.specs.Truth.{Each}
+use Rattle.mw_model.specs.Terms.Object.{Name, named, same_name}
+use Rattle.mw_model.specs.Terms.Term.{ArityTable, arity_of, is_function_name, is_call_name}
+use Rattle.mw_model.specs.Values.Primitive.{Profile, One, Two, Primitive, Times, primitive_name, primitive_arity, shared_primitives, primitive_among, or_product, primitive_named, add_primitives, primitive_arities}
+use Rattle.mw_model.specs.Values.Definition.{Function, Block, Functions, Choice, function_named, add_functions, arities, is_absent, is_present, is_new, are_new, are_blocks}
+use Rattle.mw_model.specs.Values.Truth.{Each}
 use Rattle.mw_model.proofs.Names.{same_name-eq, same_name-refl}
 use Rattle.mw_model.proofs.Older.{cond_none, not_named, arity_stays, functions_new, choice_new}
 

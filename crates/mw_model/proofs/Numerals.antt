@@ -2,8 +2,8 @@
 use Rattle.std.proofs.Common.{◌≡◌, ℕ, zero, suc, ◌+◌, ◌-◌, ◌*◌, ◌/◌, ◌%◌, ◌^◌, ◌≤◌, ◌<◌, Bool, true, false, List, [], ◌∷◌, ◌++◌, length, refl, sym, ap, ◌∙◌, if◌then◌else◌, leb, ltb, arith, decimal, le-leb, ltb-true, ltb-false}
 use Rattle.std.proofs.lemmas.Bool.{and_parts, and_from}
 use Rattle.std.proofs.lemmas.Fmt.{decimal_step_wide, decimal_digit}
-use Rattle.mw_model.specs.Lexemes.{all_are, is_digit, decimal_from, decimal_value}
-use Rattle.mw_model.specs.Printing.{numeral, numeral_from}
+use Rattle.mw_model.specs.Texts.Lexemes.{all_are, is_digit, decimal_from, decimal_value}
+use Rattle.mw_model.specs.Texts.Printing.{numeral, numeral_from}
 
 -- one or more digits, with the value n
 abbrev pub IsNumeral : ℕ → List ℕ → Type 0

@@ -1,12 +1,12 @@
 -- The obligations of a block are readable formulas, where its bodies and measures are readable terms.
 use Rattle.std.proofs.Common.{Bool, true, false, cond, List, [], ◌∷◌, map, filter, not, Option, Some, None, refl}
-use Rattle.mw_model.specs.Object.{Name, same_name}
-use Rattle.mw_model.specs.Term.{Term, Terms, Variable, Constant, If, Call, Lambda, NoTerms, More, Or, Formula, firsts}
-use Rattle.mw_model.specs.Same.{same_formula}
-use Rattle.mw_model.specs.Substitution.{substitute, substitute_each, actuals_for}
-use Rattle.mw_model.specs.Definition.{Function, function_named}
-use Rattle.mw_model.specs.Truth.{Each}
-use Rattle.mw_model.specs.Obligation.{mentions, Test, IsNotNil, IsNil, RecursiveCall, under_test, Actual, Pending, pend, pending_terms, pending_calls, all_calls, call_or, collect, actuals_with, recursive_calls, Measures, measure_of, tested, test_formula, under_tests, falls, obligation, owed, calls_none, obligations}
+use Rattle.mw_model.specs.Terms.Object.{Name, same_name}
+use Rattle.mw_model.specs.Terms.Term.{Term, Terms, Variable, Constant, If, Call, Lambda, NoTerms, More, Or, Formula, firsts}
+use Rattle.mw_model.specs.Terms.Same.{same_formula}
+use Rattle.mw_model.specs.Terms.Substitution.{substitute, substitute_each, actuals_for}
+use Rattle.mw_model.specs.Values.Definition.{Function, function_named}
+use Rattle.mw_model.specs.Values.Truth.{Each}
+use Rattle.mw_model.specs.Events.Obligation.{mentions, Test, IsNotNil, IsNil, RecursiveCall, under_test, Actual, Pending, pend, pending_terms, pending_calls, all_calls, call_or, collect, actuals_with, recursive_calls, Measures, measure_of, tested, test_formula, under_tests, falls, obligation, owed, calls_none, obligations}
 use Rattle.mw_model.proofs.PremisesObject.{each_append}
 use Rattle.mw_model.proofs.Readable.{Readable, AreReadable, ReadableFormula, ReadableSubstitution, image-readable, substitute-readable, substitute_each-readable, actuals_for-readable}
 

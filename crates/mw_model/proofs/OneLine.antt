@@ -1,15 +1,15 @@
 -- The text of an object is one line, and so is what a comment says of a datum.
 use Rattle.std.proofs.Common.{◌≡◌, ℕ, ◌<◌, ◌≤◌, Bool, true, false, ◌&&◌, not, cond, eqb, ltb, leb, List, [], ◌∷◌, ◌++◌, length, refl, ap, arith, if◌then◌else◌}
 use Rattle.std.proofs.lemmas.Bool.{and_parts, and_from, leb-true, ne_eqb}
-use Rattle.mw_model.specs.Object.{Name, Object, Natural, Symbol, Pair, is_name, is_name_byte, are_name_bytes, same_name, nil_name}
-use Rattle.mw_model.specs.Value.{pick}
-use Rattle.mw_model.specs.Fate.{longest}
-use Rattle.mw_model.specs.Lexemes.{SyntaxKind, END, CLOSE, DOT, TOKEN, BYTE, LABEL, LENGTH, all_are, is_digit}
-use Rattle.mw_model.specs.Printing.{numeral, is_bare, name_text, end_text, text_of, tail_text}
-use Rattle.mw_model.specs.Report.{dash, spaced, symbol_text, word_text, labelled_words, label_text, kind_word}
-use Rattle.mw_model.specs.Refusal.{Refusal, RANGE, EVENT, NAME, FORMALS, TERM, FORMULA, VARIABLES, NESTED, COUNT, CONCLUSION, PROOF, NILVALUE, STEPS, OVERFLOW, WITNESS, CLAIM, CHECKER, LONG, PROFILE, reason_of}
-use Rattle.mw_model.specs.Term.{is_among}
-use Rattle.mw_model.specs.Written.{IsLabelled, IsWritten}
+use Rattle.mw_model.specs.Terms.Object.{Name, Object, Natural, Symbol, Pair, is_name, is_name_byte, are_name_bytes, same_name, nil_name}
+use Rattle.mw_model.specs.Values.Value.{pick}
+use Rattle.mw_model.specs.Events.Fate.{longest}
+use Rattle.mw_model.specs.Texts.Lexemes.{SyntaxKind, END, CLOSE, DOT, TOKEN, BYTE, LABEL, LENGTH, all_are, is_digit}
+use Rattle.mw_model.specs.Texts.Printing.{numeral, is_bare, name_text, end_text, text_of, tail_text}
+use Rattle.mw_model.specs.Reports.Report.{dash, spaced, symbol_text, word_text, labelled_words, label_text, kind_word}
+use Rattle.mw_model.specs.Events.Refusal.{Refusal, RANGE, EVENT, NAME, FORMALS, TERM, FORMULA, VARIABLES, NESTED, COUNT, CONCLUSION, PROOF, NILVALUE, STEPS, OVERFLOW, WITNESS, CLAIM, CHECKER, LONG, PROFILE, reason_of}
+use Rattle.mw_model.specs.Terms.Term.{is_among}
+use Rattle.mw_model.specs.Texts.Written.{IsLabelled, IsWritten}
 use Rattle.mw_model.proofs.LexingLines.{no_newline}
 use Rattle.mw_model.proofs.Numerals.{numeral_is, all_are-append}
 

@@ -1,13 +1,13 @@
 -- The premises of an induction on objects are those on formulas, and are read back.
 use Rattle.std.proofs.Common.{◌≡◌, List, [], ◌∷◌, ◌++◌, map, refl, ap, ap₂, ◌∙◌}
-use Rattle.mw_model.specs.Object.{Object, Pair, symbol, list3}
-use Rattle.mw_model.specs.Term.{Term, Formula, Not, term_object, formula_object}
-use Rattle.mw_model.specs.Substitution.{Substitution, substitute_formula}
-use Rattle.mw_model.specs.Truth.{Each}
-use Rattle.mw_model.specs.Obligation.{ordinal_formula}
-use Rattle.mw_model.specs.Induction.{Case, disjunction, step_premise, fall_premise, fall_premises, premises, conditions_object, substitutions_object, cases_object}
-use Rattle.mw_model.specs.Rules.{or_object, not_object}
-use Rattle.mw_model.specs.RulesInduction.{formulas_object, disjunction_object, hypotheses_object, steps_object, true_object, ordinal_object, falls_object, all_falls_object, premises_object}
+use Rattle.mw_model.specs.Terms.Object.{Object, Pair, symbol, list3}
+use Rattle.mw_model.specs.Terms.Term.{Term, Formula, Not, term_object, formula_object}
+use Rattle.mw_model.specs.Terms.Substitution.{Substitution, substitute_formula}
+use Rattle.mw_model.specs.Values.Truth.{Each}
+use Rattle.mw_model.specs.Events.Obligation.{ordinal_formula}
+use Rattle.mw_model.specs.Proofs.Induction.{Case, disjunction, step_premise, fall_premise, fall_premises, premises, conditions_object, substitutions_object, cases_object}
+use Rattle.mw_model.specs.Laws.Rules.{or_object, not_object}
+use Rattle.mw_model.specs.Laws.RulesInduction.{formulas_object, disjunction_object, hypotheses_object, steps_object, true_object, ordinal_object, falls_object, all_falls_object, premises_object}
 use Rattle.mw_model.proofs.Readable.{Readable, ReadableFormula, ReadableSubstitution, formula_object-one, substitute-readable, substitute_formula-readable}
 use Rattle.mw_model.proofs.SubstituteObject.{substitute_object-is, substitute_formula_object-is}
 

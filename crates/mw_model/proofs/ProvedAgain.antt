@@ -1,15 +1,15 @@
 -- A proof over some axioms, theorems and arities is one over others too, where these have what it uses: the arities of the names that occur
 -- in it, the axioms that it has parts of, and the theorems that it names.
 use Rattle.std.proofs.Common.{◌≡◌, true, List, [], ◌∷◌, ◌++◌, refl, sym, ap, ◌∙◌, subst}
-use Rattle.mw_model.specs.Object.{Object, Symbol, symbol, same_object, NIL, car, second_of, list1, list2, list3, list4, Member}
-use Rattle.mw_model.specs.Term.{Formula, formula_object, term_object, ArityTable}
-use Rattle.mw_model.specs.Substitution.{substitution_object}
-use Rattle.mw_model.specs.Primitive.{Profile}
-use Rattle.mw_model.specs.Truth.{Each}
-use Rattle.mw_model.specs.Induction.{conditions_object, cases_object}
-use Rattle.mw_model.specs.Proof.{HasMembers, two, three, four, Method, method_name, Follows, by_axiom, by_theorem, by_schema, by_equality, by_if_equality, by_beta, by_base, by_base_if, by_expansion, by_contraction, by_associativity, by_cut, by_instantiation, by_induction, Proves, proof, ProveEach, no_proofs, more_proofs}
-use Rattle.mw_model.specs.Subproofs.{proofs_within, each_within}
-use Rattle.mw_model.specs.Slice.{begins_with}
+use Rattle.mw_model.specs.Terms.Object.{Object, Symbol, symbol, same_object, NIL, car, second_of, list1, list2, list3, list4, Member}
+use Rattle.mw_model.specs.Terms.Term.{Formula, formula_object, term_object, ArityTable}
+use Rattle.mw_model.specs.Terms.Substitution.{substitution_object}
+use Rattle.mw_model.specs.Values.Primitive.{Profile}
+use Rattle.mw_model.specs.Values.Truth.{Each}
+use Rattle.mw_model.specs.Proofs.Induction.{conditions_object, cases_object}
+use Rattle.mw_model.specs.Proofs.Proof.{HasMembers, two, three, four, Method, method_name, Follows, by_axiom, by_theorem, by_schema, by_equality, by_if_equality, by_beta, by_base, by_base_if, by_expansion, by_contraction, by_associativity, by_cut, by_instantiation, by_induction, Proves, proof, ProveEach, no_proofs, more_proofs}
+use Rattle.mw_model.specs.Commands.Subproofs.{proofs_within, each_within}
+use Rattle.mw_model.specs.Commands.Slice.{begins_with}
 use Rattle.mw_model.proofs.LogAccepted.{second_is}
 use Rattle.mw_model.proofs.Within.{Within, first_within, rest_within}
 use Rattle.mw_model.proofs.SameArities.{Agree, formula_agrees, substitution_agrees, cases_agree}

@@ -2,11 +2,11 @@
 use Rattle.std.proofs.Common.{◌≡◌, Bool, true, false, ◌&&◌, cond, not, List, [], ◌∷◌, Some, refl, ap, ap₂, ◌∙◌}
 use Rattle.std.proofs.lemmas.Bool.{and_parts, not-true}
 use Rattle.std.specs.Cmp.{both_ways as same_test}
-use Rattle.mw_model.specs.Object.{Name, named, same_name, same_object}
-use Rattle.mw_model.specs.Term.{Term, Terms, Variable, Constant, If, Call, Lambda, NoTerms, More, Formula, Equal, Not, Or, term_object, terms_object, formula_object, names_object, is_call_name, ArityTable, is_term, is_formula, IsFormula}
-use Rattle.mw_model.specs.Reading.{names_of, and_more, more_terms, if_of, plain_call, lambda_of, term_of, terms_of, equal_of, not_of, or_of, formula_of}
-use Rattle.mw_model.specs.Same.{same_term, same_formula}
-use Rattle.mw_model.specs.Substitution.{Substitution, substitute, substitute_each, substitute_formula, image, actuals_for, is_substitution}
+use Rattle.mw_model.specs.Terms.Object.{Name, named, same_name, same_object}
+use Rattle.mw_model.specs.Terms.Term.{Term, Terms, Variable, Constant, If, Call, Lambda, NoTerms, More, Formula, Equal, Not, Or, term_object, terms_object, formula_object, names_object, is_call_name, ArityTable, is_term, is_formula, IsFormula}
+use Rattle.mw_model.specs.Terms.Reading.{names_of, and_more, more_terms, if_of, plain_call, lambda_of, term_of, terms_of, equal_of, not_of, or_of, formula_of}
+use Rattle.mw_model.specs.Terms.Same.{same_term, same_formula}
+use Rattle.mw_model.specs.Terms.Substitution.{Substitution, substitute, substitute_each, substitute_formula, image, actuals_for, is_substitution}
 use Rattle.mw_model.proofs.Names.{same_object-eq, same_object-from}
 use Rattle.mw_model.proofs.SameTerms.{same_term-eq, same_term-refl, same_formula-eq, same_formula-refl}
 use Rattle.mw_model.proofs.Formed.{Formed, AreFormed, formed}

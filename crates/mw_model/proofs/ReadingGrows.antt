@@ -1,8 +1,8 @@
 -- What is read of bytes after which more may follow is read whatever follows: complete data, and a fault that is found.
 use Rattle.std.proofs.Common.{◌≡◌, ℕ, zero, suc, ◌≤◌, ◌<◌, Bool, true, false, List, [], ◌∷◌, ◌++◌, Option, Some, None, refl, sym, ap, subst, arith, if◌then◌else◌}
-use Rattle.mw_model.specs.Object.{Object, Pair, NIL}
-use Rattle.mw_model.specs.Lexemes.{Lexeme, Atom, Open, Close, Dot, Quote, Mark, Ref, Wrong, Stray, End, Fault, fault, CLOSE, DOT, LABEL, Ending, Goes, lexemes}
-use Rattle.mw_model.specs.Grammar.{Labels, Unused, Label, Read, Got, Stop, and_then, quoted, quoting, labelling, pairing, and_tail, halt, closing, reference, complete, Part, Datum, First, Tail, Last, read, labelled, is_begun, Book, book, and_events, enough, and_data, data_of, reading}
+use Rattle.mw_model.specs.Terms.Object.{Object, Pair, NIL}
+use Rattle.mw_model.specs.Texts.Lexemes.{Lexeme, Atom, Open, Close, Dot, Quote, Mark, Ref, Wrong, Stray, End, Fault, fault, CLOSE, DOT, LABEL, Ending, Goes, lexemes}
+use Rattle.mw_model.specs.Texts.Grammar.{Labels, Unused, Label, Read, Got, Stop, and_then, quoted, quoting, labelling, pairing, and_tail, halt, closing, reference, complete, Part, Datum, First, Tail, Last, read, labelled, is_begun, Book, book, and_events, enough, and_data, data_of, reading}
 use Rattle.mw_model.proofs.LexemesGrow.{BeginsAt, GrowInto, ended, completed, kept, lexemes_grow}
 
 -- ---- what is read at the front

@@ -1,13 +1,13 @@
 -- The tests on objects of formulas are those on formulas: connectives, beta reduction and instances.
 use Rattle.std.proofs.Common.{◌≡◌, Bool, true, false, ◌&&◌, cond, [], Option, Some, None, refl, sym, ap, ap₂, ◌∙◌, subst}
-use Rattle.mw_model.specs.Object.{Name, Object, Natural, Symbol, Pair, same_name, same_object, nil_name}
-use Rattle.mw_model.specs.Term.{Term, Variable, Constant, If, Call, Lambda, Formula, Equal, Not, Or, term_object, formula_object, ArityTable, is_term, IsFormula, is_variable}
-use Rattle.mw_model.specs.Same.{same_formula}
-use Rattle.mw_model.specs.Reading.{term_of, that, when, if_nil, and_more}
-use Rattle.mw_model.specs.Substitution.{Substitution, substitute, substitute_formula, actuals_for, substitution_object, substitution_of, pair_for, is_substitution}
-use Rattle.mw_model.specs.Definition.{is_present}
-use Rattle.mw_model.specs.Judgment.{is_schema, is_beta, is_expansion, is_contraction, is_associativity, is_cut, is_instance}
-use Rattle.mw_model.specs.Rules.{object_is_schema, object_is_expansion, object_is_contraction, object_is_associativity, object_is_cut, substitute_object, substitute_formula_object, object_is_beta, is_substitution_object, object_is_instance}
+use Rattle.mw_model.specs.Terms.Object.{Name, Object, Natural, Symbol, Pair, same_name, same_object, nil_name}
+use Rattle.mw_model.specs.Terms.Term.{Term, Variable, Constant, If, Call, Lambda, Formula, Equal, Not, Or, term_object, formula_object, ArityTable, is_term, IsFormula, is_variable}
+use Rattle.mw_model.specs.Terms.Same.{same_formula}
+use Rattle.mw_model.specs.Terms.Reading.{term_of, that, when, if_nil, and_more}
+use Rattle.mw_model.specs.Terms.Substitution.{Substitution, substitute, substitute_formula, actuals_for, substitution_object, substitution_of, pair_for, is_substitution}
+use Rattle.mw_model.specs.Values.Definition.{is_present}
+use Rattle.mw_model.specs.Proofs.Judgment.{is_schema, is_beta, is_expansion, is_contraction, is_associativity, is_cut, is_instance}
+use Rattle.mw_model.specs.Laws.Rules.{object_is_schema, object_is_expansion, object_is_contraction, object_is_associativity, object_is_cut, substitute_object, substitute_formula_object, object_is_beta, is_substitution_object, object_is_instance}
 use Rattle.mw_model.proofs.Readable.{ReadableFormula, formula_readable, same_object-terms, same_object-formulas, substitute-readable, substitute_formula-readable, substitution_readable, actuals_for-readable}
 use Rattle.mw_model.proofs.SubstituteObject.{substitute_object-is, substitute_formula_object-is, actuals_object-is}
 use Rattle.mw_model.proofs.Follows.{substitution_back}

@@ -1,12 +1,12 @@
 -- Where two arity tables say the same of each name that occurs in an object, they say the same of the terms and formulas that it stands for.
 use Rattle.std.proofs.Common.{◌≡◌, true, ◌&&◌, eqb, List, [], ◌∷◌, length, Option, Some, None, refl, sym, ap, ap₂, subst}
 use Rattle.std.proofs.lemmas.Bool.{or_left, or_right}
-use Rattle.mw_model.specs.Object.{Name, Object, Symbol, Pair, symbol, named, NIL, list1, list2, list3}
-use Rattle.mw_model.specs.Term.{Term, Terms, Variable, Constant, If, Call, Lambda, NoTerms, More, Formula, Equal, Not, Or, ArityTable, arity_of, has_arity, is_call_name, is_variable, are_formals, is_closed, count, names_object, term_object, terms_object, formula_object, is_term, are_terms, is_formula}
-use Rattle.mw_model.specs.Reading.{formula_of, formula_under, that}
-use Rattle.mw_model.specs.Substitution.{Substitution, substitution_object, is_substitution}
-use Rattle.mw_model.specs.Induction.{Case, substitutions_object, cases_object, are_substitutions, are_cases}
-use Rattle.mw_model.specs.Slice.{occurs}
+use Rattle.mw_model.specs.Terms.Object.{Name, Object, Symbol, Pair, symbol, named, NIL, list1, list2, list3}
+use Rattle.mw_model.specs.Terms.Term.{Term, Terms, Variable, Constant, If, Call, Lambda, NoTerms, More, Formula, Equal, Not, Or, ArityTable, arity_of, has_arity, is_call_name, is_variable, are_formals, is_closed, count, names_object, term_object, terms_object, formula_object, is_term, are_terms, is_formula}
+use Rattle.mw_model.specs.Terms.Reading.{formula_of, formula_under, that}
+use Rattle.mw_model.specs.Terms.Substitution.{Substitution, substitution_object, is_substitution}
+use Rattle.mw_model.specs.Proofs.Induction.{Case, substitutions_object, cases_object, are_substitutions, are_cases}
+use Rattle.mw_model.specs.Commands.Slice.{occurs}
 use Rattle.mw_model.proofs.Names.{same_name-refl}
 use Rattle.mw_model.proofs.ReadBack.{formula_back}
 

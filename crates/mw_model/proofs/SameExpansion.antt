@@ -2,10 +2,10 @@
 -- it expands to.
 use Rattle.std.proofs.Common.{◌≡◌, Bool, true, false, ◌&&◌, cond, eqb, List, [], ◌∷◌, ◌++◌, length, Option, Some, None, refl, ap, ap₂}
 use Rattle.std.proofs.lemmas.Bool.{cond_both}
-use Rattle.mw_model.specs.Object.{Name, Object, Natural, Symbol, Pair, symbol, named, same_name, same_object, nil_name, NIL, T}
-use Rattle.mw_model.specs.Term.{Term, Terms, Variable, Constant, If, Call, Lambda, NoTerms, More, ArityTable, arity_of, has_arity, is_call_name, are_formals, is_closed, count, variables, is_term, are_terms}
-use Rattle.mw_model.specs.Reading.{names_of, and_more, both, more_terms, lambda_of, if_nil, when, that}
-use Rattle.mw_model.specs.Expansion.{Abbreviation, AND, OR, COND, LIST, LET, LETSTAR, FIRST, SECOND, THIRD, FOURTH, FIFTH, QUOTE, Other, abbreviation_of, expand_symbol, and_term, or_term, list_term, car_term, cdr_term, of_single, call_term, form, form_with, cond_term, binding_of, without, bound_names, let_actuals, let_term, let_of, let_star_of, expanded, expanded_each, clause, clauses, binding, bindings, let_star, expand}
+use Rattle.mw_model.specs.Terms.Object.{Name, Object, Natural, Symbol, Pair, symbol, named, same_name, same_object, nil_name, NIL, T}
+use Rattle.mw_model.specs.Terms.Term.{Term, Terms, Variable, Constant, If, Call, Lambda, NoTerms, More, ArityTable, arity_of, has_arity, is_call_name, are_formals, is_closed, count, variables, is_term, are_terms}
+use Rattle.mw_model.specs.Terms.Reading.{names_of, and_more, both, more_terms, lambda_of, if_nil, when, that}
+use Rattle.mw_model.specs.Events.Expansion.{Abbreviation, AND, OR, COND, LIST, LET, LETSTAR, FIRST, SECOND, THIRD, FOURTH, FIFTH, QUOTE, Other, abbreviation_of, expand_symbol, and_term, or_term, list_term, car_term, cdr_term, of_single, call_term, form, form_with, cond_term, binding_of, without, bound_names, let_actuals, let_term, let_of, let_star_of, expanded, expanded_each, clause, clauses, binding, bindings, let_star, expand}
 use Rattle.mw_model.proofs.SameArities.{Agree, agree_first, agree_rest, agree_head}
 
 -- both tables say the same of the functions that abbreviations stand for

@@ -1,6 +1,6 @@
 -- Equality of objects does not look which one comes first.
 use Rattle.std.proofs.Common.{◌≡◌, true, false, sym, ◌∙◌, ◌⊎◌, inl, inr, ◌≢◌}
-use Rattle.mw_model.specs.Object.{Object, same_object}
+use Rattle.mw_model.specs.Terms.Object.{Object, same_object}
 use Rattle.mw_model.proofs.Names.{object_cases, same_object-from}
 
 pub same_object-swap : (x y : Object) → same_object x y ≡ same_object y x

@@ -1,14 +1,14 @@
 -- What an event comes to, whoever judges the proofs, once its range and its word are known; and what was found where it is accepted.
 use Rattle.std.proofs.Common.{◌≡◌, ℕ, Bool, true, false, not, List, [], ◌∷◌, length, Option, Some, None, refl, ap, ap₂, ◌∙◌}
-use Rattle.mw_model.specs.Object.{Object, car, cdr, has_members}
-use Rattle.mw_model.specs.Term.{Formula}
-use Rattle.mw_model.specs.Reading.{when}
-use Rattle.mw_model.specs.Theory.{Theory}
-use Rattle.mw_model.specs.Refusal.{Refusal, RANGE, EVENT, COUNT, Fate, refuse, accept, need, must, unless}
-use Rattle.mw_model.specs.Checking.{or_else}
-use Rattle.mw_model.specs.Fate.{EventWord, Verify, Define, Skolem, Switch, Eval, Print, DefineAll, SetProfile, event_word, is_out_of_range}
-use Rattle.mw_model.specs.Demand.{Demand, Denied, Wants, demand, proofs_of, Judge, each_judged, settled, happens_by_under, happens_under}
-use Rattle.mw_model.specs.Report.{is_accepted}
+use Rattle.mw_model.specs.Terms.Object.{Object, car, cdr, has_members}
+use Rattle.mw_model.specs.Terms.Term.{Formula}
+use Rattle.mw_model.specs.Terms.Reading.{when}
+use Rattle.mw_model.specs.Events.Theory.{Theory}
+use Rattle.mw_model.specs.Events.Refusal.{Refusal, RANGE, EVENT, COUNT, Fate, refuse, accept, need, must, unless}
+use Rattle.mw_model.specs.Events.Checking.{or_else}
+use Rattle.mw_model.specs.Events.Fate.{EventWord, Verify, Define, Skolem, Switch, Eval, Print, DefineAll, SetProfile, event_word, is_out_of_range}
+use Rattle.mw_model.specs.Commands.Demand.{Demand, Denied, Wants, demand, proofs_of, Judge, each_judged, settled, happens_by_under, happens_under}
+use Rattle.mw_model.specs.Reports.Report.{is_accepted}
 use Rattle.mw_model.proofs.Demands.{need_same}
 
 pub or_else_none : (o q : Option Refusal) → or_else o q ≡ None → (o ≡ None) × (q ≡ None)

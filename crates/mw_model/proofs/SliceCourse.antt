@@ -2,14 +2,14 @@
 -- left out added.
 use Rattle.std.proofs.Common.{◌≡◌, ℕ, suc, ◌<◌, ◌≤◌, Bool, true, false, eqb, List, [], ◌∷◌, length, None, ◌⊎◌, inl, inr, refl, sym, ap, ◌∙◌, subst, arith, eqb-true}
 use Rattle.std.proofs.lemmas.Bool.{and_parts, false≢true, eqb-false}
-use Rattle.mw_model.specs.Object.{Name, Object, Symbol, Pair, same_object, NIL, third_of, Member, first, later}
-use Rattle.mw_model.specs.Term.{Formula, arity_of, formula_object}
-use Rattle.mw_model.specs.Primitive.{Profile, One}
-use Rattle.mw_model.specs.Definition.{Block, add_block, arities, block_axioms}
-use Rattle.mw_model.specs.BuiltIn.{built_in}
-use Rattle.mw_model.specs.Theory.{axioms_of}
-use Rattle.mw_model.specs.Fate.{same_block, same_blocks, is_one, is_initial}
-use Rattle.mw_model.specs.Slice.{begins_with, event_at, names_added, sets_profile}
+use Rattle.mw_model.specs.Terms.Object.{Name, Object, Symbol, Pair, same_object, NIL, third_of, Member, first, later}
+use Rattle.mw_model.specs.Terms.Term.{Formula, arity_of, formula_object}
+use Rattle.mw_model.specs.Values.Primitive.{Profile, One}
+use Rattle.mw_model.specs.Values.Definition.{Block, add_block, arities, block_axioms}
+use Rattle.mw_model.specs.BuiltIns.BuiltIn.{built_in}
+use Rattle.mw_model.specs.Events.Theory.{axioms_of}
+use Rattle.mw_model.specs.Events.Fate.{same_block, same_blocks, is_one, is_initial}
+use Rattle.mw_model.specs.Commands.Slice.{begins_with, event_at, names_added, sets_profile}
 use Rattle.mw_model.proofs.Names.{same_object-eq}
 use Rattle.mw_model.proofs.FromNothing.{no_member}
 use Rattle.mw_model.proofs.BlockNames.{some_occurs, is_named, NewBlock}

@@ -1,15 +1,15 @@
 -- What leaves each theory as it is, and the slice after a switch: all events that change the theory, up to the goal.
 use Rattle.std.proofs.Common.{◌≡◌, ℕ, suc, ◌≤◌, Bool, true, false, ◌&&◌, ◌||◌, cond, leb, List, [], ◌∷◌, Some, None, inl, inr, refl, sym, ap, ◌∙◌, subst, arith}
 use Rattle.std.proofs.lemmas.Bool.{cases_Bool, leb-true, leb-false}
-use Rattle.mw_model.specs.Object.{Object, Natural, Symbol, symbol, same_object, second_of}
-use Rattle.mw_model.specs.Reading.{when}
-use Rattle.mw_model.specs.Primitive.{One, Two}
-use Rattle.mw_model.specs.Printing.{text_of}
-use Rattle.mw_model.specs.Theory.{Theory, initial}
-use Rattle.mw_model.specs.Refusal.{PROFILE, accept, need}
-use Rattle.mw_model.specs.Fate.{EventWord, Verify, Define, Skolem, Switch, Eval, Print, DefineAll, SetProfile, is_initial, begin_profile, profile, happens_by, happens}
-use Rattle.mw_model.specs.Report.{is_accepted}
-use Rattle.mw_model.specs.Slice.{event_at, is_idle}
+use Rattle.mw_model.specs.Terms.Object.{Object, Natural, Symbol, symbol, same_object, second_of}
+use Rattle.mw_model.specs.Terms.Reading.{when}
+use Rattle.mw_model.specs.Values.Primitive.{One, Two}
+use Rattle.mw_model.specs.Texts.Printing.{text_of}
+use Rattle.mw_model.specs.Events.Theory.{Theory, initial}
+use Rattle.mw_model.specs.Events.Refusal.{PROFILE, accept, need}
+use Rattle.mw_model.specs.Events.Fate.{EventWord, Verify, Define, Skolem, Switch, Eval, Print, DefineAll, SetProfile, is_initial, begin_profile, profile, happens_by, happens}
+use Rattle.mw_model.specs.Reports.Report.{is_accepted}
+use Rattle.mw_model.specs.Commands.Slice.{event_at, is_idle}
 use Rattle.mw_model.proofs.Demands.{by_word}
 use Rattle.mw_model.proofs.LogAccepted.{happens_as}
 use Rattle.mw_model.proofs.EventParts.{HasWord, word_name, has_word}

@@ -1,11 +1,11 @@
 -- The events at the places of a slice are all accepted, one after another, where the list's events are.
 use Rattle.std.proofs.Common.{◌≡◌, ℕ, zero, suc, ◌<◌, ◌≤◌, Bool, true, false, ◌&&◌, ◌||◌, cond, eqb, ltb, List, [], ◌∷◌, length, map, take, Option, Some, None, ◌⊎◌, inl, inr, refl, sym, ap, ◌∙◌, subst, arith, get_or-take}
 use Rattle.std.proofs.lemmas.Bool.{and_parts, or_cases, or_parts, false≢true, cases_Bool, eqb-true, eqb-false, false_from_ne_true}
-use Rattle.mw_model.specs.Object.{Object, Natural, symbol, same_object, NIL, car, second_of, third_of}
-use Rattle.mw_model.specs.Primitive.{One}
-use Rattle.mw_model.specs.Value.{pick}
-use Rattle.mw_model.specs.Theory.{initial}
-use Rattle.mw_model.specs.Slice.{begins_with, event_at, some_passes, later_place, first_place, is_place, first_proof, occurs, without_name, first_members, names_added, theorems_named, rests_on, Needed, the_goal, the_profile, the_basis, is_idle, IsSlice}
+use Rattle.mw_model.specs.Terms.Object.{Object, Natural, symbol, same_object, NIL, car, second_of, third_of}
+use Rattle.mw_model.specs.Values.Primitive.{One}
+use Rattle.mw_model.specs.Values.Value.{pick}
+use Rattle.mw_model.specs.Events.Theory.{initial}
+use Rattle.mw_model.specs.Commands.Slice.{begins_with, event_at, some_passes, later_place, first_place, is_place, first_proof, occurs, without_name, first_members, names_added, theorems_named, rests_on, Needed, the_goal, the_profile, the_basis, is_idle, IsSlice}
 use Rattle.mw_model.proofs.Names.{same_object-eq}
 use Rattle.mw_model.proofs.SlicePlaces.{among, needed_below}
 use Rattle.mw_model.proofs.AllAccepted.{AllAccepted}

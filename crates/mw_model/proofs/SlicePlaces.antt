@@ -2,9 +2,9 @@
 -- places is the least one.
 use Rattle.std.proofs.Common.{◌≡◌, ℕ, zero, suc, ◌<◌, ◌≤◌, Bool, true, false, ◌&&◌, ◌||◌, not, cond, eqb, ltb, List, [], ◌∷◌, take, ◌≢◌, ◌⊎◌, inl, inr, ◌↔◌, refl, sym, ap, ap₂, ◌∙◌, subst, arith, eqb-true, eq-eqb}
 use Rattle.std.proofs.lemmas.Bool.{true≢false, and_parts, and_from, or_cases, or_left, or_right, ltb-true, lt-ltb, eqb-false}
-use Rattle.mw_model.specs.Object.{Object}
-use Rattle.mw_model.specs.Value.{pick}
-use Rattle.mw_model.specs.Slice.{begins_with, event_at, some_passes, rests_on, sets_profile, Needed, the_goal, the_profile, the_basis, is_idle, is_ascending, IsSlice}
+use Rattle.mw_model.specs.Terms.Object.{Object}
+use Rattle.mw_model.specs.Values.Value.{pick}
+use Rattle.mw_model.specs.Commands.Slice.{begins_with, event_at, some_passes, rests_on, sets_profile, Needed, the_goal, the_profile, the_basis, is_idle, is_ascending, IsSlice}
 
 abbrev pub among : List ℕ → ℕ → Bool
 among places j = some_passes (λ i. eqb i j) places

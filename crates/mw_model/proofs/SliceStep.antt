@@ -1,15 +1,15 @@
 -- A kept event is accepted after the kept events before it: what it uses was added by events that it rests on.
 use Rattle.std.proofs.Common.{◌≡◌, ℕ, zero, suc, ◌<◌, ◌≤◌, Bool, true, false, ◌&&◌, cond, ltb, List, [], ◌∷◌, map, filter, Some, ◌⊎◌, inl, inr, refl, sym, ap, ◌∙◌, subst, arith}
 use Rattle.std.proofs.lemmas.Bool.{and_parts, and_from, or_cases, or_left, or_right, false≢true, lt-ltb, eq-eqb}
-use Rattle.mw_model.specs.Object.{Name, Object, Symbol, named, same_object, NIL, second_of, third_of, Member}
-use Rattle.mw_model.specs.Term.{arity_of}
-use Rattle.mw_model.specs.Primitive.{Profile, One, Two, primitive_arities}
-use Rattle.mw_model.specs.Definition.{Block, arities}
-use Rattle.mw_model.specs.Truth.{Each}
-use Rattle.mw_model.specs.Theory.{axioms_of}
-use Rattle.mw_model.specs.Fate.{event_word}
-use Rattle.mw_model.specs.Subproofs.{each_within}
-use Rattle.mw_model.specs.Slice.{begins_with, event_at, some_passes, later_place, first_place, is_place, first_proof, occurs, without_name, names_added, proofs_by_word, theorems_named, rests_on}
+use Rattle.mw_model.specs.Terms.Object.{Name, Object, Symbol, named, same_object, NIL, second_of, third_of, Member}
+use Rattle.mw_model.specs.Terms.Term.{arity_of}
+use Rattle.mw_model.specs.Values.Primitive.{Profile, One, Two, primitive_arities}
+use Rattle.mw_model.specs.Values.Definition.{Block, arities}
+use Rattle.mw_model.specs.Values.Truth.{Each}
+use Rattle.mw_model.specs.Events.Theory.{axioms_of}
+use Rattle.mw_model.specs.Events.Fate.{event_word}
+use Rattle.mw_model.specs.Commands.Subproofs.{each_within}
+use Rattle.mw_model.specs.Commands.Slice.{begins_with, event_at, some_passes, later_place, first_place, is_place, first_proof, occurs, without_name, names_added, proofs_by_word, theorems_named, rests_on}
 use Rattle.mw_model.proofs.Names.{same_object-eq, same_object-refl}
 use Rattle.mw_model.proofs.NewNames.{none_some, none_below}
 use Rattle.mw_model.proofs.SameArities.{Agree}

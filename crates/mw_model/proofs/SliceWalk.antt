@@ -1,15 +1,15 @@
 -- Where the events of a list are all accepted one after another, so are those of a slice.
 use Rattle.std.proofs.Common.{◌≡◌, ℕ, suc, ◌+◌, ◌<◌, ◌≤◌, Bool, true, false, cond, leb, List, [], ◌∷◌, inl, inr, refl, sym, ap, ◌∙◌, subst, arith}
 use Rattle.std.proofs.lemmas.Bool.{cases_Bool, leb-true, leb-false}
-use Rattle.mw_model.specs.Object.{Object, NIL}
-use Rattle.mw_model.specs.Primitive.{Profile, One}
-use Rattle.mw_model.specs.Definition.{Block}
-use Rattle.mw_model.specs.BuiltIn.{built_in}
-use Rattle.mw_model.specs.Theory.{Theory, initial}
-use Rattle.mw_model.specs.Refusal.{accept}
-use Rattle.mw_model.specs.Fate.{happens}
-use Rattle.mw_model.specs.Report.{is_accepted}
-use Rattle.mw_model.specs.Slice.{begins_with, event_at, rests_on, sets_profile}
+use Rattle.mw_model.specs.Terms.Object.{Object, NIL}
+use Rattle.mw_model.specs.Values.Primitive.{Profile, One}
+use Rattle.mw_model.specs.Values.Definition.{Block}
+use Rattle.mw_model.specs.BuiltIns.BuiltIn.{built_in}
+use Rattle.mw_model.specs.Events.Theory.{Theory, initial}
+use Rattle.mw_model.specs.Events.Refusal.{accept}
+use Rattle.mw_model.specs.Events.Fate.{happens}
+use Rattle.mw_model.specs.Reports.Report.{is_accepted}
+use Rattle.mw_model.specs.Commands.Slice.{begins_with, event_at, rests_on, sets_profile}
 use Rattle.mw_model.proofs.SliceCourse.{Course, kept_course, left_course}
 use Rattle.mw_model.proofs.EventAgain.{EventFound, event_found}
 use Rattle.mw_model.proofs.FromNothing.{no_member}

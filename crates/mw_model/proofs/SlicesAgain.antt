@@ -1,18 +1,18 @@
 -- What is owed for a theorem of a book is the text of a book whose events are all accepted, the last being the theorem.
 use Rattle.std.proofs.Common.{◌≡◌, ℕ, ◌<◌, ◌≤◌, true, ◌&&◌, List, [], ◌∷◌, ◌++◌, length, Option, Some, None, codes, refl, sym, ap, ◌∙◌, subst, append_assoc}
 use Rattle.std.proofs.lemmas.Bool.{and_parts}
-use Rattle.mw_model.specs.Object.{Name, Object, Symbol, same_object, second_of}
-use Rattle.mw_model.specs.Primitive.{One}
-use Rattle.mw_model.specs.Theory.{initial}
-use Rattle.mw_model.specs.Lexemes.{Fault}
-use Rattle.mw_model.specs.Grammar.{Book, book, limit, trees}
-use Rattle.mw_model.specs.Printing.{numeral}
-use Rattle.mw_model.specs.Report.{Done, status_of, spaced, report_of, accepted_among}
-use Rattle.mw_model.specs.Written.{IsDatumLine, IsBookText, datum_line}
-use Rattle.mw_model.specs.Pieces.{InOrder, comment}
-use Rattle.mw_model.specs.Slice.{begins_with, event_at, target}
-use Rattle.mw_model.specs.Slicing.{accepted_events, of_events, AreKept, SliceOwed, SliceWritten, slicing_status, status_for}
-use Rattle.mw_model.specs.Headlines.{AcceptsAll, SliceAccepted}
+use Rattle.mw_model.specs.Terms.Object.{Name, Object, Symbol, same_object, second_of}
+use Rattle.mw_model.specs.Values.Primitive.{One}
+use Rattle.mw_model.specs.Events.Theory.{initial}
+use Rattle.mw_model.specs.Texts.Lexemes.{Fault}
+use Rattle.mw_model.specs.Texts.Grammar.{Book, book, limit, trees}
+use Rattle.mw_model.specs.Texts.Printing.{numeral}
+use Rattle.mw_model.specs.Reports.Report.{Done, status_of, spaced, report_of, accepted_among}
+use Rattle.mw_model.specs.Texts.Written.{IsDatumLine, IsBookText, datum_line}
+use Rattle.mw_model.specs.Texts.Pieces.{InOrder, comment}
+use Rattle.mw_model.specs.Commands.Slice.{begins_with, event_at, target}
+use Rattle.mw_model.specs.Commands.Slicing.{accepted_events, of_events, AreKept, SliceOwed, SliceWritten, slicing_status, status_for}
+use Rattle.mw_model.specs.Reports.Headlines.{AcceptsAll, SliceAccepted}
 use Rattle.mw_model.proofs.LexingLines.{no_newline}
 use Rattle.mw_model.proofs.OneLine.{spaced_line, numeral_line}
 use Rattle.mw_model.proofs.Comments.{last_comment}

@@ -1,9 +1,9 @@
 -- Not without a value: where calls have values, terms have; witnesses have them.
 use Rattle.std.proofs.Common.{◌≡◌, ◌≢◌, ℕ, suc, true, List, [], ◌∷◌, length, Option, Some, None, refl, ap, ◌∙◌, subst, inl, inr}
-use Rattle.mw_model.specs.Object.{Name, Object, NIL}
-use Rattle.mw_model.specs.Term.{Term, Terms, Variable, Constant, If, Call, Lambda, NoTerms, More, ArityTable, arity_of, is_call_name, count}
-use Rattle.mw_model.specs.Primitive.{Profile, Primitive, primitive_named, apply}
-use Rattle.mw_model.specs.Value.{Environment, lookup, bind, Calls, OnCall, HasValue, HaveValues, Satisfies, IsWitness}
+use Rattle.mw_model.specs.Terms.Object.{Name, Object, NIL}
+use Rattle.mw_model.specs.Terms.Term.{Term, Terms, Variable, Constant, If, Call, Lambda, NoTerms, More, ArityTable, arity_of, is_call_name, count}
+use Rattle.mw_model.specs.Values.Primitive.{Profile, Primitive, primitive_named, apply}
+use Rattle.mw_model.specs.Values.Value.{Environment, lookup, bind, Calls, OnCall, HasValue, HaveValues, Satisfies, IsWitness}
 use Rattle.mw_model.proofs.Order.{is_before_ind}
 use Rattle.mw_model.proofs.Formed.{Formed, AreFormed}
 

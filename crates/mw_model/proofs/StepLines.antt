@@ -1,11 +1,11 @@
 -- A step on a line of its own, with its members written apart, is read as just this step.
 use Rattle.std.proofs.Common.{◌≡◌, ℕ, suc, ◌+◌, ◌≤◌, List, [], ◌∷◌, ◌++◌, length, map, Option, Some, None, codes, refl, sym, ap, ◌∙◌, subst, arith, append_assoc, length-append}
-use Rattle.mw_model.specs.Object.{Object, Pair, symbol}
-use Rattle.mw_model.specs.Lexemes.{Lexeme, Atom, Open, Close, End, Ends, Fault, fault, END, lexemes, lexemes_from}
-use Rattle.mw_model.specs.Grammar.{Labels, Unused, Got, and_then, pairing, Tail, read, enough, and_data, data_of, book, reading}
-use Rattle.mw_model.specs.Written.{AreWritten}
-use Rattle.mw_model.specs.Pieces.{InOrder}
-use Rattle.mw_model.specs.Flattening.{step_members, step_datum, IsStepLine}
+use Rattle.mw_model.specs.Terms.Object.{Object, Pair, symbol}
+use Rattle.mw_model.specs.Texts.Lexemes.{Lexeme, Atom, Open, Close, End, Ends, Fault, fault, END, lexemes, lexemes_from}
+use Rattle.mw_model.specs.Texts.Grammar.{Labels, Unused, Got, and_then, pairing, Tail, read, enough, and_data, data_of, book, reading}
+use Rattle.mw_model.specs.Texts.Written.{AreWritten}
+use Rattle.mw_model.specs.Texts.Pieces.{InOrder}
+use Rattle.mw_model.specs.Commands.Flattening.{step_members, step_datum, IsStepLine}
 use Rattle.mw_model.proofs.Lexing.{lexemes_from-token}
 use Rattle.mw_model.proofs.WrittenRead.{enough_is, ReadAs, line_read}
 use Rattle.mw_model.proofs.WrittenMembers.{list_of, delimited, place_members}

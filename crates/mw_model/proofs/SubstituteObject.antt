@@ -1,9 +1,9 @@
 -- Substitution on objects is substitution.
 use Rattle.std.proofs.Common.{◌≡◌, Bool, true, false, cond, List, [], ◌∷◌, refl, ap, ap₂}
-use Rattle.mw_model.specs.Object.{Name, Symbol, Pair, symbol, same_name, NIL, list2, list3}
-use Rattle.mw_model.specs.Term.{Term, Terms, Variable, Constant, If, Call, Lambda, NoTerms, More, Formula, Equal, Not, Or, term_object, terms_object, formula_object, names_object}
-use Rattle.mw_model.specs.Substitution.{Substitution, substitute, substitute_each, substitute_formula, image, actuals_for, substitution_object}
-use Rattle.mw_model.specs.Rules.{image_object, substitute_object, substitute_each_object, substitute_formula_object, actuals_object}
+use Rattle.mw_model.specs.Terms.Object.{Name, Symbol, Pair, symbol, same_name, NIL, list2, list3}
+use Rattle.mw_model.specs.Terms.Term.{Term, Terms, Variable, Constant, If, Call, Lambda, NoTerms, More, Formula, Equal, Not, Or, term_object, terms_object, formula_object, names_object}
+use Rattle.mw_model.specs.Terms.Substitution.{Substitution, substitute, substitute_each, substitute_formula, image, actuals_for, substitution_object}
+use Rattle.mw_model.specs.Laws.Rules.{image_object, substitute_object, substitute_each_object, substitute_formula_object, actuals_object}
 use Rattle.mw_model.proofs.Readable.{Readable, AreReadable, ReadableFormula, not_quote}
 
 pub image_object-is : (s : Substitution) (x : Name) → image_object (substitution_object s) (Symbol x) ≡ term_object (image s x)

@@ -1,22 +1,22 @@
 -- What is owed for a book of formulas is the text of a book of theorems, each proved from nothing, with comments between.
 use Rattle.std.proofs.Common.{◌≡◌, ℕ, suc, ◌+◌, ◌≤◌, true, false, not, cond, List, [], ◌∷◌, ◌++◌, length, Option, Some, None, codes, refl, sym, ap, ◌∙◌, subst, arith, append_assoc}
 use Rattle.std.proofs.lemmas.Bool.{not-true}
-use Rattle.mw_model.specs.Object.{Object, symbol, NIL, car, second_of, has_members, list1, list2, list4}
-use Rattle.mw_model.specs.Term.{ArityTable, Formula, formula_object, is_formula}
-use Rattle.mw_model.specs.Reading.{formula_of, formula_under, that, when}
-use Rattle.mw_model.specs.Primitive.{One, is_symbol}
-use Rattle.mw_model.specs.Truth.{Each}
-use Rattle.mw_model.specs.Theory.{initial}
-use Rattle.mw_model.specs.Fate.{is_out_of_range}
-use Rattle.mw_model.specs.Lexemes.{Fault}
-use Rattle.mw_model.specs.Grammar.{Book, book, limit, trees}
-use Rattle.mw_model.specs.Printing.{numeral}
-use Rattle.mw_model.specs.Report.{status_of, spaced, word_text, report_of, accepted_among}
-use Rattle.mw_model.specs.Written.{IsDatumLine, IsBookText, datum_line}
-use Rattle.mw_model.specs.Pieces.{InOrder, numbered, how_many, comment, comment_ending}
-use Rattle.mw_model.specs.Tautology.{Decision, Many, FailsUnder, Holds, decision, choice_object}
-use Rattle.mw_model.specs.TautologyBook.{IsPureProof, initial_arities, formula_given, decision_on, remark, OwesDecided, OwesGiven, OwesTautology, is_holding, is_proved, tautology_summary, TautologiesWritten}
-use Rattle.mw_model.specs.Headlines.{AcceptsAll}
+use Rattle.mw_model.specs.Terms.Object.{Object, symbol, NIL, car, second_of, has_members, list1, list2, list4}
+use Rattle.mw_model.specs.Terms.Term.{ArityTable, Formula, formula_object, is_formula}
+use Rattle.mw_model.specs.Terms.Reading.{formula_of, formula_under, that, when}
+use Rattle.mw_model.specs.Values.Primitive.{One, is_symbol}
+use Rattle.mw_model.specs.Values.Truth.{Each}
+use Rattle.mw_model.specs.Events.Theory.{initial}
+use Rattle.mw_model.specs.Events.Fate.{is_out_of_range}
+use Rattle.mw_model.specs.Texts.Lexemes.{Fault}
+use Rattle.mw_model.specs.Texts.Grammar.{Book, book, limit, trees}
+use Rattle.mw_model.specs.Texts.Printing.{numeral}
+use Rattle.mw_model.specs.Reports.Report.{status_of, spaced, word_text, report_of, accepted_among}
+use Rattle.mw_model.specs.Texts.Written.{IsDatumLine, IsBookText, datum_line}
+use Rattle.mw_model.specs.Texts.Pieces.{InOrder, numbered, how_many, comment, comment_ending}
+use Rattle.mw_model.specs.Commands.Tautology.{Decision, Many, FailsUnder, Holds, decision, choice_object}
+use Rattle.mw_model.specs.Commands.TautologyBook.{IsPureProof, initial_arities, formula_given, decision_on, remark, OwesDecided, OwesGiven, OwesTautology, is_holding, is_proved, tautology_summary, TautologiesWritten}
+use Rattle.mw_model.specs.Reports.Headlines.{AcceptsAll}
 use Rattle.mw_model.proofs.ReadBack.{when_some, formula_back}
 use Rattle.mw_model.proofs.Logs.{car_in_range, second_in_range, pair_in_range}
 use Rattle.mw_model.proofs.LexingLines.{no_newline}

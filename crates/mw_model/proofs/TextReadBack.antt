@@ -1,10 +1,10 @@
 -- What is printed is read again: the lexemes of a text are read as its object, whatever comes after them.
 use Rattle.std.proofs.Common.{◌≡◌, ℕ, zero, suc, ◌+◌, ◌≤◌, ◌<◌, Bool, true, false, List, [], ◌∷◌, ◌++◌, length, Option, None, refl, sym, ap, ◌∙◌, subst, if◌then◌else◌, arith, append_assoc, append-nil, le-leb, length-append, take}
-use Rattle.mw_model.specs.Object.{Object, Natural, Symbol, Pair, Name, NIL, nil_name, same_name}
-use Rattle.mw_model.specs.Lexemes.{Lexeme, Atom, Open, Close, Dot, Mark, End, Fault, unfinished, Ending, Ends, Goes, lexemes_from}
-use Rattle.mw_model.specs.Grammar.{Labels, Unused, Got, and_then, and_tail, Datum, First, Tail, read, book, pairing, and_data, and_events, enough, data_of, reading, trees, limit, cut_short}
-use Rattle.mw_model.specs.Printing.{text_of, tail_text, numeral, name_text, end_text, text_lines}
-use Rattle.mw_model.specs.Written.{labels_begun}
+use Rattle.mw_model.specs.Terms.Object.{Object, Natural, Symbol, Pair, Name, NIL, nil_name, same_name}
+use Rattle.mw_model.specs.Texts.Lexemes.{Lexeme, Atom, Open, Close, Dot, Mark, End, Fault, unfinished, Ending, Ends, Goes, lexemes_from}
+use Rattle.mw_model.specs.Texts.Grammar.{Labels, Unused, Got, and_then, and_tail, Datum, First, Tail, read, book, pairing, and_data, and_events, enough, data_of, reading, trees, limit, cut_short}
+use Rattle.mw_model.specs.Texts.Printing.{text_of, tail_text, numeral, name_text, end_text, text_lines}
+use Rattle.mw_model.specs.Texts.Written.{labels_begun}
 use Rattle.mw_model.proofs.Names.{same_name-eq}
 use Rattle.mw_model.proofs.Lexing.{Delimits}
 use Rattle.mw_model.proofs.AtomText.{IsAtom, name_atom, natural_atom}

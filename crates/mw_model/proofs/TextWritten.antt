@@ -1,12 +1,12 @@
 -- The text of an object may be written for it, however long: it is read as this object, and begins no label.
 use Rattle.std.proofs.Common.{◌≡◌, ℕ, zero, suc, ◌+◌, ◌≤◌, Bool, true, false, ltb, List, [], ◌∷◌, ◌++◌, length, Some, None, codes, refl, sym, ap, ◌∙◌, arith, append-nil, length-append}
-use Rattle.mw_model.specs.Object.{Object, symbol}
-use Rattle.mw_model.specs.Value.{pick}
-use Rattle.mw_model.specs.Fate.{longest}
-use Rattle.mw_model.specs.Lexemes.{Lexeme, Atom, End, fault, END, Ends, lexemes}
-use Rattle.mw_model.specs.Grammar.{book, enough, and_events, data_of, reading}
-use Rattle.mw_model.specs.Printing.{text_of}
-use Rattle.mw_model.specs.Written.{labels_begun, IsLabelled, IsWritten}
+use Rattle.mw_model.specs.Terms.Object.{Object, symbol}
+use Rattle.mw_model.specs.Values.Value.{pick}
+use Rattle.mw_model.specs.Events.Fate.{longest}
+use Rattle.mw_model.specs.Texts.Lexemes.{Lexeme, Atom, End, fault, END, Ends, lexemes}
+use Rattle.mw_model.specs.Texts.Grammar.{book, enough, and_events, data_of, reading}
+use Rattle.mw_model.specs.Texts.Printing.{text_of}
+use Rattle.mw_model.specs.Texts.Written.{labels_begun, IsLabelled, IsWritten}
 use Rattle.mw_model.proofs.TextReadBack.{prints, plain_both, data_of-datum, reading-text_of}
 use Rattle.mw_model.proofs.WrittenRead.{enough_is}
 use Rattle.mw_model.proofs.OneLine.{text_line}

@@ -1,17 +1,17 @@
 -- A book of theorems that are proved from nothing is accepted event by event, whatever the step limit.
 use Rattle.std.proofs.Common.{◌≡◌, ℕ, ◌+◌, true, false, not, cond, List, [], ◌∷◌, length, Some, None, refl, sym, ap, ◌∙◌, arith}
-use Rattle.mw_model.specs.Object.{Object, Pair, symbol, NIL, list4}
-use Rattle.mw_model.specs.Term.{Formula, formula_object}
-use Rattle.mw_model.specs.Reading.{formula_under, when}
-use Rattle.mw_model.specs.Primitive.{is_symbol}
-use Rattle.mw_model.specs.Definition.{Definitions, arity_table}
-use Rattle.mw_model.specs.Truth.{Each}
-use Rattle.mw_model.specs.Proof.{Proves}
-use Rattle.mw_model.specs.Theory.{Theory}
-use Rattle.mw_model.specs.Refusal.{RANGE, EVENT, NAME, FORMULA, accept, need, must, unless}
-use Rattle.mw_model.specs.Checking.{judged_as}
-use Rattle.mw_model.specs.Fate.{event_word, is_out_of_range, happens_by, happens}
-use Rattle.mw_model.specs.Report.{is_accepted, accepted_among, refused_among}
+use Rattle.mw_model.specs.Terms.Object.{Object, Pair, symbol, NIL, list4}
+use Rattle.mw_model.specs.Terms.Term.{Formula, formula_object}
+use Rattle.mw_model.specs.Terms.Reading.{formula_under, when}
+use Rattle.mw_model.specs.Values.Primitive.{is_symbol}
+use Rattle.mw_model.specs.Values.Definition.{Definitions, arity_table}
+use Rattle.mw_model.specs.Values.Truth.{Each}
+use Rattle.mw_model.specs.Proofs.Proof.{Proves}
+use Rattle.mw_model.specs.Events.Theory.{Theory}
+use Rattle.mw_model.specs.Events.Refusal.{RANGE, EVENT, NAME, FORMULA, accept, need, must, unless}
+use Rattle.mw_model.specs.Events.Checking.{judged_as}
+use Rattle.mw_model.specs.Events.Fate.{event_word, is_out_of_range, happens_by, happens}
+use Rattle.mw_model.specs.Reports.Report.{is_accepted, accepted_among, refused_among}
 use Rattle.mw_model.proofs.LogAccepted.{judged_well}
 use Rattle.mw_model.proofs.FromNothing.{proved_from_nothing}
 

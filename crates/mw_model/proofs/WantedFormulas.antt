@@ -1,18 +1,18 @@
 -- What an event wants are formulas that are read back from their objects.
 use Rattle.std.proofs.Common.{◌≡◌, Bool, true, false, cond, List, [], ◌∷◌, map, not, Option, Some, None, sym, ap, subst}
-use Rattle.mw_model.specs.Object.{Name, Object, same_name, second_of, third_of, fourth_of, fifth_of}
-use Rattle.mw_model.specs.Term.{Term, Formula, ArityTable, is_term, is_formula}
-use Rattle.mw_model.specs.Reading.{formula_of, formula_under, both, that}
-use Rattle.mw_model.specs.Primitive.{is_symbol}
-use Rattle.mw_model.specs.Definition.{Functions, arity_table}
-use Rattle.mw_model.specs.Truth.{Each}
-use Rattle.mw_model.specs.Obligation.{measure_of, obligations, is_nested}
-use Rattle.mw_model.specs.Expansion.{expanded, expand}
-use Rattle.mw_model.specs.Theory.{Theory}
-use Rattle.mw_model.specs.Refusal.{EVENT, NAME, FORMALS, TERM, FORMULA, VARIABLES, NESTED}
-use Rattle.mw_model.specs.Admission.{Draft, all_of, new_names, formals_of, add_names, functions, measures, are_closed_by, add_to_theory, some_drafts, skolem}
-use Rattle.mw_model.specs.Fate.{EventWord, Verify, Define, Skolem, Switch, Eval, Print, DefineAll, SetProfile, profile}
-use Rattle.mw_model.specs.Demand.{Wants, define_demand, demand}
+use Rattle.mw_model.specs.Terms.Object.{Name, Object, same_name, second_of, third_of, fourth_of, fifth_of}
+use Rattle.mw_model.specs.Terms.Term.{Term, Formula, ArityTable, is_term, is_formula}
+use Rattle.mw_model.specs.Terms.Reading.{formula_of, formula_under, both, that}
+use Rattle.mw_model.specs.Values.Primitive.{is_symbol}
+use Rattle.mw_model.specs.Values.Definition.{Functions, arity_table}
+use Rattle.mw_model.specs.Values.Truth.{Each}
+use Rattle.mw_model.specs.Events.Obligation.{measure_of, obligations, is_nested}
+use Rattle.mw_model.specs.Events.Expansion.{expanded, expand}
+use Rattle.mw_model.specs.Events.Theory.{Theory}
+use Rattle.mw_model.specs.Events.Refusal.{EVENT, NAME, FORMALS, TERM, FORMULA, VARIABLES, NESTED}
+use Rattle.mw_model.specs.Events.Admission.{Draft, all_of, new_names, formals_of, add_names, functions, measures, are_closed_by, add_to_theory, some_drafts, skolem}
+use Rattle.mw_model.specs.Events.Fate.{EventWord, Verify, Define, Skolem, Switch, Eval, Print, DefineAll, SetProfile, profile}
+use Rattle.mw_model.specs.Commands.Demand.{Wants, define_demand, demand}
 use Rattle.mw_model.proofs.Formed.{formed}
 use Rattle.mw_model.proofs.Readable.{Readable, ReadableFormula, term_readable, formula_readable}
 use Rattle.mw_model.proofs.ReadBack.{some_one, and_more-back, when_some}

@@ -1,8 +1,8 @@
 -- What occurs in one object occurs in another: so it is for the parts of a pair, and for the members of a proper list.
 use Rattle.std.proofs.Common.{◌≡◌, ℕ, zero, suc, true, sym, subst}
 use Rattle.std.proofs.lemmas.Bool.{or_left, or_right}
-use Rattle.mw_model.specs.Object.{Object, Natural, Symbol, Pair, NIL, car, cdr, second_of, third_of, fourth_of, fifth_of, has_members, list1}
-use Rattle.mw_model.specs.Slice.{occurs}
+use Rattle.mw_model.specs.Terms.Object.{Object, Natural, Symbol, Pair, NIL, car, cdr, second_of, third_of, fourth_of, fifth_of, has_members, list1}
+use Rattle.mw_model.specs.Commands.Slice.{occurs}
 use Rattle.mw_model.proofs.Names.{same_object-eq}
 
 -- what occurs in x occurs in y

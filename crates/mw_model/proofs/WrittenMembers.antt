@@ -1,14 +1,14 @@
 -- Data that are written one after another, labels running on, are read as the tail of a list.
 use Rattle.std.proofs.Common.{◌≡◌, ℕ, zero, suc, ◌+◌, ◌≤◌, ◌<◌, Bool, true, false, ltb, List, [], ◌∷◌, ◌++◌, length, None, codes, refl, sym, ap, ◌∙◌, subst, arith, append_assoc, append-nil, length-append, zero-le, if◌then◌else◌}
 use Rattle.std.proofs.lemmas.Bool.{and_left, false_from_ne_true, ne_eqb}
-use Rattle.mw_model.specs.Object.{Object, Pair, symbol, NIL}
-use Rattle.mw_model.specs.Value.{pick}
-use Rattle.mw_model.specs.Truth.{Each}
-use Rattle.mw_model.specs.Fate.{longest}
-use Rattle.mw_model.specs.Lexemes.{Lexeme, Atom, Open, Close, Dot, Mark, End, Ends, lexemes, lexemes_from, is_inside_comment}
-use Rattle.mw_model.specs.Grammar.{Labels, Unused, Label, is_begun, Got, and_then, and_tail, pairing, Datum, Tail, read, enough, book, reading}
-use Rattle.mw_model.specs.Printing.{text_of}
-use Rattle.mw_model.specs.Written.{labels_begun, upwards, IsLabelled, IsWritten, AreWritten}
+use Rattle.mw_model.specs.Terms.Object.{Object, Pair, symbol, NIL}
+use Rattle.mw_model.specs.Values.Value.{pick}
+use Rattle.mw_model.specs.Values.Truth.{Each}
+use Rattle.mw_model.specs.Events.Fate.{longest}
+use Rattle.mw_model.specs.Texts.Lexemes.{Lexeme, Atom, Open, Close, Dot, Mark, End, Ends, lexemes, lexemes_from, is_inside_comment}
+use Rattle.mw_model.specs.Texts.Grammar.{Labels, Unused, Label, is_begun, Got, and_then, and_tail, pairing, Datum, Tail, read, enough, book, reading}
+use Rattle.mw_model.specs.Texts.Printing.{text_of}
+use Rattle.mw_model.specs.Texts.Written.{labels_begun, upwards, IsLabelled, IsWritten, AreWritten}
 use Rattle.mw_model.proofs.Locality.{Alike, atoms, opens, closes, dots, quotes, marks, refs, AllAlike, none_alike, more_alike, tail_read, Begun, taken}
 use Rattle.mw_model.proofs.TextReadBack.{BeginsDatum, prints, cut_both}
 use Rattle.mw_model.proofs.Lexing.{Delimits}

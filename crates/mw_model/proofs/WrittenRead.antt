@@ -1,14 +1,14 @@
 -- Data that are written, one on each line, perhaps with comments between, are read as just these data.
 use Rattle.std.proofs.Common.{◌≡◌, ℕ, zero, suc, ◌+◌, ◌≤◌, ◌<◌, Bool, true, false, ltb, List, [], ◌∷◌, ◌++◌, length, Option, Some, None, ◌⊎◌, inl, inr, refl, sym, ap, ap₂, ◌∙◌, subst, arith, append_assoc, length-append, zero-le, if◌then◌else◌}
 use Rattle.std.proofs.lemmas.Bool.{and_right}
-use Rattle.mw_model.specs.Object.{Object, Pair}
-use Rattle.mw_model.specs.Value.{pick}
-use Rattle.mw_model.specs.Fate.{longest}
-use Rattle.mw_model.specs.Lexemes.{Lexeme, LABEL, Atom, Open, Close, Dot, Quote, Mark, Ref, Wrong, Stray, End, Fault, Ends, lexemes, lexemes_from, class, piece, extent, is_inside_comment}
-use Rattle.mw_model.specs.Grammar.{Labels, Label, Unused, Read, Got, Stop, and_then, quoting, labelling, pairing, and_tail, halt, closing, reference, Part, Datum, First, Tail, Last, read, labelled, is_begun, Book, book, and_events, enough, and_data, data_of, reading}
-use Rattle.mw_model.specs.Printing.{text_of}
-use Rattle.mw_model.specs.Written.{IsLabelled, IsWritten, IsDatumLine, IsBookText, no_lines, datum_line, comment_line}
-use Rattle.mw_model.specs.Pieces.{InOrder}
+use Rattle.mw_model.specs.Terms.Object.{Object, Pair}
+use Rattle.mw_model.specs.Values.Value.{pick}
+use Rattle.mw_model.specs.Events.Fate.{longest}
+use Rattle.mw_model.specs.Texts.Lexemes.{Lexeme, LABEL, Atom, Open, Close, Dot, Quote, Mark, Ref, Wrong, Stray, End, Fault, Ends, lexemes, lexemes_from, class, piece, extent, is_inside_comment}
+use Rattle.mw_model.specs.Texts.Grammar.{Labels, Label, Unused, Read, Got, Stop, and_then, quoting, labelling, pairing, and_tail, halt, closing, reference, Part, Datum, First, Tail, Last, read, labelled, is_begun, Book, book, and_events, enough, and_data, data_of, reading}
+use Rattle.mw_model.specs.Texts.Printing.{text_of}
+use Rattle.mw_model.specs.Texts.Written.{IsLabelled, IsWritten, IsDatumLine, IsBookText, no_lines, datum_line, comment_line}
+use Rattle.mw_model.specs.Texts.Pieces.{InOrder}
 use Rattle.mw_model.proofs.Locality.{Alike, atoms, opens, closes, dots, quotes, marks, refs, AllAlike, none_alike, more_alike, Taken, taken}
 use Rattle.mw_model.proofs.TextReadBack.{reading-text_of}
 use Rattle.mw_model.proofs.Lexing.{run_of-append, lexemes_from-taken}

@@ -1,31 +1,31 @@
 //! Laws on what the commands `taut`, `lower`, `slice`, `flat` and `recheck` owe.
 ghost use Rattle.std.specs.Prelude.{◌≡◌, ◌↔◌, ℕ, ◌≤◌, ◌<◌, Bool, false, true, List, [], ◌∷◌, ◌++◌, length, map, Some, None};
-ghost use Rattle.mw_model.specs.Object.{Object, Member};
-ghost use Rattle.mw_model.specs.Term.{ArityTable, Formula, formula_object};
-ghost use Rattle.mw_model.specs.Primitive.{Profile};
-ghost use Rattle.mw_model.specs.Truth.{Each};
-ghost use Rattle.mw_model.specs.Evaluation.{range};
-ghost use Rattle.mw_model.specs.Proof.{Proves};
-ghost use Rattle.mw_model.specs.Axioms.{axiom_1, axiom_2};
-ghost use Rattle.mw_model.specs.Theory.{Theory};
-ghost use Rattle.mw_model.specs.Refusal.{accept};
-ghost use Rattle.mw_model.specs.Checking.{judged_as};
-ghost use Rattle.mw_model.specs.Fate.{EventWord, event_word, happens};
-ghost use Rattle.mw_model.specs.Keeping.{formulas_of_word};
-ghost use Rattle.mw_model.specs.Lexemes.{Ends};
-ghost use Rattle.mw_model.specs.Grammar.{Book, book, limit, reading};
-ghost use Rattle.mw_model.specs.Written.{IsBookText, IsDatumLine, IsWritten};
-ghost use Rattle.mw_model.specs.Tautology.{Choice, IsTautology, choices, equations, falsifying, value_under};
-ghost use Rattle.mw_model.specs.TautologyBook.{TautologiesWritten, is_proved};
-ghost use Rattle.mw_model.specs.Demand.{happens_under, proofs_of, with_proofs};
-ghost use Rattle.mw_model.specs.Pieces.{InOrder, how_many, numbered};
-ghost use Rattle.mw_model.specs.Subproofs.{distinct_proofs};
-ghost use Rattle.mw_model.specs.Derivation.{IsDerivation, Turns};
-ghost use Rattle.mw_model.specs.DerivationTest.{derive};
-ghost use Rattle.mw_model.specs.Slice.{IsSlice, Needed, event_at, rests_on, sets_profile};
-ghost use Rattle.mw_model.specs.Log.{Objection, No, Yes, conclusions, logged};
-ghost use Rattle.mw_model.specs.Flattening.{flat_event, is_logged_word, step_datum};
-ghost use Rattle.mw_model.specs.Headlines.{AcceptsAll};
+ghost use Rattle.mw_model.specs.Terms.Object.{Object, Member};
+ghost use Rattle.mw_model.specs.Terms.Term.{ArityTable, Formula, formula_object};
+ghost use Rattle.mw_model.specs.Values.Primitive.{Profile};
+ghost use Rattle.mw_model.specs.Values.Truth.{Each};
+ghost use Rattle.mw_model.specs.Events.Evaluation.{range};
+ghost use Rattle.mw_model.specs.Proofs.Proof.{Proves};
+ghost use Rattle.mw_model.specs.Proofs.Axioms.{axiom_1, axiom_2};
+ghost use Rattle.mw_model.specs.Events.Theory.{Theory};
+ghost use Rattle.mw_model.specs.Events.Refusal.{accept};
+ghost use Rattle.mw_model.specs.Events.Checking.{judged_as};
+ghost use Rattle.mw_model.specs.Events.Fate.{EventWord, event_word, happens};
+ghost use Rattle.mw_model.specs.Reports.Keeping.{formulas_of_word};
+ghost use Rattle.mw_model.specs.Texts.Lexemes.{Ends};
+ghost use Rattle.mw_model.specs.Texts.Grammar.{Book, book, limit, reading};
+ghost use Rattle.mw_model.specs.Texts.Written.{IsBookText, IsDatumLine, IsWritten};
+ghost use Rattle.mw_model.specs.Commands.Tautology.{Choice, IsTautology, choices, equations, falsifying, value_under};
+ghost use Rattle.mw_model.specs.Commands.TautologyBook.{TautologiesWritten, is_proved};
+ghost use Rattle.mw_model.specs.Commands.Demand.{happens_under, proofs_of, with_proofs};
+ghost use Rattle.mw_model.specs.Texts.Pieces.{InOrder, how_many, numbered};
+ghost use Rattle.mw_model.specs.Commands.Subproofs.{distinct_proofs};
+ghost use Rattle.mw_model.specs.Commands.Derivation.{IsDerivation, Turns};
+ghost use Rattle.mw_model.specs.Commands.DerivationTest.{derive};
+ghost use Rattle.mw_model.specs.Commands.Slice.{IsSlice, Needed, event_at, rests_on, sets_profile};
+ghost use Rattle.mw_model.specs.Commands.Log.{Objection, No, Yes, conclusions, logged};
+ghost use Rattle.mw_model.specs.Commands.Flattening.{flat_event, is_logged_word, step_datum};
+ghost use Rattle.mw_model.specs.Reports.Headlines.{AcceptsAll};
 
 /// What is written for a datum is read as just this, and a text of data and comments, each on a line, as just these data.
 pub fn written_data()

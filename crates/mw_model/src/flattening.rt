@@ -1,12 +1,12 @@
 //! Laws on a book that is turned to a log.
 ghost use Rattle.std.specs.Prelude.{ℕ, ◌≤◌, List, length, map};
-ghost use Rattle.mw_model.specs.Object.{Object};
-ghost use Rattle.mw_model.specs.Primitive.{One};
-ghost use Rattle.mw_model.specs.Theory.{initial};
-ghost use Rattle.mw_model.specs.Grammar.{Book, limit};
-ghost use Rattle.mw_model.specs.Transition.{last_theory_from};
-ghost use Rattle.mw_model.specs.Flattening.{FlatWritten, OwesFlat, before_switch, flat_event, flat_events, plain_course};
-ghost use Rattle.mw_model.specs.Headlines.{LogAccepted};
+ghost use Rattle.mw_model.specs.Terms.Object.{Object};
+ghost use Rattle.mw_model.specs.Values.Primitive.{One};
+ghost use Rattle.mw_model.specs.Events.Theory.{initial};
+ghost use Rattle.mw_model.specs.Texts.Grammar.{Book, limit};
+ghost use Rattle.mw_model.specs.Commands.Transition.{last_theory_from};
+ghost use Rattle.mw_model.specs.Commands.Flattening.{FlatWritten, OwesFlat, before_switch, flat_event, flat_events, plain_course};
+ghost use Rattle.mw_model.specs.Reports.Headlines.{LogAccepted};
 
 /// What `flat` writes on a book is a log of just the events that the book accepts before its first switch, with numbers in place of
 /// their proofs: each gets a yes, no step is left, and they lead to the theory that the book had there.

@@ -1,22 +1,22 @@
 //! Laws on a book of derivations that is turned to a book of proofs.
 ghost use Rattle.std.specs.Prelude.{◌≡◌, ℕ, ◌≤◌, true, false, List, length};
-ghost use Rattle.mw_model.specs.Object.{Object, Member};
-ghost use Rattle.mw_model.specs.Term.{formula_object};
-ghost use Rattle.mw_model.specs.Primitive.{One};
-ghost use Rattle.mw_model.specs.Truth.{Each};
-ghost use Rattle.mw_model.specs.Axioms.{axiom_1, axiom_2};
-ghost use Rattle.mw_model.specs.Theory.{Theory, initial};
-ghost use Rattle.mw_model.specs.Fate.{event_word, happens, is_out_of_range, after};
-ghost use Rattle.mw_model.specs.Report.{is_accepted};
-ghost use Rattle.mw_model.specs.Grammar.{Book, limit, trees};
-ghost use Rattle.mw_model.specs.Demand.{happens_under};
-ghost use Rattle.mw_model.specs.Pieces.{how_many};
-ghost use Rattle.mw_model.specs.Transition.{is_acceptance, last_theory};
-ghost use Rattle.mw_model.specs.Derivation.{Turns};
-ghost use Rattle.mw_model.specs.DerivationTest.{derived_as};
-ghost use Rattle.mw_model.specs.Rewriting.{IsRewritten};
-ghost use Rattle.mw_model.specs.Lowering.{IsLowered, IsLoweredBy, LoweredWritten, derived_course};
-ghost use Rattle.mw_model.specs.Headlines.{AcceptsAll};
+ghost use Rattle.mw_model.specs.Terms.Object.{Object, Member};
+ghost use Rattle.mw_model.specs.Terms.Term.{formula_object};
+ghost use Rattle.mw_model.specs.Values.Primitive.{One};
+ghost use Rattle.mw_model.specs.Values.Truth.{Each};
+ghost use Rattle.mw_model.specs.Proofs.Axioms.{axiom_1, axiom_2};
+ghost use Rattle.mw_model.specs.Events.Theory.{Theory, initial};
+ghost use Rattle.mw_model.specs.Events.Fate.{event_word, happens, is_out_of_range, after};
+ghost use Rattle.mw_model.specs.Reports.Report.{is_accepted};
+ghost use Rattle.mw_model.specs.Texts.Grammar.{Book, limit, trees};
+ghost use Rattle.mw_model.specs.Commands.Demand.{happens_under};
+ghost use Rattle.mw_model.specs.Texts.Pieces.{how_many};
+ghost use Rattle.mw_model.specs.Commands.Transition.{is_acceptance, last_theory};
+ghost use Rattle.mw_model.specs.Commands.Derivation.{Turns};
+ghost use Rattle.mw_model.specs.Commands.DerivationTest.{derived_as};
+ghost use Rattle.mw_model.specs.Laws.Rewriting.{IsRewritten};
+ghost use Rattle.mw_model.specs.Commands.Lowering.{IsLowered, IsLoweredBy, LoweredWritten, derived_course};
+ghost use Rattle.mw_model.specs.Reports.Headlines.{AcceptsAll};
 
 /// An event whose derivations are turned to proofs, where they turn, comes to the same by the theory's own checker as the event
 /// does where derivations are as good as proofs; where it is accepted, it is as it is to be written. The first two axioms are

@@ -1,7 +1,7 @@
 //! Laws on objects.
 ghost use Rattle.std.specs.Prelude.{◌≡◌, ℕ, suc, true, List, ◌⊎◌};
 ghost use Rattle.std.specs.List.{Contains};
-ghost use Rattle.mw_model.specs.Object.{Object, is_before};
+ghost use Rattle.mw_model.specs.Terms.Object.{Object, is_before};
 
 /// The order of objects is total and strict, no way down is endless, and each object has finitely many before it.
 pub fn object_order()

@@ -1,11 +1,11 @@
 //! Laws on terms, formulas and the objects that stand for them.
 ghost use Rattle.std.specs.Prelude.{◌≡◌, ◌↔◌, true, List, [], Some, ◌++◌};
-ghost use Rattle.mw_model.specs.Object.{Name, Object};
-ghost use Rattle.mw_model.specs.Term.{Term, Terms, Formula, ArityTable, IsTerm, IsFormula, term_object, formula_object, is_among, variables, is_closed, Lambda, NoTerms, More};
-ghost use Rattle.mw_model.specs.Reading.{term_of, formula_of};
-ghost use Rattle.mw_model.specs.Substitution.{actuals_for, substitute};
-ghost use Rattle.mw_model.specs.Definition.{Function};
-ghost use Rattle.mw_model.specs.Obligation.{RecursiveCall, actuals_with, all_calls, collect};
+ghost use Rattle.mw_model.specs.Terms.Object.{Name, Object};
+ghost use Rattle.mw_model.specs.Terms.Term.{Term, Terms, Formula, ArityTable, IsTerm, IsFormula, term_object, formula_object, is_among, variables, is_closed, Lambda, NoTerms, More};
+ghost use Rattle.mw_model.specs.Terms.Reading.{term_of, formula_of};
+ghost use Rattle.mw_model.specs.Terms.Substitution.{actuals_for, substitute};
+ghost use Rattle.mw_model.specs.Values.Definition.{Function};
+ghost use Rattle.mw_model.specs.Events.Obligation.{RecursiveCall, actuals_with, all_calls, collect};
 
 /// A term or formula under any arity table is read back from its object, and what is read from an object has that object.
 /// So an object stands for at most one term and at most one formula.

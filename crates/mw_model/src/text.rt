@@ -1,18 +1,18 @@
 //! Laws on text.
 ghost use Rattle.std.specs.Prelude.{◌≡◌, ℕ, ◌≤◌, ◌<◌, ◌^◌, List, [], ◌∷◌, ◌++◌, length, map, reverse, Some, None};
 ghost use Rattle.std.specs.Fmt.{decimal};
-ghost use Rattle.mw_model.specs.Object.{Object};
-ghost use Rattle.mw_model.specs.Term.{formula_object};
-ghost use Rattle.mw_model.specs.Primitive.{Profile};
-ghost use Rattle.mw_model.specs.Axioms.{primitive_axioms};
-ghost use Rattle.mw_model.specs.AxiomsText.{axioms_text};
-ghost use Rattle.mw_model.specs.BuiltIn.{built_in};
-ghost use Rattle.mw_model.specs.BuiltInReading.{blocks_of};
-ghost use Rattle.mw_model.specs.BuiltInText.{built_in_text};
-ghost use Rattle.mw_model.specs.Lexemes.{Ending, Ends, Goes, Fault, decimal_value};
-ghost use Rattle.mw_model.specs.Grammar.{book, limit, reading, trees};
-ghost use Rattle.mw_model.specs.Printing.{numeral, text_lines, text_of};
-ghost use Rattle.mw_model.specs.Report.{lines_so_far, report};
+ghost use Rattle.mw_model.specs.Terms.Object.{Object};
+ghost use Rattle.mw_model.specs.Terms.Term.{formula_object};
+ghost use Rattle.mw_model.specs.Values.Primitive.{Profile};
+ghost use Rattle.mw_model.specs.Proofs.Axioms.{primitive_axioms};
+ghost use Rattle.mw_model.specs.Laws.AxiomsText.{axioms_text};
+ghost use Rattle.mw_model.specs.BuiltIns.BuiltIn.{built_in};
+ghost use Rattle.mw_model.specs.Laws.BuiltInReading.{blocks_of};
+ghost use Rattle.mw_model.specs.Laws.BuiltInText.{built_in_text};
+ghost use Rattle.mw_model.specs.Texts.Lexemes.{Ending, Ends, Goes, Fault, decimal_value};
+ghost use Rattle.mw_model.specs.Texts.Grammar.{book, limit, reading, trees};
+ghost use Rattle.mw_model.specs.Texts.Printing.{numeral, text_lines, text_of};
+ghost use Rattle.mw_model.specs.Reports.Report.{lines_so_far, report};
 
 /// What is printed is read back: an object alone, an object on a line, and any objects, each on a line.
 pub fn text_read_back()

@@ -1,13 +1,13 @@
 //! Laws on proofs and events.
 ghost use Rattle.std.specs.Prelude.{◌≡◌, ◌↔◌, ℕ, Some};
-ghost use Rattle.mw_model.specs.Object.{Object};
-ghost use Rattle.mw_model.specs.Term.{Formula, ArityTable};
-ghost use Rattle.mw_model.specs.Primitive.{Profile};
-ghost use Rattle.mw_model.specs.Proof.{Proves};
-ghost use Rattle.mw_model.specs.Judgment.{judge};
-ghost use Rattle.mw_model.specs.Theory.{Theory};
-ghost use Rattle.mw_model.specs.Refusal.{Refusal, Refused};
-ghost use Rattle.mw_model.specs.Fate.{fate, next};
+ghost use Rattle.mw_model.specs.Terms.Object.{Object};
+ghost use Rattle.mw_model.specs.Terms.Term.{Formula, ArityTable};
+ghost use Rattle.mw_model.specs.Values.Primitive.{Profile};
+ghost use Rattle.mw_model.specs.Proofs.Proof.{Proves};
+ghost use Rattle.mw_model.specs.Proofs.Judgment.{judge};
+ghost use Rattle.mw_model.specs.Events.Theory.{Theory};
+ghost use Rattle.mw_model.specs.Events.Refusal.{Refusal, Refused};
+ghost use Rattle.mw_model.specs.Events.Fate.{fate, next};
 
 /// The test on an object answers a formula exactly where the object is a proof of that formula.
 pub fn judging()

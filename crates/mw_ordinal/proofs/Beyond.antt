@@ -1,10 +1,10 @@
 -- An ordinal past b is below b + omega^f + .. + omega^f with the least such f, so f is below a where it is below b + omega^a.
 use Rattle.std.proofs.Common.{◌≡◌, ◌≢◌, ◌⊎◌, inl, inr, ℕ, zero, suc, ◌+◌, ◌<◌, Bool, true, false, cond, refl, sym, ap, ap₂, ◌∙◌, subst, arith, ltb-true, lt-ltb, lt_irrefl}
 use Rattle.std.proofs.lemmas.Bool.{true≢false, cases_order, cond-false}
-use Rattle.mw_model.specs.Object.{Object, Natural, Symbol, Pair, same_object}
-use Rattle.mw_model.specs.Primitive.{number}
-use Rattle.mw_model.specs.Ordinal.{leads_below}
-use Rattle.mw_model.specs.Descent.{omega_to, plus_power}
+use Rattle.mw_model.specs.Terms.Object.{Object, Natural, Symbol, Pair, same_object}
+use Rattle.mw_model.specs.Values.Primitive.{number}
+use Rattle.mw_model.specs.Laws.Ordinal.{leads_below}
+use Rattle.mw_model.specs.Laws.Descent.{omega_to, plus_power}
 use Rattle.mw_ordinal.specs.Shape.{IsNormal}
 use Rattle.mw_ordinal.specs.Descending.{Ordinal, Below}
 use Rattle.mw_ordinal.proofs.Ordinals.{same_object-differ}

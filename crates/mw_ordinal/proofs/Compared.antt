@@ -1,8 +1,8 @@
 -- What one turn of comparing tells of two pairs.
 use Rattle.std.proofs.Common.{◌≡◌, ℕ, ◌<◌, true, false, cond, ltb, List, ap, ap₂, ◌∙◌, arith}
-use Rattle.mw_model.specs.Object.{Object, Pair, same_object, car, cdr}
-use Rattle.mw_model.specs.Primitive.{number}
-use Rattle.mw_model.specs.Ordinal.{is_below}
+use Rattle.mw_model.specs.Terms.Object.{Object, Pair, same_object, car, cdr}
+use Rattle.mw_model.specs.Values.Primitive.{number}
+use Rattle.mw_model.specs.Laws.Ordinal.{is_below}
 use Rattle.mw_ordinal.specs.declared.turn.Turn.{Turn}
 use Rattle.mw_ordinal.specs.declared.turn.Turn.TheVariants.{Decided, Next}
 use Rattle.mw_ordinal.specs.Turns.{Turns}

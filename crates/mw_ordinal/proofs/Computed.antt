@@ -1,14 +1,14 @@
 -- The built-in ORD< and ORDP have the values of the order and of the test for ordinals.
 use Rattle.std.proofs.Common.{◌≡◌, Bool, true, false, cond, ◌&&◌, not, ltb, List, [], ◌∷◌, refl, sym, ap, ap₂, ◌∙◌, subst, ◌↔◌}
 use Rattle.std.proofs.lemmas.Bool.{true≢false}
-use Rattle.mw_model.specs.Object.{Name, Object, Natural, Symbol, Pair, same_object, named, NIL, T, truth_of, car, cdr}
-use Rattle.mw_model.specs.Term.{is_among}
-use Rattle.mw_model.specs.Primitive.{Profile, number, is_pair, is_natural, choose}
-use Rattle.mw_model.specs.Definition.{Block, are_blocks}
-use Rattle.mw_model.specs.Value.{block_calls}
-use Rattle.mw_model.specs.BuiltIn.{built_in}
-use Rattle.mw_model.specs.Theory.{BeginsWith}
-use Rattle.mw_model.specs.Ordinal.{is_below, leads_below, is_ordinal}
+use Rattle.mw_model.specs.Terms.Object.{Name, Object, Natural, Symbol, Pair, same_object, named, NIL, T, truth_of, car, cdr}
+use Rattle.mw_model.specs.Terms.Term.{is_among}
+use Rattle.mw_model.specs.Values.Primitive.{Profile, number, is_pair, is_natural, choose}
+use Rattle.mw_model.specs.Values.Definition.{Block, are_blocks}
+use Rattle.mw_model.specs.Values.Value.{block_calls}
+use Rattle.mw_model.specs.BuiltIns.BuiltIn.{built_in}
+use Rattle.mw_model.specs.Events.Theory.{BeginsWith}
+use Rattle.mw_model.specs.Laws.Ordinal.{is_below, leads_below, is_ordinal}
 use Rattle.mw_model.proofs.BuiltInAnswers.{built_in_functions, built_in_value, answer, answer-body}
 use Rattle.mw_model.proofs.BuiltInValue.{names}
 use Rattle.mw_model.proofs.BuiltInTotal.{begun_value, begun_value-only}

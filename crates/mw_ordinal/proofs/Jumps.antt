@@ -1,8 +1,8 @@
 -- Gentzen's jump, with no accessibility: where G passes, so does its jump. The towers of omega give G at each ordinal.
 use Rattle.std.proofs.Common.{◌≡◌, inl, inr, ℕ, zero, suc, Bool, true, false, cond, refl, sym, subst}
 use Rattle.std.proofs.lemmas.Bool.{true≢false}
-use Rattle.mw_model.specs.Object.{Object, Natural, Symbol, Pair, same_object}
-use Rattle.mw_model.specs.Descent.{Question, goal, omega_to, plus_power, up}
+use Rattle.mw_model.specs.Terms.Object.{Object, Natural, Symbol, Pair, same_object}
+use Rattle.mw_model.specs.Laws.Descent.{Question, goal, omega_to, plus_power, up}
 use Rattle.mw_ordinal.specs.Descending.{Ordinal, Below, Passes}
 use Rattle.mw_ordinal.proofs.Order.{by_exponent, Below-pairs, below_differ}
 use Rattle.mw_ordinal.proofs.Normal.{normal}

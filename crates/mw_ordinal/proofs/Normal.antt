@@ -1,9 +1,9 @@
 -- The parts of an ordinal, and the order of ordinals is total.
 use Rattle.std.proofs.Common.{◌≡◌, ◌<◌, true, false, refl, sym, ap, ap₂, ◌∙◌, subst, ◌⊎◌, inl, inr, ltb-true, lt-ltb, lt_irrefl}
 use Rattle.std.proofs.lemmas.Bool.{and_parts, and_from, true≢false, not-true, not_from_false, cases_order}
-use Rattle.mw_model.specs.Object.{Object, Natural, Symbol, Pair, car}
-use Rattle.mw_model.specs.Primitive.{number, is_pair, is_natural}
-use Rattle.mw_model.specs.Ordinal.{is_below, leads_below, is_ordinal}
+use Rattle.mw_model.specs.Terms.Object.{Object, Natural, Symbol, Pair, car}
+use Rattle.mw_model.specs.Values.Primitive.{number, is_pair, is_natural}
+use Rattle.mw_model.specs.Laws.Ordinal.{is_below, leads_below, is_ordinal}
 use Rattle.mw_ordinal.specs.Shape.{IsNormal}
 use Rattle.mw_ordinal.specs.Descending.{Ordinal, Below}
 use Rattle.mw_ordinal.proofs.Ordinals.{same_object-false, same_object-differ}

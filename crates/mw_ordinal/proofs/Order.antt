@@ -1,9 +1,9 @@
 -- The order of objects is irreflexive and transitive: how a pair is below a pair, by the place where they differ.
 use Rattle.std.proofs.Common.{◌≡◌, ◌≢◌, ℕ, ◌<◌, true, false, refl, sym, ◌∙◌, subst, ◌⊎◌, inl, inr, arith, ltb-true, lt-ltb, lt_irrefl}
 use Rattle.std.proofs.lemmas.Bool.{true≢false}
-use Rattle.mw_model.specs.Object.{Name, Object, Natural, Symbol, Pair, same_object, car, cdr}
-use Rattle.mw_model.specs.Primitive.{number}
-use Rattle.mw_model.specs.Ordinal.{is_atom_below}
+use Rattle.mw_model.specs.Terms.Object.{Name, Object, Natural, Symbol, Pair, same_object, car, cdr}
+use Rattle.mw_model.specs.Values.Primitive.{number}
+use Rattle.mw_model.specs.Laws.Ordinal.{is_atom_below}
 use Rattle.mw_model.proofs.Names.{object_cases}
 use Rattle.mw_ordinal.specs.Descending.{Below}
 use Rattle.mw_ordinal.proofs.Ordinals.{exponents_compare, coefficients_compare, rests_compare, pair_below_atom}

@@ -1,8 +1,8 @@
 -- A pair is an ordinal where its leading term passes each test and its rest is one.
 use Rattle.std.proofs.Common.{◌≡◌, ℕ, Bool, true, false, ◌&&◌, not, ltb, List, refl, sym, ap, ap₂, ◌∙◌}
-use Rattle.mw_model.specs.Object.{Object, Natural, Symbol, Pair, same_object}
-use Rattle.mw_model.specs.Primitive.{number, is_natural, is_pair}
-use Rattle.mw_model.specs.Ordinal.{is_ordinal, leads_below}
+use Rattle.mw_model.specs.Terms.Object.{Object, Natural, Symbol, Pair, same_object}
+use Rattle.mw_model.specs.Values.Primitive.{number, is_natural, is_pair}
+use Rattle.mw_model.specs.Laws.Ordinal.{is_ordinal, leads_below}
 use Rattle.mw_ordinal.specs.Leading.{may_lead}
 use Rattle.mw_heap.specs.declared.view.View.{View}
 use Rattle.mw_heap.specs.declared.view.View.TheVariants.{Nat, Symbol as Name, Pair as Parts}

@@ -1,10 +1,10 @@
 -- The sum b + omega^a by the place of a among the exponents of b, and it is an ordinal.
 use Rattle.std.proofs.Common.{◌≡◌, ◌≢◌, ◌⊎◌, inl, inr, ℕ, suc, ◌<◌, Bool, true, false, cond, refl, sym, ap, ap₂, ◌∙◌, subst, arith, ltb-true, lt-ltb}
 use Rattle.std.proofs.lemmas.Bool.{true≢false, cond-false, false_from_ne_true}
-use Rattle.mw_model.specs.Object.{Object, Natural, Symbol, Pair, same_object}
-use Rattle.mw_model.specs.Primitive.{number}
-use Rattle.mw_model.specs.Ordinal.{is_below, leads_below}
-use Rattle.mw_model.specs.Descent.{omega_to, plus_power}
+use Rattle.mw_model.specs.Terms.Object.{Object, Natural, Symbol, Pair, same_object}
+use Rattle.mw_model.specs.Values.Primitive.{number}
+use Rattle.mw_model.specs.Laws.Ordinal.{is_below, leads_below}
+use Rattle.mw_model.specs.Laws.Descent.{omega_to, plus_power}
 use Rattle.mw_model.proofs.Names.{same_object-from}
 use Rattle.mw_ordinal.specs.Shape.{IsNormal}
 use Rattle.mw_ordinal.specs.Descending.{Ordinal, Below}

@@ -1,7 +1,7 @@
 -- Descent through the ordinals: what passes up to each ordinal from all those below it, and where each way down ends.
 use Rattle.std.specs.Prelude.{◌≡◌, true}
-use Rattle.mw_model.specs.Object.{Object}
-use Rattle.mw_model.specs.Ordinal.{is_ordinal, is_below}
+use Rattle.mw_model.specs.Terms.Object.{Object}
+use Rattle.mw_model.specs.Laws.Ordinal.{is_ordinal, is_below}
 
 abbrev pub Ordinal : Object → Type 0
 Ordinal x = is_ordinal x ≡ true

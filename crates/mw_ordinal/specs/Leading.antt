@@ -1,8 +1,8 @@
 -- The leading term of an ordinal, but for that its exponent is an ordinal.
 use Rattle.std.specs.Prelude.{Bool, ◌&&◌, not, ltb}
-use Rattle.mw_model.specs.Object.{Object, Natural, same_object}
-use Rattle.mw_model.specs.Primitive.{number, is_natural}
-use Rattle.mw_model.specs.Ordinal.{leads_below}
+use Rattle.mw_model.specs.Terms.Object.{Object, Natural, same_object}
+use Rattle.mw_model.specs.Values.Primitive.{number, is_natural}
+use Rattle.mw_model.specs.Laws.Ordinal.{leads_below}
 
 -- a natural other than 0
 abbrev pub is_positive : Object → Bool

@@ -1,8 +1,8 @@
 -- What makes ((e . c) . r) an ordinal: omega to the e times c, and then r, is in Cantor's normal form.
 use Rattle.std.specs.Prelude.{◌≡◌, ◌≢◌, ◌<◌, true}
-use Rattle.mw_model.specs.Object.{Object, Natural, car}
-use Rattle.mw_model.specs.Primitive.{number, is_pair, is_natural}
-use Rattle.mw_model.specs.Ordinal.{is_ordinal, is_below}
+use Rattle.mw_model.specs.Terms.Object.{Object, Natural, car}
+use Rattle.mw_model.specs.Values.Primitive.{number, is_pair, is_natural}
+use Rattle.mw_model.specs.Laws.Ordinal.{is_ordinal, is_below}
 
 pub record IsNormal (e c r : Object) : Type 0 where
   -- the exponent is an ordinal, and not 0

@@ -1,7 +1,7 @@
 -- One turn of comparing two objects.
 use Rattle.std.specs.Prelude.{◌≡◌, ℕ, ◌<◌, List}
-use Rattle.mw_model.specs.Object.{Object}
-use Rattle.mw_model.specs.Ordinal.{is_below}
+use Rattle.mw_model.specs.Terms.Object.{Object}
+use Rattle.mw_model.specs.Laws.Ordinal.{is_below}
 use Rattle.mw_heap.specs.Objects.{object_at, IsIn}
 use Rattle.mw_ordinal.specs.declared.turn.Turn.{Turn}
 use Rattle.mw_ordinal.specs.declared.turn.Turn.TheVariants.{Decided, Next}

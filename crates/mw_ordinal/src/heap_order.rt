@@ -1,8 +1,8 @@
 //! The order of ordinals, and what an ordinal is, over objects of a heap.
 ghost use Rattle.std.specs.Prelude.{◌≡◌, true, false, ◌⊎◌, MatchOption};
-ghost use Rattle.mw_model.specs.Object.{Natural, same_object, car};
-ghost use Rattle.mw_model.specs.Primitive.{number, is_pair};
-ghost use Rattle.mw_model.specs.Ordinal.{is_ordinal, is_below, leads_below};
+ghost use Rattle.mw_model.specs.Terms.Object.{Natural, same_object, car};
+ghost use Rattle.mw_model.specs.Values.Primitive.{number, is_pair};
+ghost use Rattle.mw_model.specs.Laws.Ordinal.{is_ordinal, is_below, leads_below};
 ghost use Rattle.mw_heap.specs.Objects.{object_at, IsIn};
 ghost use Rattle.mw_heap.specs.Parts.{part_at, IsPart};
 ghost use Rattle.mw_ordinal.specs.Turns.{Turns};

@@ -3,14 +3,14 @@
 #![tactic(auto)]
 
 ghost use Rattle.std.specs.Prelude.{ℕ, suc, ◌≡◌, ◌≢◌, ◌⊎◌, ◌↔◌, true, false, ltb, List, [], ◌∷◌};
-ghost use Rattle.mw_model.specs.Object.{Object, Name, Natural, Symbol, Pair, car, cdr, named, truth_of};
-ghost use Rattle.mw_model.specs.Primitive.{Profile, number, is_pair};
-ghost use Rattle.mw_model.specs.Ordinal.{is_ordinal, is_below};
-ghost use Rattle.mw_model.specs.Definition.{Block, are_blocks};
-ghost use Rattle.mw_model.specs.Value.{block_calls};
-ghost use Rattle.mw_model.specs.BuiltIn.{built_in};
-ghost use Rattle.mw_model.specs.Theory.{BeginsWith};
-ghost use Rattle.mw_model.specs.Descent.{Question, goal, up};
+ghost use Rattle.mw_model.specs.Terms.Object.{Object, Name, Natural, Symbol, Pair, car, cdr, named, truth_of};
+ghost use Rattle.mw_model.specs.Values.Primitive.{Profile, number, is_pair};
+ghost use Rattle.mw_model.specs.Laws.Ordinal.{is_ordinal, is_below};
+ghost use Rattle.mw_model.specs.Values.Definition.{Block, are_blocks};
+ghost use Rattle.mw_model.specs.Values.Value.{block_calls};
+ghost use Rattle.mw_model.specs.BuiltIns.BuiltIn.{built_in};
+ghost use Rattle.mw_model.specs.Events.Theory.{BeginsWith};
+ghost use Rattle.mw_model.specs.Laws.Descent.{Question, goal, up};
 ghost use Rattle.mw_ordinal.specs.Shape.{IsNormal};
 ghost use Rattle.mw_ordinal.specs.Descending.{Passes, Ends};
 

@@ -1,8 +1,8 @@
 -- The parts of the axioms of a function and of a witness.
 use Rattle.std.proofs.Common.{◌≡◌, List, [], ◌∷◌, refl, ap, ◌∙◌}
-use Rattle.mw_model.specs.Object.{Name, Object, Symbol, Pair}
-use Rattle.mw_model.specs.Term.{Term, names_object, term_object, terms_object, formula_object}
-use Rattle.mw_model.specs.Definition.{Function, variable_terms, function_axiom, choice_axiom}
+use Rattle.mw_model.specs.Terms.Object.{Name, Object, Symbol, Pair}
+use Rattle.mw_model.specs.Terms.Term.{Term, names_object, term_object, terms_object, formula_object}
+use Rattle.mw_model.specs.Values.Definition.{Function, variable_terms, function_axiom, choice_axiom}
 use Rattle.mw_preamble.specs.Rows.{first_part, second_part}
 
 variables-names : (xs : List Name) → terms_object (variable_terms xs) ≡ names_object xs

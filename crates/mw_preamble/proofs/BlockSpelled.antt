@@ -1,11 +1,11 @@
 -- The definitions of a well-made block are what the table takes for it.
 use Rattle.std.proofs.Common.{◌≡◌, ℕ, zero, suc, true, ◌&&◌, List, [], ◌∷◌, map, length, slice_get, Some, None, refl, ap, ◌∙◌, subst}
 use Rattle.std.proofs.lemmas.Bool.{and_parts}
-use Rattle.mw_model.specs.Object.{Name, Object}
-use Rattle.mw_model.specs.Term.{ArityTable, Term, is_term, is_closed, are_formals}
-use Rattle.mw_model.specs.Reading.{names_of, term_of}
-use Rattle.mw_model.specs.Primitive.{Profile}
-use Rattle.mw_model.specs.Definition.{Function as Defined, Block, Functions, Choice, definitions, arities, add_functions, are_new, are_functions, is_some_function, is_block}
+use Rattle.mw_model.specs.Terms.Object.{Name, Object}
+use Rattle.mw_model.specs.Terms.Term.{ArityTable, Term, is_term, is_closed, are_formals}
+use Rattle.mw_model.specs.Terms.Reading.{names_of, term_of}
+use Rattle.mw_model.specs.Values.Primitive.{Profile}
+use Rattle.mw_model.specs.Values.Definition.{Function as Defined, Block, Functions, Choice, definitions, arities, add_functions, are_new, are_functions, is_some_function, is_block}
 use Rattle.mw_model.proofs.Formed.{formed}
 use Rattle.mw_model.proofs.Read.{term_read}
 use Rattle.mw_model.proofs.Readable.{names_read}

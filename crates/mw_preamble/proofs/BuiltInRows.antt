@@ -1,11 +1,11 @@
 -- The rows of blocks bring the axioms and the arities of the blocks.
 use Rattle.std.proofs.Common.{◌≡◌, true, List, [], ◌∷◌, ◌++◌, map, refl, sym, ap, ◌∙◌, append_assoc, append-nil}
 use Rattle.std.proofs.lemmas.List.{map-append}
-use Rattle.mw_model.specs.Object.{Object, NIL}
-use Rattle.mw_model.specs.Term.{ArityTable, formula_object}
-use Rattle.mw_model.specs.Primitive.{Profile, One, Two, primitive_arities}
-use Rattle.mw_model.specs.Definition.{Function, Block, Functions, Choice, function_axiom, function_axioms, block_axioms, add_functions, add_block, arities, arity_table}
-use Rattle.mw_model.specs.BuiltIn.{built_in}
+use Rattle.mw_model.specs.Terms.Object.{Object, NIL}
+use Rattle.mw_model.specs.Terms.Term.{ArityTable, formula_object}
+use Rattle.mw_model.specs.Values.Primitive.{Profile, One, Two, primitive_arities}
+use Rattle.mw_model.specs.Values.Definition.{Function, Block, Functions, Choice, function_axiom, function_axioms, block_axioms, add_functions, add_block, arities, arity_table}
+use Rattle.mw_model.specs.BuiltIns.BuiltIn.{built_in}
 use Rattle.mw_preamble.specs.Admitted.{definitions_of, axioms_in_order}
 use Rattle.mw_preamble.specs.Rows.{function_rows, block_rows, rows_before, built_in_rows, are_rows, with_rows, axioms_of}
 

@@ -1,8 +1,8 @@
 -- What a caller cites of entries: what they mean as the heap grows and after a cut, and how many there are.
 use Rattle.std.proofs.Common.{◌≡◌, ◌≤◌, List, [], ◌∷◌, ◌++◌, length, take, sym, ap, subst, ◌∙◌, arith, length-append}
 use Rattle.std.proofs.lemmas.List.{take_all, take-append-le}
-use Rattle.mw_model.specs.Object.{Object}
-use Rattle.mw_model.specs.Definition.{Function as Defined, Block, Functions, Choice}
+use Rattle.mw_model.specs.Terms.Object.{Object}
+use Rattle.mw_model.specs.Values.Definition.{Function as Defined, Block, Functions, Choice}
 use Rattle.mw_heap.specs.Objects.{Grows}
 use Rattle.mw_heap.proofs.Objects.{IsIn-Grows, object_at-Grows}
 use Rattle.mw_preamble.specs.declared.definition.Definition.{Definition}

@@ -1,10 +1,10 @@
 -- A walk over rows: the blocks that are defined, and those whose rows are left.
 use Rattle.std.proofs.Common.{◌≡◌, ℕ, true, false, List, [], ◌∷◌, refl, sym, ap, ◌∙◌, subst}
 use Rattle.std.proofs.lemmas.Bool.{and_parts}
-use Rattle.mw_model.specs.Object.{Object, Pair}
-use Rattle.mw_model.specs.Primitive.{Profile, is_pair}
-use Rattle.mw_model.specs.Definition.{Block, Functions, Choice, definitions, arities, is_block, are_blocks}
-use Rattle.mw_model.specs.BuiltIn.{built_in}
+use Rattle.mw_model.specs.Terms.Object.{Object, Pair}
+use Rattle.mw_model.specs.Values.Primitive.{Profile, is_pair}
+use Rattle.mw_model.specs.Values.Definition.{Block, Functions, Choice, definitions, arities, is_block, are_blocks}
+use Rattle.mw_model.specs.BuiltIns.BuiltIn.{built_in}
 use Rattle.mw_model.proofs.BuiltInRead.{well_made}
 use Rattle.mw_heap.specs.Objects.{object_at, IsIn}
 use Rattle.mw_code.specs.declared.table.Table.{Table}

@@ -1,10 +1,10 @@
 -- The entries of the table of the primitives, added one after the other.
 use Rattle.std.proofs.Common.{◌≡◌, ℕ, ◌+◌, ◌<◌, Bool, true, None, ◌&&◌, List, [], ◌∷◌, length, get_or, drop, refl, sym, ap, ap₂, ◌∙◌, subst, drop-cons, add-one}
 use Rattle.std.proofs.lemmas.Bool.{and_parts}
-use Rattle.mw_model.specs.Object.{name_of_bytes}
-use Rattle.mw_model.specs.Term.{ArityTable, arity_of}
-use Rattle.mw_model.specs.Primitive.{One, Two, primitive_arities}
-use Rattle.mw_model.specs.Definition.{is_absent}
+use Rattle.mw_model.specs.Terms.Object.{name_of_bytes}
+use Rattle.mw_model.specs.Terms.Term.{ArityTable, arity_of}
+use Rattle.mw_model.specs.Values.Primitive.{One, Two, primitive_arities}
+use Rattle.mw_model.specs.Values.Definition.{is_absent}
 use Rattle.mw_heap.specs.declared.primitive.Primitive.{Primitive}
 use Rattle.mw_heap.specs.declared.primitive.Primitive.TheVariants.{Times}
 use Rattle.mw_heap.specs.PrimitiveNames.{primitive_bytes}

@@ -1,10 +1,10 @@
 -- A reader that is handed the text of an object gives that object.
 use Rattle.std.proofs.Common.{◌≡◌, ℕ, ◌-◌, ◌≤◌, List, [], ◌∷◌, length, take, drop, None, sym, ap, ◌∙◌, subst, if◌then◌else◌, le-leb}
 use Rattle.std.proofs.lemmas.List.{take-append-drop}
-use Rattle.mw_model.specs.Object.{Object}
-use Rattle.mw_model.specs.Lexemes.{Ends, Goes}
-use Rattle.mw_model.specs.Grammar.{Book, book, and_events, reading, limit, cut_short}
-use Rattle.mw_model.specs.Printing.{text_of}
+use Rattle.mw_model.specs.Terms.Object.{Object}
+use Rattle.mw_model.specs.Texts.Lexemes.{Ends, Goes}
+use Rattle.mw_model.specs.Texts.Grammar.{Book, book, and_events, reading, limit, cut_short}
+use Rattle.mw_model.specs.Texts.Printing.{text_of}
 use Rattle.mw_model.proofs.TextReadBack.{trees-text_of}
 use Rattle.mw_heap.specs.Objects.{object_at, IsIn}
 use Rattle.mw_read.specs.Parsing.{Fits, offset_of, meaning_of}

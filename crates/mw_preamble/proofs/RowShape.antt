@@ -1,10 +1,10 @@
 -- A row that may be added to a table, with its parts named.
 use Rattle.std.proofs.Common.{◌≡◌, ℕ, ◌^◌, true, None, Option, Some, List, ◌∷◌, refl, sym, ap, ◌∙◌, subst, ltb}
 use Rattle.std.proofs.lemmas.Bool.{and_parts}
-use Rattle.mw_model.specs.Object.{Object, Natural, Symbol, Pair, name_of_bytes}
-use Rattle.mw_model.specs.Primitive.{name_of}
-use Rattle.mw_model.specs.Term.{ArityTable, arity_of}
-use Rattle.mw_model.specs.Definition.{is_absent}
+use Rattle.mw_model.specs.Terms.Object.{Object, Natural, Symbol, Pair, name_of_bytes}
+use Rattle.mw_model.specs.Values.Primitive.{name_of}
+use Rattle.mw_model.specs.Terms.Term.{ArityTable, arity_of}
+use Rattle.mw_model.specs.Values.Definition.{is_absent}
 use Rattle.mw_model.proofs.Names.{name_of_bytes-bytes}
 use Rattle.mw_preamble.specs.Rows.{is_row, with_row}
 

@@ -1,7 +1,7 @@
 -- The text is that of the rows, and no longer than a book.
 use Rattle.std.proofs.Common.{◌≡◌, ◌≤◌, ◌++◌, length, refl, lit≤}
-use Rattle.mw_model.specs.Grammar.{limit}
-use Rattle.mw_model.specs.Printing.{text_of}
+use Rattle.mw_model.specs.Texts.Grammar.{limit}
+use Rattle.mw_model.specs.Texts.Printing.{text_of}
 use Rattle.mw_heap.specs.Variants.{profile_of}
 use Rattle.mw_heap.specs.declared.profile.Profile.{Profile}
 use Rattle.mw_heap.specs.declared.profile.Profile.TheVariants.{One, Two}

@@ -2,8 +2,8 @@
 use Rattle.std.proofs.Common.{◌≡◌, ℕ, true, List, [], ◌∷◌, ◌++◌, All, map, sym, ap, ◌∙◌, subst, append_assoc}
 use Rattle.std.proofs.lemmas.Bool.{and_parts}
 use Rattle.std.proofs.lemmas.List.{map-append}
-use Rattle.mw_model.specs.Object.{Object, Pair}
-use Rattle.mw_model.specs.Term.{ArityTable}
+use Rattle.mw_model.specs.Terms.Object.{Object, Pair}
+use Rattle.mw_model.specs.Terms.Term.{ArityTable}
 use Rattle.mw_heap.specs.Objects.{object_at, IsIn}
 use Rattle.mw_axioms.proofs.OnStack.{AreIn-push}
 use Rattle.mw_preamble.specs.Rows.{is_row, are_rows, with_row, with_rows, axiom_of, axioms_of}

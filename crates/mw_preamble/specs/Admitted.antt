@@ -1,9 +1,9 @@
 -- What the built-in definitions of a profile bring to a theory.
 use Rattle.std.specs.Prelude.{List, [], ◌∷◌, ◌++◌}
-use Rattle.mw_model.specs.Term.{Formula}
-use Rattle.mw_model.specs.Primitive.{Profile, One}
-use Rattle.mw_model.specs.Definition.{Block, Definitions, block_axioms}
-use Rattle.mw_model.specs.BuiltIn.{built_in_definitions}
+use Rattle.mw_model.specs.Terms.Term.{Formula}
+use Rattle.mw_model.specs.Values.Primitive.{Profile, One}
+use Rattle.mw_model.specs.Values.Definition.{Block, Definitions, block_axioms}
+use Rattle.mw_model.specs.BuiltIns.BuiltIn.{built_in_definitions}
 
 -- They are long: a proof opens them by name alone.
 unfoldable pub definitions_of : Profile → Definitions

@@ -1,8 +1,8 @@
 -- Which definitions the entries of a theory mean.
 use Rattle.std.specs.Prelude.{◌≡◌, ℕ, List, [], ◌∷◌, ◌++◌}
-use Rattle.mw_model.specs.Object.{Name, Object, Symbol}
-use Rattle.mw_model.specs.Term.{Term, names_object, term_object}
-use Rattle.mw_model.specs.Definition.{Function as Defined, Block, Functions, Choice}
+use Rattle.mw_model.specs.Terms.Object.{Name, Object, Symbol}
+use Rattle.mw_model.specs.Terms.Term.{Term, names_object, term_object}
+use Rattle.mw_model.specs.Values.Definition.{Function as Defined, Block, Functions, Choice}
 use Rattle.mw_heap.specs.Objects.{object_at, IsIn}
 use Rattle.mw_preamble.specs.declared.definition.Definition.{Definition}
 use Rattle.mw_preamble.specs.declared.definition.Definition.TheVariants.{Function, Witness}

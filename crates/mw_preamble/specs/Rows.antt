@@ -1,10 +1,10 @@
 -- The rows that are read: of each built-in definition its name, how many arguments it takes, and its axiom.
 use Rattle.std.specs.Prelude.{◌≡◌, ℕ, ◌^◌, Bool, true, false, ◌&&◌, ltb, List, [], ◌∷◌, length}
-use Rattle.mw_model.specs.Object.{Name, Object, Natural, Symbol, Pair, NIL, cdr}
-use Rattle.mw_model.specs.Term.{Formula, formula_object, ArityTable, arity_of}
-use Rattle.mw_model.specs.Primitive.{Profile}
-use Rattle.mw_model.specs.Definition.{Function, Block, Functions, Choice, function_axiom, choice_axiom, is_absent}
-use Rattle.mw_model.specs.BuiltIn.{built_in}
+use Rattle.mw_model.specs.Terms.Object.{Name, Object, Natural, Symbol, Pair, NIL, cdr}
+use Rattle.mw_model.specs.Terms.Term.{Formula, formula_object, ArityTable, arity_of}
+use Rattle.mw_model.specs.Values.Primitive.{Profile}
+use Rattle.mw_model.specs.Values.Definition.{Function, Block, Functions, Choice, function_axiom, choice_axiom, is_absent}
+use Rattle.mw_model.specs.BuiltIns.BuiltIn.{built_in}
 
 -- (NAME n . axiom)
 abbrev pub row : Name → ℕ → Formula → Object

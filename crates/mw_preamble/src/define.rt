@@ -1,7 +1,7 @@
 //! Entries and code of the definitions in the rows.
 ghost use Rattle.std.specs.Prelude.{◌≡◌, List, [], ◌∷◌, IfOk, OnOk};
-ghost use Rattle.mw_model.specs.Primitive.{Profile};
-ghost use Rattle.mw_model.specs.Definition.{Block, definitions};
+ghost use Rattle.mw_model.specs.Values.Primitive.{Profile};
+ghost use Rattle.mw_model.specs.Values.Definition.{Block, definitions};
 ghost use Rattle.mw_heap.specs.Objects.{object_at, IsIn};
 ghost use Rattle.mw_heap.specs.Variants.{profile_of};
 ghost use Rattle.mw_code.specs.Tables.{StandsFor};

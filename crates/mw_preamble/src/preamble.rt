@@ -1,7 +1,7 @@
 //! Admission of the built-in definitions.
 ghost use Rattle.std.specs.Prelude.{◌≡◌, IfOk, map, All};
-ghost use Rattle.mw_model.specs.Term.{formula_object};
-ghost use Rattle.mw_model.specs.Definition.{arity_table};
+ghost use Rattle.mw_model.specs.Terms.Term.{formula_object};
+ghost use Rattle.mw_model.specs.Values.Definition.{arity_table};
 ghost use Rattle.mw_heap.specs.Objects.{object_at, IsIn, Grows};
 ghost use Rattle.mw_heap.specs.Variants.{profile_of};
 ghost use Rattle.mw_code.specs.Tables.{StandsFor};

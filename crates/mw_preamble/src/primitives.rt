@@ -1,7 +1,7 @@
 //! The arities of the primitives.
 ghost use Rattle.std.specs.Prelude.{◌≡◌, IfOk};
-ghost use Rattle.mw_model.specs.Primitive.{One};
-ghost use Rattle.mw_model.specs.Primitive as model;
+ghost use Rattle.mw_model.specs.Values.Primitive.{One};
+ghost use Rattle.mw_model.specs.Values.Primitive as model;
 ghost use Rattle.mw_heap.specs.Variants.{profile_of};
 
 use mw_heap::{Memory, Primitive, Profile};

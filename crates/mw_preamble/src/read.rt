@@ -1,8 +1,8 @@
 //! The definition in a row.
 ghost use Rattle.std.specs.Prelude.{◌≡◌, [], ◌∷◌, List};
-ghost use Rattle.mw_model.specs.Object.{Name, Symbol};
-ghost use Rattle.mw_model.specs.Term.{Term, formula_object};
-ghost use Rattle.mw_model.specs.Definition.{Function, Block, Functions, Choice, function_axiom, choice_axiom};
+ghost use Rattle.mw_model.specs.Terms.Object.{Name, Symbol};
+ghost use Rattle.mw_model.specs.Terms.Term.{Term, formula_object};
+ghost use Rattle.mw_model.specs.Values.Definition.{Function, Block, Functions, Choice, function_axiom, choice_axiom};
 ghost use Rattle.mw_heap.specs.Objects.{object_at, IsIn};
 ghost use Rattle.mw_preamble.specs.Entries.{IsBlock};
 ghost use Rattle.mw_preamble.specs.Rows.{IsRowOf, first_part, second_part};

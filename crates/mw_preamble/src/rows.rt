@@ -1,6 +1,6 @@
 //! Admission of the rows of the list.
 ghost use Rattle.std.specs.Prelude.{◌≡◌, ◌++◌, [], ◌∷◌, true, IfOk, OnOk, map, All};
-ghost use Rattle.mw_model.specs.Printing.{text_of};
+ghost use Rattle.mw_model.specs.Texts.Printing.{text_of};
 ghost use Rattle.mw_heap.specs.Variants.{profile_of};
 ghost use Rattle.mw_heap.specs.Objects.{object_at, IsIn, Grows};
 ghost use Rattle.mw_preamble.specs.Rows.{built_in_rows, is_row, are_rows, with_row, with_rows, axiom_of, axioms_of};

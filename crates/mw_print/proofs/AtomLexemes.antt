@@ -1,9 +1,9 @@
 -- The text of an atom is one lexeme.
 use Rattle.std.proofs.Common.{◌≡◌, ℕ, ◌+◌, Bool, true, false, ◌&&◌, ◌||◌, not, List, [], ◌∷◌, ◌++◌, length, refl, sym, ap, ◌∙◌, if◌then◌else◌, arith}
 use Rattle.std.proofs.lemmas.Bool.{and_parts, and_from, or_left, both_ways}
-use Rattle.mw_model.specs.Object.{Object, Natural, Symbol, Name, is_name}
-use Rattle.mw_model.specs.Lexemes.{Atom, Ends, lexemes_from, all_are, is_digit, is_constituent, is_small, is_capital, is_mark, token_form_else, TokenForm, Whole, Point, Bad, token_form, decimal_value}
-use Rattle.mw_model.specs.Printing.{numeral, is_bare, name_text, is_read_as}
+use Rattle.mw_model.specs.Terms.Object.{Object, Natural, Symbol, Name, is_name}
+use Rattle.mw_model.specs.Texts.Lexemes.{Atom, Ends, lexemes_from, all_are, is_digit, is_constituent, is_small, is_capital, is_mark, token_form_else, TokenForm, Whole, Point, Bad, token_form, decimal_value}
+use Rattle.mw_model.specs.Texts.Printing.{numeral, is_bare, name_text, is_read_as}
 use Rattle.mw_model.proofs.Names.{same_object-eq}
 use Rattle.mw_model.proofs.Numerals.{IsNumeral, numeral_is}
 use Rattle.mw_model.proofs.Lexing.{Delimits, lexemes_from-token, lexemes_from-bars}

@@ -1,8 +1,8 @@
 -- The text of a symbol is that of its name.
 use Rattle.std.proofs.Common.{◌≡◌, ℕ, true, List, ◌∷◌, [], ◌++◌, sym, ap, ◌∙◌, subst, if◌then◌else◌}
-use Rattle.mw_model.specs.Primitive.{is_symbol, name_of}
-use Rattle.mw_model.specs.Object.{Object, Natural, Symbol, Pair, name_of_bytes}
-use Rattle.mw_model.specs.Printing.{is_bare, name_text, text_of}
+use Rattle.mw_model.specs.Values.Primitive.{is_symbol, name_of}
+use Rattle.mw_model.specs.Terms.Object.{Object, Natural, Symbol, Pair, name_of_bytes}
+use Rattle.mw_model.specs.Texts.Printing.{is_bare, name_text, text_of}
 use Rattle.mw_model.proofs.Names.{name_of_bytes-bytes}
 
 pub text_of-symbol : (x : Object) (t : List ℕ) → is_symbol x ≡ true → (name_of x).bytes ≡ t → text_of x ≡ name_text (name_of_bytes t)

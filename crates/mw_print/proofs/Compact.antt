@@ -2,9 +2,9 @@
 use Rattle.std.proofs.Common.{◌≡◌, ℕ, zero, suc, ◌+◌, ◌<◌, ◌≤◌, Bool, true, false, List, [], ◌∷◌, length, refl, ap, arith}
 use Rattle.std.specs.Prelude.{sum_by}
 use Rattle.std.specs.Map.{keys_of}
-use Rattle.mw_model.specs.Object.{Object, Natural, Symbol, Pair, same_object, weight}
-use Rattle.mw_model.specs.Primitive.{is_pair}
-use Rattle.mw_model.specs.Written.{pairs_in, distinct_pairs, pair_room, IsCompact}
+use Rattle.mw_model.specs.Terms.Object.{Object, Natural, Symbol, Pair, same_object, weight}
+use Rattle.mw_model.specs.Values.Primitive.{is_pair}
+use Rattle.mw_model.specs.Texts.Written.{pairs_in, distinct_pairs, pair_room, IsCompact}
 use Rattle.mw_model.proofs.Names.{same_object-eq}
 use Rattle.mw_heap.specs.Cells.{one_if}
 use Rattle.mw_print.specs.Labelling.{Labels, most_label, datum, labelled_text}

@@ -1,8 +1,8 @@
 -- How often pairs were met, as a walk goes on: as often as they stand in what was entered, but for those that wait.
 use Rattle.std.proofs.Common.{◌≡◌, ℕ, zero, suc, ◌+◌, ◌≤◌, Bool, true, false, ◌&&◌, ◌||◌, ltb, List, [], ◌∷◌, ◌++◌, refl, sym, ap, ◌∙◌, subst, lt-ltb, le-ltb, arith}
-use Rattle.mw_model.specs.Object.{Object, Natural, Symbol, Pair, same_object}
-use Rattle.mw_model.specs.Primitive.{is_pair}
-use Rattle.mw_model.specs.Written.{pairs_in, distinct_pairs}
+use Rattle.mw_model.specs.Terms.Object.{Object, Natural, Symbol, Pair, same_object}
+use Rattle.mw_model.specs.Values.Primitive.{is_pair}
+use Rattle.mw_model.specs.Texts.Written.{pairs_in, distinct_pairs}
 use Rattle.mw_model.proofs.Names.{same_object-eq}
 use Rattle.mw_heap.specs.Cells.{one_if}
 use Rattle.mw_print.specs.Repeats.{parts_equal, stands}

@@ -1,11 +1,11 @@
 -- What is owed for a datum, by the length of its text.
 use Rattle.std.proofs.Common.{true, false, ltb, ◌&&◌, ◌++◌, ltb-false, ap, ◌∙◌, ◌≡◌, ℕ, ◌<◌, ◌≤◌, Bool, List, length, sym, subst, lt-ltb}
-use Rattle.mw_model.specs.Object.{Object}
-use Rattle.mw_model.specs.Value.{pick}
-use Rattle.mw_model.specs.Primitive.{is_pair}
-use Rattle.mw_model.specs.Fate.{longest}
-use Rattle.mw_model.specs.Printing.{text_of}
-use Rattle.mw_model.specs.Written.{IsLabelled, IsCompact}
+use Rattle.mw_model.specs.Terms.Object.{Object}
+use Rattle.mw_model.specs.Values.Value.{pick}
+use Rattle.mw_model.specs.Values.Primitive.{is_pair}
+use Rattle.mw_model.specs.Events.Fate.{longest}
+use Rattle.mw_model.specs.Texts.Printing.{text_of}
+use Rattle.mw_model.specs.Texts.Written.{IsLabelled, IsCompact}
 use Rattle.mw_print.specs.Labelling.{labelled_text, labelled_next}
 use Rattle.mw_print.specs.Waiting.{is_one_of}
 use Rattle.mw_print.specs.Repeats.{AreRepeats, stands}

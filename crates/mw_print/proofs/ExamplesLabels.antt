@@ -1,7 +1,7 @@
 -- Texts with labels that a person can check: each computes from its object.
 use Rattle.std.proofs.Common.{◌≡◌, true, false, refl}
 use Rattle.std.specs.Prelude.{codes}
-use Rattle.mw_model.specs.Object.{Object, Natural, Pair, symbol, NIL, same_object, list1, list2, list3}
+use Rattle.mw_model.specs.Terms.Object.{Object, Natural, Pair, symbol, NIL, same_object, list1, list2, list3}
 use Rattle.mw_print.specs.Labelling.{labelled_text, labelled_next}
 use Rattle.mw_print.specs.Repeats.{stands}
 

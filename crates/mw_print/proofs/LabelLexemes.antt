@@ -1,8 +1,8 @@
 -- A label is one lexeme.
 use Rattle.std.proofs.Common.{◌≡◌, ℕ, zero, suc, ◌+◌, ◌*◌, ◌/◌, ◌%◌, ◌≤◌, ◌<◌, Bool, true, false, List, [], ◌∷◌, ◌++◌, length, refl, sym, ap, ap₂, ◌∙◌, if◌then◌else◌, ltb, arith, append_assoc, length-append, ltb-false, Some}
 use Rattle.std.proofs.lemmas.Bool.{le-ltb}
-use Rattle.mw_model.specs.Lexemes.{Lexeme, Mark, Ref, Wrong, fault, LABEL, Ending, lexemes_from, hashed, label, run_of, after_run, is_digit}
-use Rattle.mw_model.specs.Printing.{numeral, numeral_from}
+use Rattle.mw_model.specs.Texts.Lexemes.{Lexeme, Mark, Ref, Wrong, fault, LABEL, Ending, lexemes_from, hashed, label, run_of, after_run, is_digit}
+use Rattle.mw_model.specs.Texts.Printing.{numeral, numeral_from}
 use Rattle.mw_model.proofs.Lexing.{run_of-append, after_run-append, lexemes_from-taken}
 use Rattle.mw_model.proofs.Numerals.{IsNumeral, numeral_is}
 use Rattle.mw_print.specs.Labelling.{label_text, again_text, most_label}

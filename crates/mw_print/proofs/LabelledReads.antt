@@ -1,11 +1,11 @@
 -- A text with labels is read as its object, whatever comes after it.
 use Rattle.std.proofs.Common.{◌≡◌, ℕ, zero, suc, ◌+◌, ◌≤◌, ◌<◌, Bool, true, false, ◌&&◌, leb, List, [], ◌∷◌, ◌++◌, length, Option, Some, None, refl, sym, ap, ap₂, ◌∙◌, subst, if◌then◌else◌, arith, append_assoc, append-nil, length-append, leb-true}
 use Rattle.std.proofs.lemmas.Bool.{and_parts}
-use Rattle.mw_model.specs.Object.{Object, Natural, Symbol, Pair, Name, NIL, nil_name, same_name, same_object}
-use Rattle.mw_model.specs.Lexemes.{Lexeme, LABEL, Atom, Open, Close, Dot, Mark, Ref, Ends, lexemes_from}
-use Rattle.mw_model.specs.Grammar.{Labels as Begun, Label, Got, is_begun, labelled as labelled_in, complete, labelling as completing, and_then as then_read, and_tail, pairing, closing, reference, halt, Part, Datum, First, Tail, Last, read}
-use Rattle.mw_model.specs.Printing.{numeral, name_text, end_text}
-use Rattle.mw_model.specs.Written.{labels_begun, upwards}
+use Rattle.mw_model.specs.Terms.Object.{Object, Natural, Symbol, Pair, Name, NIL, nil_name, same_name, same_object}
+use Rattle.mw_model.specs.Texts.Lexemes.{Lexeme, LABEL, Atom, Open, Close, Dot, Mark, Ref, Ends, lexemes_from}
+use Rattle.mw_model.specs.Texts.Grammar.{Labels as Begun, Label, Got, is_begun, labelled as labelled_in, complete, labelling as completing, and_then as then_read, and_tail, pairing, closing, reference, halt, Part, Datum, First, Tail, Last, read}
+use Rattle.mw_model.specs.Texts.Printing.{numeral, name_text, end_text}
+use Rattle.mw_model.specs.Texts.Written.{labels_begun, upwards}
 use Rattle.mw_model.proofs.Names.{same_name-eq}
 use Rattle.mw_model.proofs.Lexing.{Delimits}
 use Rattle.mw_print.specs.Labelling.{Labels, Labelled, Way, Again, New, Plain, written, number_of, most_label, one_more, give, label_text, again_text, way_by, way, and_then, after_byte, labelling, by_way, dotted, tail_way, datum, tail}

@@ -2,11 +2,11 @@
 use Rattle.std.proofs.Common.{◌≡◌, ℕ, suc, ◌+◌, ◌≤◌, Bool, true, false, ◌&&◌, not, eqb, List, [], ◌∷◌, ◌++◌, length, Option, None, refl, sym, ap, ◌∙◌, if◌then◌else◌, arith, append-nil, eqb-true}
 use Rattle.std.specs.Prelude.{codes}
 use Rattle.std.proofs.lemmas.Bool.{and_parts, and_from, both_ways}
-use Rattle.mw_model.specs.Object.{Object, Natural, Symbol, Pair, Name, nil_name, same_name, symbol, is_name, is_name_byte, are_name_bytes}
-use Rattle.mw_model.specs.Lexemes.{Lexeme, Atom, Open, Mark, Ref, End, Fault, Ends, lexemes, lexemes_from, unfinished, all_are, is_digit}
-use Rattle.mw_model.specs.Grammar.{Labels as Begun, Unused, Got, Datum, read, book, and_data, and_events, enough, data_of}
-use Rattle.mw_model.specs.Printing.{numeral, name_text, end_text, is_bare}
-use Rattle.mw_model.specs.Written.{labels_begun, IsLabelled}
+use Rattle.mw_model.specs.Terms.Object.{Object, Natural, Symbol, Pair, Name, nil_name, same_name, symbol, is_name, is_name_byte, are_name_bytes}
+use Rattle.mw_model.specs.Texts.Lexemes.{Lexeme, Atom, Open, Mark, Ref, End, Fault, Ends, lexemes, lexemes_from, unfinished, all_are, is_digit}
+use Rattle.mw_model.specs.Texts.Grammar.{Labels as Begun, Unused, Got, Datum, read, book, and_data, and_events, enough, data_of}
+use Rattle.mw_model.specs.Texts.Printing.{numeral, name_text, end_text, is_bare}
+use Rattle.mw_model.specs.Texts.Written.{labels_begun, IsLabelled}
 use Rattle.mw_model.proofs.Numerals.{numeral_is}
 use Rattle.mw_print.specs.Labelling.{Labels, Labelled, Way, Again, New, Plain, label_text, again_text, way, and_then, after_byte, by_way, tail_way, datum, tail, labelled_text, labelled_next}
 use Rattle.mw_print.proofs.LabelsKept.{fits-first}

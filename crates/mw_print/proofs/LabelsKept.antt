@@ -1,8 +1,8 @@
 -- The labels of a reader, by those of the writer.
 use Rattle.std.proofs.Common.{◌≡◌, ℕ, ◌≤◌, Bool, true, false, eqb, cond, [], Some, None, refl, sym, ap, ◌∙◌, subst, if◌then◌else◌, arith, eqb-true, eq-eqb}
 use Rattle.std.proofs.lemmas.Bool.{both_ways}
-use Rattle.mw_model.specs.Object.{Object, same_object}
-use Rattle.mw_model.specs.Grammar.{Labels as Begun, Label, Unused, is_begun, labelled, complete}
+use Rattle.mw_model.specs.Terms.Object.{Object, same_object}
+use Rattle.mw_model.specs.Texts.Grammar.{Labels as Begun, Label, Unused, is_begun, labelled, complete}
 use Rattle.mw_model.proofs.Names.{same_object-eq}
 use Rattle.mw_print.specs.Labelling.{Labels, number_of, one_more, give}
 

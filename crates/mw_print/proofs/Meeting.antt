@@ -4,8 +4,8 @@ use Rattle.std.specs.List.{list_any}
 use Rattle.std.proofs.lemmas.List.{map-append}
 use Rattle.std.proofs.lemmas.List.Elements.{All-append, All-cons, All-nil, All-head, All-tail, All-pop}
 use Rattle.indexmap.specs.IndexSet.{insert_key}
-use Rattle.mw_model.specs.Object.{Object, Natural, Symbol, Pair, same_object, weight}
-use Rattle.mw_model.specs.Primitive.{is_pair}
+use Rattle.mw_model.specs.Terms.Object.{Object, Natural, Symbol, Pair, same_object, weight}
+use Rattle.mw_model.specs.Values.Primitive.{is_pair}
 use Rattle.mw_model.proofs.Names.{same_object-eq}
 use Rattle.mw_heap.specs.Cells.{one_if}
 use Rattle.mw_heap.specs.Objects.{object_at, IsIn, AreDistinct}

@@ -3,9 +3,9 @@ use Rattle.std.proofs.Common.{◌≡◌, ℕ, ◌+◌, ◌<◌, suc, Bool, true,
 use Rattle.std.specs.List.{list_any}
 use Rattle.std.specs.Map.{lookup}
 use Rattle.std.proofs.lemmas.List.Elements.{All-append, All-cons, All-nil, All-pop}
-use Rattle.mw_model.specs.Object.{Object, Natural, Symbol, Pair, weight}
-use Rattle.mw_model.specs.Primitive.{is_pair}
-use Rattle.mw_model.specs.Printing.{text_of, tail_text}
+use Rattle.mw_model.specs.Terms.Object.{Object, Natural, Symbol, Pair, weight}
+use Rattle.mw_model.specs.Values.Primitive.{is_pair}
+use Rattle.mw_model.specs.Texts.Printing.{text_of, tail_text}
 use Rattle.mw_heap.specs.Objects.{object_at, IsIn, AreDistinct}
 use Rattle.mw_print.specs.Labelling.{Labels, Labelled, Way, Again, New, Plain, number_of, most_label, one_more, give, label_text, again_text, written, way, way_by, and_then, after_byte, by_way, tail_way, dotted, datum, tail, labelled_text, labelled_next}
 use Rattle.mw_print.specs.declared.piece.Piece.{Piece}

@@ -2,10 +2,10 @@
 use Rattle.std.proofs.Common.{◌≡◌, ℕ, ◌+◌, ◌<◌, ◌≤◌, Bool, true, false, ◌&&◌, leb, cond, List, [], ◌∷◌, ◌++◌, length, Option, Some, None, refl, sym, ap, ◌∙◌, subst, length-append, arith}
 use Rattle.std.specs.Map.{keys_of}
 use Rattle.std.proofs.lemmas.Bool.{and_parts, leb-true, leb-false}
-use Rattle.mw_model.specs.Object.{Object, Natural, Symbol, Pair, same_object, same_name, nil_name, weight}
-use Rattle.mw_model.specs.Primitive.{is_pair}
-use Rattle.mw_model.specs.Printing.{numeral, name_text, end_text}
-use Rattle.mw_model.specs.Written.{pairs_in, atom_length, pair_room}
+use Rattle.mw_model.specs.Terms.Object.{Object, Natural, Symbol, Pair, same_object, same_name, nil_name, weight}
+use Rattle.mw_model.specs.Values.Primitive.{is_pair}
+use Rattle.mw_model.specs.Texts.Printing.{numeral, name_text, end_text}
+use Rattle.mw_model.specs.Texts.Written.{pairs_in, atom_length, pair_room}
 use Rattle.mw_model.proofs.Names.{same_object-eq}
 use Rattle.mw_heap.specs.Cells.{one_if}
 use Rattle.mw_print.specs.Labelling.{Labels, Labelled, number_of, number_among, most_label, one_more, give, label_text, again_text, way_by, and_then, after_byte, by_way, tail_way, datum, tail}

@@ -2,8 +2,8 @@
 use Rattle.std.proofs.Common.{◌≡◌, ℕ, ◌+◌, List, [], ◌∷◌, ◌++◌, All, sym, ap, ◌∙◌, arith, append_assoc, Result, OnOk, Ok, Err}
 use Rattle.std.proofs.lemmas.List.{append-nil}
 use Rattle.std.proofs.lemmas.List.Elements.{All-push}
-use Rattle.mw_model.specs.Object.{Object, Pair, weight}
-use Rattle.mw_model.specs.Printing.{tail_text, text_of}
+use Rattle.mw_model.specs.Terms.Object.{Object, Pair, weight}
+use Rattle.mw_model.specs.Texts.Printing.{tail_text, text_of}
 use Rattle.mw_heap.specs.Objects.{object_at, IsIn}
 use Rattle.mw_print.specs.declared.part.Part.{Part}
 use Rattle.mw_print.specs.declared.part.Part.TheVariants.{Text, Tail}

@@ -1,7 +1,7 @@
 -- The text of an object in which labels name again what is written already.
 use Rattle.std.specs.Prelude.{ℕ, suc, Bool, true, false, ◌&&◌, leb, cond, List, [], ◌∷◌, ◌++◌, Option, Some, None}
-use Rattle.mw_model.specs.Object.{Object, Natural, Symbol, Pair, same_object, same_name, nil_name}
-use Rattle.mw_model.specs.Printing.{numeral, name_text, end_text}
+use Rattle.mw_model.specs.Terms.Object.{Object, Natural, Symbol, Pair, same_object, same_name, nil_name}
+use Rattle.mw_model.specs.Texts.Printing.{numeral, name_text, end_text}
 
 -- the pairs that have labels, and the first number that no label has
 pub record Labels : Type 0 where

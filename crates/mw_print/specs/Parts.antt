@@ -1,7 +1,7 @@
 -- What is still to be written of a text: parts, the next one last.
 use Rattle.std.specs.Prelude.{◌≡◌, ℕ, ◌+◌, ◌<◌, List, [], ◌∷◌, ◌++◌, All}
-use Rattle.mw_model.specs.Object.{Object, weight}
-use Rattle.mw_model.specs.Printing.{tail_text, text_of}
+use Rattle.mw_model.specs.Terms.Object.{Object, weight}
+use Rattle.mw_model.specs.Texts.Printing.{tail_text, text_of}
 use Rattle.mw_heap.specs.Objects.{object_at, IsIn}
 use Rattle.mw_print.specs.declared.part.Part.{Part}
 use Rattle.mw_print.specs.declared.part.Part.TheVariants.{Text, Tail}

@@ -1,6 +1,6 @@
 -- What printing does, by its answer.
 use Rattle.std.specs.Prelude.{◌≡◌, ℕ, ◌<◌, ◌≤◌, List, ◌++◌, length}
-use Rattle.mw_model.specs.Fate.{longest}
+use Rattle.mw_model.specs.Events.Fate.{longest}
 use Rattle.mw_print.specs.declared.printing.Printed.{Printed}
 use Rattle.mw_print.specs.declared.printing.Printed.TheVariants.{Ok, Long, Memory}
 

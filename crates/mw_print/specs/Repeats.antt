@@ -2,9 +2,9 @@
 use Rattle.std.specs.Prelude.{◌≡◌, ℕ, ◌+◌, ◌&&◌, ltb, nat_eq, true, false, List, [], ◌∷◌, ◌++◌, ◌⊎◌, sum_by}
 use Rattle.std.specs.List.{list_any}
 use Rattle.indexmap.specs.IndexSet.{insert_key}
-use Rattle.mw_model.specs.Object.{Object, Natural, Symbol, Pair, same_object}
-use Rattle.mw_model.specs.Primitive.{is_pair}
-use Rattle.mw_model.specs.Written.{distinct_pairs}
+use Rattle.mw_model.specs.Terms.Object.{Object, Natural, Symbol, Pair, same_object}
+use Rattle.mw_model.specs.Values.Primitive.{is_pair}
+use Rattle.mw_model.specs.Texts.Written.{distinct_pairs}
 use Rattle.mw_heap.specs.Cells.{one_if}
 use Rattle.mw_heap.specs.Objects.{object_at, IsIn}
 use Rattle.mw_print.specs.Waiting.{is_one_of}

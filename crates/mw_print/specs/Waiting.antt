@@ -2,7 +2,7 @@
 use Rattle.std.specs.Prelude.{◌≡◌, ℕ, ◌+◌, ◌*◌, ◌<◌, nat_eq, Bool, ◌&&◌, ltb, List, [], ◌∷◌, ◌++◌, All, length}
 use Rattle.std.specs.List.{list_any}
 use Rattle.std.specs.Map.{lookup}
-use Rattle.mw_model.specs.Object.{Object, same_object, weight}
+use Rattle.mw_model.specs.Terms.Object.{Object, same_object, weight}
 use Rattle.mw_heap.specs.Objects.{object_at, IsIn}
 use Rattle.mw_print.specs.Labelling.{Labels, Labelled, number_of, give, written, and_then, datum, tail}
 use Rattle.mw_print.specs.declared.piece.Piece.{Piece}

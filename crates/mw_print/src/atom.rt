@@ -1,7 +1,7 @@
 //! The text of naturals and symbols, and how a list ends.
 ghost use Rattle.std.specs.Prelude.{◌≡◌, ◌++◌, false, OnOk};
-ghost use Rattle.mw_model.specs.Primitive.{is_pair};
-ghost use Rattle.mw_model.specs.Printing.{numeral, tail_text, text_of};
+ghost use Rattle.mw_model.specs.Values.Primitive.{is_pair};
+ghost use Rattle.mw_model.specs.Texts.Printing.{numeral, tail_text, text_of};
 ghost use Rattle.mw_heap.specs.Objects.{IsIn, object_at};
 
 use crate::name::write_name;

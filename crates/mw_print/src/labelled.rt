@@ -2,8 +2,8 @@
 ghost use Rattle.std.specs.Prelude.{◌≡◌, ◌≤◌, ℕ, suc, cond, nat_eq, Some, [], ◌∷◌, ◌++◌, ◌&&◌, leb, All, IfOk, OnOk};
 ghost use Rattle.std.specs.List.{list_any};
 ghost use Rattle.std.specs.Map.{lookup};
-ghost use Rattle.mw_model.specs.Object.{Pair};
-ghost use Rattle.mw_model.specs.Printing.{numeral};
+ghost use Rattle.mw_model.specs.Terms.Object.{Pair};
+ghost use Rattle.mw_model.specs.Texts.Printing.{numeral};
 ghost use Rattle.mw_heap.specs.Objects.{IsIn, object_at};
 ghost use Rattle.mw_print.specs.Labelling.{most_label, label_text, labelled_text, labelled_next};
 ghost use Rattle.mw_print.specs.Waiting.{is_one_of, IsPiece, Advances};

@@ -1,7 +1,7 @@
 //! Laws of texts with labels.
 ghost use Rattle.std.specs.Prelude.{ℕ, Bool};
-ghost use Rattle.mw_model.specs.Object.{Object};
-ghost use Rattle.mw_model.specs.Written.{IsLabelled};
+ghost use Rattle.mw_model.specs.Terms.Object.{Object};
+ghost use Rattle.mw_model.specs.Texts.Written.{IsLabelled};
 ghost use Rattle.mw_print.specs.Labelling.{labelled_text, labelled_next};
 
 /// Whichever pairs have labels, the text with labels of an object is read as just this object, also before a further symbol; it holds no

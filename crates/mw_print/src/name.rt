@@ -1,7 +1,7 @@
 //! The text of names.
 ghost use Rattle.std.specs.Prelude.{◌≡◌, ◌++◌, true, OnOk};
-ghost use Rattle.mw_model.specs.Object.{is_name, name_of_bytes};
-ghost use Rattle.mw_model.specs.Printing.{name_text};
+ghost use Rattle.mw_model.specs.Terms.Object.{is_name, name_of_bytes};
+ghost use Rattle.mw_model.specs.Texts.Printing.{name_text};
 
 use mw_heap::{Memory, is_bare_name};
 

@@ -1,7 +1,7 @@
 //! Printing, up to a bound.
 ghost use Rattle.std.specs.Prelude.{◌≡◌, ◌+◌, ◌≤◌, length, min, IfSome};
-ghost use Rattle.mw_model.specs.Fate.{longest};
-ghost use Rattle.mw_model.specs.Printing.{text_of};
+ghost use Rattle.mw_model.specs.Events.Fate.{longest};
+ghost use Rattle.mw_model.specs.Texts.Printing.{text_of};
 ghost use Rattle.mw_heap.specs.Objects.{IsIn, object_at};
 ghost use Rattle.mw_print.specs.Printing.{Prints};
 

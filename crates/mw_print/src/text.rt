@@ -1,7 +1,7 @@
 //! The text of an object.
 ghost use Rattle.std.specs.Prelude.{◌≡◌, [], ◌∷◌, ◌++◌, All, IfOk, OnOk};
-ghost use Rattle.mw_model.specs.Object.{Pair};
-ghost use Rattle.mw_model.specs.Printing.{text_of};
+ghost use Rattle.mw_model.specs.Terms.Object.{Pair};
+ghost use Rattle.mw_model.specs.Texts.Printing.{text_of};
 ghost use Rattle.mw_heap.specs.Objects.{IsIn, object_at};
 ghost use Rattle.mw_print.specs.Parts.{IsPart, Writes};
 

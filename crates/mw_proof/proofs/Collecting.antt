@@ -5,10 +5,10 @@ use Rattle.std.proofs.lemmas.Bool.{and_left, eqb-false}
 use Rattle.std.proofs.lemmas.List.{length_push}
 use Rattle.std.specs.Option.{option_eq}
 use Rattle.std.proofs.lemmas.List.Elements.{All-push}
-use Rattle.mw_model.specs.Object.{Object, Natural, Symbol, Pair, same_object, NIL, second_of}
-use Rattle.mw_model.specs.Term.{ArityTable}
-use Rattle.mw_model.specs.Rules.{is_formula_object}
-use Rattle.mw_model.specs.RulesInduction.{length_object}
+use Rattle.mw_model.specs.Terms.Object.{Object, Natural, Symbol, Pair, same_object, NIL, second_of}
+use Rattle.mw_model.specs.Terms.Term.{ArityTable}
+use Rattle.mw_model.specs.Laws.Rules.{is_formula_object}
+use Rattle.mw_model.specs.Laws.RulesInduction.{length_object}
 use Rattle.mw_model.proofs.Names.{same_object-eq}
 use Rattle.mw_heap.specs.Objects.{object_at, IsIn, Shows}
 use Rattle.mw_heap.specs.declared.view.View.{View}

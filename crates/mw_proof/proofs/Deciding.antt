@@ -3,11 +3,11 @@ use Rattle.std.proofs.Common.{◌≡◌, ℕ, zero, suc, ◌<◌, Bool, true, fa
 use Rattle.std.specs.List.{All}
 use Rattle.std.proofs.lemmas.Bool.{and_parts, and_left, and_right}
 use Rattle.std.proofs.lemmas.List.Elements.{All-cons}
-use Rattle.mw_model.specs.Object.{Object, Natural, Symbol, Pair, NIL, same_object, has_members, car, cdr, second_of, fourth_of}
-use Rattle.mw_model.specs.Proof.{Method, Axiom, Theorem, PropositionalSchema, FunctionalEquality, BetaReduction, BaseEval, Expansion, Contraction, Associativity, Cut, Instantiation, Induction}
-use Rattle.mw_model.specs.RulesInduction.{length_object}
-use Rattle.mw_model.specs.Judgment.{methods, method_among}
-use Rattle.mw_model.specs.Rules.{is_formula_object}
+use Rattle.mw_model.specs.Terms.Object.{Object, Natural, Symbol, Pair, NIL, same_object, has_members, car, cdr, second_of, fourth_of}
+use Rattle.mw_model.specs.Proofs.Proof.{Method, Axiom, Theorem, PropositionalSchema, FunctionalEquality, BetaReduction, BaseEval, Expansion, Contraction, Associativity, Cut, Instantiation, Induction}
+use Rattle.mw_model.specs.Laws.RulesInduction.{length_object}
+use Rattle.mw_model.specs.Proofs.Judgment.{methods, method_among}
+use Rattle.mw_model.specs.Laws.Rules.{is_formula_object}
 use Rattle.mw_heap.specs.Objects.{object_at}
 use Rattle.mw_rules.specs.Step.{rule_holds}
 use Rattle.mw_proof.specs.Step.{has_proof_shape, subproofs_of, conclusions_object}

@@ -1,6 +1,6 @@
 -- The members of a proof are those of its list, the end standing for what is missing.
 use Rattle.std.proofs.Common.{◌≡◌, ℕ, ◌<◌, true, List, refl, sym, ap, ◌∙◌, arith}
-use Rattle.mw_model.specs.Object.{Object, Natural, Symbol, Pair, same_object, NIL, car, cdr, second_of, third_of, fourth_of}
+use Rattle.mw_model.specs.Terms.Object.{Object, Natural, Symbol, Pair, same_object, NIL, car, cdr, second_of, third_of, fourth_of}
 use Rattle.mw_model.proofs.ReadBack.{nil_is}
 use Rattle.mw_heap.specs.Objects.{object_at}
 use Rattle.mw_proof.specs.Members.{AreMembers, first_or_self, rest_or_self, IsNext}

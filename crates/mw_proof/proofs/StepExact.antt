@@ -1,16 +1,16 @@
 -- Judging is a local test: an object is a proof exactly where its parts, its subproofs and its step are as they should be.
 use Rattle.std.proofs.Common.{◌≡◌, Bool, true, false, ◌&&◌, ◌||◌, cond, List, [], Option, Some, None, refl, sym, ap, ap₂, ◌∙◌, subst}
 use Rattle.std.proofs.lemmas.Bool.{and_parts, and_right}
-use Rattle.mw_model.specs.Object.{Object, Natural, Symbol, Pair, same_name, same_object, nil_name, NIL, second_of}
-use Rattle.mw_model.specs.Term.{Formula, formula_object, ArityTable, is_formula, IsFormula}
-use Rattle.mw_model.specs.Reading.{formula_of, and_more, that, when}
-use Rattle.mw_model.specs.Primitive.{Profile}
-use Rattle.mw_model.specs.Definition.{is_present}
-use Rattle.mw_model.specs.Truth.{Each}
-use Rattle.mw_model.specs.Proof.{Method}
-use Rattle.mw_model.specs.Judgment.{methods, method_among, follows, judge_step, judge, judge_each}
-use Rattle.mw_model.specs.Rules.{is_formula_object}
-use Rattle.mw_model.specs.RulesInduction.{formulas_object}
+use Rattle.mw_model.specs.Terms.Object.{Object, Natural, Symbol, Pair, same_name, same_object, nil_name, NIL, second_of}
+use Rattle.mw_model.specs.Terms.Term.{Formula, formula_object, ArityTable, is_formula, IsFormula}
+use Rattle.mw_model.specs.Terms.Reading.{formula_of, and_more, that, when}
+use Rattle.mw_model.specs.Values.Primitive.{Profile}
+use Rattle.mw_model.specs.Values.Definition.{is_present}
+use Rattle.mw_model.specs.Values.Truth.{Each}
+use Rattle.mw_model.specs.Proofs.Proof.{Method}
+use Rattle.mw_model.specs.Proofs.Judgment.{methods, method_among, follows, judge_step, judge, judge_each}
+use Rattle.mw_model.specs.Laws.Rules.{is_formula_object}
+use Rattle.mw_model.specs.Laws.RulesInduction.{formulas_object}
 use Rattle.mw_model.proofs.ReadBack.{when_some, some_one, cond_some, and_more-back, formula_back}
 use Rattle.mw_rules.specs.Step.{rule_holds}
 use Rattle.mw_rules.proofs.CallerLemmas.{rule_holds-is}

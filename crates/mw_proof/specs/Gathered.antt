@@ -1,7 +1,7 @@
 -- The proofs below a proof, as references.
 use Rattle.std.specs.Prelude.{◌≡◌, ℕ, ◌<◌, ◌==◌, nat_eq, true, List, ◌++◌, ◌⊎◌}
 use Rattle.std.specs.List.{list_any, IsDistinct}
-use Rattle.mw_model.specs.Object.{Object, Natural, Symbol, Pair, is_member}
+use Rattle.mw_model.specs.Terms.Object.{Object, Natural, Symbol, Pair, is_member}
 use Rattle.mw_heap.specs.Objects.{object_at, IsIn}
 use Rattle.mw_proof.specs.Step.{has_proof_shape, subproofs_of}
 

@@ -1,10 +1,10 @@
 -- Judging in a heap: what a proof may rest on, and what must hold of each.
 use Rattle.std.specs.Prelude.{◌≡◌, ℕ, ◌<◌, ◌≤◌, Bool, true, false, ◌&&◌, List, length, All, Option, Some, None, Vec, ◌⊎◌}
-use Rattle.mw_model.specs.Object.{Object, Natural, Symbol, Pair, same_name, nil_name, second_of}
-use Rattle.mw_model.specs.Term.{ArityTable}
-use Rattle.mw_model.specs.Primitive.{Profile}
-use Rattle.mw_model.specs.Rules.{is_formula_object}
-use Rattle.mw_model.specs.RulesInduction.{length_object}
+use Rattle.mw_model.specs.Terms.Object.{Object, Natural, Symbol, Pair, same_name, nil_name, second_of}
+use Rattle.mw_model.specs.Terms.Term.{ArityTable}
+use Rattle.mw_model.specs.Values.Primitive.{Profile}
+use Rattle.mw_model.specs.Laws.Rules.{is_formula_object}
+use Rattle.mw_model.specs.Laws.RulesInduction.{length_object}
 use Rattle.mw_heap.specs.Objects.{object_at}
 use Rattle.mw_proof.specs.Step.{subproofs_of, conclusions_object, is_proof, are_proofs, is_step}
 use Rattle.mw_heap.specs.Lists.{list_object}

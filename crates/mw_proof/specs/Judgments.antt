@@ -1,6 +1,6 @@
 -- What a judgment says.
 use Rattle.std.specs.Prelude.{◌≡◌, ℕ, ◌+◌, ◌≤◌, Bool, true, false, List, length}
-use Rattle.mw_model.specs.Object.{Object}
+use Rattle.mw_model.specs.Terms.Object.{Object}
 use Rattle.mw_proof.specs.Gathered.{AreProofsOf, AreGathered}
 use Rattle.mw_proof.specs.declared.judging.Judged.{Judged}
 use Rattle.mw_proof.specs.declared.judging.Judged.TheVariants.{Good, Bad, Memory}

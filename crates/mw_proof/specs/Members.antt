@@ -1,6 +1,6 @@
 -- The members of a proof in a heap.
 use Rattle.std.specs.Prelude.{◌≡◌, ℕ, ◌<◌, ◌≤◌, List}
-use Rattle.mw_model.specs.Object.{Object, Natural, Symbol, Pair, car, second_of, fourth_of}
+use Rattle.mw_model.specs.Terms.Object.{Object, Natural, Symbol, Pair, car, second_of, fourth_of}
 use Rattle.mw_heap.specs.Objects.{object_at}
 use Rattle.mw_proof.specs.Step.{subproofs_of}
 use Rattle.mw_proof.specs.declared.members.Members.{Members}

@@ -1,6 +1,6 @@
 -- What a rewriter answers.
 use Rattle.std.specs.Prelude.{List}
-use Rattle.mw_model.specs.Object.{Object}
+use Rattle.mw_model.specs.Terms.Object.{Object}
 use Rattle.mw_heap.specs.Objects.{object_at, IsIn}
 use Rattle.mw_proof.specs.declared.rewriter.Rewritten.{Rewritten}
 use Rattle.mw_proof.specs.declared.rewriter.Rewritten.TheVariants.{Proof, Keep, Memory}

@@ -1,11 +1,11 @@
 -- One step of judging: what must hold of an object, beside that its subproofs are proofs, for it to be a proof.
 use Rattle.std.specs.Prelude.{Bool, false, ◌&&◌, ◌||◌}
-use Rattle.mw_model.specs.Object.{Object, Natural, Symbol, Pair, same_name, nil_name, NIL, car, second_of, third_of, fourth_of, has_members}
-use Rattle.mw_model.specs.Term.{ArityTable}
-use Rattle.mw_model.specs.Primitive.{Profile}
-use Rattle.mw_model.specs.Definition.{is_present}
-use Rattle.mw_model.specs.Judgment.{methods, method_among, judge}
-use Rattle.mw_model.specs.Rules.{is_formula_object}
+use Rattle.mw_model.specs.Terms.Object.{Object, Natural, Symbol, Pair, same_name, nil_name, NIL, car, second_of, third_of, fourth_of, has_members}
+use Rattle.mw_model.specs.Terms.Term.{ArityTable}
+use Rattle.mw_model.specs.Values.Primitive.{Profile}
+use Rattle.mw_model.specs.Values.Definition.{is_present}
+use Rattle.mw_model.specs.Proofs.Judgment.{methods, method_among, judge}
+use Rattle.mw_model.specs.Laws.Rules.{is_formula_object}
 use Rattle.mw_rules.specs.Step.{rule_holds}
 
 -- a proper list of two to four members: method, conclusion, subproofs, extras

@@ -1,6 +1,6 @@
 //! The conclusions of subproofs.
 ghost use Rattle.std.specs.Prelude.{◌<◌, length, IfOk, IfSome};
-ghost use Rattle.mw_model.specs.Term.{ArityTable};
+ghost use Rattle.mw_model.specs.Terms.Term.{ArityTable};
 ghost use Rattle.mw_term.specs.Marking.{AreMarks};
 ghost use Rattle.mw_proof.specs.Gathered.{AreIn, AddsMembers};
 ghost use Rattle.mw_proof.specs.Judging.{IsAnswer};

@@ -8,10 +8,10 @@ mod members;
 mod rewriter;
 
 ghost use Rattle.std.specs.Prelude.{◌≡◌, Some};
-ghost use Rattle.mw_model.specs.Object.{Object, second_of};
-ghost use Rattle.mw_model.specs.Term.{ArityTable, Formula, formula_object};
-ghost use Rattle.mw_model.specs.Primitive.{Profile};
-ghost use Rattle.mw_model.specs.Judgment.{judge};
+ghost use Rattle.mw_model.specs.Terms.Object.{Object, second_of};
+ghost use Rattle.mw_model.specs.Terms.Term.{ArityTable, Formula, formula_object};
+ghost use Rattle.mw_model.specs.Values.Primitive.{Profile};
+ghost use Rattle.mw_model.specs.Proofs.Judgment.{judge};
 ghost use Rattle.mw_proof.specs.Step.{subproofs_of, is_proof, are_proofs, is_step};
 
 pub use conclusions::conclusions_of;

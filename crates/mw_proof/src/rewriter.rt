@@ -1,9 +1,9 @@
 //! Rewriting proofs.
 ghost use Rattle.std.specs.Prelude.{◌≤◌, All, length};
-ghost use Rattle.mw_model.specs.Object.{Member};
-ghost use Rattle.mw_model.specs.Term.{formula_object};
-ghost use Rattle.mw_model.specs.Axioms.{axiom_1, axiom_2};
-ghost use Rattle.mw_model.specs.Rewriting.{Turning};
+ghost use Rattle.mw_model.specs.Terms.Object.{Member};
+ghost use Rattle.mw_model.specs.Terms.Term.{formula_object};
+ghost use Rattle.mw_model.specs.Proofs.Axioms.{axiom_1, axiom_2};
+ghost use Rattle.mw_model.specs.Laws.Rewriting.{Turning};
 ghost use Rattle.mw_heap.specs.Objects.{object_at, IsIn, Grows};
 ghost use Rattle.mw_heap.specs.Lists.{list_object};
 ghost use Rattle.mw_heap.specs.Variants.{profile_of};

@@ -1,6 +1,6 @@
 -- A list of three is tested by its second member alone, and then as a list of three with that member.
 use Rattle.std.proofs.Common.{◌≡◌, Bool, true, false, ◌&&◌, refl, sym, ap}
-use Rattle.mw_model.specs.Object.{Object, Natural, Symbol, Pair, same_object, second_of, list1, list3}
+use Rattle.mw_model.specs.Terms.Object.{Object, Natural, Symbol, Pair, same_object, second_of, list1, list3}
 use Rattle.mw_model.proofs.Names.{same_object-refl}
 
 and-false : (b : Bool) → false ≡ (b && false)

@@ -2,8 +2,8 @@
 #![tactic(auto)]
 
 ghost use Rattle.std.specs.Prelude.{◌≡◌};
-ghost use Rattle.mw_model.specs.Object.{same_object};
-ghost use Rattle.mw_model.specs.Rules.{or_object, object_is_schema, object_is_expansion, object_is_contraction, object_is_associativity, object_is_cut};
+ghost use Rattle.mw_model.specs.Terms.Object.{same_object};
+ghost use Rattle.mw_model.specs.Laws.Rules.{or_object, object_is_schema, object_is_expansion, object_is_contraction, object_is_associativity, object_is_cut};
 ghost use Rattle.mw_heap.specs.Objects.{object_at, IsIn};
 ghost use Rattle.mw_heap.specs.Parts.{part_at, IsPart};
 

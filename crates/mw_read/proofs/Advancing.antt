@@ -1,8 +1,8 @@
 -- What a token's end makes of a parser.
 use Rattle.std.proofs.Common.{◌≡◌, ℕ, ◌+◌, ◌<◌, Bool, true, false, List, [], ◌∷◌, ◌++◌, length, take, Some, refl, sym, ap, ◌∙◌, subst, true≢false, append_assoc}
-use Rattle.mw_model.specs.Object.{Object}
-use Rattle.mw_model.specs.Lexemes.{Atom, Dot, Wrong, fault, TOKEN, Ending, all_are, is_constituent, TokenForm, Whole, Point, Bad, token_form, glued, glued_bar, lexemes_from}
-use Rattle.mw_model.specs.Grammar.{book, and_events}
+use Rattle.mw_model.specs.Terms.Object.{Object}
+use Rattle.mw_model.specs.Texts.Lexemes.{Atom, Dot, Wrong, fault, TOKEN, Ending, all_are, is_constituent, TokenForm, Whole, Point, Bad, token_form, glued, glued_bar, lexemes_from}
+use Rattle.mw_model.specs.Texts.Grammar.{book, and_events}
 use Rattle.mw_read.specs.Machine.{State, Idle, Within, Full, Broken, Members, Tailed, Quoting, Marking, Turn, quiet, event, on, is_full, IsSound}
 use Rattle.mw_read.specs.Resume.{resume, onward, following}
 use Rattle.mw_read.specs.Lexing.{token_lexeme}

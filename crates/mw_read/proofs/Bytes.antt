@@ -1,9 +1,9 @@
 -- The machine on bytes reads as the definitions do, whatever follows.
 use Rattle.std.proofs.Common.{◌≡◌, ℕ, zero, suc, ◌+◌, ◌≤◌, ◌<◌, Bool, true, false, not, List, [], ◌∷◌, ◌++◌, length, Option, Some, None, refl, sym, ap, ap₂, ◌∙◌, if◌then◌else◌, eqb, ltb, arith, append_assoc, append-nil, le_refl, eqb-true, lt-ltb, le-ltb, ltb-false, ltb-true}
 use Rattle.std.proofs.lemmas.Bool.{and_parts, and_from}
-use Rattle.mw_model.specs.Object.{Object, Symbol, NIL, is_name_byte, name_of_bytes}
-use Rattle.mw_model.specs.Lexemes.{Lexeme, Atom, Open, Close, Dot, Quote, Mark, Ref, Wrong, Stray, End, Fault, fault, END, DOT, TOKEN, BYTE, LABEL, Ending, Ends, Goes, unfinished, all_are, run_of, after_run, is_constituent, is_digit, is_inside_comment, TokenForm, Whole, Point, Bad, token_form, token, dot, refused, barred, hashed, label, atom, decimal_value, glued, glued_bar, Class, White, Semicolon, Opening, Closing, Apostrophe, Bar, Hash, Constituent, Other, class, piece, extent, lexemes_from}
-use Rattle.mw_model.specs.Grammar.{Labels, Unused, Book, book, and_events, reading}
+use Rattle.mw_model.specs.Terms.Object.{Object, Symbol, NIL, is_name_byte, name_of_bytes}
+use Rattle.mw_model.specs.Texts.Lexemes.{Lexeme, Atom, Open, Close, Dot, Quote, Mark, Ref, Wrong, Stray, End, Fault, fault, END, DOT, TOKEN, BYTE, LABEL, Ending, Ends, Goes, unfinished, all_are, run_of, after_run, is_constituent, is_digit, is_inside_comment, TokenForm, Whole, Point, Bad, token_form, token, dot, refused, barred, hashed, label, atom, decimal_value, glued, glued_bar, Class, White, Semicolon, Opening, Closing, Apostrophe, Bar, Hash, Constituent, Other, class, piece, extent, lexemes_from}
+use Rattle.mw_model.specs.Texts.Grammar.{Labels, Unused, Book, book, and_events, reading}
 use Rattle.mw_read.specs.Machine.{Frame, Members, Tailed, Quoting, Marking, close_bars, State, Idle, Within, Full, Broken, on, on_all, Mode, Between, Comment, InToken, InBars, Barred, InHash, Machine, Move, move, begin, turned, fresh, settle, step_mode, step, start, feed, last_lexemes, width, end_fault, finish, finish_fault, fault_of}
 use Rattle.mw_read.specs.Resume.{text, resume, onward}
 use Rattle.mw_read.proofs.Resuming.{unwind_stop, onward_append, AllSolid, on_step, on_all_step}

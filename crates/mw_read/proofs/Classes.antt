@@ -1,7 +1,7 @@
 -- The table of classes is the definition's, and runs of bytes of a kind.
 use Rattle.std.proofs.Common.{◌≡◌, ℕ, zero, suc, ◌+◌, ◌<◌, Bool, true, false, ◌&&◌, eqb, List, [], ◌∷◌, ◌++◌, length, take, get_or, refl, sym, ap, ◌∙◌, arith, if◌then◌else◌, add-one}
 use Rattle.std.proofs.lemmas.Bool.{and_parts}
-use Rattle.mw_model.specs.Lexemes.{Class, White, Semicolon, Opening, Closing, Apostrophe, Bar, Hash, Constituent, Other, class, class_else, is_constituent, is_white, all_are}
+use Rattle.mw_model.specs.Texts.Lexemes.{Class, White, Semicolon, Opening, Closing, Apostrophe, Bar, Hash, Constituent, Other, class, class_else, is_constituent, is_white, all_are}
 use Rattle.mw_read.specs.Codes.{class_of}
 use Rattle.mw_read.specs.declared.class.Class as code
 use Rattle.mw_read.specs.declared.class.Class.TheVariants as classes

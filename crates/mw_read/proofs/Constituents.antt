@@ -1,8 +1,8 @@
 -- A token's bytes, raised, are a name's.
 use Rattle.std.proofs.Common.{◌≡◌, ℕ, zero, suc, ◌<◌, ◌≤◌, Bool, true, false, ◌&&◌, ◌||◌, not, eqb, leb, List, [], ◌∷◌, map, refl, sym, ap, ◌∙◌, arith, true≢false, eqb-true, leb-true}
 use Rattle.std.proofs.lemmas.Bool.{and_parts, and_from, eqb-false}
-use Rattle.mw_model.specs.Object.{is_name, is_name_byte, are_name_bytes, Symbol, Name}
-use Rattle.mw_model.specs.Lexemes.{one_of, is_digit, is_capital, is_small, is_mark, is_constituent, raised, all_are, token_form, Whole}
+use Rattle.mw_model.specs.Terms.Object.{is_name, is_name_byte, are_name_bytes, Symbol, Name}
+use Rattle.mw_model.specs.Texts.Lexemes.{one_of, is_digit, is_capital, is_small, is_mark, is_constituent, raised, all_are, token_form, Whole}
 
 either : {P : Type 0} (a b : Bool) → (a ≡ true → P) → (b ≡ true → P) → (a || b) ≡ true → P
 either true b f g h = f refl

@@ -1,7 +1,7 @@
 -- The number of some digits, one digit after the other.
 use Rattle.std.proofs.Common.{◌≡◌, ℕ, zero, suc, ◌+◌, ◌-◌, ◌*◌, ◌<◌, ◌≤◌, Bool, true, List, [], ◌∷◌, ◌++◌, length, take, get_or, refl, ap, ◌∙◌, arith, le_refl, add-one, leb, leb-true}
 use Rattle.std.proofs.lemmas.Bool.{and_parts}
-use Rattle.mw_model.specs.Lexemes.{all_are, is_digit, decimal_from, decimal_value}
+use Rattle.mw_model.specs.Texts.Lexemes.{all_are, is_digit, decimal_from, decimal_value}
 use Rattle.mw_read.proofs.Classes.{take_more}
 
 pub all_at : (p : ℕ → Bool) (ds : List ℕ) (i : ℕ) → i < length ds → all_are p ds ≡ true → p (get_or ds i 0) ≡ true

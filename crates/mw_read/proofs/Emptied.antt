@@ -1,13 +1,13 @@
 -- A stack on which nothing is open stands for nothing in any heap.
 use Rattle.std.proofs.Common.{◌≡◌, ℕ, Bool, true, false, ◌||◌, not, List, [], ◌∷◌, length, Option, Some, None, IfSome, refl, sym, ap, ap₂, ◌∙◌, subst, true≢false, cond, if◌then◌else◌, ltb, ◌<◌, nat_eq}
 use Rattle.std.specs.Map.{lookup}
-use Rattle.mw_model.specs.Object.{Object, Natural, Symbol, Pair}
-use Rattle.mw_model.specs.Lexemes.{fault, END}
-use Rattle.mw_model.specs.Term.{is_among}
-use Rattle.mw_model.specs.Evaluation.{range}
-use Rattle.mw_model.specs.Fate.{is_out_of_range}
-use Rattle.mw_model.specs.Grammar.{Unused}
-use Rattle.mw_model.specs.Report.{word_text, label_text, symbol_text, labelled_words, dash}
+use Rattle.mw_model.specs.Terms.Object.{Object, Natural, Symbol, Pair}
+use Rattle.mw_model.specs.Texts.Lexemes.{fault, END}
+use Rattle.mw_model.specs.Terms.Term.{is_among}
+use Rattle.mw_model.specs.Events.Evaluation.{range}
+use Rattle.mw_model.specs.Events.Fate.{is_out_of_range}
+use Rattle.mw_model.specs.Texts.Grammar.{Unused}
+use Rattle.mw_model.specs.Reports.Report.{word_text, label_text, symbol_text, labelled_words, dash}
 use Rattle.mw_heap.specs.Objects.{object_at, IsIn}
 use Rattle.mw_read.specs.Machine.{Members, State, Idle, Within, Full, Broken, end_fault}
 use Rattle.mw_read.specs.Clamp.{clamp}

@@ -1,9 +1,9 @@
 -- The end of the input, for the text that has begun.
 use Rattle.std.proofs.Common.{◌≡◌, ℕ, ◌+◌, ◌<◌, ◌≤◌, true, false, List, [], ◌∷◌, ◌++◌, length, Some, suc, refl, sym, ap, ◌∙◌, subst, arith, append-nil, if◌then◌else◌, le-ltb}
 use Rattle.std.proofs.lemmas.Bool.{and_parts}
-use Rattle.mw_model.specs.Object.{Object, Symbol, name_of_bytes, is_name_byte}
-use Rattle.mw_model.specs.Lexemes.{Atom, Wrong, Fault, fault, END, LABEL, Ending, Ends, all_are, is_constituent, is_digit, TokenForm, Whole, Point, Bad, token_form, token, label, lexemes_from, End, unfinished, glued_bar}
-use Rattle.mw_model.specs.Grammar.{book}
+use Rattle.mw_model.specs.Terms.Object.{Object, Symbol, name_of_bytes, is_name_byte}
+use Rattle.mw_model.specs.Texts.Lexemes.{Atom, Wrong, Fault, fault, END, LABEL, Ending, Ends, all_are, is_constituent, is_digit, TokenForm, Whole, Point, Bad, token_form, token, label, lexemes_from, End, unfinished, glued_bar}
+use Rattle.mw_model.specs.Texts.Grammar.{book}
 use Rattle.mw_read.specs.Machine.{State, Turn, on, is_full, IsSound, InToken, InBars, InHash}
 use Rattle.mw_read.specs.Resume.{resume, following}
 use Rattle.mw_read.specs.Lexing.{token_lexeme}

@@ -1,9 +1,9 @@
 -- What a reader's answers say of the bytes fed, by what its parser's answers say.
 use Rattle.std.proofs.Common.{◌≡◌, ℕ, zero, suc, ◌-◌, ◌≤◌, ◌<◌, ◌⊎◌, true, false, true≢false, Option, List, [], ◌∷◌, ◌++◌, length, take, drop, refl, sym, ap, ◌∙◌, subst, arith, append-nil, inl, inr}
 use Rattle.std.proofs.lemmas.List.{take-append-drop, drop_all}
-use Rattle.mw_model.specs.Object.{Object}
-use Rattle.mw_model.specs.Grammar.{book, limit, trees}
-use Rattle.mw_model.specs.Lexemes.{Fault, Goes}
+use Rattle.mw_model.specs.Terms.Object.{Object}
+use Rattle.mw_model.specs.Texts.Grammar.{book, limit, trees}
+use Rattle.mw_model.specs.Texts.Lexemes.{Fault, Goes}
 use Rattle.mw_read.specs.Parsing.{Fits, offset_of}
 use Rattle.mw_read.specs.Standing.{Stands, IsStanding, Follows, IsLast, HasEndedWith, HasEnded, GivesBehind, GivesLast, Says, Finishes, work}
 use Rattle.mw_read.specs.Feeding.{GivesNext, MayCome, IsReady, Continues}

@@ -1,6 +1,6 @@
 -- A list is folded from its last member on.
 use Rattle.std.proofs.Common.{◌≡◌, ℕ, List, [], ◌∷◌, ◌++◌, length, refl, sym, ap, ap₂, ◌∙◌, subst, arith}
-use Rattle.mw_model.specs.Object.{Object, Pair}
+use Rattle.mw_model.specs.Terms.Object.{Object, Pair}
 use Rattle.mw_heap.specs.Objects.{object_at, IsIn, Grows}
 use Rattle.mw_read.specs.Machine.{Members, Tailed, Quoting, Marking}
 use Rattle.mw_read.specs.Piles.{Pile, Frames, Ready, piled, MayLie, pile_of, IsPile, IsInList, members_of, frames_round}

@@ -1,9 +1,9 @@
 -- The bound on the recursion of read makes no difference once it is enough.
 use Rattle.std.proofs.Common.{◌≡◌, ℕ, zero, suc, ◌+◌, ◌-◌, ◌≤◌, Bool, true, false, List, [], ◌∷◌, Option, Some, None, refl, sym, ap, ◌∙◌, subst, arith, le_trans, le_refl, zero-le, if◌then◌else◌}
-use Rattle.mw_model.specs.Object.{Object}
-use Rattle.mw_model.specs.Lexemes.{Lexeme, Atom, Open, Close, Dot, Quote, Mark, Ref, Wrong, Stray, End, LABEL}
+use Rattle.mw_model.specs.Terms.Object.{Object}
+use Rattle.mw_model.specs.Texts.Lexemes.{Lexeme, Atom, Open, Close, Dot, Quote, Mark, Ref, Wrong, Stray, End, LABEL}
 use Rattle.mw_read.specs.Resume.{reads, rest}
-use Rattle.mw_model.specs.Grammar.{Labels, Label, Read, Got, Stop, and_then, quoting, pairing, and_tail, halt, closing, labelling, reference, Part, Datum, First, Tail, Last, read, labelled, is_begun, enough, Book, and_events, and_data, data_of, Unused}
+use Rattle.mw_model.specs.Texts.Grammar.{Labels, Label, Read, Got, Stop, and_then, quoting, pairing, and_tail, halt, closing, labelling, reference, Part, Datum, First, Tail, Last, read, labelled, is_begun, enough, Book, and_events, and_data, data_of, Unused}
 
 abbrev pub room : Part → List Lexeme → ℕ
 room Datum [] = 0

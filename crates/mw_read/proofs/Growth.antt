@@ -1,6 +1,6 @@
 -- A heap that grows keeps its objects.
 use Rattle.std.proofs.Common.{◌≡◌, ℕ, zero, suc, ◌<◌, ◌≤◌, List, [], ◌∷◌, ◌++◌, length, refl, sym, ap, ◌∙◌, arith, append_assoc, append-nil, length-append}
-use Rattle.mw_model.specs.Object.{Object}
+use Rattle.mw_model.specs.Terms.Object.{Object}
 use Rattle.mw_heap.specs.Objects.{object_at, IsIn, Grows}
 
 pub object_at-append : (os more : List Object) (i : ℕ) → i < length os → object_at (os ++ more) i ≡ object_at os i

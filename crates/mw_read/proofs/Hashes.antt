@@ -1,9 +1,9 @@
 -- Comments and labels.
 use Rattle.std.proofs.Common.{◌≡◌, ℕ, suc, ◌+◌, ◌<◌, ◌≤◌, Bool, true, false, not, List, [], ◌∷◌, ◌++◌, length, take, get_or, Some, refl, sym, ap, ap₂, ◌∙◌, subst, arith, true≢false, if◌then◌else◌, append_assoc, eqb, eqb-true, ltb, lt-ltb, le-ltb, length-append}
 use Rattle.std.proofs.lemmas.Bool.{and_parts, eqb-false}
-use Rattle.mw_model.specs.Object.{Object}
-use Rattle.mw_model.specs.Lexemes.{Mark, Ref, Wrong, fault, LABEL, Ending, Goes, all_are, run_of, after_run, is_digit, is_inside_comment, decimal_value, label, lexemes_from, extent, Hash}
-use Rattle.mw_model.specs.Grammar.{book, and_events}
+use Rattle.mw_model.specs.Terms.Object.{Object}
+use Rattle.mw_model.specs.Texts.Lexemes.{Mark, Ref, Wrong, fault, LABEL, Ending, Goes, all_are, run_of, after_run, is_digit, is_inside_comment, decimal_value, label, lexemes_from, extent, Hash}
+use Rattle.mw_model.specs.Texts.Grammar.{book, and_events}
 use Rattle.mw_read.specs.Machine.{State, Idle, Turn, on, is_full, IsSound}
 use Rattle.mw_read.specs.Resume.{resume, onward, following}
 use Rattle.mw_read.specs.Lexing.{label_lexeme}

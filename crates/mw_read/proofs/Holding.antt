@@ -1,8 +1,8 @@
 -- What a lexeme makes of what a stack holds.
 use Rattle.std.proofs.Common.{◌≡◌, ℕ, Bool, true, false, ◌||◌, List, [], ◌∷◌, length, Result, Ok, Err, IfOk, refl, sym, ap, ap₂, ◌∙◌, subst}
-use Rattle.mw_model.specs.Object.{Object}
-use Rattle.mw_model.specs.Lexemes.{Lexeme, Atom, Fault}
-use Rattle.mw_model.specs.Fate.{is_out_of_range}
+use Rattle.mw_model.specs.Terms.Object.{Object}
+use Rattle.mw_model.specs.Texts.Lexemes.{Lexeme, Atom, Fault}
+use Rattle.mw_model.specs.Events.Fate.{is_out_of_range}
 use Rattle.mw_heap.specs.Objects.{object_at, Grows}
 use Rattle.mw_read.specs.Machine.{State, Idle, Within, Full, Broken, Turn, on, labels_of, IsSound, is_full}
 use Rattle.mw_read.specs.Clamp.{clamp, clamp_all, clamp_state, clamp_turn, clamp_lexeme, state_big, lexeme_big, any_big}

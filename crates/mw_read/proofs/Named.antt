@@ -3,8 +3,8 @@ use Rattle.std.proofs.Common.{◌≡◌, ℕ, Bool, true, false, cond, List, Opt
 use Rattle.std.proofs.Common.{arith}
 use Rattle.std.proofs.lemmas.Grind.{common_steps}
 use Rattle.std.specs.Map.{lookup}
-use Rattle.mw_model.specs.Object.{Object}
-use Rattle.mw_model.specs.Grammar.{Labels, Unused, Label, is_begun, labelled, complete}
+use Rattle.mw_model.specs.Terms.Object.{Object}
+use Rattle.mw_model.specs.Texts.Grammar.{Labels, Unused, Label, is_begun, labelled, complete}
 use Rattle.mw_read.specs.Named.{status, seen, seen_at, Agree}
 
 abbrev pub join : Option (Option Object) → Option Object

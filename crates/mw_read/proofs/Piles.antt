@@ -1,7 +1,7 @@
 -- Layers that come and go.
 use Rattle.std.proofs.Common.{◌≡◌, ℕ, ◌<◌, ◌≤◌, List, [], ◌∷◌, ◌++◌, length, refl, sym, ap, ap₂, ◌∙◌, subst, arith, Option, Some, None, IfSome, length-append, append_assoc, append-nil, nat_eq}
-use Rattle.mw_model.specs.Object.{Object}
-use Rattle.mw_model.specs.Grammar.{Labels, quoted, complete}
+use Rattle.mw_model.specs.Terms.Object.{Object}
+use Rattle.mw_model.specs.Texts.Grammar.{Labels, quoted, complete}
 use Rattle.mw_read.specs.Machine.{Members, Tailed, Quoting, Marking, Turn}
 use Rattle.mw_heap.specs.Objects.{object_at, Grows}
 use Rattle.mw_read.specs.Piles.{Pile, Frames, Ready, piled, MayLie, pile_on, LieOn, IsUnder, AreUnder, pile_of, IsPile, give_to, Shows, Does, IsFrames, Gives}

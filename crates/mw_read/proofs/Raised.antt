@@ -1,7 +1,7 @@
 -- Names by their bytes: when they differ, and which symbol has them.
 use Rattle.std.proofs.Common.{◌≡◌, ℕ, Bool, true, false, List, refl, sym, ap, ◌∙◌}
-use Rattle.mw_model.specs.Object.{Object, Natural, Symbol, Pair, name_of_bytes, same_bytes}
-use Rattle.mw_model.specs.Primitive.{is_symbol, name_of}
+use Rattle.mw_model.specs.Terms.Object.{Object, Natural, Symbol, Pair, name_of_bytes, same_bytes}
+use Rattle.mw_model.specs.Values.Primitive.{is_symbol, name_of}
 use Rattle.mw_model.proofs.Names.{same_bytes-eq, name_of_bytes-bytes}
 
 pub not_same_bytes : (x y : List ℕ) → (x ≡ y → ⊥) → false ≡ same_bytes x y

@@ -1,8 +1,8 @@
 -- What the machine's stack means: the rest of the grammar's reading.
 use Rattle.std.proofs.Common.{◌≡◌, ℕ, suc, Bool, true, false, List, [], ◌∷◌, ◌++◌, Option, Some, None, refl, sym, ap, ◌∙◌, if◌then◌else◌}
-use Rattle.mw_model.specs.Object.{Object, NIL}
-use Rattle.mw_model.specs.Lexemes.{Lexeme, Atom, Open, Close, Dot, Quote, Mark, Ref, Wrong, Stray, End, Fault, fault, DOT, CLOSE, LABEL}
-use Rattle.mw_model.specs.Grammar.{Labels, Label, Unused, Read, Got, Stop, and_then, quoted, pairing, and_tail, halt, closing, labelling, reference, Datum, Tail, read, labelled, is_begun, complete, enough, Book, book, and_events}
+use Rattle.mw_model.specs.Terms.Object.{Object, NIL}
+use Rattle.mw_model.specs.Texts.Lexemes.{Lexeme, Atom, Open, Close, Dot, Quote, Mark, Ref, Wrong, Stray, End, Fault, fault, DOT, CLOSE, LABEL}
+use Rattle.mw_model.specs.Texts.Grammar.{Labels, Label, Unused, Read, Got, Stop, and_then, quoted, pairing, and_tail, halt, closing, labelling, reference, Datum, Tail, read, labelled, is_begun, complete, enough, Book, book, and_events}
 use Rattle.mw_read.specs.Machine.{Frame, Members, Tailed, Quoting, Marking, State, Idle, Within, Full, Broken, quiet, broken, fill, given, refer, taken, within, filled, on, on_all}
 use Rattle.mw_read.specs.Resume.{reads, rest, filling, waits, hand, unwind, resume, onward, following}
 use Rattle.mw_read.proofs.Fuel.{reads_quote, reads_open, reads_mark, reads_dot, reads_pair, reads_last, rest_step}

@@ -1,8 +1,8 @@
 -- What a parser does with one part of a piece after another.
 use Rattle.std.proofs.Common.{◌≡◌, ℕ, zero, suc, ◌+◌, ◌*◌, ◌<◌, ◌≤◌, List, [], ◌∷◌, ◌++◌, length, take, drop, refl, sym, ap, ◌∙◌, subst, arith, append_assoc}
 use Rattle.std.proofs.lemmas.List.{length-drop, drop-drop}
-use Rattle.mw_model.specs.Object.{Object}
-use Rattle.mw_model.specs.Lexemes.{Ending, Goes}
+use Rattle.mw_model.specs.Terms.Object.{Object}
+use Rattle.mw_model.specs.Texts.Lexemes.{Ending, Goes}
 use Rattle.mw_heap.specs.Objects.{Grows}
 use Rattle.mw_read.specs.Machine.{State}
 use Rattle.mw_read.specs.Held.{Holds}

@@ -3,9 +3,9 @@ use Rattle.std.proofs.Common.{◌≡◌, ℕ, zero, suc, ◌+◌, ◌-◌, ◌<�
 use Rattle.std.proofs.lemmas.Bool.{le-leb, and_parts}
 use Rattle.std.proofs.lemmas.List.{take_all, drop_all, take_min, take-take, drop-take, length-take-le, length-drop, take-append-le}
 use Rattle.std.proofs.Math.Nat.{min-le_left, min-le_right}
-use Rattle.mw_model.specs.Object.{Object}
-use Rattle.mw_model.specs.Lexemes.{Fault, fault, LENGTH, Ending, Ends, Goes, lexemes_from, all_are, is_constituent}
-use Rattle.mw_model.specs.Grammar.{book, and_events, reading, limit, cut_short, trees}
+use Rattle.mw_model.specs.Terms.Object.{Object}
+use Rattle.mw_model.specs.Texts.Lexemes.{Fault, fault, LENGTH, Ending, Ends, Goes, lexemes_from, all_are, is_constituent}
+use Rattle.mw_model.specs.Texts.Grammar.{book, and_events, reading, limit, cut_short, trees}
 use Rattle.mw_heap.specs.Objects.{Grows}
 use Rattle.mw_read.specs.Machine.{State, Idle, Within, Full, Broken, IsSound, is_full, end_fault, InToken, InBars, Barred as BarredMode, InHash, Mode, Machine}
 use Rattle.mw_read.specs.Machine as machine

@@ -1,8 +1,8 @@
 -- What a layer more or less makes of the state that a stack stands for.
 use Rattle.std.proofs.Common.{◌≡◌, ℕ, zero, suc, ◌-◌, Bool, true, false, List, [], ◌∷◌, ◌++◌, length, Option, Some, None, Result, Ok, Err, IfOk, refl, sym, ap, ◌∙◌, subst, arith, true≢false, MatchBool, if◌then◌else◌, ◌⊎◌, inl, inr, take, length-append}
-use Rattle.mw_model.specs.Object.{Object, NIL}
-use Rattle.mw_model.specs.Lexemes.{Lexeme, Atom, Open, Close, Dot, Quote, Mark, Ref, DOT, CLOSE, LABEL}
-use Rattle.mw_model.specs.Grammar.{Labels, Unused, Label, is_begun, labelled}
+use Rattle.mw_model.specs.Terms.Object.{Object, NIL}
+use Rattle.mw_model.specs.Texts.Lexemes.{Lexeme, Atom, Open, Close, Dot, Quote, Mark, Ref, DOT, CLOSE, LABEL}
+use Rattle.mw_model.specs.Texts.Grammar.{Labels, Unused, Label, is_begun, labelled}
 use Rattle.mw_heap.specs.Objects.{object_at, IsIn}
 use Rattle.mw_read.specs.Machine.{Frame, Members, Tailed, Quoting, Marking, State, Idle, Within, Full, Broken, Turn, quiet, broken, fill, given, refer, taken, on, labels_of, IsSound, is_full, is_behind_member}
 use Rattle.mw_read.specs.Named.{Agree, seen_at}

@@ -1,10 +1,10 @@
 -- Naturals past 128 bits: the code puts 0 in their place and remembers that it did.
 use Rattle.std.specs.Prelude.{ℕ, Bool, false, ◌||◌, ltb, List, [], ◌∷◌, Option, Some, None, if◌then◌else◌}
-use Rattle.mw_model.specs.Object.{Object, Natural, Symbol, Pair}
-use Rattle.mw_model.specs.Lexemes.{Lexeme, Atom}
-use Rattle.mw_model.specs.Fate.{is_out_of_range}
-use Rattle.mw_model.specs.Evaluation.{range}
-use Rattle.mw_model.specs.Grammar.{Labels, Unused, Label}
+use Rattle.mw_model.specs.Terms.Object.{Object, Natural, Symbol, Pair}
+use Rattle.mw_model.specs.Texts.Lexemes.{Lexeme, Atom}
+use Rattle.mw_model.specs.Events.Fate.{is_out_of_range}
+use Rattle.mw_model.specs.Events.Evaluation.{range}
+use Rattle.mw_model.specs.Texts.Grammar.{Labels, Unused, Label}
 use Rattle.mw_read.specs.Machine.{Frame, Members, Tailed, Quoting, Marking, State, Idle, Within, Full, Broken, Turn}
 
 abbrev pub fits : ℕ → Bool

@@ -1,6 +1,6 @@
 -- The code's types as the definitions'.
-use Rattle.mw_model.specs.Lexemes.{Class}
-use Rattle.mw_model.specs.Lexemes as lex
+use Rattle.mw_model.specs.Texts.Lexemes.{Class}
+use Rattle.mw_model.specs.Texts.Lexemes as lex
 use Rattle.mw_read.specs.declared.class.Class as code
 use Rattle.mw_read.specs.declared.class.Class.TheVariants as classes
 

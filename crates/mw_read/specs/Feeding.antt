@@ -1,8 +1,8 @@
 -- What comes next in the bytes that a reader was fed and has not read.
 use Rattle.std.specs.Prelude.{◌≡◌, ◌<◌, ◌⊎◌, true, false, List, ℕ, [], ◌∷◌, ◌++◌, Some, None}
-use Rattle.mw_model.specs.Object.{Object}
-use Rattle.mw_model.specs.Lexemes.{fault, Goes}
-use Rattle.mw_model.specs.Grammar.{book, reading, trees}
+use Rattle.mw_model.specs.Terms.Object.{Object}
+use Rattle.mw_model.specs.Texts.Lexemes.{fault, Goes}
+use Rattle.mw_model.specs.Texts.Grammar.{book, reading, trees}
 use Rattle.mw_read.specs.Piles.{kind_of}
 use Rattle.mw_read.specs.Standing.{Stands, IsStanding, IsFree, Follows, HasEnded, Gives, work}
 use Rattle.mw_read.specs.declared.reader.Reader.{Reader}

@@ -1,8 +1,8 @@
 -- What the code says of a token.
 use Rattle.std.specs.Prelude.{◌≡◌, ℕ, Bool, true, false, not, ◌&&◌, List, [], ◌∷◌, map}
-use Rattle.mw_model.specs.Object.{Natural, Symbol, name_of_bytes}
-use Rattle.mw_model.specs.Lexemes as lex
-use Rattle.mw_model.specs.Lexemes.{token_form, raised, Whole, all_are, decimal_value, is_digit, is_sign, is_dot}
+use Rattle.mw_model.specs.Terms.Object.{Natural, Symbol, name_of_bytes}
+use Rattle.mw_model.specs.Texts.Lexemes as lex
+use Rattle.mw_model.specs.Texts.Lexemes.{token_form, raised, Whole, all_are, decimal_value, is_digit, is_sign, is_dot}
 use Rattle.mw_read.specs.declared.token.Form.{Form}
 use Rattle.mw_read.specs.declared.token.Form.TheVariants as forms
 

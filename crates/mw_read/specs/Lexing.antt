@@ -1,6 +1,6 @@
 -- Lexemes one by one.
 use Rattle.std.specs.Prelude.{ℕ, ◌+◌, Bool, eqb, List, [], ◌∷◌, Some, if◌then◌else◌}
-use Rattle.mw_model.specs.Lexemes.{Lexeme, Atom, Dot, Mark, Ref, Wrong, fault, TOKEN, LABEL, decimal_value, TokenForm, Whole, Point, Bad}
+use Rattle.mw_model.specs.Texts.Lexemes.{Lexeme, Atom, Dot, Mark, Ref, Wrong, fault, TOKEN, LABEL, decimal_value, TokenForm, Whole, Point, Bad}
 
 -- the lexeme of a token at o, and of what stands after it, where that may be glued to it
 abbrev pub token_lexeme : ℕ → Bool → TokenForm → Lexeme

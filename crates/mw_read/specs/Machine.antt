@@ -1,8 +1,8 @@
 -- The reader as a machine that takes a byte at a time.
 use Rattle.std.specs.Prelude.{ℕ, suc, ◌+◌, Bool, true, false, eqb, ltb, List, [], ◌∷◌, ◌++◌, length, Option, Some, None, if◌then◌else◌}
-use Rattle.mw_model.specs.Object.{Object, Symbol, Pair, NIL, is_name_byte, name_of_bytes}
-use Rattle.mw_model.specs.Lexemes.{Lexeme, Atom, Open, Close, Dot, Quote, Mark, Ref, Wrong, Stray, End, Fault, fault, SyntaxKind, END, CLOSE, DOT, TOKEN, BYTE, LABEL, Ending, Ends, Goes, is_constituent, is_digit, token_form, token, barred, hashed, atom, glued_bar, Class, White, Semicolon, Opening, Closing, Apostrophe, Bar, Hash, Constituent, Other, class}
-use Rattle.mw_model.specs.Grammar.{Labels, Unused, Label, is_begun, labelled, complete, quoted}
+use Rattle.mw_model.specs.Terms.Object.{Object, Symbol, Pair, NIL, is_name_byte, name_of_bytes}
+use Rattle.mw_model.specs.Texts.Lexemes.{Lexeme, Atom, Open, Close, Dot, Quote, Mark, Ref, Wrong, Stray, End, Fault, fault, SyntaxKind, END, CLOSE, DOT, TOKEN, BYTE, LABEL, Ending, Ends, Goes, is_constituent, is_digit, token_form, token, barred, hashed, atom, glued_bar, Class, White, Semicolon, Opening, Closing, Apostrophe, Bar, Hash, Constituent, Other, class}
+use Rattle.mw_model.specs.Texts.Grammar.{Labels, Unused, Label, is_begun, labelled, complete, quoted}
 
 -- what is open, the innermost first
 pub data Frame : Type 0 where

@@ -1,8 +1,8 @@
 -- The labels of a datum, as the code keeps them: a map from a label to the reference of its datum.
 use Rattle.std.specs.Prelude.{◌≡◌, ℕ, ◌<◌, List, eqb, nat_eq, Option, Some, None, IfSome, if◌then◌else◌}
 use Rattle.std.specs.Map.{lookup}
-use Rattle.mw_model.specs.Object.{Object}
-use Rattle.mw_model.specs.Grammar.{Labels, Unused, Label}
+use Rattle.mw_model.specs.Terms.Object.{Object}
+use Rattle.mw_model.specs.Texts.Grammar.{Labels, Unused, Label}
 use Rattle.mw_heap.specs.Objects.{object_at}
 
 -- None where a label isn't begun, Some None where its datum isn't complete

@@ -1,9 +1,9 @@
 -- What a parser stands for: what is open, and the text that has begun.
 use Rattle.std.specs.Prelude.{◌≡◌, ℕ, ◌+◌, ◌*◌, ◌<◌, ◌≤◌, ◌⊎◌, Bool, true, false, List, [], ◌∷◌, ◌++◌, length, take, drop, Some, if◌then◌else◌}
-use Rattle.mw_model.specs.Object.{Object, is_name_byte}
-use Rattle.mw_model.specs.Lexemes as lex
-use Rattle.mw_model.specs.Lexemes.{class, Lexeme, Stray, fault, TOKEN, Ending, Ends, Goes, all_are, is_constituent, is_digit, glued, glued_bar, lexemes_from}
-use Rattle.mw_model.specs.Grammar.{Book, book, and_events}
+use Rattle.mw_model.specs.Terms.Object.{Object, is_name_byte}
+use Rattle.mw_model.specs.Texts.Lexemes as lex
+use Rattle.mw_model.specs.Texts.Lexemes.{class, Lexeme, Stray, fault, TOKEN, Ending, Ends, Goes, all_are, is_constituent, is_digit, glued, glued_bar, lexemes_from}
+use Rattle.mw_model.specs.Texts.Grammar.{Book, book, and_events}
 use Rattle.mw_read.specs.Machine.{State, Idle}
 use Rattle.mw_read.specs.Resume.{resume}
 use Rattle.mw_read.specs.Piles.{pile_of, is_ready, fault_of}

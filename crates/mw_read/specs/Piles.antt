@@ -1,11 +1,11 @@
 -- What the reader's stack stands for.
 use Rattle.std.specs.Prelude.{◌≡◌, ℕ, ◌<◌, Bool, true, false, List, [], ◌∷◌, ◌++◌, length, Option}
-use Rattle.mw_model.specs.Object.{Object}
-use Rattle.mw_model.specs.Grammar.{Labels, Unused}
+use Rattle.mw_model.specs.Terms.Object.{Object}
+use Rattle.mw_model.specs.Texts.Grammar.{Labels, Unused}
 use Rattle.mw_read.specs.Named.{Agree, IsListed}
 use Rattle.mw_read.specs.Machine.{Frame, Members, Tailed, Quoting, Marking, State, Idle, Within, Full, Broken, Turn, event, given, quiet, fill}
 use Rattle.mw_heap.specs.Objects.{object_at, IsIn, Grows}
-use Rattle.mw_model.specs.Lexemes as lex
+use Rattle.mw_model.specs.Texts.Lexemes as lex
 use Rattle.mw_read.specs.declared.step.Fault as code
 use Rattle.mw_read.specs.declared.step.Outcome.{Outcome}
 use Rattle.mw_read.specs.declared.step.Outcome.TheVariants as outcomes

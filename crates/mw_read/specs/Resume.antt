@@ -1,8 +1,8 @@
 -- What a machine's state means: the rest of the grammar's reading.
 use Rattle.std.specs.Prelude.{ℕ, List, [], ◌∷◌, ◌++◌, Some}
-use Rattle.mw_model.specs.Object.{Object}
-use Rattle.mw_model.specs.Lexemes.{Lexeme}
-use Rattle.mw_model.specs.Grammar.{Labels, Read, Got, and_then, quoting, closing, labelling, Part, Datum, First, Tail, Last, read, enough, Book, book, and_events, and_data, data_of}
+use Rattle.mw_model.specs.Terms.Object.{Object}
+use Rattle.mw_model.specs.Texts.Lexemes.{Lexeme}
+use Rattle.mw_model.specs.Texts.Grammar.{Labels, Read, Got, and_then, quoting, closing, labelling, Part, Datum, First, Tail, Last, read, enough, Book, book, and_events, and_data, data_of}
 use Rattle.mw_read.specs.Machine.{Frame, Members, Tailed, Quoting, Marking, State, Idle, Within, Full, Broken, Turn, fill, Mode, Between, Comment, InToken, InBars, Barred, InHash}
 
 abbrev pub reads : Part → Labels → List Lexeme → Read

@@ -1,6 +1,6 @@
 -- Runs of bytes of a kind.
 use Rattle.std.specs.Prelude.{◌≡◌, ℕ, ◌<◌, ◌≤◌, Bool, true, false, List, [], ◌∷◌, length, take, slice_index}
-use Rattle.mw_model.specs.Lexemes.{all_are}
+use Rattle.mw_model.specs.Texts.Lexemes.{all_are}
 
 -- the first n bytes are of the kind, and the byte after them is not
 pub record IsRun (p : ℕ → Bool) (bytes : List ℕ) (n : ℕ) : Type 0 where

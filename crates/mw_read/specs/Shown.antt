@@ -1,8 +1,8 @@
 -- The members of an event that its line shows.
 use Rattle.std.specs.Prelude.{◌≡◌, ℕ, List, Option, Some, None, option_map, true}
-use Rattle.mw_model.specs.Object.{Object, Natural, Symbol, Pair}
-use Rattle.mw_model.specs.Primitive.{is_symbol}
-use Rattle.mw_model.specs.Report.{dash, symbol_text, word_text, label_text}
+use Rattle.mw_model.specs.Terms.Object.{Object, Natural, Symbol, Pair}
+use Rattle.mw_model.specs.Values.Primitive.{is_symbol}
+use Rattle.mw_model.specs.Reports.Report.{dash, symbol_text, word_text, label_text}
 use Rattle.mw_heap.specs.Objects.{object_at, IsIn}
 
 -- the text of a member, a dash where there is none to show

@@ -1,6 +1,6 @@
 -- A stack as a state of the machine.
 use Rattle.std.specs.Prelude.{List, length}
-use Rattle.mw_model.specs.Object.{Object}
+use Rattle.mw_model.specs.Terms.Object.{Object}
 use Rattle.mw_read.specs.Machine.{State}
 use Rattle.mw_read.specs.Named.{IsListed}
 use Rattle.mw_read.specs.Piles.{IsPile, pile_of, Shows}

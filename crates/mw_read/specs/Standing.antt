@@ -1,9 +1,9 @@
 -- What a parser has read: the bytes so far, and the data given of them.
 use Rattle.std.specs.Prelude.{◌≡◌, ℕ, ◌+◌, ◌-◌, ◌*◌, ◌<◌, ◌≤◌, Bool, true, false, List, [], ◌∷◌, ◌++◌, length, take, drop, Option, Some, None}
-use Rattle.mw_model.specs.Object.{Object}
-use Rattle.mw_model.specs.Lexemes.{fault, Ending, Ends, Goes}
-use Rattle.mw_model.specs.Grammar.{book, reading, limit, trees}
-use Rattle.mw_model.specs.Fate.{is_out_of_range}
+use Rattle.mw_model.specs.Terms.Object.{Object}
+use Rattle.mw_model.specs.Texts.Lexemes.{fault, Ending, Ends, Goes}
+use Rattle.mw_model.specs.Texts.Grammar.{book, reading, limit, trees}
+use Rattle.mw_model.specs.Events.Fate.{is_out_of_range}
 use Rattle.mw_heap.specs.Objects.{object_at, IsIn}
 use Rattle.mw_read.specs.Machine.{State}
 use Rattle.mw_read.specs.Resume.{onward}

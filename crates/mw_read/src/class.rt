@@ -1,10 +1,10 @@
 //! Classes of bytes.
 ghost use Rattle.std.specs.Prelude.{◌≡◌, ◌≢◌, MatchBool};
-ghost use Rattle.mw_model.specs.Lexemes.{White, class, is_constituent, is_digit, is_sign, raised, glued, glued_bar};
-ghost use Rattle.mw_model.specs.Object.{is_name_byte};
+ghost use Rattle.mw_model.specs.Texts.Lexemes.{White, class, is_constituent, is_digit, is_sign, raised, glued, glued_bar};
+ghost use Rattle.mw_model.specs.Terms.Object.{is_name_byte};
 ghost use Rattle.mw_read.specs.Codes.{class_of};
 ghost use Rattle.mw_read.specs.Runs.{IsRun};
-ghost use Rattle.mw_model.specs.Lexemes.{is_inside_comment};
+ghost use Rattle.mw_model.specs.Texts.Lexemes.{is_inside_comment};
 
 /// What a byte is outside bars and comments.
 #[derive(Clone, Copy, Debug, PartialEq, Eq)]

@@ -1,7 +1,7 @@
 //! The labels of a datum.
 ghost use Rattle.std.specs.Prelude.{◌≡◌, ℕ, ◌<◌, List, IfOk, IfSome, OnOk, None, MatchBool, true, false};
-ghost use Rattle.mw_model.specs.Object.{Object};
-ghost use Rattle.mw_model.specs.Grammar.{Labels, Label, is_begun, labelled, complete};
+ghost use Rattle.mw_model.specs.Terms.Object.{Object};
+ghost use Rattle.mw_model.specs.Texts.Grammar.{Labels, Label, is_begun, labelled, complete};
 ghost use Rattle.mw_heap.specs.Objects.{object_at};
 ghost use Rattle.mw_read.specs.Named.{Agree, seen_at, IsListed};
 

@@ -1,9 +1,9 @@
 //! The members of an event that its line shows.
 ghost use Rattle.std.specs.Prelude.{◌≡◌, true, Option, option_map};
-ghost use Rattle.mw_model.specs.Object.{Pair};
-ghost use Rattle.mw_model.specs.Primitive.{is_symbol, name_of};
-ghost use Rattle.mw_model.specs.Term.{is_among};
-ghost use Rattle.mw_model.specs.Report.{labelled_words, symbol_text, label_text};
+ghost use Rattle.mw_model.specs.Terms.Object.{Pair};
+ghost use Rattle.mw_model.specs.Values.Primitive.{is_symbol, name_of};
+ghost use Rattle.mw_model.specs.Terms.Term.{is_among};
+ghost use Rattle.mw_model.specs.Reports.Report.{labelled_words, symbol_text, label_text};
 ghost use Rattle.mw_heap.specs.Objects.{object_at, IsIn};
 ghost use Rattle.mw_read.specs.Shown.{shown_text, symbol_itself, IsShown, ShowsEvent};
 

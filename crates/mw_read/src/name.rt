@@ -1,7 +1,7 @@
 //! Names without bars: their letters are raised.
 ghost use Rattle.std.specs.Prelude.{◌≡◌, true, map, IfOk, IfSome, OnOk};
-ghost use Rattle.mw_model.specs.Object.{Symbol, is_name, name_of_bytes, same_bytes};
-ghost use Rattle.mw_model.specs.Lexemes.{raised};
+ghost use Rattle.mw_model.specs.Terms.Object.{Symbol, is_name, name_of_bytes, same_bytes};
+ghost use Rattle.mw_model.specs.Texts.Lexemes.{raised};
 ghost use Rattle.mw_heap.specs.Objects.{object_at, IsIn, Grows};
 
 use crate::class::raise;

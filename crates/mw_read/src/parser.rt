@@ -1,7 +1,7 @@
 //! A parser that is handed each piece of a book in turn.
 ghost use Rattle.std.specs.Prelude.{◌≡◌, ℕ, ◌+◌, ◌<◌, ◌≤◌, ◌^◌, ◌⊎◌, false, List, [], length, IfOk, None, get_or};
-ghost use Rattle.mw_model.specs.Object.{Object};
-ghost use Rattle.mw_model.specs.Lexemes.{Goes};
+ghost use Rattle.mw_model.specs.Terms.Object.{Object};
+ghost use Rattle.mw_model.specs.Texts.Lexemes.{Goes};
 ghost use Rattle.mw_heap.specs.Objects.{IsIn, Grows};
 ghost use Rattle.mw_read.specs.Machine.{State};
 ghost use Rattle.mw_read.specs.Held.{Holds};

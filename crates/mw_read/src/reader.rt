@@ -1,6 +1,6 @@
 //! A reader that is fed the bytes of a book as they come.
 ghost use Rattle.std.specs.Prelude.{◌≡◌, ℕ, ◌≤◌, ◌⊎◌, true, false, List, [], ◌++◌, length, drop, None, Ok, OnOk, OnErr};
-ghost use Rattle.mw_model.specs.Object.{Object};
+ghost use Rattle.mw_model.specs.Terms.Object.{Object};
 ghost use Rattle.mw_heap.specs.Objects.{Grows};
 ghost use Rattle.mw_read.specs.Standing.{Stands, IsStanding, IsFree, Follows, Says, IsLast, HasEndedWith, HasEnded};
 ghost use Rattle.mw_read.specs.Feeding.{IsAwaiting, IsReady, Continues};

@@ -1,8 +1,8 @@
 //! What is open: the lists, quotes and labels round the place that is read.
 ghost use Rattle.std.specs.Prelude.{◌≡◌, ℕ, List, [], length, IfOk, MatchOption};
-ghost use Rattle.mw_model.specs.Object.{Object, symbol};
-ghost use Rattle.mw_model.specs.Lexemes.{Atom, Open, Close, Dot, Quote, Mark, Ref as Refers};
-ghost use Rattle.mw_model.specs.Grammar.{Labels, quoted};
+ghost use Rattle.mw_model.specs.Terms.Object.{Object, symbol};
+ghost use Rattle.mw_model.specs.Texts.Lexemes.{Atom, Open, Close, Dot, Quote, Mark, Ref as Refers};
+ghost use Rattle.mw_model.specs.Texts.Grammar.{Labels, quoted};
 ghost use Rattle.mw_heap.specs.Objects.{object_at, IsIn, Grows};
 ghost use Rattle.mw_read.specs.Machine.{State, on};
 ghost use Rattle.mw_read.specs.Named.{Agree, IsListed};

@@ -1,8 +1,8 @@
 //! Texts of more than one byte: tokens, names between bars, labels and comments, and where they end.
 ghost use Rattle.std.specs.Prelude.{◌≡◌, ℕ, ◌+◌, ◌<◌, ◌≤◌, ◌^◌, ◌⊎◌, true, false, ◌||◌, List, ◌++◌, length, take, IfOk, OnOk};
-ghost use Rattle.mw_model.specs.Object.{is_name_byte, name_of_bytes, Natural, Symbol};
-ghost use Rattle.mw_model.specs.Lexemes.{all_are, decimal_value, is_constituent, is_digit, token_form, Atom, Ending};
-ghost use Rattle.mw_model.specs.Fate.{is_out_of_range};
+ghost use Rattle.mw_model.specs.Terms.Object.{is_name_byte, name_of_bytes, Natural, Symbol};
+ghost use Rattle.mw_model.specs.Texts.Lexemes.{all_are, decimal_value, is_constituent, is_digit, token_form, Atom, Ending};
+ghost use Rattle.mw_model.specs.Events.Fate.{is_out_of_range};
 ghost use Rattle.mw_heap.specs.Objects.{object_at, IsIn, Grows};
 ghost use Rattle.mw_read.specs.Machine.{State, on, is_full};
 ghost use Rattle.mw_read.specs.Stacks.{IsStack};

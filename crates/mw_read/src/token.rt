@@ -1,6 +1,6 @@
 //! What tokens stand for.
 ghost use Rattle.std.specs.Prelude.{◌≡◌, ◌<◌, ◌≤◌, ◌^◌, true, length, MatchOption};
-ghost use Rattle.mw_model.specs.Lexemes.{all_are, is_digit, is_dot, like_number, decimal_value};
+ghost use Rattle.mw_model.specs.Texts.Lexemes.{all_are, is_digit, is_dot, like_number, decimal_value};
 ghost use Rattle.mw_read.specs.Forms.{IsForm, begins_name};
 
 use crate::class::{digit, sign};

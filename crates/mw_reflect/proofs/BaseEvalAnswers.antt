@@ -1,13 +1,13 @@
 -- The reference checker's base evaluation is the rule's, in each profile.
 use Rattle.std.proofs.Common.{◌≡◌, Bool, true, false, ◌&&◌, ◌||◌, cond, List, [], ◌∷◌, Option, Some, None, refl, sym, ap, ap₂, ◌∙◌, subst}
-use Rattle.mw_model.specs.Object.{Name, Object, Natural, Symbol, Pair, named, symbol, same_name, same_object, NIL, car, cdr, second_of, third_of, truth_of, list2, has_members, is_member}
-use Rattle.mw_model.specs.Term.{Term, Variable, Constant, If, Call, Lambda, Formula, Equal, Not, Or, term_object, terms_object, formula_object, names_object, ArityTable, IsFormula}
-use Rattle.mw_model.specs.Primitive.{Profile, One, Two, Primitive, Equality, IsPair, Cons, Car, Cdr, IsSymbol, SymbolLess, IsNatural, Less, Plus, Minus, Times, primitive_name, shared_primitives, product, primitive_among, primitive_named, or_product, apply_to, choose, first_value, second_value, is_pair}
-use Rattle.mw_model.specs.Definition.{is_present}
-use Rattle.mw_model.specs.BuiltInRules.{product_list, primitive_list}
-use Rattle.mw_model.specs.Proof.{three_terms}
-use Rattle.mw_model.specs.Judgment.{is_base_eval}
-use Rattle.mw_model.specs.Rules.{is_constant_object, are_constant_objects, unquoted, third_value, value_by, primitive_value, is_that_value, is_call_with_value}
+use Rattle.mw_model.specs.Terms.Object.{Name, Object, Natural, Symbol, Pair, named, symbol, same_name, same_object, NIL, car, cdr, second_of, third_of, truth_of, list2, has_members, is_member}
+use Rattle.mw_model.specs.Terms.Term.{Term, Variable, Constant, If, Call, Lambda, Formula, Equal, Not, Or, term_object, terms_object, formula_object, names_object, ArityTable, IsFormula}
+use Rattle.mw_model.specs.Values.Primitive.{Profile, One, Two, Primitive, Equality, IsPair, Cons, Car, Cdr, IsSymbol, SymbolLess, IsNatural, Less, Plus, Minus, Times, primitive_name, shared_primitives, product, primitive_among, primitive_named, or_product, apply_to, choose, first_value, second_value, is_pair}
+use Rattle.mw_model.specs.Values.Definition.{is_present}
+use Rattle.mw_model.specs.BuiltIns.BuiltInRules.{product_list, primitive_list}
+use Rattle.mw_model.specs.Proofs.Proof.{three_terms}
+use Rattle.mw_model.specs.Proofs.Judgment.{is_base_eval}
+use Rattle.mw_model.specs.Laws.Rules.{is_constant_object, are_constant_objects, unquoted, third_value, value_by, primitive_value, is_that_value, is_call_with_value}
 use Rattle.mw_model.proofs.Names.{same_name-eq}
 use Rattle.mw_model.proofs.Readable.{formula_readable}
 use Rattle.mw_model.proofs.BaseEvalExact.{object_is_base_eval-exact}

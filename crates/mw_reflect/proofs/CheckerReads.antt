@@ -1,13 +1,13 @@
 -- A call of a built-in function has exactly its answer, and each table of definitions that begin with the built-in ones has IF.
 use Rattle.std.proofs.Common.{◌≡◌, ◌↔◌, true, List, Some, refl, sym, ◌∙◌, subst}
 use Prim.Native.String.{String}
-use Rattle.mw_model.specs.Object.{Object, named}
-use Rattle.mw_model.specs.Term.{is_among, arity_of}
-use Rattle.mw_model.specs.Primitive.{Profile, One, Two}
-use Rattle.mw_model.specs.Definition.{Block, arities, are_blocks}
-use Rattle.mw_model.specs.Value.{block_calls}
-use Rattle.mw_model.specs.BuiltIn.{built_in}
-use Rattle.mw_model.specs.Theory.{BeginsWith}
+use Rattle.mw_model.specs.Terms.Object.{Object, named}
+use Rattle.mw_model.specs.Terms.Term.{is_among, arity_of}
+use Rattle.mw_model.specs.Values.Primitive.{Profile, One, Two}
+use Rattle.mw_model.specs.Values.Definition.{Block, arities, are_blocks}
+use Rattle.mw_model.specs.Values.Value.{block_calls}
+use Rattle.mw_model.specs.BuiltIns.BuiltIn.{built_in}
+use Rattle.mw_model.specs.Events.Theory.{BeginsWith}
 use Rattle.mw_model.proofs.Begins.{begins_arity}
 use Rattle.mw_model.proofs.BuiltInValue.{names}
 use Rattle.mw_model.proofs.BuiltInAnswers.{answer, before_witness}

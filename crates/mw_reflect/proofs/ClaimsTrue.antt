@@ -1,14 +1,14 @@
 -- What a checker with a true claim says yes to has a true conclusion: else no object is a proof of it, and the claim fails.
 use Rattle.std.proofs.Common.{◌≡◌, Bool, true, false, List, [], ◌∷◌, refl, sym, ◌∙◌, subst}
-use Rattle.mw_model.specs.Object.{Name, Object, named, NIL, second_of, truth_of}
-use Rattle.mw_model.specs.Term.{Term, Constant, Formula, formula_object, table_object, IsFormula}
-use Rattle.mw_model.specs.Primitive.{Profile, primitive_named}
-use Rattle.mw_model.specs.Definition.{Definitions, arity_table}
-use Rattle.mw_model.specs.Value.{Environment, Calls, bind, OnCall, HasValue, HaveValues, block_calls}
-use Rattle.mw_model.specs.Truth.{TrueAt, IsTrueIn}
-use Rattle.mw_model.specs.Writing.{terms, var, call}
-use Rattle.mw_model.specs.Proof.{Proves}
-use Rattle.mw_model.specs.Theory.{on_the_theory, claim}
+use Rattle.mw_model.specs.Terms.Object.{Name, Object, named, NIL, second_of, truth_of}
+use Rattle.mw_model.specs.Terms.Term.{Term, Constant, Formula, formula_object, table_object, IsFormula}
+use Rattle.mw_model.specs.Values.Primitive.{Profile, primitive_named}
+use Rattle.mw_model.specs.Values.Definition.{Definitions, arity_table}
+use Rattle.mw_model.specs.Values.Value.{Environment, Calls, bind, OnCall, HasValue, HaveValues, block_calls}
+use Rattle.mw_model.specs.Values.Truth.{TrueAt, IsTrueIn}
+use Rattle.mw_model.specs.Events.Writing.{terms, var, call}
+use Rattle.mw_model.specs.Proofs.Proof.{Proves}
+use Rattle.mw_model.specs.Events.Theory.{on_the_theory, claim}
 use Rattle.mw_model.proofs.Read.{formula_object-one}
 use Rattle.mw_model.proofs.Depth.{one_value}
 use Rattle.mw_model.proofs.Judging.{good_judge}

@@ -1,9 +1,9 @@
 -- LOGIC.FLAG-CLOSEDP is the test that a term's variables are among names.
 use Rattle.std.proofs.Common.{◌≡◌, Bool, true, false, ◌&&◌, not, List, [], ◌∷◌, refl, ap, ◌∙◌}
 use Rattle.std.proofs.lemmas.Bool.{and_parts, not-true}
-use Rattle.mw_model.specs.Object.{Name, Object, Symbol, Pair, named, symbol, same_name, NIL, T, truth_of}
-use Rattle.mw_model.specs.Term.{Term, Terms, Variable, Constant, If, Call, Lambda, NoTerms, More, names_object, term_object, terms_object, is_closed, are_closed, ArityTable}
-use Rattle.mw_model.specs.Primitive.{Profile, choose}
+use Rattle.mw_model.specs.Terms.Object.{Name, Object, Symbol, Pair, named, symbol, same_name, NIL, T, truth_of}
+use Rattle.mw_model.specs.Terms.Term.{Term, Terms, Variable, Constant, If, Call, Lambda, NoTerms, More, names_object, term_object, terms_object, is_closed, are_closed, ArityTable}
+use Rattle.mw_model.specs.Values.Primitive.{Profile, choose}
 use Rattle.mw_model.proofs.Formed.{Formed, AreFormed}
 use Rattle.mw_model.proofs.BuiltInAnswers.{answer, answer-body}
 use Rattle.mw_reflect.proofs.TestValues.{and_then, and_true}

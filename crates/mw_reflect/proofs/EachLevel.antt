@@ -2,18 +2,18 @@
 -- another one by its claim, which is a theorem and so true.
 use Rattle.std.proofs.Common.{◌≡◌, ◌≢◌, ℕ, true, false, not, cond, List, [], ◌∷◌, length, Option, Some, None, refl, sym, ap, ◌∙◌, subst, ◌⊎◌, inl, inr}
 use Rattle.std.proofs.lemmas.Bool.{and_from}
-use Rattle.mw_model.specs.Object.{Name, Object, named, same_name, same_object, second_of, NIL, T, Member}
-use Rattle.mw_model.specs.Term.{Constant, Equal, Formula, IsFormula, formula_object, arity_of, is_function_name, is_call_name}
-use Rattle.mw_model.specs.Primitive.{One}
-use Rattle.mw_model.specs.Definition.{Function, arity_table}
-use Rattle.mw_model.specs.Value.{Environment}
-use Rattle.mw_model.specs.Truth.{IsTrueIn}
-use Rattle.mw_model.specs.Evaluation.{Outcome, Value, Steps, Overflow, Witness, evaluate, code_of}
-use Rattle.mw_model.specs.Theory.{Theory, initial, IsSound, IsClaimed, claim}
-use Rattle.mw_model.specs.Refusal.{NILVALUE}
-use Rattle.mw_model.specs.Checking.{verdict, judged_by}
-use Rattle.mw_model.specs.Fate.{next, after}
-use Rattle.mw_model.specs.Keeping.{EventKeeps, EachKeeps}
+use Rattle.mw_model.specs.Terms.Object.{Name, Object, named, same_name, same_object, second_of, NIL, T, Member}
+use Rattle.mw_model.specs.Terms.Term.{Constant, Equal, Formula, IsFormula, formula_object, arity_of, is_function_name, is_call_name}
+use Rattle.mw_model.specs.Values.Primitive.{One}
+use Rattle.mw_model.specs.Values.Definition.{Function, arity_table}
+use Rattle.mw_model.specs.Values.Value.{Environment}
+use Rattle.mw_model.specs.Values.Truth.{IsTrueIn}
+use Rattle.mw_model.specs.Events.Evaluation.{Outcome, Value, Steps, Overflow, Witness, evaluate, code_of}
+use Rattle.mw_model.specs.Events.Theory.{Theory, initial, IsSound, IsClaimed, claim}
+use Rattle.mw_model.specs.Events.Refusal.{NILVALUE}
+use Rattle.mw_model.specs.Events.Checking.{verdict, judged_by}
+use Rattle.mw_model.specs.Events.Fate.{next, after}
+use Rattle.mw_model.specs.Reports.Keeping.{EventKeeps, EachKeeps}
 use Rattle.mw_model.proofs.Names.{name_cases, object_cases}
 use Rattle.mw_model.proofs.Readable.{ReadableFormula, formula_readable, formula_object-one}
 use Rattle.mw_model.proofs.FunctionNames.{table_names}

@@ -1,12 +1,12 @@
 -- The reference checker's functional equality is the rule's, under a table whose names are function names.
 use Rattle.std.proofs.Common.{◌≡◌, Bool, true, false, ◌&&◌, cond, [], ◌∷◌, refl, sym, ap, ap₂, ◌∙◌, ℕ, Some}
 use Rattle.std.proofs.lemmas.Bool.{and_parts}
-use Rattle.mw_model.specs.Object.{Name, Object, Pair, named, symbol, same_name, same_object, NIL, T, car, cdr, second_of, third_of, truth_of}
-use Rattle.mw_model.specs.Term.{Term, Terms, Variable, Constant, If, Call, Lambda, NoTerms, More, Formula, Equal, Not, Or, term_object, terms_object, formula_object, count, ArityTable, arity_of, is_function_name, is_term, is_formula, IsFormula}
-use Rattle.mw_model.specs.Primitive.{Profile, is_pair, is_symbol}
-use Rattle.mw_model.specs.Proof.{three_terms}
-use Rattle.mw_model.specs.Judgment.{last_disjunct, is_functional_equality}
-use Rattle.mw_model.specs.Rules.{is_equal_object, or_object, not_object, unless_equal_object, object_ends_with_equality}
+use Rattle.mw_model.specs.Terms.Object.{Name, Object, Pair, named, symbol, same_name, same_object, NIL, T, car, cdr, second_of, third_of, truth_of}
+use Rattle.mw_model.specs.Terms.Term.{Term, Terms, Variable, Constant, If, Call, Lambda, NoTerms, More, Formula, Equal, Not, Or, term_object, terms_object, formula_object, count, ArityTable, arity_of, is_function_name, is_term, is_formula, IsFormula}
+use Rattle.mw_model.specs.Values.Primitive.{Profile, is_pair, is_symbol}
+use Rattle.mw_model.specs.Proofs.Proof.{three_terms}
+use Rattle.mw_model.specs.Proofs.Judgment.{last_disjunct, is_functional_equality}
+use Rattle.mw_model.specs.Laws.Rules.{is_equal_object, or_object, not_object, unless_equal_object, object_ends_with_equality}
 use Rattle.mw_model.proofs.Names.{same_name-eq}
 use Rattle.mw_model.proofs.Formed.{Formed, formed}
 use Rattle.mw_model.proofs.Readable.{not_quote, not_if}

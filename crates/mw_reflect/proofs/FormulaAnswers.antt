@@ -1,11 +1,11 @@
 -- LOGIC.FORMULAP is the test that an object is that of a formula.
 use Rattle.std.proofs.Common.{◌≡◌, ℕ, Bool, true, false, ◌&&◌, cond, [], ◌∷◌, Option, Some, None, refl, sym, ap, ◌∙◌, subst}
 use Rattle.std.proofs.lemmas.Bool.{both_ways}
-use Rattle.mw_model.specs.Object.{Name, Object, Natural, Symbol, Pair, named, symbol, same_name, same_object, nil_name, NIL, truth_of}
-use Rattle.mw_model.specs.Term.{Term, Formula, ArityTable, arity_of, is_term, is_formula, table_object}
-use Rattle.mw_model.specs.Reading.{term_of, equal_of, not_of, or_of, when, formula_of}
-use Rattle.mw_model.specs.Primitive.{Profile, choose}
-use Rattle.mw_model.specs.Rules.{is_formula_object}
+use Rattle.mw_model.specs.Terms.Object.{Name, Object, Natural, Symbol, Pair, named, symbol, same_name, same_object, nil_name, NIL, truth_of}
+use Rattle.mw_model.specs.Terms.Term.{Term, Formula, ArityTable, arity_of, is_term, is_formula, table_object}
+use Rattle.mw_model.specs.Terms.Reading.{term_of, equal_of, not_of, or_of, when, formula_of}
+use Rattle.mw_model.specs.Values.Primitive.{Profile, choose}
+use Rattle.mw_model.specs.Laws.Rules.{is_formula_object}
 use Rattle.mw_model.proofs.Names.{same_object-eq}
 use Rattle.mw_model.proofs.BuiltInAnswers.{answer, answer-body}
 use Rattle.mw_reflect.proofs.TestValues.{passes, has_length, and_then, and_true, and_false, choose-nil, has_length-three, has_length-not_two, that-present}

@@ -1,10 +1,10 @@
 -- The reference checker's instantiation and induction are the tests on objects.
 use Rattle.std.proofs.Common.{◌≡◌, eqb, [], ◌∷◌, Some, ap, ap₂, ◌∙◌}
-use Rattle.mw_model.specs.Object.{Object, Natural, Symbol, Pair, named, symbol, same_object, T, car, cdr, second_of, third_of, has_members, truth_of, list2, list3}
-use Rattle.mw_model.specs.Term.{Formula, formula_object, ArityTable, arity_of, table_object}
-use Rattle.mw_model.specs.Primitive.{Profile}
-use Rattle.mw_model.specs.Rules.{or_object, not_object, is_substitution_object, object_is_instance}
-use Rattle.mw_model.specs.RulesInduction.{is_list_object, length_object, are_case_objects, disjunction_object, hypotheses_object, steps_object, true_object, falls_object, all_falls_object, premises_object, object_is_induction}
+use Rattle.mw_model.specs.Terms.Object.{Object, Natural, Symbol, Pair, named, symbol, same_object, T, car, cdr, second_of, third_of, has_members, truth_of, list2, list3}
+use Rattle.mw_model.specs.Terms.Term.{Formula, formula_object, ArityTable, arity_of, table_object}
+use Rattle.mw_model.specs.Values.Primitive.{Profile}
+use Rattle.mw_model.specs.Laws.Rules.{or_object, not_object, is_substitution_object, object_is_instance}
+use Rattle.mw_model.specs.Laws.RulesInduction.{is_list_object, length_object, are_case_objects, disjunction_object, hypotheses_object, steps_object, true_object, falls_object, all_falls_object, premises_object, object_is_induction}
 use Rattle.mw_model.proofs.BuiltInAnswers.{answer, answer-body}
 use Rattle.mw_reflect.proofs.ListAnswers.{and_then, listp-answer, len-answer, lenp-answer, pequal-answer, pnot-answer, por-answer}
 use Rattle.mw_reflect.proofs.TestValues.{has_length-members}

@@ -1,11 +1,11 @@
 -- The reference checker's functions on lists, names and the arity table are the tests on objects.
 use Rattle.std.proofs.Common.{◌≡◌, ℕ, ◌+◌, Bool, true, false, ◌&&◌, ◌||◌, cond, eqb, List, [], ◌∷◌, Option, Some, None, refl, ap, ap₂, ◌∙◌, arith}
-use Rattle.mw_model.specs.Object.{Name, Object, Natural, Symbol, Pair, named, same_name, same_object, nil_name, NIL, T, truth_of, is_member}
-use Rattle.mw_model.specs.Term.{names_object, is_among, are_distinct, are_variables, is_variable, ArityTable, arity_of, table_object}
-use Rattle.mw_model.specs.Reading.{names_of, and_more}
-use Rattle.mw_model.specs.Primitive.{Profile, number, choose}
-use Rattle.mw_model.specs.Rules.{is_variable_object, equal_object, not_object, or_object}
-use Rattle.mw_model.specs.RulesInduction.{is_list_object, length_object}
+use Rattle.mw_model.specs.Terms.Object.{Name, Object, Natural, Symbol, Pair, named, same_name, same_object, nil_name, NIL, T, truth_of, is_member}
+use Rattle.mw_model.specs.Terms.Term.{names_object, is_among, are_distinct, are_variables, is_variable, ArityTable, arity_of, table_object}
+use Rattle.mw_model.specs.Terms.Reading.{names_of, and_more}
+use Rattle.mw_model.specs.Values.Primitive.{Profile, number, choose}
+use Rattle.mw_model.specs.Laws.Rules.{is_variable_object, equal_object, not_object, or_object}
+use Rattle.mw_model.specs.Laws.RulesInduction.{is_list_object, length_object}
 use Rattle.mw_model.proofs.Names.{same_name-eq}
 use Rattle.mw_model.proofs.BuiltInValue.{pairs}
 use Rattle.mw_model.proofs.BuiltInAnswers.{answer, answer-body}

@@ -1,14 +1,14 @@
 -- LOGIC.PROOFP's value is the test of proofs: by recursion on the proof, with the subproofs' conclusions as formulas.
 use Rattle.std.proofs.Common.{◌≡◌, ℕ, ◌+◌, Bool, true, false, ◌&&◌, ◌||◌, cond, eqb, List, [], ◌∷◌, Option, Some, None, refl, sym, ap, ap₂, ◌∙◌, arith}
 use Rattle.std.proofs.lemmas.Bool.{ne_eqb}
-use Rattle.mw_model.specs.Object.{Name, Object, Natural, Symbol, Pair, named, symbol, same_name, same_object, nil_name, NIL, T, car, second_of, third_of, fourth_of, truth_of, is_member}
-use Rattle.mw_model.specs.Term.{Formula, formula_object, ArityTable, arity_of, table_object, is_function_name, is_formula}
-use Rattle.mw_model.specs.Reading.{formula_of, and_more, when}
-use Rattle.mw_model.specs.Primitive.{Profile}
-use Rattle.mw_model.specs.Definition.{is_present}
-use Rattle.mw_model.specs.Proof.{Method, Proves, proof, ProveEach, no_proofs, more_proofs}
-use Rattle.mw_model.specs.Judgment.{methods, method_among, follows, judge_step, judge, judge_each}
-use Rattle.mw_model.specs.RulesInduction.{formulas_object, is_list_object, length_object}
+use Rattle.mw_model.specs.Terms.Object.{Name, Object, Natural, Symbol, Pair, named, symbol, same_name, same_object, nil_name, NIL, T, car, second_of, third_of, fourth_of, truth_of, is_member}
+use Rattle.mw_model.specs.Terms.Term.{Formula, formula_object, ArityTable, arity_of, table_object, is_function_name, is_formula}
+use Rattle.mw_model.specs.Terms.Reading.{formula_of, and_more, when}
+use Rattle.mw_model.specs.Values.Primitive.{Profile}
+use Rattle.mw_model.specs.Values.Definition.{is_present}
+use Rattle.mw_model.specs.Proofs.Proof.{Method, Proves, proof, ProveEach, no_proofs, more_proofs}
+use Rattle.mw_model.specs.Proofs.Judgment.{methods, method_among, follows, judge_step, judge, judge_each}
+use Rattle.mw_model.specs.Laws.RulesInduction.{formulas_object, is_list_object, length_object}
 use Rattle.mw_model.proofs.ReadBack.{formula_back}
 use Rattle.mw_model.proofs.Judging.{judges_good, goods_judge}
 use Rattle.mw_model.proofs.BuiltInAnswers.{answer, answer-body}

@@ -2,15 +2,15 @@
 use Rattle.std.proofs.Common.{◌≡◌, ◌↔◌, Bool, true, false, ◌&&◌, ◌||◌, List, [], ◌∷◌, Some, refl, sym, ap, ap₂, ◌∙◌, subst, ◌⊎◌, inl, inr}
 use Rattle.std.proofs.lemmas.Bool.{and_parts, and_from, or_cases}
 use Prim.Native.String.{String}
-use Rattle.mw_model.specs.Object.{Name, Object, named, same_name, same_object, second_of, T, truth_of}
-use Rattle.mw_model.specs.Term.{Term, is_among, arity_of, table_object}
-use Rattle.mw_model.specs.Primitive.{Profile, One, Two}
-use Rattle.mw_model.specs.Definition.{Block, Definitions, arities, arity_table, is_present}
-use Rattle.mw_model.specs.Value.{Environment, Calls, bind, HasValue, HaveValues, Satisfies, IsWitness, block_calls}
-use Rattle.mw_model.specs.Writing.{terms, var, call, ◌&◌}
-use Rattle.mw_model.specs.Judgment.{judge}
-use Rattle.mw_model.specs.BuiltIn.{block_of, built_in}
-use Rattle.mw_model.specs.BuiltInProofs.{logic_provable_witness, logic_provablep}
+use Rattle.mw_model.specs.Terms.Object.{Name, Object, named, same_name, same_object, second_of, T, truth_of}
+use Rattle.mw_model.specs.Terms.Term.{Term, is_among, arity_of, table_object}
+use Rattle.mw_model.specs.Values.Primitive.{Profile, One, Two}
+use Rattle.mw_model.specs.Values.Definition.{Block, Definitions, arities, arity_table, is_present}
+use Rattle.mw_model.specs.Values.Value.{Environment, Calls, bind, HasValue, HaveValues, Satisfies, IsWitness, block_calls}
+use Rattle.mw_model.specs.Events.Writing.{terms, var, call, ◌&◌}
+use Rattle.mw_model.specs.Proofs.Judgment.{judge}
+use Rattle.mw_model.specs.BuiltIns.BuiltIn.{block_of, built_in}
+use Rattle.mw_model.specs.BuiltIns.BuiltInProofs.{logic_provable_witness, logic_provablep}
 use Rattle.mw_model.proofs.Names.{same_name-eq, same_object-eq, same_object-from}
 use Rattle.mw_model.proofs.Values.{Det, ev_det}
 use Rattle.mw_model.proofs.Depth.{block_fold, block_unfold, block_calls-det}

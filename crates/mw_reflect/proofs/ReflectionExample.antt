@@ -1,10 +1,10 @@
 -- In the built-in definitions of each profile LOGIC.PROOFP says yes to a proof of not t = t or t = t, and not without a method.
 use Rattle.std.proofs.Common.{[], refl}
-use Rattle.mw_model.specs.Object.{Object, named, symbol, NIL, T, list2}
-use Rattle.mw_model.specs.Term.{Constant, Formula, Equal, Not, Or, formula_object}
-use Rattle.mw_model.specs.Primitive.{Profile}
-use Rattle.mw_model.specs.BuiltIn.{built_in_definitions}
-use Rattle.mw_model.specs.Proof.{two, PropositionalSchema, by_schema, proof, no_proofs}
+use Rattle.mw_model.specs.Terms.Object.{Object, named, symbol, NIL, T, list2}
+use Rattle.mw_model.specs.Terms.Term.{Constant, Formula, Equal, Not, Or, formula_object}
+use Rattle.mw_model.specs.Values.Primitive.{Profile}
+use Rattle.mw_model.specs.BuiltIns.BuiltIn.{built_in_definitions}
+use Rattle.mw_model.specs.Proofs.Proof.{two, PropositionalSchema, by_schema, proof, no_proofs}
 use Rattle.mw_model.proofs.Judging.{good_judge}
 use Rattle.mw_model.proofs.BuiltInRead.{well_made}
 use Rattle.mw_model.proofs.BuiltInTotal.{built_in_begins}

@@ -1,10 +1,10 @@
 -- The reference checker says yes exactly to proofs: in all definitions that begin with the built-in ones.
 use Rattle.std.proofs.Common.{◌≡◌, ◌↔◌, Bool, true, false, List, [], ◌∷◌, Option, Some, None, refl, subst}
-use Rattle.mw_model.specs.Object.{Object, named, T, truth_of}
-use Rattle.mw_model.specs.Term.{table_object}
-use Rattle.mw_model.specs.Definition.{Definitions, arity_table, is_present}
-use Rattle.mw_model.specs.Value.{Environment, IsValue, block_calls}
-use Rattle.mw_model.specs.Judgment.{judge}
+use Rattle.mw_model.specs.Terms.Object.{Object, named, T, truth_of}
+use Rattle.mw_model.specs.Terms.Term.{table_object}
+use Rattle.mw_model.specs.Values.Definition.{Definitions, arity_table, is_present}
+use Rattle.mw_model.specs.Values.Value.{Environment, IsValue, block_calls}
+use Rattle.mw_model.specs.Proofs.Judgment.{judge}
 use Rattle.mw_model.proofs.Depth.{one_value}
 use Rattle.mw_model.proofs.FunctionNames.{table_names}
 use Rattle.mw_model.proofs.Judging.{judge_good, good_judge}

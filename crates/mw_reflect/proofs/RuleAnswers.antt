@@ -1,11 +1,11 @@
 -- The reference checker's rules on connectives, functional equality and beta reduction are the tests.
 use Rattle.std.proofs.Common.{◌≡◌, [], List, ◌∷◌, refl, ap, ◌∙◌, length}
 use Rattle.std.proofs.lemmas.Bool.{and_parts}
-use Rattle.mw_model.specs.Object.{Name, Object, Symbol, Pair, same_object, NIL, second_of, third_of, truth_of}
-use Rattle.mw_model.specs.Term.{Term, Terms, Variable, Constant, If, Call, Lambda, NoTerms, More, Formula, Equal, Not, Or, term_object, terms_object, formula_object, names_object, count, ArityTable, is_term, IsFormula}
-use Rattle.mw_model.specs.Primitive.{Profile}
-use Rattle.mw_model.specs.Judgment.{is_beta}
-use Rattle.mw_model.specs.Rules.{is_or_object, not_object, or_object, object_is_schema, object_is_expansion, object_is_contraction, object_is_associativity, object_is_cut, actuals_object, substitute_object, object_is_beta}
+use Rattle.mw_model.specs.Terms.Object.{Name, Object, Symbol, Pair, same_object, NIL, second_of, third_of, truth_of}
+use Rattle.mw_model.specs.Terms.Term.{Term, Terms, Variable, Constant, If, Call, Lambda, NoTerms, More, Formula, Equal, Not, Or, term_object, terms_object, formula_object, names_object, count, ArityTable, is_term, IsFormula}
+use Rattle.mw_model.specs.Values.Primitive.{Profile}
+use Rattle.mw_model.specs.Proofs.Judgment.{is_beta}
+use Rattle.mw_model.specs.Laws.Rules.{is_or_object, not_object, or_object, object_is_schema, object_is_expansion, object_is_contraction, object_is_associativity, object_is_cut, actuals_object, substitute_object, object_is_beta}
 use Rattle.mw_model.proofs.Formed.{Formed, formed}
 use Rattle.mw_model.proofs.Readable.{formula_readable}
 use Rattle.mw_model.proofs.RulesExact.{object_is_beta-exact}

@@ -1,14 +1,14 @@
 -- The reference checker's step is the table of methods.
 use Rattle.std.proofs.Common.{◌≡◌, ℕ, ◌<◌, Bool, true, false, ◌&&◌, cond, eqb, List, [], ◌∷◌, Option, Some, None, refl, sym, ap, ap₂, ◌∙◌, subst, arith}
 use Rattle.std.proofs.lemmas.Bool.{ne_eqb}
-use Rattle.mw_model.specs.Object.{Name, Object, Natural, Symbol, named, same_object, NIL, car, second_of, third_of, fourth_of, truth_of, is_member}
-use Rattle.mw_model.specs.Term.{Formula, formula_object, ArityTable, arity_of, table_object, is_function_name, IsFormula}
-use Rattle.mw_model.specs.Primitive.{Profile, choose}
-use Rattle.mw_model.specs.Substitution.{substitution_of}
-use Rattle.mw_model.specs.Truth.{Each}
-use Rattle.mw_model.specs.Proof.{Method, Axiom, Theorem, PropositionalSchema, FunctionalEquality, BetaReduction, BaseEval, Expansion, Contraction, Associativity, Cut, Instantiation, Induction, method_name}
-use Rattle.mw_model.specs.Judgment.{methods, method_among, is_schema, last_disjunct, is_functional_equality, is_beta, is_base_eval, is_expansion, is_contraction, is_associativity, is_cut, is_instance, of_none, of_one, of_two, follows}
-use Rattle.mw_model.specs.RulesInduction.{formulas_object, length_object}
+use Rattle.mw_model.specs.Terms.Object.{Name, Object, Natural, Symbol, named, same_object, NIL, car, second_of, third_of, fourth_of, truth_of, is_member}
+use Rattle.mw_model.specs.Terms.Term.{Formula, formula_object, ArityTable, arity_of, table_object, is_function_name, IsFormula}
+use Rattle.mw_model.specs.Values.Primitive.{Profile, choose}
+use Rattle.mw_model.specs.Terms.Substitution.{substitution_of}
+use Rattle.mw_model.specs.Values.Truth.{Each}
+use Rattle.mw_model.specs.Proofs.Proof.{Method, Axiom, Theorem, PropositionalSchema, FunctionalEquality, BetaReduction, BaseEval, Expansion, Contraction, Associativity, Cut, Instantiation, Induction, method_name}
+use Rattle.mw_model.specs.Proofs.Judgment.{methods, method_among, is_schema, last_disjunct, is_functional_equality, is_beta, is_base_eval, is_expansion, is_contraction, is_associativity, is_cut, is_instance, of_none, of_one, of_two, follows}
+use Rattle.mw_model.specs.Laws.RulesInduction.{formulas_object, length_object}
 use Rattle.mw_model.proofs.Names.{same_object-eq}
 use Rattle.mw_model.proofs.Readable.{formula_readable}
 use Rattle.mw_model.proofs.Judging.{method_among-name, method_back}

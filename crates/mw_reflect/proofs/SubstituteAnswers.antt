@@ -1,10 +1,10 @@
 -- The reference checker's substitution is substitution on objects, whatever the objects.
 use Rattle.std.proofs.Common.{◌≡◌, Bool, true, false, cond, [], ◌∷◌, refl, sym, ap, ap₂, ◌∙◌}
 use Rattle.std.specs.Cmp.{both_ways as same_test}
-use Rattle.mw_model.specs.Object.{Object, Natural, Symbol, Pair, symbol, same_name, same_object, nil_name, NIL, car, cdr, truth_of, list2, list3}
-use Rattle.mw_model.specs.Term.{Formula, Equal, Not, Or, term_object, formula_object}
-use Rattle.mw_model.specs.Primitive.{Profile}
-use Rattle.mw_model.specs.Rules.{image_object, substitute_object, substitute_each_object, substitute_formula_object}
+use Rattle.mw_model.specs.Terms.Object.{Object, Natural, Symbol, Pair, symbol, same_name, same_object, nil_name, NIL, car, cdr, truth_of, list2, list3}
+use Rattle.mw_model.specs.Terms.Term.{Formula, Equal, Not, Or, term_object, formula_object}
+use Rattle.mw_model.specs.Values.Primitive.{Profile}
+use Rattle.mw_model.specs.Laws.Rules.{image_object, substitute_object, substitute_each_object, substitute_formula_object}
 use Rattle.mw_model.proofs.Names.{same_object-eq, same_object-from}
 use Rattle.mw_model.proofs.BuiltInAnswers.{answer, answer-body}
 use Rattle.mw_reflect.proofs.ListAnswers.{pequal-answer, pnot-answer, por-answer}

@@ -1,10 +1,10 @@
 -- LOGIC.SIGMAP, LOGIC.SIGMA-LISTP and LOGIC.SIGMA-LIST-LISTP are the tests for substitutions, lists of them, and lists of these.
 use Rattle.std.proofs.Common.{◌≡◌, [], ◌∷◌, Some, ◌∙◌}
-use Rattle.mw_model.specs.Object.{Object, Natural, Symbol, Pair, named, truth_of}
-use Rattle.mw_model.specs.Term.{ArityTable, arity_of, table_object}
-use Rattle.mw_model.specs.Primitive.{Profile}
-use Rattle.mw_model.specs.Rules.{is_term_object, is_variable_object, is_substitution_object}
-use Rattle.mw_model.specs.RulesInduction.{are_substitution_objects, are_case_objects}
+use Rattle.mw_model.specs.Terms.Object.{Object, Natural, Symbol, Pair, named, truth_of}
+use Rattle.mw_model.specs.Terms.Term.{ArityTable, arity_of, table_object}
+use Rattle.mw_model.specs.Values.Primitive.{Profile}
+use Rattle.mw_model.specs.Laws.Rules.{is_term_object, is_variable_object, is_substitution_object}
+use Rattle.mw_model.specs.Laws.RulesInduction.{are_substitution_objects, are_case_objects}
 use Rattle.mw_model.proofs.BuiltInAnswers.{answer, answer-body}
 use Rattle.mw_reflect.proofs.TestValues.{and_then}
 use Rattle.mw_reflect.proofs.ListAnswers.{variablep-answer}

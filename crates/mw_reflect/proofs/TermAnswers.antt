@@ -1,12 +1,12 @@
 -- LOGIC.FLAG-TERMP and LOGIC.TERMP are the test that an object is that of a term.
 use Rattle.std.proofs.Common.{◌≡◌, ℕ, ◌+◌, Bool, true, false, ◌&&◌, not, cond, eqb, List, [], ◌∷◌, length, Option, Some, None, refl, sym, ap, ap₂, ◌∙◌, arith}
 use Rattle.std.proofs.lemmas.Bool.{ne_eqb}
-use Rattle.mw_model.specs.Object.{Name, Object, Natural, Symbol, Pair, named, symbol, same_name, same_object, nil_name, NIL, truth_of, cdr}
-use Rattle.mw_model.specs.Term.{Term, Terms, Constant, NoTerms, More, names_object, terms_object, count, is_closed, are_distinct, are_variables, ArityTable, arity_of, has_arity, is_call_name, is_term, are_terms, table_object}
-use Rattle.mw_model.specs.Reading.{names_of, constant_of, if_of, plain_call, lambda_of, more_terms, term_of, terms_of}
-use Rattle.mw_model.specs.Primitive.{Profile, choose}
-use Rattle.mw_model.specs.Rules.{is_term_object}
-use Rattle.mw_model.specs.RulesInduction.{is_list_object, length_object}
+use Rattle.mw_model.specs.Terms.Object.{Name, Object, Natural, Symbol, Pair, named, symbol, same_name, same_object, nil_name, NIL, truth_of, cdr}
+use Rattle.mw_model.specs.Terms.Term.{Term, Terms, Constant, NoTerms, More, names_object, terms_object, count, is_closed, are_distinct, are_variables, ArityTable, arity_of, has_arity, is_call_name, is_term, are_terms, table_object}
+use Rattle.mw_model.specs.Terms.Reading.{names_of, constant_of, if_of, plain_call, lambda_of, more_terms, term_of, terms_of}
+use Rattle.mw_model.specs.Values.Primitive.{Profile, choose}
+use Rattle.mw_model.specs.Laws.Rules.{is_term_object}
+use Rattle.mw_model.specs.Laws.RulesInduction.{is_list_object, length_object}
 use Rattle.mw_model.proofs.Names.{same_name-eq}
 use Rattle.mw_model.proofs.Formed.{formed}
 use Rattle.mw_model.proofs.ReadBack.{names_back, term_back, terms_back}

@@ -2,9 +2,9 @@
 use Rattle.std.proofs.Common.{◌≡◌, ℕ, zero, suc, ◌+◌, Bool, true, false, ◌&&◌, ◌||◌, not, eqb, refl, sym, ap, ◌∙◌, arith, eqb-true, eq-eqb}
 use Rattle.std.specs.Cmp.{both_ways as same_test}
 use Rattle.std.proofs.lemmas.Bool.{ne_eqb}
-use Rattle.mw_model.specs.Object.{Name, Object, Natural, Symbol, Pair, same_name, same_object, nil_name, NIL, T, truth_of, has_members}
-use Rattle.mw_model.specs.Primitive.{choose}
-use Rattle.mw_model.specs.RulesInduction.{is_list_object, length_object}
+use Rattle.mw_model.specs.Terms.Object.{Name, Object, Natural, Symbol, Pair, same_name, same_object, nil_name, NIL, T, truth_of, has_members}
+use Rattle.mw_model.specs.Values.Primitive.{choose}
+use Rattle.mw_model.specs.Laws.RulesInduction.{is_list_object, length_object}
 pub use Rattle.mw_model.proofs.RulesExact.{passes, that-present}
 use Rattle.mw_model.proofs.Names.{same_name-eq, same_name-from}
 

@@ -1,18 +1,18 @@
 -- What the reference checker, provability and a claim say, and which theories events reach.
 use Rattle.std.specs.Prelude.{◌≡◌, ◌≢◌, ◌↔◌, ℕ, List, [], ◌∷◌, Some}
-use Rattle.mw_model.specs.Object.{Name, Object, named, NIL, T, second_of, truth_of, Member}
-use Rattle.mw_model.specs.Term.{Term, Constant, Call, Formula, Equal, formula_object, table_object, IsFormula}
-use Rattle.mw_model.specs.Primitive.{One}
-use Rattle.mw_model.specs.Definition.{Definitions, arity_table, IsWellMade, is_present}
-use Rattle.mw_model.specs.Value.{Environment, IsValue}
-use Rattle.mw_model.specs.Truth.{IsTrueIn}
-use Rattle.mw_model.specs.Proof.{constants, Proves}
-use Rattle.mw_model.specs.Judgment.{judge}
-use Rattle.mw_model.specs.BuiltIn.{built_in}
-use Rattle.mw_model.specs.Evaluation.{Value, evaluate}
-use Rattle.mw_model.specs.Theory.{Theory, BeginsWith, initial, IsSound, IsClaimed, claim}
-use Rattle.mw_model.specs.Fate.{after}
-use Rattle.mw_model.specs.Keeping.{EventKeeps, EachKeeps}
+use Rattle.mw_model.specs.Terms.Object.{Name, Object, named, NIL, T, second_of, truth_of, Member}
+use Rattle.mw_model.specs.Terms.Term.{Term, Constant, Call, Formula, Equal, formula_object, table_object, IsFormula}
+use Rattle.mw_model.specs.Values.Primitive.{One}
+use Rattle.mw_model.specs.Values.Definition.{Definitions, arity_table, IsWellMade, is_present}
+use Rattle.mw_model.specs.Values.Value.{Environment, IsValue}
+use Rattle.mw_model.specs.Values.Truth.{IsTrueIn}
+use Rattle.mw_model.specs.Proofs.Proof.{constants, Proves}
+use Rattle.mw_model.specs.Proofs.Judgment.{judge}
+use Rattle.mw_model.specs.BuiltIns.BuiltIn.{built_in}
+use Rattle.mw_model.specs.Events.Evaluation.{Value, evaluate}
+use Rattle.mw_model.specs.Events.Theory.{Theory, BeginsWith, initial, IsSound, IsClaimed, claim}
+use Rattle.mw_model.specs.Events.Fate.{after}
+use Rattle.mw_model.specs.Reports.Keeping.{EventKeeps, EachKeeps}
 use Rattle.mw_truth.specs.Reached.{JudgesTruly}
 
 -- (f 'p 'axioms 'theorems 'table), where the table is that of the definitions

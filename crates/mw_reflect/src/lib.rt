@@ -2,14 +2,14 @@
 #![tactic(auto)]
 
 ghost use Rattle.std.specs.Prelude.{◌≡◌, ◌↔◌, true, List, [], ◌∷◌, Some};
-ghost use Rattle.mw_model.specs.Object.{Object, named, truth_of};
-ghost use Rattle.mw_model.specs.Term.{ArityTable, arity_of, table_object};
-ghost use Rattle.mw_model.specs.Primitive.{Profile};
-ghost use Rattle.mw_model.specs.Definition.{Block, are_blocks};
-ghost use Rattle.mw_model.specs.Value.{block_calls};
-ghost use Rattle.mw_model.specs.BuiltIn.{built_in};
-ghost use Rattle.mw_model.specs.Rules.{is_term_object, is_formula_object, is_substitution_object};
-ghost use Rattle.mw_model.specs.Theory.{BeginsWith};
+ghost use Rattle.mw_model.specs.Terms.Object.{Object, named, truth_of};
+ghost use Rattle.mw_model.specs.Terms.Term.{ArityTable, arity_of, table_object};
+ghost use Rattle.mw_model.specs.Values.Primitive.{Profile};
+ghost use Rattle.mw_model.specs.Values.Definition.{Block, are_blocks};
+ghost use Rattle.mw_model.specs.Values.Value.{block_calls};
+ghost use Rattle.mw_model.specs.BuiltIns.BuiltIn.{built_in};
+ghost use Rattle.mw_model.specs.Laws.Rules.{is_term_object, is_formula_object, is_substitution_object};
+ghost use Rattle.mw_model.specs.Events.Theory.{BeginsWith};
 ghost use Rattle.mw_reflect.specs.Laws.{ReferenceChecker, ReferenceValue, Provability, ProvableIsProved, ProvableIsTrue, Claims, RunsSayTruly, EventsKeepAny, CheckersJudgeTruly, EventsKeep, ReachedIsSound, ReachedIsConsistent};
 
 /// In all definitions that begin with the built-in ones, LOGIC.TERMP, LOGIC.FORMULAP and LOGIC.SIGMAP say yes exactly on

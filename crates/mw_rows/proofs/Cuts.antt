@@ -1,11 +1,11 @@
 -- What the definitions answer to a book of every kind of token that is cut after any of its bytes.
 use Rattle.std.proofs.Common.{◌≡◌, ℕ, zero, suc, ◌+◌, ◌-◌, Bool, true, false, List, [], ◌∷◌, ◌++◌, take, map, cond, codes, ltb, eqb, ◌&&◌, ◌||◌, refl}
 use Prim.Native.String.{String}
-use Rattle.mw_model.specs.BuiltInText.{joined}
-use Rattle.mw_model.specs.Lexemes.{END}
-use Rattle.mw_model.specs.Printing.{numeral}
-use Rattle.mw_model.specs.Refusal.{need, must, unless}
-use Rattle.mw_model.specs.Report.{Report, report, Done, SomeRefused, Syntax}
+use Rattle.mw_model.specs.Laws.BuiltInText.{joined}
+use Rattle.mw_model.specs.Texts.Lexemes.{END}
+use Rattle.mw_model.specs.Texts.Printing.{numeral}
+use Rattle.mw_model.specs.Events.Refusal.{need, must, unless}
+use Rattle.mw_model.specs.Reports.Report.{Report, report, Done, SomeRefused, Syntax}
 
 abbrev book : List ℕ
 book = joined ("; a ) and a |" ∷ "(verify r #1=(pequal* x x) (axiom #1#))" ∷ "(print ('x 07 #22=|a )| . #22#))y(z)" ∷ "(print 340282366920938463463374607431768211456)" ∷ [])

@@ -1,7 +1,7 @@
 //! Each primitive function once, and the rule that computes them where it holds and where it does not.
 ghost use Rattle.std.specs.Prelude.{◌≡◌, true, length, All};
 ghost use Rattle.mw_heap.specs.Objects.{IsIn};
-ghost use Rattle.mw_model.specs.Object.{is_name};
+ghost use Rattle.mw_model.specs.Terms.Object.{is_name};
 ghost use Rattle.mw_base.specs.Answers.{arity};
 
 use mw_base::{Applied, Truths, apply, base_eval};

@@ -1,8 +1,8 @@
 //! Derivations that are turned to proofs, by each derived rule once, and wrong uses of the rules, which turn to nothing.
 ghost use Rattle.std.specs.Prelude.{◌≡◌, true, All, IfOk};
-ghost use Rattle.mw_model.specs.Object.{Member, is_name};
-ghost use Rattle.mw_model.specs.Term.{formula_object};
-ghost use Rattle.mw_model.specs.Axioms.{axiom_1, axiom_2};
+ghost use Rattle.mw_model.specs.Terms.Object.{Member, is_name};
+ghost use Rattle.mw_model.specs.Terms.Term.{formula_object};
+ghost use Rattle.mw_model.specs.Proofs.Axioms.{axiom_1, axiom_2};
 ghost use Rattle.mw_heap.specs.Objects.{IsIn, Grows};
 ghost use Rattle.mw_heap.specs.Lists.{list_object};
 

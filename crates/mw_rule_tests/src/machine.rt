@@ -1,6 +1,6 @@
 //! Runs of built-in functions over a list of 1,000 naturals: a loop keeps one frame, and a recursion opens one for each member.
 ghost use Rattle.std.specs.Prelude.{◌≡◌, true, All};
-ghost use Rattle.mw_model.specs.Object.{is_name};
+ghost use Rattle.mw_model.specs.Terms.Object.{is_name};
 ghost use Rattle.mw_heap.specs.Objects.{IsIn};
 ghost use Rattle.mw_code.specs.Tables.{StandsFor};
 ghost use Rattle.mw_preamble.specs.Admitted.{first_definitions};

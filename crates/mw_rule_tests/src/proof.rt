@@ -1,6 +1,6 @@
 //! Proofs that are judged, and formulas that are known.
 ghost use Rattle.std.specs.Prelude.{◌≡◌, ◌<◌, true};
-ghost use Rattle.mw_model.specs.Object.{is_name};
+ghost use Rattle.mw_model.specs.Terms.Object.{is_name};
 
 use mw_forms::{boxed, equation_with_itself, form, is_in, list, not, or};
 use mw_heap::{Heap, Memory, Profile, Ref};

@@ -1,8 +1,8 @@
 -- The first of some methods that a symbol names.
 use Rattle.std.proofs.Common.{◌≡◌, ℕ, ◌+◌, ◌<◌, Bool, true, false, cond, List, length, map, drop, get_or, Some, sym, ap, ◌∙◌, add-one, drop-cons}
-use Rattle.mw_model.specs.Object.{Object, Symbol, same_object}
-use Rattle.mw_model.specs.Proof.{method_name}
-use Rattle.mw_model.specs.Judgment.{method_among}
+use Rattle.mw_model.specs.Terms.Object.{Object, Symbol, same_object}
+use Rattle.mw_model.specs.Proofs.Proof.{method_name}
+use Rattle.mw_model.specs.Proofs.Judgment.{method_among}
 use Rattle.mw_model.proofs.SameObject.{same_object-swap}
 use Rattle.mw_heap.specs.declared.word.Word.{Word}
 use Rattle.mw_heap.specs.Words.{word_object}

@@ -1,14 +1,14 @@
 -- The rule of a step, on the objects of formulas, is the table of methods.
 use Rattle.std.proofs.Common.{◌≡◌, Bool, ◌&&◌, List, [], ◌∷◌, Some, refl, ap, ◌∙◌}
-use Rattle.mw_model.specs.Object.{Object, same_object, NIL, car, second_of, has_members, is_member}
-use Rattle.mw_model.specs.Term.{Formula, formula_object, ArityTable, IsFormula}
-use Rattle.mw_model.specs.Primitive.{Profile}
-use Rattle.mw_model.specs.Truth.{Each}
-use Rattle.mw_model.specs.Proof.{Method, Axiom, Theorem, PropositionalSchema, FunctionalEquality, BetaReduction, BaseEval, Expansion, Contraction, Associativity, Cut, Instantiation, Induction}
-use Rattle.mw_model.specs.Judgment.{is_expansion, is_contraction, is_associativity, is_cut, is_instance, of_none, of_one, of_two, follows}
-use Rattle.mw_model.specs.Substitution.{substitution_of}
-use Rattle.mw_model.specs.Rules.{object_is_expansion, object_is_contraction, object_is_associativity, object_is_cut, object_is_instance}
-use Rattle.mw_model.specs.RulesInduction.{formulas_object}
+use Rattle.mw_model.specs.Terms.Object.{Object, same_object, NIL, car, second_of, has_members, is_member}
+use Rattle.mw_model.specs.Terms.Term.{Formula, formula_object, ArityTable, IsFormula}
+use Rattle.mw_model.specs.Values.Primitive.{Profile}
+use Rattle.mw_model.specs.Values.Truth.{Each}
+use Rattle.mw_model.specs.Proofs.Proof.{Method, Axiom, Theorem, PropositionalSchema, FunctionalEquality, BetaReduction, BaseEval, Expansion, Contraction, Associativity, Cut, Instantiation, Induction}
+use Rattle.mw_model.specs.Proofs.Judgment.{is_expansion, is_contraction, is_associativity, is_cut, is_instance, of_none, of_one, of_two, follows}
+use Rattle.mw_model.specs.Terms.Substitution.{substitution_of}
+use Rattle.mw_model.specs.Laws.Rules.{object_is_expansion, object_is_contraction, object_is_associativity, object_is_cut, object_is_instance}
+use Rattle.mw_model.specs.Laws.RulesInduction.{formulas_object}
 use Rattle.mw_model.proofs.Readable.{formula_readable}
 use Rattle.mw_model.proofs.RulesExact.{object_is_schema-exact, object_is_beta-exact, object_is_expansion-exact, object_is_contraction-exact, object_is_associativity-exact, object_is_cut-exact, object_is_instance-exact}
 use Rattle.mw_model.proofs.EqualityExact.{object_is_functional_equality-exact}

@@ -1,9 +1,9 @@
 -- How many subproofs the rules take, and those that take no extras by that number.
 use Rattle.std.specs.Prelude.{ℕ, Bool, false, Option, Some, None}
-use Rattle.mw_model.specs.Object.{Object, is_member}
-use Rattle.mw_model.specs.Primitive.{Profile}
-use Rattle.mw_model.specs.Proof.{Method, Axiom, Theorem, PropositionalSchema, FunctionalEquality, BetaReduction, BaseEval, Expansion, Contraction, Associativity, Cut, Instantiation, Induction}
-use Rattle.mw_model.specs.Rules.{object_is_schema, object_is_functional_equality, object_is_beta, object_is_base_eval, object_is_expansion, object_is_contraction, object_is_associativity, object_is_cut}
+use Rattle.mw_model.specs.Terms.Object.{Object, is_member}
+use Rattle.mw_model.specs.Values.Primitive.{Profile}
+use Rattle.mw_model.specs.Proofs.Proof.{Method, Axiom, Theorem, PropositionalSchema, FunctionalEquality, BetaReduction, BaseEval, Expansion, Contraction, Associativity, Cut, Instantiation, Induction}
+use Rattle.mw_model.specs.Laws.Rules.{object_is_schema, object_is_functional_equality, object_is_beta, object_is_base_eval, object_is_expansion, object_is_contraction, object_is_associativity, object_is_cut}
 
 -- at most so many, or any number
 abbrev pub most_subproofs : Method → Option ℕ

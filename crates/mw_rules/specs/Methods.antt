@@ -1,5 +1,5 @@
 -- The methods of the code are those of the logic.
-use Rattle.mw_model.specs.Proof as logic
+use Rattle.mw_model.specs.Proofs.Proof as logic
 use Rattle.mw_rules.specs.declared.method.Method.{Method}
 use Rattle.mw_rules.specs.declared.method.Method.TheVariants.{Axiom, Theorem, PropositionalSchema, FunctionalEquality, BetaReduction, BaseEval, Expansion, Contraction, Associativity, Cut, Instantiation, Induction}
 

@@ -1,11 +1,11 @@
 -- One step of a proof: the rule of its method, on objects.
 use Rattle.std.specs.Prelude.{Bool, false, ◌&&◌, Option, Some, None}
-use Rattle.mw_model.specs.Object.{Object, same_object, NIL, car, second_of, has_members, is_member}
-use Rattle.mw_model.specs.Term.{ArityTable}
-use Rattle.mw_model.specs.Primitive.{Profile}
-use Rattle.mw_model.specs.Proof.{Method, Axiom, Theorem, PropositionalSchema, FunctionalEquality, BetaReduction, BaseEval, Expansion, Contraction, Associativity, Cut, Instantiation, Induction}
-use Rattle.mw_model.specs.Rules.{object_is_schema, object_is_functional_equality, object_is_beta, object_is_base_eval, object_is_expansion, object_is_contraction, object_is_associativity, object_is_cut, object_is_instance}
-use Rattle.mw_model.specs.RulesInduction.{object_is_induction}
+use Rattle.mw_model.specs.Terms.Object.{Object, same_object, NIL, car, second_of, has_members, is_member}
+use Rattle.mw_model.specs.Terms.Term.{ArityTable}
+use Rattle.mw_model.specs.Values.Primitive.{Profile}
+use Rattle.mw_model.specs.Proofs.Proof.{Method, Axiom, Theorem, PropositionalSchema, FunctionalEquality, BetaReduction, BaseEval, Expansion, Contraction, Associativity, Cut, Instantiation, Induction}
+use Rattle.mw_model.specs.Laws.Rules.{object_is_schema, object_is_functional_equality, object_is_beta, object_is_base_eval, object_is_expansion, object_is_contraction, object_is_associativity, object_is_cut, object_is_instance}
+use Rattle.mw_model.specs.Laws.RulesInduction.{object_is_induction}
 
 -- The rule of a method: its conclusion c, the list cs of the subproofs' conclusions, the extras x.
 abbrev pub rule_holds : Object → Object → ArityTable → Profile → Option Method → Object → Object → Object → Bool

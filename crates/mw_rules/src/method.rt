@@ -1,8 +1,8 @@
 //! Methods of proof.
 ghost use Rattle.std.specs.Prelude.{◌≡◌, map, option_map};
-ghost use Rattle.mw_model.specs.Object.{Symbol};
-ghost use Rattle.mw_model.specs.Proof.{method_name};
-ghost use Rattle.mw_model.specs.Judgment.{methods, method_among};
+ghost use Rattle.mw_model.specs.Terms.Object.{Symbol};
+ghost use Rattle.mw_model.specs.Proofs.Proof.{method_name};
+ghost use Rattle.mw_model.specs.Proofs.Judgment.{methods, method_among};
 ghost use Rattle.mw_heap.specs.Objects.{object_at, IsIn};
 ghost use Rattle.mw_heap.specs.Words.{word_object};
 ghost use Rattle.mw_rules.specs.Methods.{method_of_logic};

@@ -3,9 +3,9 @@ ghost use Rattle.std.specs.Prelude.{◌≡◌, ◌<◌, true, All, length, Some,
 ghost use Rattle.mw_heap.specs.Objects.{object_at, IsIn, Grows, AreDistinct};
 ghost use Rattle.mw_heap.specs.Variants.{profile_of};
 ghost use Rattle.mw_term.specs.Marking.{AreMarks};
-ghost use Rattle.mw_model.specs.Term.{ArityTable};
-ghost use Rattle.mw_model.specs.Object.{is_member};
-ghost use Rattle.mw_model.specs.Rules.{is_formula_object};
+ghost use Rattle.mw_model.specs.Terms.Term.{ArityTable};
+ghost use Rattle.mw_model.specs.Terms.Object.{is_member};
+ghost use Rattle.mw_model.specs.Laws.Rules.{is_formula_object};
 ghost use Rattle.mw_rules.specs.Step.{rule_holds};
 ghost use Rattle.mw_heap.specs.Lists.{list_object};
 ghost use Rattle.mw_rules.specs.Methods.{method_of_logic};

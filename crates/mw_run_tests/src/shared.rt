@@ -1,6 +1,6 @@
 //! What the tests share: objects from text, and the arities of some functions.
 ghost use Rattle.std.specs.Prelude.{◌≡◌, true};
-ghost use Rattle.mw_model.specs.Object.{is_name};
+ghost use Rattle.mw_model.specs.Terms.Object.{is_name};
 
 use mw_heap::{Heap, Memory, Ref};
 use mw_read::{Reader, Step};

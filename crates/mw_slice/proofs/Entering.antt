@@ -2,10 +2,10 @@
 use Rattle.std.proofs.Common.{◌≡◌, ℕ, ◌<◌, Bool, true, false, ◌&&◌, ◌||◌, cond, List, [], ◌∷◌, ◌++◌, map, filter, Contains, ◌⊎◌, inl, inr, refl, sym, ap, ap₂, ◌∙◌, subst, append_assoc, append-nil, arith}
 use Rattle.std.proofs.lemmas.Bool.{or_cases, or_left, or_right}
 use Rattle.std.proofs.lemmas.List.Elements.{Contains-push_cases}
-use Rattle.mw_model.specs.Object.{Object, Natural, Symbol, Pair, NIL, second_of, third_of}
-use Rattle.mw_model.specs.Primitive.{is_pair}
-use Rattle.mw_model.specs.Slice.{begins_with, some_passes, occurs, without_name, theorems_named}
-use Rattle.mw_model.specs.Subproofs.{proofs_within, each_within}
+use Rattle.mw_model.specs.Terms.Object.{Object, Natural, Symbol, Pair, NIL, second_of, third_of}
+use Rattle.mw_model.specs.Values.Primitive.{is_pair}
+use Rattle.mw_model.specs.Commands.Slice.{begins_with, some_passes, occurs, without_name, theorems_named}
+use Rattle.mw_model.specs.Commands.Subproofs.{proofs_within, each_within}
 use Rattle.mw_heap.specs.Objects.{object_at, IsIn}
 use Rattle.mw_slice.specs.declared.part.Part.{Part}
 use Rattle.mw_slice.specs.declared.part.Part.TheVariants.{Cell, Proof, Proofs}

@@ -1,12 +1,12 @@
 -- The proofs of an event, by its word and the number of its members.
 use Rattle.std.proofs.Common.{◌≡◌, ℕ, suc, ◌-◌, ◌+◌, ◌<◌, ◌≤◌, Bool, true, false, ◌&&◌, cond, List, [], map, filter, Option, Some, None, refl, sym, ap, ◌∙◌, append-nil, arith}
 use Rattle.std.proofs.lemmas.Bool.{and_parts}
-use Rattle.mw_model.specs.Object.{Name, Object, Natural, Symbol, Pair, NIL, named, symbol, same_name, same_object, second_of, third_of, fourth_of, sixth_of, has_members, list1}
-use Rattle.mw_model.specs.Primitive.{is_pair}
-use Rattle.mw_model.specs.Reading.{when}
-use Rattle.mw_model.specs.Fate.{EventWord, Verify, Define, Skolem, Switch, Eval, Print, DefineAll, SetProfile, event_word, with_members}
-use Rattle.mw_model.specs.Slice.{begins_with, proofs_by_word, theorems_named}
-use Rattle.mw_model.specs.Subproofs.{proofs_within, each_within}
+use Rattle.mw_model.specs.Terms.Object.{Name, Object, Natural, Symbol, Pair, NIL, named, symbol, same_name, same_object, second_of, third_of, fourth_of, sixth_of, has_members, list1}
+use Rattle.mw_model.specs.Values.Primitive.{is_pair}
+use Rattle.mw_model.specs.Terms.Reading.{when}
+use Rattle.mw_model.specs.Events.Fate.{EventWord, Verify, Define, Skolem, Switch, Eval, Print, DefineAll, SetProfile, event_word, with_members}
+use Rattle.mw_model.specs.Commands.Slice.{begins_with, proofs_by_word, theorems_named}
+use Rattle.mw_model.specs.Commands.Subproofs.{proofs_within, each_within}
 use Rattle.mw_model.proofs.Names.{same_object-eq}
 use Rattle.mw_model.proofs.SameObject.{same_object-swap}
 

@@ -2,8 +2,8 @@
 use Rattle.std.proofs.Common.{◌≡◌, ℕ, zero, suc, ◌+◌, ◌<◌, ◌≤◌, Bool, true, false, ◌&&◌, ◌||◌, cond, List, [], ◌∷◌, ◌++◌, length, take, drop, get_or, All, Option, Some, None, is_some, refl, sym, ap, ap₂, ◌∙◌, subst, arith}
 use Rattle.std.specs.Map.{keys_of}
 use Rattle.std.proofs.lemmas.List.Elements.{All-append, All-cons, All-nil}
-use Rattle.mw_model.specs.Object.{Object, same_object, third_of}
-use Rattle.mw_model.specs.Slice.{begins_with, later_place, first_place, some_passes}
+use Rattle.mw_model.specs.Terms.Object.{Object, same_object, third_of}
+use Rattle.mw_model.specs.Commands.Slice.{begins_with, later_place, first_place, some_passes}
 use Rattle.mw_model.proofs.Names.{same_object-eq}
 use Rattle.mw_model.proofs.SameObject.{same_object-swap}
 use Rattle.mw_heap.specs.Objects.{object_at, IsIn}

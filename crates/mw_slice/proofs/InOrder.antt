@@ -1,8 +1,8 @@
 -- Events in a heap, each of which stands before the start of the next one: so a cut to the start of the last one keeps all others.
 use Rattle.std.proofs.Common.{◌≡◌, ℕ, zero, suc, ◌+◌, ◌<◌, ◌≤◌, List, [], ◌∷◌, ◌++◌, length, take, get_or, refl, sym, ap, ap₂, ◌∙◌, subst, arith}
 use Rattle.std.proofs.lemmas.List.{length-take-le}
-use Rattle.mw_model.specs.Object.{Object}
-use Rattle.mw_model.specs.Slice.{event_at}
+use Rattle.mw_model.specs.Terms.Object.{Object}
+use Rattle.mw_model.specs.Commands.Slice.{event_at}
 use Rattle.mw_heap.specs.Objects.{object_at, IsIn, Grows}
 use Rattle.mw_heap.proofs.Objects.{length-Grows, IsIn-Grows, object_at-Grows, IsIn-take, object_at-take}
 use Rattle.mw_slice.specs.declared.added.Added.{Added}

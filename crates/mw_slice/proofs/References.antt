@@ -4,8 +4,8 @@ use Rattle.std.specs.List.{list_any}
 use Rattle.std.specs.Map.{lookup, keys_of}
 use Rattle.std.proofs.lemmas.Bool.{eq-eqb, ne_eqb, cases_eq, or_left, or_right}
 use Rattle.std.proofs.lemmas.List.Elements.{All-head, All-tail}
-use Rattle.mw_model.specs.Object.{Object, Natural, Symbol, Pair, same_object}
-use Rattle.mw_model.specs.Primitive.{is_pair}
+use Rattle.mw_model.specs.Terms.Object.{Object, Natural, Symbol, Pair, same_object}
+use Rattle.mw_model.specs.Values.Primitive.{is_pair}
 use Rattle.mw_model.proofs.Names.{object_cases, same_object-from}
 use Rattle.mw_heap.specs.Objects.{object_at, IsIn, AreDistinct}
 use Rattle.mw_slice.specs.Firsts.{AreFirsts, first_by}

@@ -1,7 +1,7 @@
 -- A copy of an object of another heap, cell by cell.
 use Rattle.std.specs.Prelude.{◌≡◌, ℕ, ◌+◌, ◌*◌, ◌<◌, nat_eq, List, [], ◌∷◌, ◌++◌, Option, Some, map, Contains, ◌⊎◌}
 use Rattle.std.specs.Map.{lookup}
-use Rattle.mw_model.specs.Object.{Object, Pair, weight}
+use Rattle.mw_model.specs.Terms.Object.{Object, Pair, weight}
 use Rattle.mw_heap.specs.Objects.{object_at, IsIn}
 use Rattle.mw_slice.specs.declared.copying.Job.{Job}
 use Rattle.mw_slice.specs.declared.copying.Job.TheVariants.{Copy, Join}

@@ -1,6 +1,6 @@
 -- The events that were added, as objects.
 use Rattle.std.specs.Prelude.{List, [], map, All, Option, Some, None}
-use Rattle.mw_model.specs.Object.{Object}
+use Rattle.mw_model.specs.Terms.Object.{Object}
 use Rattle.mw_heap.specs.Objects.{object_at, IsIn}
 use Rattle.mw_slice.specs.declared.added.Added.{Added}
 use Rattle.mw_slice.specs.declared.part.Part.{Part}

@@ -1,8 +1,8 @@
 -- Where formulas are first proved, by reference.
 use Rattle.std.specs.Prelude.{ℕ, Bool, ◌&&◌, List, Option, Some, None, All}
 use Rattle.std.specs.Map.{keys_of, lookup}
-use Rattle.mw_model.specs.Object.{Object, same_object, third_of}
-use Rattle.mw_model.specs.Slice.{begins_with}
+use Rattle.mw_model.specs.Terms.Object.{Object, same_object, third_of}
+use Rattle.mw_model.specs.Commands.Slice.{begins_with}
 use Rattle.mw_heap.specs.Objects.{object_at, IsIn}
 
 -- references of the heap, each with a place

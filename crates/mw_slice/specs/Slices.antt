@@ -1,7 +1,7 @@
 -- What clauses see of a slicer: the objects of its heap, and the events.
 use Rattle.std.specs.Prelude.{◌≡◌, ℕ, ◌+◌, ◌<◌, ◌≤◌, List, [], ◌∷◌, ◌++◌, length, map, refl}
 use Rattle.std.specs.Coded.{Coded, code_by, coded_list, coded×, coded_ℕ}
-use Rattle.mw_model.specs.Object.{Object, NIL}
+use Rattle.mw_model.specs.Terms.Object.{Object, NIL}
 use Rattle.mw_heap.specs.Code.{coded_object}
 use Rattle.mw_heap.specs.Objects.{object_at, IsIn}
 use Rattle.mw_slice.specs.declared.added.Added.{Added}

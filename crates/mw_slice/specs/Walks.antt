@@ -1,6 +1,6 @@
 -- A part of an event is met.
 use Rattle.std.specs.Prelude.{◌≡◌, ℕ, ◌<◌, ◌≤◌, Bool, true, false, ◌||◌, cond, List, ◌++◌, length, Contains, ◌⊎◌}
-use Rattle.mw_model.specs.Object.{Object}
+use Rattle.mw_model.specs.Terms.Object.{Object}
 use Rattle.mw_heap.specs.Objects.{IsIn}
 use Rattle.mw_slice.specs.declared.basis.Basis.{Basis}
 use Rattle.mw_slice.specs.declared.part.Part.{Part}

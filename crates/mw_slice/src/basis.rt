@@ -1,6 +1,6 @@
 //! What the events that are kept rest on.
 ghost use Rattle.std.specs.Prelude.{◌≡◌, List, false, IfOk, OnOk};
-ghost use Rattle.mw_model.specs.Object.{Object};
+ghost use Rattle.mw_model.specs.Terms.Object.{Object};
 ghost use Rattle.mw_heap.specs.Objects.{object_at, IsIn};
 ghost use Rattle.mw_slice.specs.Supports.{Support, Named, has, notes, IsInside};
 ghost use Rattle.mw_slice.specs.Walks.{Inserts};

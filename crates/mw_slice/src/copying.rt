@@ -1,6 +1,6 @@
 //! Copies of objects of another heap.
 ghost use Rattle.std.specs.Prelude.{◌≡◌, ℕ, Some, [], ◌∷◌, ◌++◌, IfOk, OnOk};
-ghost use Rattle.mw_model.specs.Object.{Pair};
+ghost use Rattle.mw_model.specs.Terms.Object.{Pair};
 ghost use Rattle.mw_heap.specs.Objects.{object_at, IsIn, Grows};
 ghost use Rattle.mw_slice.specs.Copies.{AreCopies, IsCopied, CanBeDone, IsDone, copy_of};
 ghost use Rattle.mw_slice.specs.declared.copying.Job.TheVariants.{Copy, Join};

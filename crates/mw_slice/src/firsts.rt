@@ -1,7 +1,7 @@
 //! Where formulas are first proved.
 ghost use Rattle.std.specs.Prelude.{◌≡◌, cond, Some, None, IfOk, OnOk};
-ghost use Rattle.mw_model.specs.Object.{Object};
-ghost use Rattle.mw_model.specs.Slice.{first_proof};
+ghost use Rattle.mw_model.specs.Terms.Object.{Object};
+ghost use Rattle.mw_model.specs.Commands.Slice.{first_proof};
 ghost use Rattle.mw_heap.specs.Objects.{object_at, IsIn};
 ghost use Rattle.mw_slice.specs.Events.{AreIn, objects_of};
 ghost use Rattle.mw_slice.specs.Firsts.{AreFirsts, proves, first_or, first_by};

@@ -1,6 +1,6 @@
 //! The names that events add.
 ghost use Rattle.std.specs.Prelude.{◌≡◌};
-ghost use Rattle.mw_model.specs.Slice.{some_passes, first_members, names_added};
+ghost use Rattle.mw_model.specs.Commands.Slice.{some_passes, first_members, names_added};
 ghost use Rattle.mw_heap.specs.Objects.{object_at, IsIn};
 ghost use Rattle.mw_slice.specs.Slices.{IsNil};
 ghost use Rattle.mw_slice.specs.Supports.{Named, IsInside, notes};

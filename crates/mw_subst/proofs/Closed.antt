@@ -1,6 +1,6 @@
 -- What was made of parts was made of all that they need.
 use Rattle.std.proofs.Common.{◌≡◌, ℕ, List, [], inl, inr, subst}
-use Rattle.mw_model.specs.Object.{Object}
+use Rattle.mw_model.specs.Terms.Object.{Object}
 use Rattle.mw_subst.specs.declared.part.Part.{Part}
 use Rattle.mw_subst.specs.declared.part.Part.TheVariants.{Term}
 use Rattle.mw_subst.specs.Memo.{IsFound, Adds}

@@ -1,10 +1,10 @@
 -- On the object of a formula, substitution in terms is substitution in the formula.
 use Rattle.std.proofs.Common.{◌≡◌, true, Option, Some, None, refl, ap, ap₂, subst}
-use Rattle.mw_model.specs.Object.{Object, symbol, list2, list3}
-use Rattle.mw_model.specs.Term.{Formula, Equal, Not, Or, formula_object, ArityTable, is_formula}
-use Rattle.mw_model.specs.Reading.{formula_of, that}
-use Rattle.mw_model.specs.Definition.{is_present}
-use Rattle.mw_model.specs.Rules.{is_formula_object, substitute_object, substitute_formula_object}
+use Rattle.mw_model.specs.Terms.Object.{Object, symbol, list2, list3}
+use Rattle.mw_model.specs.Terms.Term.{Formula, Equal, Not, Or, formula_object, ArityTable, is_formula}
+use Rattle.mw_model.specs.Terms.Reading.{formula_of, that}
+use Rattle.mw_model.specs.Values.Definition.{is_present}
+use Rattle.mw_model.specs.Laws.Rules.{is_formula_object, substitute_object, substitute_formula_object}
 use Rattle.mw_model.proofs.ReadBack.{formula_back}
 
 pub on_formula : (s : Object) (F : Formula) → substitute_object s (formula_object F) ≡ substitute_formula_object s (formula_object F)

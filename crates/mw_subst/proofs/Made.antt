@@ -1,8 +1,8 @@
 -- Results so far: what is found among them, and how they stay.
 use Rattle.std.proofs.Common.{◌≡◌, ℕ, Bool, true, false, cond, nat_eq, List, [], ◌∷◌, ◌++◌, Option, Some, None, refl, sym, ap, ◌∙◌, subst, eqb-true}
 use Rattle.std.specs.Map.{lookup}
-use Rattle.mw_model.specs.Object.{Object, Pair, symbol, same_object}
-use Rattle.mw_model.specs.Rules.{substitute_object, substitute_each_object}
+use Rattle.mw_model.specs.Terms.Object.{Object, Pair, symbol, same_object}
+use Rattle.mw_model.specs.Laws.Rules.{substitute_object, substitute_each_object}
 use Rattle.mw_heap.specs.Objects.{object_at, IsIn, Grows}
 use Rattle.mw_heap.proofs.Objects.{object_at-Grows, IsIn-Grows}
 use Rattle.mw_subst.specs.Memo.{AreResults}

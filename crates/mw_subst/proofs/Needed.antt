@@ -1,6 +1,6 @@
 -- What a part needs: the parts of a pair, and the same as the heap grows.
 use Rattle.std.proofs.Common.{◌≡◌, ℕ, List, Some, sym, ap, ◌∙◌}
-use Rattle.mw_model.specs.Object.{Object, Pair}
+use Rattle.mw_model.specs.Terms.Object.{Object, Pair}
 use Rattle.mw_heap.specs.Objects.{object_at, IsIn, Grows, AreDistinct}
 use Rattle.mw_heap.proofs.Objects.{object_at-Grows, IsIn-Grows}
 use Rattle.mw_subst.specs.declared.part.Part.{Part}

@@ -1,10 +1,10 @@
 -- A substitution's object, by its pairs before a tail.
 use Rattle.std.proofs.Common.{◌≡◌, ℕ, true, false, sym, List, [], ◌∷◌, ◌++◌, refl, ap}
 use Rattle.std.proofs.lemmas.Bool.{and_parts}
-use Rattle.mw_model.specs.Object.{Object, Natural, Symbol, Pair, NIL}
-use Rattle.mw_model.specs.Primitive.{is_pair}
-use Rattle.mw_model.specs.Term.{ArityTable}
-use Rattle.mw_model.specs.Rules.{is_substitution_object, is_variable_object, is_term_object}
+use Rattle.mw_model.specs.Terms.Object.{Object, Natural, Symbol, Pair, NIL}
+use Rattle.mw_model.specs.Values.Primitive.{is_pair}
+use Rattle.mw_model.specs.Terms.Term.{ArityTable}
+use Rattle.mw_model.specs.Laws.Rules.{is_substitution_object, is_variable_object, is_term_object}
 use Rattle.mw_model.proofs.ReadBack.{nil_is}
 use Rattle.mw_heap.specs.Objects.{object_at, IsIn}
 use Rattle.mw_subst.specs.Sigma.{sigma_object, AreIn}

@@ -5,8 +5,8 @@ use Rattle.std.specs.List.{IsDistinct, list_any}
 use Rattle.std.proofs.lemmas.Option.{slice_get_within}
 use Rattle.std.proofs.lemmas.Map.Entries.{length-keys_of}
 use Rattle.std.proofs.lemmas.Map.Steps.{length-le_from_distinct_below}
-use Rattle.mw_model.specs.Object.{Object}
-use Rattle.mw_model.specs.Rules.{substitute_object, substitute_each_object}
+use Rattle.mw_model.specs.Terms.Object.{Object}
+use Rattle.mw_model.specs.Laws.Rules.{substitute_object, substitute_each_object}
 use Rattle.mw_model.proofs.ReadBack.{some_one}
 use Rattle.mw_heap.specs.Objects.{object_at, IsIn, Grows}
 use Rattle.mw_heap.proofs.Lists.{slice_get-append, slice_get-seam, slice_get-push}

@@ -5,7 +5,7 @@ use Rattle.std.specs.Cmp.{nat_eq_equiv}
 use Rattle.std.proofs.lemmas.Map.Keys.{IsDistinct-push, IsDistinct-from_apart}
 use Rattle.std.proofs.lemmas.Map.Steps.{length-le_from_distinct_below}
 use Rattle.std.proofs.lemmas.Option.{slice_get_within}
-use Rattle.mw_model.specs.Object.{Object}
+use Rattle.mw_model.specs.Terms.Object.{Object}
 use Rattle.mw_heap.proofs.Lists.{slice_get-append, slice_get-seam, slice_get-push}
 use Rattle.mw_subst.specs.declared.part.Part.{Part}
 use Rattle.mw_subst.specs.declared.part.Part.TheVariants.{Term, Terms}

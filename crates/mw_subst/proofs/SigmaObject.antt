@@ -2,8 +2,8 @@
 use Rattle.std.proofs.Common.{◌≡◌, ℕ, Bool, true, false, cond, nat_eq, List, [], ◌∷◌, ◌++◌, Option, Some, None, refl, sym, ap, ap₂, ◌∙◌, subst, eqb-true, eq-eqb}
 use Rattle.std.specs.Map.{lookup}
 use Rattle.std.proofs.lemmas.Bool.Decides.{same_from_decides}
-use Rattle.mw_model.specs.Object.{Object, Pair, same_object}
-use Rattle.mw_model.specs.Rules.{image_object}
+use Rattle.mw_model.specs.Terms.Object.{Object, Pair, same_object}
+use Rattle.mw_model.specs.Laws.Rules.{image_object}
 use Rattle.mw_model.proofs.Names.{same_object-eq, same_object-from}
 use Rattle.mw_heap.specs.Objects.{object_at, IsIn, Grows, AreDistinct}
 use Rattle.mw_heap.proofs.Objects.{object_at-Grows, IsIn-Grows}

@@ -1,7 +1,7 @@
 -- Claims that the instance of a part is a cell, and what they come to.
 use Rattle.std.specs.Prelude.{◌≡◌, ℕ, ◌<◌, ◌≤◌, ◌==◌, Bool, true, false, List, ◌++◌, length, Some, ◌⊎◌}
 use Rattle.std.specs.List.{AllByRecursion}
-use Rattle.mw_model.specs.Object.{Object}
+use Rattle.mw_model.specs.Terms.Object.{Object}
 use Rattle.mw_heap.specs.Objects.{object_at, IsIn}
 use Rattle.mw_subst.specs.declared.part.Part.{Part}
 use Rattle.mw_subst.specs.declared.memo.Memo.{Memo}

@@ -1,6 +1,6 @@
 -- Lists of pairs, as substitutions are.
 use Rattle.std.specs.Prelude.{Bool, false}
-use Rattle.mw_model.specs.Object.{Object, Natural, Symbol, Pair, same_name, nil_name}
+use Rattle.mw_model.specs.Terms.Object.{Object, Natural, Symbol, Pair, same_name, nil_name}
 
 -- a proper list of pairs
 abbrev pub is_list_of_pairs : Object → Bool

@@ -1,7 +1,7 @@
 -- The cells that a substitution in a term reaches.
 use Rattle.std.specs.Prelude.{◌≡◌, ℕ, ◌≤◌, nat_eq, true, false, List, ◌⊎◌}
 use Rattle.std.specs.List.{IsDistinct, list_any}
-use Rattle.mw_model.specs.Object.{Object, Pair, symbol, same_object}
+use Rattle.mw_model.specs.Terms.Object.{Object, Pair, symbol, same_object}
 use Rattle.mw_heap.specs.Objects.{object_at, IsIn}
 use Rattle.mw_subst.specs.declared.part.Part.{Part}
 use Rattle.mw_subst.specs.declared.part.Part.TheVariants.{Term, Terms}

@@ -1,7 +1,7 @@
 -- Substitutions as lists of pairs of references, and their objects.
 use Rattle.std.specs.Prelude.{◌≡◌, ℕ, nat_eq, cond, List, [], ◌∷◌, Option, Some, None}
 use Rattle.std.specs.Map.{lookup}
-use Rattle.mw_model.specs.Object.{Object, Pair, NIL}
+use Rattle.mw_model.specs.Terms.Object.{Object, Pair, NIL}
 use Rattle.mw_heap.specs.Objects.{object_at, IsIn}
 
 -- the proper list of the pairs (variable . term)

@@ -1,6 +1,6 @@
 -- One step of a substitution.
 use Rattle.std.specs.Prelude.{◌≡◌, ℕ, ◌+◌, ◌<◌, List, [], ◌∷◌, ◌++◌, Option, Some, None, ◌⊎◌}
-use Rattle.mw_model.specs.Object.{Object}
+use Rattle.mw_model.specs.Terms.Object.{Object}
 use Rattle.mw_heap.specs.Objects.{object_at, IsIn}
 use Rattle.mw_subst.specs.declared.part.Part.{Part}
 use Rattle.mw_subst.specs.declared.memo.Memo.{Memo}

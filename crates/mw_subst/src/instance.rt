@@ -1,7 +1,7 @@
 //! Whether a cell is an instance of a term, with nothing made.
 ghost use Rattle.std.specs.Prelude.{◌≡◌, None, IfOk, OnOk};
-ghost use Rattle.mw_model.specs.Object.{same_object};
-ghost use Rattle.mw_model.specs.Rules.{substitute_object};
+ghost use Rattle.mw_model.specs.Terms.Object.{same_object};
+ghost use Rattle.mw_model.specs.Laws.Rules.{substitute_object};
 ghost use Rattle.mw_heap.specs.Objects.{object_at, IsIn};
 ghost use Rattle.mw_subst.specs.Sigma.{sigma_object, AreIn};
 ghost use Rattle.mw_subst.specs.Memo.{AreUnique, IsPartIn};

@@ -1,7 +1,7 @@
 //! Substitution in a term.
 ghost use Rattle.std.specs.Prelude.{◌≡◌, ◌+◌, ◌<◌, ◌≤◌, ℕ, true, None, List, length, IfOk, OnOk, OnErr};
-ghost use Rattle.mw_model.specs.Object.{symbol, same_object};
-ghost use Rattle.mw_model.specs.Rules.{substitute_object, image_object};
+ghost use Rattle.mw_model.specs.Terms.Object.{symbol, same_object};
+ghost use Rattle.mw_model.specs.Laws.Rules.{substitute_object, image_object};
 ghost use Rattle.mw_heap.specs.Objects.{object_at, IsIn, Grows};
 ghost use Rattle.mw_subst.specs.Sigma.{sigma_object, AreIn};
 ghost use Rattle.mw_subst.specs.Memo.{AreMade, AreUnique, IsPartIn, found};

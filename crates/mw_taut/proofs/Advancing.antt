@@ -1,8 +1,8 @@
 -- One step of building a table.
 use Rattle.std.proofs.Common.{◌≡◌, ℕ, ◌<◌, List, [], ◌∷◌, ◌++◌, length, sym, ap, ◌∙◌, subst}
-use Rattle.mw_model.specs.Object.{Object}
-use Rattle.mw_model.specs.Term.{Formula, formula_object, ArityTable}
-use Rattle.mw_model.specs.Truth.{Each}
+use Rattle.mw_model.specs.Terms.Object.{Object}
+use Rattle.mw_model.specs.Terms.Term.{Formula, formula_object, ArityTable}
+use Rattle.mw_model.specs.Values.Truth.{Each}
 use Rattle.mw_heap.specs.Objects.{object_at, IsIn, AreDistinct}
 use Rattle.mw_taut.specs.declared.node.Node.{Node}
 use Rattle.mw_taut.specs.declared.progress.Progress.TheVariants.{Made, Wants}

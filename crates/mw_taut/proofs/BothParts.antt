@@ -1,8 +1,8 @@
 -- What the proofs for a disjunction prove, both of whose parts come to others, or one of them, in the context D.
 use Rattle.std.proofs.Common.{◌≡◌, true}
 use Rattle.std.proofs.lemmas.Bool.{and_parts}
-use Rattle.mw_model.specs.Object.{Object}
-use Rattle.mw_model.specs.Term.{Formula, Not, Or, formula_object, ArityTable, is_formula}
+use Rattle.mw_model.specs.Terms.Object.{Object}
+use Rattle.mw_model.specs.Terms.Term.{Formula, Not, Or, formula_object, ArityTable, is_formula}
 use Rattle.mw_taut.specs.Reducing.{both_from_start, from_end, both_from_end, kept_from_start, kept_from_end, both_from, first_kept_from, second_kept_from, both_to_start, to_end, both_to_middle, both_to_end, kept_to_start, kept_to_middle, kept_to_end, both_to, first_kept_to, second_kept_to}
 use Rattle.mw_taut.proofs.Proved.{Good, left_part, right_part, both_parts, schema-good, associativity-good, inserted-good, replaced-good, gathered-good, without_second-good, exchanged-good, exposed-good, gained_left-good, gained_right-good, owed_left-good, owed_right-good}
 

@@ -1,12 +1,12 @@
 -- A part that is looked at is made of the parts in the table, or wants one that is not there yet.
 use Rattle.std.proofs.Common.{◌≡◌, ℕ, suc, ◌+◌, ◌<◌, arith, Bool, true, false, ◌||◌, cond, List, [], ◌∷◌, ◌++◌, map, length, slice_get, Some, ◌⊎◌, inl, inr, refl, sym, ap, ap₂, ◌∙◌, subst, append_assoc, length-append}
 use Rattle.std.proofs.lemmas.List.{map-append, append-nil}
-use Rattle.mw_model.specs.Object.{Object, same_object, weight}
-use Rattle.mw_model.specs.Term.{Formula, Equal, Not as Denial, Or as Either, formula_object, ArityTable, is_formula}
-use Rattle.mw_model.specs.Reading.{formula_of}
-use Rattle.mw_model.specs.Truth.{Each}
-use Rattle.mw_model.specs.Tautology.{all_equations, equations}
-use Rattle.mw_model.specs.Same.{same_formula}
+use Rattle.mw_model.specs.Terms.Object.{Object, same_object, weight}
+use Rattle.mw_model.specs.Terms.Term.{Formula, Equal, Not as Denial, Or as Either, formula_object, ArityTable, is_formula}
+use Rattle.mw_model.specs.Terms.Reading.{formula_of}
+use Rattle.mw_model.specs.Values.Truth.{Each}
+use Rattle.mw_model.specs.Commands.Tautology.{all_equations, equations}
+use Rattle.mw_model.specs.Terms.Same.{same_formula}
 use Rattle.mw_model.proofs.SameTerms.{same_formula-eq}
 use Rattle.mw_model.proofs.Read.{formula_read}
 use Rattle.std.proofs.lemmas.Bool.{and_parts}

@@ -1,10 +1,10 @@
 -- What comes of a case, by what the formula comes to.
 use Rattle.std.proofs.Common.{◌≡◌, ℕ, Bool, true, false, not, cond, List, [], ◌∷◌, ◌++◌, map, length, refl, sym, ap, ap₂, ◌∙◌, subst, arith, length-append}
-use Rattle.mw_model.specs.Object.{Object, Pair, truth_of}
-use Rattle.mw_model.specs.Term.{Formula, Equal, Not, Or, formula_object, ArityTable, is_formula}
-use Rattle.mw_model.specs.Same.{same_formula}
-use Rattle.mw_model.specs.Truth.{Each}
-use Rattle.mw_model.specs.Tautology.{Choice, choices, chosen, value_by, first_against, choice_object}
+use Rattle.mw_model.specs.Terms.Object.{Object, Pair, truth_of}
+use Rattle.mw_model.specs.Terms.Term.{Formula, Equal, Not, Or, formula_object, ArityTable, is_formula}
+use Rattle.mw_model.specs.Terms.Same.{same_formula}
+use Rattle.mw_model.specs.Values.Truth.{Each}
+use Rattle.mw_model.specs.Commands.Tautology.{Choice, choices, chosen, value_by, first_against, choice_object}
 use Rattle.mw_model.proofs.SameTerms.{same_formula-refl}
 use Rattle.mw_heap.specs.Objects.{object_at}
 use Rattle.mw_taut.specs.declared.case.Outcome.{Outcome}

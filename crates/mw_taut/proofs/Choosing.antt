@@ -1,6 +1,6 @@
 -- A choice is listed from its end.
 use Rattle.std.proofs.Common.{◌≡◌, ℕ, zero, suc, ◌≤◌, arith, Bool, List, [], ◌∷◌, map, drop, length, get_or, slice_get, refl, sym, ap, ap₂, ◌∙◌}
-use Rattle.mw_model.specs.Object.{Object, Pair, NIL, truth_of}
+use Rattle.mw_model.specs.Terms.Object.{Object, Pair, NIL, truth_of}
 use Rattle.mw_heap.specs.Objects.{object_at, IsIn, Grows}
 use Rattle.mw_heap.proofs.Objects.{object_at-Grows, Grows-trans}
 use Rattle.mw_taut.specs.Cases.{choice_list, is_true}

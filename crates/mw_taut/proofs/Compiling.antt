@@ -2,10 +2,10 @@
 use Rattle.std.proofs.Common.{◌≡◌, ℕ, zero, suc, ◌+◌, ◌<◌, arith, List, [], ◌∷◌, ◌++◌, map, length, slice_get, Some, refl, ap, ap₂, ◌∙◌, subst, length-append}
 use Rattle.std.specs.Prelude.{All}
 use Rattle.std.proofs.lemmas.List.{map-append}
-use Rattle.mw_model.specs.Object.{Object}
-use Rattle.mw_model.specs.Term.{Formula, formula_object, ArityTable}
-use Rattle.mw_model.specs.Truth.{Each}
-use Rattle.mw_model.specs.Tautology.{equations}
+use Rattle.mw_model.specs.Terms.Object.{Object}
+use Rattle.mw_model.specs.Terms.Term.{Formula, formula_object, ArityTable}
+use Rattle.mw_model.specs.Values.Truth.{Each}
+use Rattle.mw_model.specs.Commands.Tautology.{equations}
 use Rattle.mw_heap.specs.Objects.{object_at, IsIn}
 use Rattle.mw_taut.specs.declared.node.Node.{Node}
 use Rattle.mw_taut.specs.declared.table.Table.{Table}

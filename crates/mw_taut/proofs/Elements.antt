@@ -1,6 +1,6 @@
 -- The elements of a list, and of one that is an element longer.
 use Rattle.std.proofs.Common.{◌≡◌, ℕ, zero, suc, ◌<◌, ◌≤◌, arith, List, [], ◌∷◌, ◌++◌, map, drop, length, get_or, slice_get, Some, ◌⊎◌, inl, inr, refl, sym, ap, subst}
-use Rattle.mw_model.specs.Truth.{Each}
+use Rattle.mw_model.specs.Values.Truth.{Each}
 
 pub each_more : {X : Type 0} (P : X → Type 0) (xs : List X) (x : X) → Each P xs → P x → Each P (xs ++ x ∷ [])
 each_more P [] x h i = (i, tt)

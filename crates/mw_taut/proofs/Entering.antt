@@ -1,8 +1,8 @@
 -- What is said of the case in which the next equation has a value.
 use Rattle.std.proofs.Common.{◌≡◌, ℕ, Bool, true, not, List, [], ◌∷◌, ◌++◌, map, length, get_or, Result, Ok, Err, IfOk, sym, ap, ◌∙◌, subst, append_assoc}
-use Rattle.mw_model.specs.Object.{Object}
-use Rattle.mw_model.specs.Term.{Formula, formula_object, ArityTable, is_formula}
-use Rattle.mw_model.specs.Truth.{Each}
+use Rattle.mw_model.specs.Terms.Object.{Object}
+use Rattle.mw_model.specs.Terms.Term.{Formula, formula_object, ArityTable, is_formula}
+use Rattle.mw_model.specs.Values.Truth.{Each}
 use Rattle.mw_heap.specs.Objects.{object_at}
 use Rattle.mw_taut.specs.declared.table.Table.{Table}
 use Rattle.mw_taut.specs.Reducing.{Form, nothing, reduce_all}

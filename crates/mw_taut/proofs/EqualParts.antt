@@ -1,6 +1,6 @@
 -- What a rule makes of equal parts is equal.
 use Rattle.std.proofs.Common.{◌≡◌}
-use Rattle.mw_model.specs.Object.{Object}
+use Rattle.mw_model.specs.Terms.Object.{Object}
 
 pub ap₃ : (f : Object → Object → Object → Object) {a a' b b' c c' : Object} → a ≡ a' → b ≡ b' → c ≡ c' → f a b c ≡ f a' b' c'
 ap₃ f p q r = λ i. f (p i) (q i) (r i)

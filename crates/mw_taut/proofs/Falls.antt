@@ -2,8 +2,8 @@
 use Rattle.std.proofs.Common.{◌≡◌, ℕ, zero, suc, ◌+◌, ◌*◌, ◌<◌, ◌≤◌, arith, Bool, true, false, ◌||◌, cond, eqb, List, [], ◌∷◌, ◌++◌, length, Some, refl, sym, ap, ◌∙◌, eqb-true, eq-eqb}
 use Rattle.std.proofs.Math.Nat.{mul-le-mul_left}
 use Rattle.std.proofs.lemmas.Bool.{both_ways}
-use Rattle.mw_model.specs.Object.{Object, weight}
-use Rattle.mw_model.specs.Term.{ArityTable}
+use Rattle.mw_model.specs.Terms.Object.{Object, weight}
+use Rattle.mw_model.specs.Terms.Term.{ArityTable}
 use Rattle.mw_heap.specs.Objects.{object_at, IsIn}
 use Rattle.mw_taut.specs.Building.{IsNew, has, missing, last_weight, left_over, IsFalling}
 

@@ -1,8 +1,8 @@
 -- What a formula is, by its object.
 use Rattle.std.proofs.Common.{◌≡◌, false, refl, ap}
 use Rattle.std.proofs.lemmas.Bool.{both_ways}
-use Rattle.mw_model.specs.Object.{Object, symbol, same_object, car, second_of, third_of}
-use Rattle.mw_model.specs.Term.{Formula, Equal, Not as Denial, Or as Either, formula_object}
+use Rattle.mw_model.specs.Terms.Object.{Object, symbol, same_object, car, second_of, third_of}
+use Rattle.mw_model.specs.Terms.Term.{Formula, Equal, Not as Denial, Or as Either, formula_object}
 use Rattle.mw_model.proofs.Names.{same_object-from}
 use Rattle.mw_taut.specs.Steps.{not_object, or_object}
 use Rattle.mw_taut.specs.Meaning.{IsEquation}

@@ -1,8 +1,8 @@
 -- What is made of objects that hold no natural past the range holds none either.
 use Rattle.std.proofs.Common.{◌≡◌, false, true, Bool, refl, ap₂}
 use Rattle.std.specs.Prelude.{◌||◌}
-use Rattle.mw_model.specs.Object.{Name, Object, Pair, Symbol, NIL, named, nil_name, symbol, list1, list2, list3}
-use Rattle.mw_model.specs.Fate.{is_out_of_range}
+use Rattle.mw_model.specs.Terms.Object.{Name, Object, Pair, Symbol, NIL, named, nil_name, symbol, list1, list2, list3}
+use Rattle.mw_model.specs.Events.Fate.{is_out_of_range}
 use Rattle.mw_taut.specs.Steps.{not_object, or_object, schema, expansion, contraction, associativity, cut, commuted, inserted, appended, resolved, doubled, left, right, turned, turned_twice, replaced, gathered, without_second, without_first, neither}
 use Rattle.mw_taut.specs.Reducing.{literal_object, literal_law}
 

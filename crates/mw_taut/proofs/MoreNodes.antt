@@ -1,7 +1,7 @@
 -- Nodes stay nodes where there are more equations, and with one more node.
 use Rattle.std.proofs.Common.{◌≡◌, ℕ, suc, ◌+◌, arith, List, [], ◌∷◌, ◌++◌, length, sym, subst, append_assoc}
 use Rattle.std.proofs.lemmas.List.{append-nil}
-use Rattle.mw_model.specs.Term.{Formula}
+use Rattle.mw_model.specs.Terms.Term.{Formula}
 use Rattle.mw_taut.specs.declared.node.Node.{Node}
 use Rattle.mw_taut.specs.declared.node.Node.TheVariants.{Equation, Not, Or}
 use Rattle.mw_taut.specs.Nodes.{IsNode, AreNodes}

@@ -1,12 +1,12 @@
 -- Each formula that is true whatever is chosen has a proof: by cases over its equations, and in each case part by part.
 use Rattle.std.proofs.Common.{◌≡◌, Bool, true, false, ◌||◌, not, ltb, cond, List, [], ◌∷◌, map, length, Option, Some, None, refl, sym, ap, ◌∙◌, subst}
 use Rattle.std.specs.Prelude.{if◌then◌else◌}
-use Rattle.mw_model.specs.Object.{Object}
-use Rattle.mw_model.specs.Term.{Formula, Equal, Not, Or, formula_object, ArityTable, is_formula}
-use Rattle.mw_model.specs.Same.{same_formula}
-use Rattle.mw_model.specs.Truth.{Each}
-use Rattle.mw_model.specs.Tautology.{Choice, Many, Holds, IsTautology, all_equations, equations, chosen, value_under, falsifying, decided, decision, most_equations}
-use Rattle.mw_model.specs.TautologyBook.{IsPureProof}
+use Rattle.mw_model.specs.Terms.Object.{Object}
+use Rattle.mw_model.specs.Terms.Term.{Formula, Equal, Not, Or, formula_object, ArityTable, is_formula}
+use Rattle.mw_model.specs.Terms.Same.{same_formula}
+use Rattle.mw_model.specs.Values.Truth.{Each}
+use Rattle.mw_model.specs.Commands.Tautology.{Choice, Many, Holds, IsTautology, all_equations, equations, chosen, value_under, falsifying, decided, decision, most_equations}
+use Rattle.mw_model.specs.Commands.TautologyBook.{IsPureProof}
 use Rattle.mw_model.proofs.SameTerms.{same_formula-eq, same_formula-refl}
 use Rattle.mw_model.proofs.Tautologies.{tautology_exact}
 use Rattle.std.proofs.lemmas.Bool.{both_ways}

@@ -1,9 +1,9 @@
 -- What each part of a formula comes to where the equation E has the value b.
 use Rattle.std.proofs.Common.{◌≡◌, Bool, true, false, ◌||◌, not, cond, List, ◌∷◌, Option, Some, None, refl, sym, ap, ap₂, ◌∙◌, subst}
-use Rattle.mw_model.specs.Object.{Object, same_object}
-use Rattle.mw_model.specs.Term.{Formula, Equal, Not as Denial, Or as Either, formula_object, ArityTable, is_formula}
-use Rattle.mw_model.specs.Same.{same_formula}
-use Rattle.mw_model.specs.Tautology.{value_by}
+use Rattle.mw_model.specs.Terms.Object.{Object, same_object}
+use Rattle.mw_model.specs.Terms.Term.{Formula, Equal, Not as Denial, Or as Either, formula_object, ArityTable, is_formula}
+use Rattle.mw_model.specs.Terms.Same.{same_formula}
+use Rattle.mw_model.specs.Commands.Tautology.{value_by}
 use Rattle.mw_model.proofs.Names.{same_object-eq, same_object-from}
 use Rattle.mw_model.proofs.SameTerms.{same_formula-eq}
 use Rattle.mw_model.proofs.Read.{formula_object-one}

@@ -1,10 +1,10 @@
 -- An object that a formula is read from is that formula's.
 use Rattle.std.proofs.Common.{◌≡◌, true, Option, Some, None, refl, sym, ap, ◌∙◌}
-use Rattle.mw_model.specs.Object.{Object}
-use Rattle.mw_model.specs.Term.{Formula, formula_object, ArityTable, is_formula}
-use Rattle.mw_model.specs.Reading.{formula_of, formula_under, that}
-use Rattle.mw_model.specs.Definition.{is_present}
-use Rattle.mw_model.specs.Rules.{is_formula_object}
+use Rattle.mw_model.specs.Terms.Object.{Object}
+use Rattle.mw_model.specs.Terms.Term.{Formula, formula_object, ArityTable, is_formula}
+use Rattle.mw_model.specs.Terms.Reading.{formula_of, formula_under, that}
+use Rattle.mw_model.specs.Values.Definition.{is_present}
+use Rattle.mw_model.specs.Laws.Rules.{is_formula_object}
 use Rattle.mw_model.proofs.ReadBack.{when_some, formula_back}
 
 pub shown : (A : ArityTable) (x : Object) (F : Formula) → formula_under A x ≡ Some F → (x ≡ formula_object F) × (is_formula A F ≡ true)

@@ -1,10 +1,10 @@
 -- The parts of a formula are reduced in order, and so is the whole.
 use Rattle.std.proofs.Common.{◌≡◌, ℕ, zero, suc, Bool, true, not, List, [], ◌∷◌, ◌++◌, map, length, get_or, slice_get, Some, refl, sym, ap, ◌∙◌, subst, append_assoc}
 use Rattle.std.proofs.lemmas.List.{append-nil}
-use Rattle.mw_model.specs.Object.{Object, NIL}
-use Rattle.mw_model.specs.Term.{Formula, Equal, Not as Denial, Or as Either, formula_object, ArityTable, is_formula}
-use Rattle.mw_model.specs.Truth.{Each}
-use Rattle.mw_model.specs.Tautology.{all_equations, equations}
+use Rattle.mw_model.specs.Terms.Object.{Object, NIL}
+use Rattle.mw_model.specs.Terms.Term.{Formula, Equal, Not as Denial, Or as Either, formula_object, ArityTable, is_formula}
+use Rattle.mw_model.specs.Values.Truth.{Each}
+use Rattle.mw_model.specs.Commands.Tautology.{all_equations, equations}
 use Rattle.mw_taut.specs.declared.node.Node.{Node}
 use Rattle.mw_taut.specs.declared.node.Node.TheVariants.{Equation, Not, Or}
 use Rattle.mw_taut.specs.Reducing.{Form, nothing, reduce_equation, deny, either, reduce, reduce_all}

@@ -1,10 +1,10 @@
 -- A formula's table as it is built: each part stands after its own parts, and those that wait are on a path.
 use Rattle.std.specs.Prelude.{◌≡◌, ℕ, zero, suc, ◌+◌, ◌*◌, eqb, ◌<◌, Bool, true, false, ◌||◌, cond, List, [], ◌∷◌, ◌++◌, length, map, Option, Some, None, slice_get, ◌⊎◌}
-use Rattle.mw_model.specs.Object.{Object, nil_name, same_object, weight}
-use Rattle.mw_model.specs.Term.{Formula, Equal, Variable, formula_object, ArityTable, is_formula}
-use Rattle.mw_model.specs.Reading.{formula_of}
-use Rattle.mw_model.specs.Truth.{Each}
-use Rattle.mw_model.specs.Tautology.{all_equations, equations}
+use Rattle.mw_model.specs.Terms.Object.{Object, nil_name, same_object, weight}
+use Rattle.mw_model.specs.Terms.Term.{Formula, Equal, Variable, formula_object, ArityTable, is_formula}
+use Rattle.mw_model.specs.Terms.Reading.{formula_of}
+use Rattle.mw_model.specs.Values.Truth.{Each}
+use Rattle.mw_model.specs.Commands.Tautology.{all_equations, equations}
 use Rattle.mw_heap.specs.Objects.{object_at, IsIn}
 use Rattle.mw_term.specs.Occurrences.{gather}
 use Rattle.mw_taut.specs.declared.node.Node.{Node}

@@ -1,11 +1,11 @@
 -- A proof by cases, equation by equation.
 use Rattle.std.specs.Prelude.{◌≡◌, ℕ, nat_eq, ◌<◌, Bool, true, false, not, cond, List, [], ◌∷◌, ◌++◌, length, map, All, Option, Some, None}
-use Rattle.mw_model.specs.Object.{Object, Pair, NIL, truth_of}
-use Rattle.mw_model.specs.Term.{Formula, Not, Or, formula_object, ArityTable, is_formula}
-use Rattle.mw_model.specs.Primitive.{One}
-use Rattle.mw_model.specs.Proof.{Proves}
-use Rattle.mw_model.specs.Truth.{Each}
-use Rattle.mw_model.specs.Tautology.{Choice, IsTautology, choices, choice_object, first_against, value_by}
+use Rattle.mw_model.specs.Terms.Object.{Object, Pair, NIL, truth_of}
+use Rattle.mw_model.specs.Terms.Term.{Formula, Not, Or, formula_object, ArityTable, is_formula}
+use Rattle.mw_model.specs.Values.Primitive.{One}
+use Rattle.mw_model.specs.Proofs.Proof.{Proves}
+use Rattle.mw_model.specs.Values.Truth.{Each}
+use Rattle.mw_model.specs.Commands.Tautology.{Choice, IsTautology, choices, choice_object, first_against, value_by}
 use Rattle.mw_heap.specs.Objects.{object_at, IsIn}
 use Rattle.indexmap.specs.IndexMap.{IndexMap, get}
 use Rattle.mw_taut.specs.declared.table.Table.{Table}

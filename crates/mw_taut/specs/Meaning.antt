@@ -1,12 +1,12 @@
 -- What nodes stand for, and what parts come to where an equation has a value.
 use Rattle.std.specs.Prelude.{◌≡◌, Bool, true, false, not, ◌||◌, List, [], ◌∷◌, ◌++◌, Option, Some, None, slice_get}
-use Rattle.mw_model.specs.Object.{Object, NIL}
-use Rattle.mw_model.specs.Term.{Formula, Equal, formula_object, ArityTable, is_formula, Not as Denial, Or as Either}
-use Rattle.mw_model.specs.Primitive.{One}
-use Rattle.mw_model.specs.Proof.{Proves}
-use Rattle.mw_model.specs.Same.{same_formula}
-use Rattle.mw_model.specs.Truth.{Each}
-use Rattle.mw_model.specs.Tautology.{value_by}
+use Rattle.mw_model.specs.Terms.Object.{Object, NIL}
+use Rattle.mw_model.specs.Terms.Term.{Formula, Equal, formula_object, ArityTable, is_formula, Not as Denial, Or as Either}
+use Rattle.mw_model.specs.Values.Primitive.{One}
+use Rattle.mw_model.specs.Proofs.Proof.{Proves}
+use Rattle.mw_model.specs.Terms.Same.{same_formula}
+use Rattle.mw_model.specs.Values.Truth.{Each}
+use Rattle.mw_model.specs.Commands.Tautology.{value_by}
 use Rattle.mw_taut.specs.declared.node.Node.{Node}
 use Rattle.mw_taut.specs.declared.node.Node.TheVariants.{Equation, Not, Or}
 use Rattle.mw_taut.specs.Reducing.{ValueAndProof, Other, Form, Fixed, Kept, Changed}

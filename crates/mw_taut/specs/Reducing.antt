@@ -1,7 +1,7 @@
 -- What the parts of a formula come to where an equation has a value: a truth value, or a formula without the equation; with proofs, in the
 -- context of the value's denial. A part in which the equation does not occur comes to itself, and there is nothing to prove.
 use Rattle.std.specs.Prelude.{Bool, true, false, cond, List, [], ◌∷◌, ◌++◌, length, map, get_or, option_map, Option, Some, None, IfSome}
-use Rattle.mw_model.specs.Object.{Object, NIL, same_object}
+use Rattle.mw_model.specs.Terms.Object.{Object, NIL, same_object}
 use Rattle.mw_heap.specs.Objects.{object_at, IsIn}
 use Rattle.mw_taut.specs.declared.settled.Settled.{Settled}
 use Rattle.mw_taut.specs.declared.reduced.Change.{Change}

@@ -1,6 +1,6 @@
 //! The proof by cases.
 ghost use Rattle.std.specs.Prelude.{◌≡◌, nat_eq, List, ◌∷◌, All, IfOk, OnOk};
-ghost use Rattle.mw_model.specs.Term.{Formula};
+ghost use Rattle.mw_model.specs.Terms.Term.{Formula};
 ghost use Rattle.mw_heap.specs.Objects.{object_at, IsIn, Grows};
 ghost use Rattle.indexmap.specs.IndexMap.{get};
 ghost use Rattle.mw_taut.specs.Cases.{choice_of, carried, joined, answer_at, IsOutcomeIn, IsFollowIn, IsPosed, AreProved, Keeps, Decides, DecidesWhere};

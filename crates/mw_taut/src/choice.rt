@@ -1,6 +1,6 @@
 //! Choices, as lists in a heap.
 ghost use Rattle.std.specs.Prelude.{◌≡◌, [], ◌∷◌, ◌++◌, All, map, slice_get, IfOk};
-ghost use Rattle.mw_model.specs.Object.{Pair, truth_of};
+ghost use Rattle.mw_model.specs.Terms.Object.{Pair, truth_of};
 ghost use Rattle.mw_heap.specs.Objects.{object_at, IsIn, Grows};
 ghost use Rattle.mw_taut.specs.Cases.{choice_list, is_true};
 

@@ -1,6 +1,6 @@
 //! The table of a formula, from the heap.
 ghost use Rattle.std.specs.Prelude.{◌≡◌, ℕ, ◌<◌, ◌+◌, ◌++◌, ◌∷◌, [], true, length, MatchOption, IfOk, OnOk};
-ghost use Rattle.mw_model.specs.Term.{Formula, formula_object, ArityTable, is_formula};
+ghost use Rattle.mw_model.specs.Terms.Term.{Formula, formula_object, ArityTable, is_formula};
 ghost use Rattle.mw_heap.specs.Objects.{object_at, IsIn};
 ghost use Rattle.mw_taut.specs.Building.{IsAt, IsNew, IsProgress, IsBuilt, equations_with, left_over};
 ghost use Rattle.mw_taut.specs.Decided.{IsTableOf};

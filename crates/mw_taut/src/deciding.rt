@@ -1,9 +1,9 @@
 //! Whether a formula is a tautology.
 ghost use Rattle.std.specs.Prelude.{◌≡◌, true, Some, [], IfOk};
-ghost use Rattle.mw_model.specs.Term.{Formula, formula_object, is_formula};
-ghost use Rattle.mw_model.specs.Reading.{formula_under};
-ghost use Rattle.mw_model.specs.Rules.{is_formula_object};
-ghost use Rattle.mw_model.specs.Tautology.{decision, equations};
+ghost use Rattle.mw_model.specs.Terms.Term.{Formula, formula_object, is_formula};
+ghost use Rattle.mw_model.specs.Terms.Reading.{formula_under};
+ghost use Rattle.mw_model.specs.Laws.Rules.{is_formula_object};
+ghost use Rattle.mw_model.specs.Commands.Tautology.{decision, equations};
 ghost use Rattle.mw_heap.specs.Objects.{object_at, IsIn, Grows};
 ghost use Rattle.mw_taut.specs.Cases.{Decides, answer_at, IsOutcomeIn};
 ghost use Rattle.mw_taut.specs.Decided.{IsTableOf, IsDecision, decision_of, IsInRange};

@@ -1,6 +1,6 @@
 //! The case in which one more equation has a value.
 ghost use Rattle.std.specs.Prelude.{◌≡◌, ◌<◌, All, length, map, List, ◌∷◌, IfOk};
-ghost use Rattle.mw_model.specs.Term.{Formula, ArityTable};
+ghost use Rattle.mw_model.specs.Terms.Term.{Formula, ArityTable};
 ghost use Rattle.mw_heap.specs.Objects.{object_at, IsIn, Grows};
 ghost use Rattle.mw_taut.specs.Reducing.{settled_at, form_at, IsFormIn};
 ghost use Rattle.mw_taut.specs.Cases.{choice_of, ended, answer_at, entered, step_at, IsTableIn, IsOutcomeIn, IsPosed, IsEntered, IsEnteredIn};

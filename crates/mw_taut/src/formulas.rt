@@ -1,6 +1,6 @@
 //! Formulas and short lists in a heap.
 ghost use Rattle.std.specs.Prelude.{◌≡◌, true, IfOk};
-ghost use Rattle.mw_model.specs.Object.{Symbol, is_name, name_of_bytes, list1, list2, list3};
+ghost use Rattle.mw_model.specs.Terms.Object.{Symbol, is_name, name_of_bytes, list1, list2, list3};
 ghost use Rattle.mw_heap.specs.Objects.{object_at, IsIn, Grows};
 ghost use Rattle.mw_taut.specs.Steps.{not_object, or_object};
 

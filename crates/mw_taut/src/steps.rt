@@ -1,6 +1,6 @@
 //! Steps of proof in a heap, by the five rules for propositions. Each is told by its parts what it concludes.
 ghost use Rattle.std.specs.Prelude.{◌≡◌, true, IfOk};
-ghost use Rattle.mw_model.specs.Object.{Symbol, is_name, name_of_bytes, list1, list3};
+ghost use Rattle.mw_model.specs.Terms.Object.{Symbol, is_name, name_of_bytes, list1, list3};
 ghost use Rattle.mw_heap.specs.Objects.{object_at, IsIn, Grows};
 ghost use Rattle.mw_taut.specs.Steps.{schema, expansion, contraction, associativity, cut};
 

@@ -1,8 +1,8 @@
 -- What a caller cites of marks: of no objects, as the heap grows, after a cut, and where the arity table has a new name.
 use Rattle.std.proofs.Common.{◌≡◌, ℕ, ◌<◌, ◌≤◌, cond, List, [], ◌∷◌, length, take, Some, refl, sym, ap, ◌∙◌, arith}
 use Rattle.std.proofs.lemmas.List.{length-take-le}
-use Rattle.mw_model.specs.Object.{Name, Object, Natural, Symbol, Pair, same_name}
-use Rattle.mw_model.specs.Term.{ArityTable, arity_of}
+use Rattle.mw_model.specs.Terms.Object.{Name, Object, Natural, Symbol, Pair, same_name}
+use Rattle.mw_model.specs.Terms.Term.{ArityTable, arity_of}
 use Rattle.mw_model.proofs.Names.{name_differ-from}
 use Rattle.mw_heap.specs.Objects.{object_at, IsIn, Grows, AreDistinct, ArePartsOlder}
 use Rattle.mw_heap.proofs.Lists.{slice_get-take}

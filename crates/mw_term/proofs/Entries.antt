@@ -7,8 +7,8 @@ use Rattle.std.proofs.lemmas.List.{drop-drop, take_more}
 use Rattle.std.proofs.lemmas.Option.{slice_get_within, get_or_from_slice_get}
 use Rattle.std.proofs.lemmas.Map.Keys.{IsDistinct-head, IsDistinct-tail}
 use Rattle.std.proofs.lemmas.Slice.Eq.{bytes_eq-Decides}
-use Rattle.mw_model.specs.Object.{Name, is_name, name_of_bytes}
-use Rattle.mw_model.specs.Term.{ArityTable, arity_of}
+use Rattle.mw_model.specs.Terms.Object.{Name, is_name, name_of_bytes}
+use Rattle.mw_model.specs.Terms.Term.{ArityTable, arity_of}
 use Rattle.mw_term.specs.Tables.{entries_before, table_of, AreNamed, same_key}
 use Rattle.mw_term.proofs.NamedBytes.{same_name-bytes}
 

@@ -1,10 +1,10 @@
 -- A list of formals, read from the front.
 use Rattle.std.proofs.Common.{◌≡◌, ℕ, suc, Bool, true, false, ◌&&◌, ◌||◌, not, cond, List, [], ◌∷◌, ◌++◌, length, Option, Some, None, refl, sym, ap, ap₂, ◌∙◌, subst, append_assoc}
 use Rattle.std.proofs.lemmas.Bool.{and_parts, and_from, not-true}
-use Rattle.mw_model.specs.Object.{Name, Object, Natural, Symbol, Pair, same_name}
-use Rattle.mw_model.specs.Term.{is_among, is_variable, are_variables, are_distinct, are_formals}
-use Rattle.mw_model.specs.Reading.{names_of, and_more}
-use Rattle.mw_model.specs.Primitive.{is_symbol, name_of}
+use Rattle.mw_model.specs.Terms.Object.{Name, Object, Natural, Symbol, Pair, same_name}
+use Rattle.mw_model.specs.Terms.Term.{is_among, is_variable, are_variables, are_distinct, are_formals}
+use Rattle.mw_model.specs.Terms.Reading.{names_of, and_more}
+use Rattle.mw_model.specs.Values.Primitive.{is_symbol, name_of}
 use Rattle.mw_model.proofs.Names.{same_name-eq, same_name-from}
 use Rattle.mw_heap.specs.Objects.{object_at, IsIn}
 use Rattle.mw_term.proofs.Gathered.{names, among-append, differ-sym}

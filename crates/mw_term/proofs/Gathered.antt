@@ -2,8 +2,8 @@
 use Rattle.std.proofs.Common.{◌≡◌, Bool, true, false, ◌||◌, not, cond, filter, List, [], ◌∷◌, ◌++◌, ◌⊎◌, inl, inr, refl, sym, ap, ◌∙◌, subst, append_assoc}
 use Rattle.std.proofs.lemmas.List.{append-nil}
 use Rattle.std.proofs.lemmas.Bool.{or_left, or_right, both_ways}
-use Rattle.mw_model.specs.Object.{same_name}
-use Rattle.mw_model.specs.Term.{is_among, firsts}
+use Rattle.mw_model.specs.Terms.Object.{same_name}
+use Rattle.mw_model.specs.Terms.Term.{is_among, firsts}
 use Rattle.mw_model.proofs.Names.{same_name-eq, same_name-refl}
 use Rattle.mw_term.specs.Occurrences.{gather}
 

@@ -1,11 +1,11 @@
 -- The head of a lambda call, by its parts.
 use Rattle.std.proofs.Common.{◌≡◌, Bool, true, false, ◌&&◌, cond, List, [], ◌∷◌, length, Option, Some, None, is_some, refl, sym, ap, ap₂, ◌∙◌, subst}
 use Rattle.std.specs.List.{list_all}
-use Rattle.mw_model.specs.Object.{Name, Object, Symbol, Pair, named, same_name, same_object, NIL}
-use Rattle.mw_model.specs.Term.{Term, ArityTable, is_among, firsts, variables, are_formals, is_closed, is_term}
-use Rattle.mw_model.specs.Reading.{names_of, term_of, when, that}
-use Rattle.mw_model.specs.Definition.{is_present}
-use Rattle.mw_model.specs.Rules.{is_term_object}
+use Rattle.mw_model.specs.Terms.Object.{Name, Object, Symbol, Pair, named, same_name, same_object, NIL}
+use Rattle.mw_model.specs.Terms.Term.{Term, ArityTable, is_among, firsts, variables, are_formals, is_closed, is_term}
+use Rattle.mw_model.specs.Terms.Reading.{names_of, term_of, when, that}
+use Rattle.mw_model.specs.Values.Definition.{is_present}
+use Rattle.mw_model.specs.Laws.Rules.{is_term_object}
 use Rattle.mw_model.proofs.Closed.{each_among, closed_variables}
 use Rattle.mw_model.proofs.ReadBack.{some_one}
 use Rattle.mw_term.specs.Parts.{if_formals, formals_of}

@@ -1,10 +1,10 @@
 -- A list of terms has as many terms as it is long, and a list of formals as many formals: so a call's actuals are counted by a walk.
 use Rattle.std.proofs.Common.{◌≡◌, ℕ, suc, Bool, true, false, ◌&&◌, cond, eqb, List, [], length, Option, Some, None, is_some, refl, sym, ap, ap₂, ◌∙◌, subst, not, ◌+◌, arith, eqb-true, eq-eqb}
-use Rattle.mw_model.specs.Object.{Name, Object, Natural, Symbol, Pair, named, symbol, same_name, same_object, nil_name, NIL}
-use Rattle.mw_model.specs.Term.{Term, Terms, NoTerms, ArityTable, arity_of, count, are_formals, is_closed, is_term, are_terms}
-use Rattle.mw_model.specs.Reading.{names_of, and_more, more_terms, term_of, terms_of, when}
-use Rattle.mw_model.specs.Primitive.{is_pair}
-use Rattle.mw_model.specs.Rules.{is_term_object}
+use Rattle.mw_model.specs.Terms.Object.{Name, Object, Natural, Symbol, Pair, named, symbol, same_name, same_object, nil_name, NIL}
+use Rattle.mw_model.specs.Terms.Term.{Term, Terms, NoTerms, ArityTable, arity_of, count, are_formals, is_closed, is_term, are_terms}
+use Rattle.mw_model.specs.Terms.Reading.{names_of, and_more, more_terms, term_of, terms_of, when}
+use Rattle.mw_model.specs.Values.Primitive.{is_pair}
+use Rattle.mw_model.specs.Laws.Rules.{is_term_object}
 use Rattle.mw_model.proofs.ReadBack.{some_one}
 use Rattle.mw_term.specs.Parts.{is_single, length_of, wanted}
 use Rattle.mw_term.specs.Marking.{counted, term_count, head_count, formal_count}

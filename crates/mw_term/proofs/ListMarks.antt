@@ -1,11 +1,11 @@
 -- What the code tests of a pair is what the pair is.
 use Rattle.std.proofs.Common.{rules, ◌≡◌, ℕ, ◌⊎◌, ◌+◌, ◌<◌, Bool, true, false, ◌&&◌, cond, List, [], ◌∷◌, ◌++◌, length, slice_get, get_or, length-append, inl, inr, arith, Option, Some, None, is_some, refl, sym, ap, ap₂, ◌∙◌}
 use Rattle.std.proofs.lemmas.Option.{get_or_from_slice_get}
-use Rattle.mw_model.specs.Object.{Name, Object, Natural, Symbol, Pair, name_of_bytes, same_name, same_object, nil_name, NIL}
-use Rattle.mw_model.specs.Primitive.{is_symbol, name_of}
-use Rattle.mw_model.specs.Term.{ArityTable}
+use Rattle.mw_model.specs.Terms.Object.{Name, Object, Natural, Symbol, Pair, name_of_bytes, same_name, same_object, nil_name, NIL}
+use Rattle.mw_model.specs.Values.Primitive.{is_symbol, name_of}
+use Rattle.mw_model.specs.Terms.Term.{ArityTable}
 use Rattle.mw_model.proofs.Names.{same_object-eq}
-use Rattle.mw_model.specs.Rules.{is_term_object, is_formula_object}
+use Rattle.mw_model.specs.Laws.Rules.{is_term_object, is_formula_object}
 use Rattle.mw_heap.specs.Objects.{object_at}
 use Rattle.mw_model.proofs.Names.{name_of_bytes-bytes}
 use Rattle.mw_term.specs.declared.cell_mark.CellMark.{CellMark}

@@ -1,10 +1,10 @@
 -- What an object is, from what its parts are.
 use Rattle.std.proofs.Common.{◌≡◌, ℕ, suc, ◌+◌, Bool, true, false, ◌&&◌, ◌||◌, not, cond, eqb, List, length, Option, Some, None, refl, sym, ap, ap₂, ◌∙◌, eqb-true, arith}
-use Rattle.mw_model.specs.Object.{Name, Object, Natural, Symbol, Pair, named, symbol, same_name, same_object, nil_name, NIL}
-use Rattle.mw_model.specs.Term.{Term, Terms, Variable, Constant, If, Call, Lambda, NoTerms, More, Formula, Equal, Not, Or, ArityTable, arity_of, has_arity, count, are_formals, is_closed, is_variable, is_term, are_terms, is_formula}
-use Rattle.mw_model.specs.Reading.{names_of, more_terms, constant_of, if_of, plain_call, lambda_of, term_of, terms_of, equal_of, not_of, or_of, formula_of, when, that}
-use Rattle.mw_model.specs.Definition.{is_present}
-use Rattle.mw_model.specs.Rules.{is_term_object, is_formula_object}
+use Rattle.mw_model.specs.Terms.Object.{Name, Object, Natural, Symbol, Pair, named, symbol, same_name, same_object, nil_name, NIL}
+use Rattle.mw_model.specs.Terms.Term.{Term, Terms, Variable, Constant, If, Call, Lambda, NoTerms, More, Formula, Equal, Not, Or, ArityTable, arity_of, has_arity, count, are_formals, is_closed, is_variable, is_term, are_terms, is_formula}
+use Rattle.mw_model.specs.Terms.Reading.{names_of, more_terms, constant_of, if_of, plain_call, lambda_of, term_of, terms_of, equal_of, not_of, or_of, formula_of, when, that}
+use Rattle.mw_model.specs.Values.Definition.{is_present}
+use Rattle.mw_model.specs.Laws.Rules.{is_term_object, is_formula_object}
 use Rattle.mw_model.proofs.Names.{same_name-eq}
 use Rattle.mw_term.specs.Parts.{is_single}
 use Rattle.mw_term.specs.Marking.{counted, term_count, head_count, formal_count, is_negation, is_binary, mark_of_object}

@@ -3,7 +3,7 @@ use Rattle.std.proofs.Common.{◌≡◌, ℕ, true, List, sym, ap₂, ◌∙◌,
 use Rattle.std.specs.Cmp.Lexicographic.{pointwise}
 use Rattle.std.proofs.lemmas.Slice.Eq.{bytes_eq-Decides}
 use Rattle.std.proofs.lemmas.Bool.Decides.{same_from_decides}
-use Rattle.mw_model.specs.Object.{is_name, same_bytes, same_name, name_of_bytes}
+use Rattle.mw_model.specs.Terms.Object.{is_name, same_bytes, same_name, name_of_bytes}
 use Rattle.mw_model.proofs.Names.{bytes-name_of_bytes}
 use Rattle.mw_model.proofs.Names.{same_bytes-eq, same_bytes-refl}
 

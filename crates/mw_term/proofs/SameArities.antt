@@ -1,10 +1,10 @@
 -- What an object is, a term, a formula or neither, depends on the arities of the symbols in it alone.
 use Rattle.std.proofs.Common.{◌≡◌, ◌&&◌, cond, List, length, Option, Some, None, is_some, refl, sym, ap, ap₂, ◌∙◌}
-use Rattle.mw_model.specs.Object.{Name, Object, Natural, Symbol, Pair, named, symbol, same_name, same_object, nil_name, NIL}
-use Rattle.mw_model.specs.Term.{Term, ArityTable, arity_of, are_formals, is_closed, is_term}
-use Rattle.mw_model.specs.Reading.{names_of, term_of, when, that}
-use Rattle.mw_model.specs.Definition.{is_present}
-use Rattle.mw_model.specs.Rules.{is_term_object, is_formula_object}
+use Rattle.mw_model.specs.Terms.Object.{Name, Object, Natural, Symbol, Pair, named, symbol, same_name, same_object, nil_name, NIL}
+use Rattle.mw_model.specs.Terms.Term.{Term, ArityTable, arity_of, are_formals, is_closed, is_term}
+use Rattle.mw_model.specs.Terms.Reading.{names_of, term_of, when, that}
+use Rattle.mw_model.specs.Values.Definition.{is_present}
+use Rattle.mw_model.specs.Laws.Rules.{is_term_object, is_formula_object}
 use Rattle.mw_term.specs.Parts.{is_single}
 use Rattle.mw_term.specs.Marking.{term_count, head_count, formal_count, mark_of_object}
 use Rattle.mw_term.proofs.Marked.{takes, allows_if, one_more, is_present-when, is_term-symbol, is_term-call, is_term-lambda, term_count-pair, term_count-symbol, is_formula-binary, is_formula-unary}

@@ -1,9 +1,9 @@
 -- A substitution's object, one pair after another.
 use Rattle.std.proofs.Common.{◌≡◌, Bool, true, false, ◌&&◌, refl, ap, ◌∙◌}
-use Rattle.mw_model.specs.Object.{Object, Natural, Symbol, Pair, car, cdr, same_object, NIL}
-use Rattle.mw_model.specs.Term.{ArityTable}
-use Rattle.mw_model.specs.Primitive.{is_pair}
-use Rattle.mw_model.specs.Rules.{is_variable_object, is_term_object, is_substitution_object}
+use Rattle.mw_model.specs.Terms.Object.{Object, Natural, Symbol, Pair, car, cdr, same_object, NIL}
+use Rattle.mw_model.specs.Terms.Term.{ArityTable}
+use Rattle.mw_model.specs.Values.Primitive.{is_pair}
+use Rattle.mw_model.specs.Laws.Rules.{is_variable_object, is_term_object, is_substitution_object}
 
 and_regroup : (a b c d : Bool) → (a && (b && (c && d))) ≡ ((a && (b && c)) && d)
 and_regroup true true c d = refl

@@ -3,9 +3,9 @@ use Rattle.std.proofs.Common.{◌≡◌, ℕ, Bool, true, ◌&&◌, ◌||◌, eq
 use Rattle.std.specs.List.{list_any, list_all}
 use Rattle.std.proofs.lemmas.List.Elements.{All-nil, All-cons}
 use Rattle.std.proofs.lemmas.Bool.Decides.{same_from_decides}
-use Rattle.mw_model.specs.Object.{Name, Object, Natural, Symbol, Pair, same_name}
-use Rattle.mw_model.specs.Term.{is_among}
-use Rattle.mw_model.specs.Primitive.{is_symbol, name_of}
+use Rattle.mw_model.specs.Terms.Object.{Name, Object, Natural, Symbol, Pair, same_name}
+use Rattle.mw_model.specs.Terms.Term.{is_among}
+use Rattle.mw_model.specs.Values.Primitive.{is_symbol, name_of}
 use Rattle.mw_model.proofs.Names.{same_name-eq, same_name-from}
 use Rattle.mw_heap.specs.Objects.{object_at, IsIn, AreDistinct}
 use Rattle.mw_term.specs.Parts.{names_at, AreSymbols}

@@ -1,9 +1,9 @@
 -- The variables of a term's object are those of the term.
 use Rattle.std.proofs.Common.{◌≡◌, Bool, true, false, ◌&&◌, cond, List, [], ◌∷◌, ◌++◌, map, Option, Some, None, ℕ, refl, sym, ap, ap₂, ◌∙◌}
 use Rattle.std.proofs.lemmas.List.{append-nil}
-use Rattle.mw_model.specs.Object.{Name, Object, Natural, Symbol, Pair, named, symbol, same_name, same_object, nil_name, NIL}
-use Rattle.mw_model.specs.Term.{Term, Terms, Constant, NoTerms, More, occurrences, all_occurrences, firsts, variables}
-use Rattle.mw_model.specs.Reading.{names_of, more_terms, constant_of, if_of, plain_call, lambda_of, term_of, terms_of}
+use Rattle.mw_model.specs.Terms.Object.{Name, Object, Natural, Symbol, Pair, named, symbol, same_name, same_object, nil_name, NIL}
+use Rattle.mw_model.specs.Terms.Term.{Term, Terms, Constant, NoTerms, More, occurrences, all_occurrences, firsts, variables}
+use Rattle.mw_model.specs.Terms.Reading.{names_of, more_terms, constant_of, if_of, plain_call, lambda_of, term_of, terms_of}
 use Rattle.mw_model.proofs.ReadBack.{some_one, cond_some}
 use Rattle.mw_heap.specs.Objects.{object_at}
 use Rattle.mw_term.specs.Parts.{names_at, AreSymbols}

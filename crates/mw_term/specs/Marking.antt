@@ -1,9 +1,9 @@
 -- What the marks of objects say under an arity table.
 use Rattle.std.specs.Prelude.{◌≡◌, ℕ, ◌<◌, ◌≤◌, Bool, ◌&&◌, cond, List, length, slice_get, Option, Some, None, is_some}
-use Rattle.mw_model.specs.Object.{Name, Object, Pair, named, symbol, same_name, same_object, NIL}
-use Rattle.mw_model.specs.Term.{Term, Terms, ArityTable, count, are_formals, is_closed, is_term, are_terms}
-use Rattle.mw_model.specs.Reading.{names_of, term_of, terms_of, when}
-use Rattle.mw_model.specs.Rules.{is_term_object, is_formula_object}
+use Rattle.mw_model.specs.Terms.Object.{Name, Object, Pair, named, symbol, same_name, same_object, NIL}
+use Rattle.mw_model.specs.Terms.Term.{Term, Terms, ArityTable, count, are_formals, is_closed, is_term, are_terms}
+use Rattle.mw_model.specs.Terms.Reading.{names_of, term_of, terms_of, when}
+use Rattle.mw_model.specs.Laws.Rules.{is_term_object, is_formula_object}
 use Rattle.mw_heap.specs.Objects.{object_at}
 use Rattle.mw_term.specs.declared.cell_mark.CellMark.{CellMark}
 

@@ -1,8 +1,8 @@
 -- The free variables of an object that stands for a term, as they occur and each once, and a walk that finds them.
 use Rattle.std.specs.Prelude.{◌≡◌, ℕ, ◌<◌, ◌≤◌, Bool, cond, List, [], ◌∷◌, ◌++◌, length, Contains}
 use Rattle.std.specs.List.{list_all}
-use Rattle.mw_model.specs.Object.{Name, Object, Natural, Symbol, Pair, symbol, same_name, same_object}
-use Rattle.mw_model.specs.Term.{is_among, firsts}
+use Rattle.mw_model.specs.Terms.Object.{Name, Object, Natural, Symbol, Pair, symbol, same_name, same_object}
+use Rattle.mw_model.specs.Terms.Term.{is_among, firsts}
 use Rattle.mw_heap.specs.Objects.{object_at, IsIn}
 use Rattle.mw_term.specs.declared.part.Part.{Part}
 use Rattle.mw_term.specs.declared.part.Part.TheVariants.{Term, Terms}

@@ -1,9 +1,9 @@
 -- Objects by their parts, and formals as symbols.
 use Rattle.std.specs.Prelude.{◌≡◌, ℕ, suc, Bool, true, false, ◌&&◌, ◌||◌, not, cond, eqb, List, [], ◌∷◌, Option, Some, None}
-use Rattle.mw_model.specs.Object.{Name, Object, Natural, Symbol, Pair, same_name, nil_name}
-use Rattle.mw_model.specs.Term.{are_formals, is_among, is_variable}
-use Rattle.mw_model.specs.Reading.{names_of}
-use Rattle.mw_model.specs.Primitive.{is_symbol, name_of}
+use Rattle.mw_model.specs.Terms.Object.{Name, Object, Natural, Symbol, Pair, same_name, nil_name}
+use Rattle.mw_model.specs.Terms.Term.{are_formals, is_among, is_variable}
+use Rattle.mw_model.specs.Terms.Reading.{names_of}
+use Rattle.mw_model.specs.Values.Primitive.{is_symbol, name_of}
 use Rattle.mw_heap.specs.Objects.{object_at, IsIn}
 
 -- a proper list of one member

@@ -4,8 +4,8 @@ use Rattle.std.specs.Coded.{Coded, code_by, coded_list, coded×, coded_ℕ}
 use Rattle.std.specs.List.{IsDistinct}
 use Rattle.std.specs.Map.{keys_of}
 use Rattle.std.specs.Cmp.Lexicographic.{pointwise}
-use Rattle.mw_model.specs.Object.{Name, is_name, name_of_bytes}
-use Rattle.mw_model.specs.Term.{ArityTable}
+use Rattle.mw_model.specs.Terms.Object.{Name, is_name, name_of_bytes}
+use Rattle.mw_model.specs.Terms.Term.{ArityTable}
 use Rattle.mw_model.proofs.Names.{name_of_bytes-bytes}
 
 abbrev pub coded_name : Coded Name

@@ -1,7 +1,7 @@
 //! The arities of functions.
 ghost use Rattle.std.specs.Prelude.{◌≡◌, ℕ, ◌+◌, ◌-◌, ◌<◌, ◌≤◌, List, [], ◌∷◌, length, drop, true, None, IfOk, OnOk, OnErr};
-ghost use Rattle.mw_model.specs.Object.{is_name, name_of_bytes};
-ghost use Rattle.mw_model.specs.Term.{arity_of};
+ghost use Rattle.mw_model.specs.Terms.Object.{is_name, name_of_bytes};
+ghost use Rattle.mw_model.specs.Terms.Term.{arity_of};
 
 use indexmap::IndexMap;
 use mw_heap::Memory;
@@ -17,7 +17,7 @@ pub struct Arity {
 }
 
 impl Model for Arity {
-    ghost use Rattle.mw_model.specs.Term.{ArityTable};
+    ghost use Rattle.mw_model.specs.Terms.Term.{ArityTable};
     ghost use Rattle.mw_term.specs.Tables.{coded_table, table_of, AreArities};
 
     ghost Value = { ArityTable };

@@ -1,8 +1,8 @@
 //! Lists of formals.
 ghost use Rattle.std.specs.Prelude.{◌≡◌, length, option_map, true, IfOk, IfSome};
-ghost use Rattle.mw_model.specs.Term.{Term, is_among, is_closed};
-ghost use Rattle.mw_model.specs.Reading.{term_of};
-ghost use Rattle.mw_model.specs.Primitive.{is_symbol, name_of};
+ghost use Rattle.mw_model.specs.Terms.Term.{Term, is_among, is_closed};
+ghost use Rattle.mw_model.specs.Terms.Reading.{term_of};
+ghost use Rattle.mw_model.specs.Values.Primitive.{is_symbol, name_of};
 ghost use Rattle.mw_heap.specs.Objects.{object_at, IsIn};
 ghost use Rattle.mw_term.specs.Parts.{formals_of, names_at, AreSymbols};
 

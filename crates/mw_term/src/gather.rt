@@ -1,9 +1,9 @@
 //! A walk over a term, for its free variables.
 ghost use Rattle.std.specs.Prelude.{◌≡◌, List, [], ◌∷◌, map, All, Some, true, IfOk, OnOk};
-ghost use Rattle.mw_model.specs.Object.{Symbol};
-ghost use Rattle.mw_model.specs.Term.{Term, variables};
-ghost use Rattle.mw_model.specs.Reading.{term_of};
-ghost use Rattle.mw_model.specs.Primitive.{is_symbol, name_of};
+ghost use Rattle.mw_model.specs.Terms.Object.{Symbol};
+ghost use Rattle.mw_model.specs.Terms.Term.{Term, variables};
+ghost use Rattle.mw_model.specs.Terms.Reading.{term_of};
+ghost use Rattle.mw_model.specs.Values.Primitive.{is_symbol, name_of};
 ghost use Rattle.mw_heap.specs.Objects.{object_at, IsIn};
 ghost use Rattle.mw_term.specs.Parts.{names_at, AreSymbols};
 ghost use Rattle.mw_term.specs.Occurrences.{object_variables, IsPartIn, AreFound, IsLooked};

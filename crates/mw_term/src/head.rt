@@ -1,7 +1,7 @@
 //! Heads of lambda calls.
 ghost use Rattle.std.specs.Prelude.{◌≡◌, ◌<◌, length, true, is_some, IfOk};
-ghost use Rattle.mw_model.specs.Object.{Symbol, Pair, is_name, name_of_bytes};
-ghost use Rattle.mw_model.specs.Term.{ArityTable};
+ghost use Rattle.mw_model.specs.Terms.Object.{Symbol, Pair, is_name, name_of_bytes};
+ghost use Rattle.mw_model.specs.Terms.Term.{ArityTable};
 ghost use Rattle.mw_heap.specs.Objects.{object_at, IsIn};
 ghost use Rattle.mw_term.specs.Marking.{AreMarks, formal_count};
 

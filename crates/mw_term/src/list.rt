@@ -1,8 +1,8 @@
 //! Marks of pairs, from the marks of their parts.
 ghost use Rattle.std.specs.Prelude.{◌≡◌, ◌<◌, ◌&&◌, length, true, eqb, is_some, IfOk};
-ghost use Rattle.mw_model.specs.Object.{Object, Symbol, Pair, is_name, name_of_bytes};
-ghost use Rattle.mw_model.specs.Term.{ArityTable};
-ghost use Rattle.mw_model.specs.Rules.{is_term_object, is_formula_object};
+ghost use Rattle.mw_model.specs.Terms.Object.{Object, Symbol, Pair, is_name, name_of_bytes};
+ghost use Rattle.mw_model.specs.Terms.Term.{ArityTable};
+ghost use Rattle.mw_model.specs.Laws.Rules.{is_term_object, is_formula_object};
 ghost use Rattle.mw_heap.specs.Objects.{object_at, IsIn};
 ghost use Rattle.mw_term.specs.Marking.{AreMarks, term_count, formal_count, is_negation, is_binary};
 ghost use Rattle.mw_term.specs.Parts.{is_single, wanted, length_of};

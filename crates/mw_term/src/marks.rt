@@ -1,8 +1,8 @@
 //! Marks of objects.
 ghost use Rattle.std.specs.Prelude.{◌≡◌, ◌<◌, ◌≤◌, true, List, [], length, take, IfOk, OnOk, OnErr};
-ghost use Rattle.mw_model.specs.Object.{Object, Symbol, Pair, is_name, name_of_bytes};
-ghost use Rattle.mw_model.specs.Term.{ArityTable};
-ghost use Rattle.mw_model.specs.Rules.{is_term_object, is_formula_object};
+ghost use Rattle.mw_model.specs.Terms.Object.{Object, Symbol, Pair, is_name, name_of_bytes};
+ghost use Rattle.mw_model.specs.Terms.Term.{ArityTable};
+ghost use Rattle.mw_model.specs.Laws.Rules.{is_term_object, is_formula_object};
 ghost use Rattle.mw_heap.specs.Objects.{object_at, IsIn};
 ghost use Rattle.mw_term.specs.Marking.{AreMarks, mark_of_object};
 

@@ -1,7 +1,7 @@
 //! Words and variables by the bytes of their names.
 ghost use Rattle.std.specs.Prelude.{◌≡◌, true};
-ghost use Rattle.mw_model.specs.Object.{is_name, name_of_bytes, same_name};
-ghost use Rattle.mw_model.specs.Term.{is_variable};
+ghost use Rattle.mw_model.specs.Terms.Object.{is_name, name_of_bytes, same_name};
+ghost use Rattle.mw_model.specs.Terms.Term.{is_variable};
 
 pub(crate) fn is_word(name: &[u8], word: &[u8]) -> bool
     requires name { is_name name.now ≡ true }

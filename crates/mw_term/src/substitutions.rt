@@ -1,9 +1,9 @@
 //! Which objects are substitutions under an arity table.
 ghost use Rattle.std.specs.Prelude.{◌≡◌, ◌<◌, ◌&&◌, length};
-ghost use Rattle.mw_model.specs.Object.{car, cdr};
-ghost use Rattle.mw_model.specs.Term.{ArityTable};
-ghost use Rattle.mw_model.specs.Primitive.{is_pair};
-ghost use Rattle.mw_model.specs.Rules.{is_variable_object, is_term_object, is_substitution_object};
+ghost use Rattle.mw_model.specs.Terms.Object.{car, cdr};
+ghost use Rattle.mw_model.specs.Terms.Term.{ArityTable};
+ghost use Rattle.mw_model.specs.Values.Primitive.{is_pair};
+ghost use Rattle.mw_model.specs.Laws.Rules.{is_variable_object, is_term_object, is_substitution_object};
 ghost use Rattle.mw_heap.specs.Objects.{object_at, IsIn};
 ghost use Rattle.mw_term.specs.Marking.{AreMarks};
 

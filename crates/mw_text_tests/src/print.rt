@@ -1,6 +1,6 @@
 //! Texts of atoms and lists, and texts that are too long to be shown.
 ghost use Rattle.std.specs.Prelude.{◌≡◌, true};
-ghost use Rattle.mw_model.specs.Object.{is_name};
+ghost use Rattle.mw_model.specs.Terms.Object.{is_name};
 
 use mw_forms::{boxed, is_in, list, pair};
 use mw_heap::{Heap, Memory, Ref};

@@ -1,7 +1,7 @@
 //! The events that theorems rest on.
 ghost use Rattle.mw_heap.specs.Objects.{IsIn};
 ghost use Rattle.std.specs.Prelude.{◌≡◌, true, IfOk};
-ghost use Rattle.mw_model.specs.Object.{is_name};
+ghost use Rattle.mw_model.specs.Terms.Object.{is_name};
 
 use mw_forms::{boxed, is_in};
 use mw_heap::{Heap, Memory, Ref};

@@ -1,6 +1,6 @@
 //! Substitutions that are put together and read, and terms under them.
 ghost use Rattle.std.specs.Prelude.{◌≡◌, ◌+◌, ◌<◌, ◌≤◌, true};
-ghost use Rattle.mw_model.specs.Object.{is_name};
+ghost use Rattle.mw_model.specs.Terms.Object.{is_name};
 ghost use Rattle.mw_heap.specs.Objects.{IsIn};
 
 use mw_forms::{boxed, form, is_in, quoted};

@@ -1,6 +1,6 @@
 //! Arities, marks of terms and formulas, variables, formals and substitutions.
 ghost use Rattle.std.specs.Prelude.{◌≡◌, true};
-ghost use Rattle.mw_model.specs.Object.{is_name};
+ghost use Rattle.mw_model.specs.Terms.Object.{is_name};
 
 use mw_forms::{boxed, equation, form, is_in, list, pair, quoted};
 use mw_heap::{Heap, Mark, Memory, Ref, View};

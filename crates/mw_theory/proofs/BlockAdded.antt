@@ -1,9 +1,9 @@
 -- A block that is added to what a kernel holds, as the heap grows.
 use Rattle.std.proofs.Common.{◌≡◌, ℕ, List, [], map, sym, ap, ◌∙◌, subst}
 use Rattle.std.proofs.lemmas.List.{append-nil}
-use Rattle.mw_model.specs.Object.{Object}
-use Rattle.mw_model.specs.Term.{ArityTable}
-use Rattle.mw_model.specs.Definition.{Block, Definitions, arity_table, add_block, are_new}
+use Rattle.mw_model.specs.Terms.Object.{Object}
+use Rattle.mw_model.specs.Terms.Term.{ArityTable}
+use Rattle.mw_model.specs.Values.Definition.{Block, Definitions, arity_table, add_block, are_new}
 use Rattle.mw_heap.specs.Objects.{Grows}
 use Rattle.mw_translate.specs.Expands.{ArePairsOfSymbols, with_pairs}
 use Rattle.mw_code.specs.declared.table.Table.{Table}

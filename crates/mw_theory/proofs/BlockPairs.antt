@@ -3,11 +3,11 @@ use Rattle.std.proofs.Common.{◌≡◌, ℕ, zero, suc, ◌<◌, Bool, true, fa
 use Rattle.std.specs.List.{All}
 use Rattle.std.proofs.lemmas.Bool.{and_parts, and_from}
 use Rattle.std.proofs.lemmas.List.Elements.{All-cons, All-nil}
-use Rattle.mw_model.specs.Object.{Name, Object, Symbol, same_name}
-use Rattle.mw_model.specs.Term.{ArityTable, names_object, arity_of, is_function_name, is_among, is_variable, are_variables, are_distinct, are_formals, is_term, is_closed}
-use Rattle.mw_model.specs.Reading.{names_of}
-use Rattle.mw_model.specs.Primitive.{is_symbol, name_of}
-use Rattle.mw_model.specs.Definition.{Function as Defined, Block, Functions, Choice, function_named, add_functions, is_absent, is_new, is_some_function, are_new, are_functions, is_block}
+use Rattle.mw_model.specs.Terms.Object.{Name, Object, Symbol, same_name}
+use Rattle.mw_model.specs.Terms.Term.{ArityTable, names_object, arity_of, is_function_name, is_among, is_variable, are_variables, are_distinct, are_formals, is_term, is_closed}
+use Rattle.mw_model.specs.Terms.Reading.{names_of}
+use Rattle.mw_model.specs.Values.Primitive.{is_symbol, name_of}
+use Rattle.mw_model.specs.Values.Definition.{Function as Defined, Block, Functions, Choice, function_named, add_functions, is_absent, is_new, is_some_function, are_new, are_functions, is_block}
 use Rattle.mw_model.proofs.Names.{same_name-eq, same_name-refl}
 use Rattle.mw_model.proofs.Readable.{names_read}
 use Rattle.mw_heap.specs.Objects.{object_at, IsIn, Grows}

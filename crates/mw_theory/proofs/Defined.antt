@@ -1,14 +1,14 @@
 -- What an event that defines comes to, by the tests of its definitions and of its proofs.
 use Rattle.std.proofs.Common.{◌≡◌, ℕ, Bool, true, false, cond, List, [], ◌∷◌, length, map, option_map, Option, Some, None, is_some, refl, sym, ap, ap₂, ◌∙◌, subst, true≢false}
-use Rattle.mw_model.specs.Object.{Object, NIL, same_object, has_members}
-use Rattle.mw_model.specs.Term.{ArityTable, Formula}
-use Rattle.mw_model.specs.RulesInduction.{formulas_object}
-use Rattle.mw_model.specs.Definition.{Function as Defined, Block, Functions, Choice, arity_table}
-use Rattle.mw_model.specs.Obligation.{obligations}
-use Rattle.mw_model.specs.Theory.{Theory, IsSound}
-use Rattle.mw_model.specs.Refusal.{Refusal, EVENT, COUNT, Fate, Accepted, Refused, refuse, accept, need, must, unless}
-use Rattle.mw_model.specs.Demand.{define_demand, settled}
-use Rattle.mw_model.specs.Admission.{Draft, functions, measures, add_to_theory, skolem}
+use Rattle.mw_model.specs.Terms.Object.{Object, NIL, same_object, has_members}
+use Rattle.mw_model.specs.Terms.Term.{ArityTable, Formula}
+use Rattle.mw_model.specs.Laws.RulesInduction.{formulas_object}
+use Rattle.mw_model.specs.Values.Definition.{Function as Defined, Block, Functions, Choice, arity_table}
+use Rattle.mw_model.specs.Events.Obligation.{obligations}
+use Rattle.mw_model.specs.Events.Theory.{Theory, IsSound}
+use Rattle.mw_model.specs.Events.Refusal.{Refusal, EVENT, COUNT, Fate, Accepted, Refused, refuse, accept, need, must, unless}
+use Rattle.mw_model.specs.Commands.Demand.{define_demand, settled}
+use Rattle.mw_model.specs.Events.Admission.{Draft, functions, measures, add_to_theory, skolem}
 use Rattle.mw_heap.specs.declared.refusal.Refusal.{Refusal as Reason}
 use Rattle.mw_heap.specs.Variants.{refusal_of}
 use Rattle.mw_heap.specs.Objects.{object_at, IsIn, Grows}

@@ -3,12 +3,12 @@ use Rattle.std.proofs.Common.{◌≡◌, ℕ, true, false, IfSome, List, [], ◌
 use Rattle.std.specs.List.{All}
 use Rattle.std.proofs.lemmas.Bool.{and_parts}
 use Rattle.std.proofs.lemmas.List.Elements.{All-cons}
-use Rattle.mw_model.specs.Object.{Object, Pair, car, cdr}
-use Rattle.mw_model.specs.Term.{Formula, formula_object, table_object}
-use Rattle.mw_model.specs.RulesInduction.{formulas_object, is_list_object}
-use Rattle.mw_model.specs.Definition.{Block, definitions, arity_table, block_axioms, is_block, are_blocks}
-use Rattle.mw_model.specs.Theory.{Theory, IsSound, add_formulas}
-use Rattle.mw_model.specs.Admission.{add_to_theory}
+use Rattle.mw_model.specs.Terms.Object.{Object, Pair, car, cdr}
+use Rattle.mw_model.specs.Terms.Term.{Formula, formula_object, table_object}
+use Rattle.mw_model.specs.Laws.RulesInduction.{formulas_object, is_list_object}
+use Rattle.mw_model.specs.Values.Definition.{Block, definitions, arity_table, block_axioms, is_block, are_blocks}
+use Rattle.mw_model.specs.Events.Theory.{Theory, IsSound, add_formulas}
+use Rattle.mw_model.specs.Events.Admission.{add_to_theory}
 use Rattle.mw_heap.specs.Objects.{object_at, IsIn, Grows}
 use Rattle.mw_heap.specs.Variants.{profile_of}
 use Rattle.mw_heap.proofs.Objects.{IsIn-Grows, object_at-Grows}

@@ -1,8 +1,8 @@
 -- Functions that an event defines stand where they stood as the heap grows, and after a cut after them; and their entries mean them.
 use Rattle.std.proofs.Common.{◌≡◌, ℕ, ◌≤◌, List, [], ◌∷◌, length, take, map, Some, sym, ap, ap₂, ◌∙◌, arith}
-use Rattle.mw_model.specs.Object.{Object}
-use Rattle.mw_model.specs.Definition.{Function as Defined}
-use Rattle.mw_model.specs.Admission.{some_drafts}
+use Rattle.mw_model.specs.Terms.Object.{Object}
+use Rattle.mw_model.specs.Values.Definition.{Function as Defined}
+use Rattle.mw_model.specs.Events.Admission.{some_drafts}
 use Rattle.mw_heap.specs.Objects.{object_at, Grows}
 use Rattle.mw_heap.proofs.Objects.{Grows-take, IsIn-Grows, IsIn-take, object_at-Grows}
 use Rattle.mw_define.specs.declared.admitted.Entry.{Entry}

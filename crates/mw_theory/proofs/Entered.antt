@@ -1,11 +1,11 @@
 -- Entries are read as the blocks that they mean.
 use Rattle.std.proofs.Common.{◌≡◌, ℕ, true, ◌&&◌, List, [], ◌∷◌, ◌++◌, refl, ap, ap₂, ◌∙◌}
 use Rattle.std.proofs.lemmas.Bool.{and_parts}
-use Rattle.mw_model.specs.Object.{Name, Object}
-use Rattle.mw_model.specs.Term.{ArityTable, Term, are_formals, is_term, is_closed}
-use Rattle.mw_model.specs.Reading.{names_of, term_of}
-use Rattle.mw_model.specs.Primitive.{Profile, name_of}
-use Rattle.mw_model.specs.Definition.{Function as Defined, Block, Functions, Choice, arities, add_functions, is_new, are_new, are_functions, is_some_function, is_block, are_blocks}
+use Rattle.mw_model.specs.Terms.Object.{Name, Object}
+use Rattle.mw_model.specs.Terms.Term.{ArityTable, Term, are_formals, is_term, is_closed}
+use Rattle.mw_model.specs.Terms.Reading.{names_of, term_of}
+use Rattle.mw_model.specs.Values.Primitive.{Profile, name_of}
+use Rattle.mw_model.specs.Values.Definition.{Function as Defined, Block, Functions, Choice, arities, add_functions, is_new, are_new, are_functions, is_some_function, is_block, are_blocks}
 use Rattle.mw_model.proofs.Formed.{formed}
 use Rattle.mw_model.proofs.Readable.{names_read}
 use Rattle.mw_model.proofs.Read.{term_read}

@@ -1,11 +1,11 @@
 -- The axioms of equality stay among the axioms as formulas are added in front.
 use Rattle.std.proofs.Common.{◌≡◌, List, [], ◌∷◌, refl, sym, subst}
-use Rattle.mw_model.specs.Object.{Object, Pair, NIL, Member, first, later}
-use Rattle.mw_model.specs.Term.{Formula, formula_object}
-use Rattle.mw_model.specs.Primitive.{Profile}
-use Rattle.mw_model.specs.Definition.{Block, block_axioms}
-use Rattle.mw_model.specs.Axioms.{axiom_1, axiom_2, primitive_axioms}
-use Rattle.mw_model.specs.Theory.{add_formulas, axioms_of}
+use Rattle.mw_model.specs.Terms.Object.{Object, Pair, NIL, Member, first, later}
+use Rattle.mw_model.specs.Terms.Term.{Formula, formula_object}
+use Rattle.mw_model.specs.Values.Primitive.{Profile}
+use Rattle.mw_model.specs.Values.Definition.{Block, block_axioms}
+use Rattle.mw_model.specs.Proofs.Axioms.{axiom_1, axiom_2, primitive_axioms}
+use Rattle.mw_model.specs.Events.Theory.{add_formulas, axioms_of}
 use Rattle.mw_theory.specs.Knowledge.{HasEquality}
 
 member-added : (Fs : List Formula) (x list : Object) → Member x list → Member x (add_formulas Fs list)

@@ -1,10 +1,10 @@
 -- Which objects are events of which word, and what happens by an event.
 use Rattle.std.proofs.Common.{◌≡◌, ℕ, ◌<◌, Bool, false, not, cond, List, Option, Some, None, refl, sym, ap, ◌∙◌, arith}
-use Rattle.mw_model.specs.Object.{Object, Natural, Symbol, Pair, named, symbol, same_name, same_object, has_members}
-use Rattle.mw_model.specs.Reading.{when}
-use Rattle.mw_model.specs.Theory.{Theory}
-use Rattle.mw_model.specs.Refusal.{EVENT, RANGE, refuse, need}
-use Rattle.mw_model.specs.Fate.{EventWord, Verify, Define, Skolem, Switch, Eval, Print, DefineAll, SetProfile, event_word, with_members, is_out_of_range, happens, happens_by}
+use Rattle.mw_model.specs.Terms.Object.{Object, Natural, Symbol, Pair, named, symbol, same_name, same_object, has_members}
+use Rattle.mw_model.specs.Terms.Reading.{when}
+use Rattle.mw_model.specs.Events.Theory.{Theory}
+use Rattle.mw_model.specs.Events.Refusal.{EVENT, RANGE, refuse, need}
+use Rattle.mw_model.specs.Events.Fate.{EventWord, Verify, Define, Skolem, Switch, Eval, Print, DefineAll, SetProfile, event_word, with_members, is_out_of_range, happens, happens_by}
 use Rattle.mw_model.proofs.SameObject.{same_object-swap}
 use Rattle.mw_heap.specs.Objects.{object_at}
 use Rattle.mw_theory.specs.EventWords.{word_at, word_symbol, members_after}

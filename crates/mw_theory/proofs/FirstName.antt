@@ -1,8 +1,8 @@
 -- A block changes no mark of what stands before all its names.
 use Rattle.std.proofs.Common.{◌≡◌, ℕ, ◌≤◌, min, List, [], ◌∷◌, ◌++◌, length, refl, arith}
-use Rattle.mw_model.specs.Object.{Object}
-use Rattle.mw_model.specs.Term.{ArityTable}
-use Rattle.mw_model.specs.Definition.{Function as Defined, Block, Functions, Choice, add_functions, add_block}
+use Rattle.mw_model.specs.Terms.Object.{Object}
+use Rattle.mw_model.specs.Terms.Term.{ArityTable}
+use Rattle.mw_model.specs.Values.Definition.{Function as Defined, Block, Functions, Choice, add_functions, add_block}
 use Rattle.mw_heap.specs.Objects.{AreDistinct, ArePartsOlder}
 use Rattle.mw_term.specs.declared.cell_mark.CellMark.{CellMark}
 use Rattle.mw_term.specs.Marking.{AreMarks}

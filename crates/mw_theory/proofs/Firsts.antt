@@ -1,14 +1,14 @@
 -- Which theories are the initial one of the first profile: none with a theorem or a newer block.
 use Rattle.std.proofs.Common.{◌≡◌, suc, Bool, true, false, ◌&&◌, eqb, List, [], ◌∷◌, ◌++◌, length, refl, ap, ◌∙◌, arith, length-append}
 use Rattle.std.proofs.lemmas.Bool.{and_parts, and_from}
-use Rattle.mw_model.specs.Object.{Name, Object, NIL, same_name, same_object}
-use Rattle.mw_model.specs.Same.{same_names, same_term}
-use Rattle.mw_model.specs.Primitive.{Profile, One, Two}
-use Rattle.mw_model.specs.Definition.{Function, Block, Functions, Choice}
-use Rattle.mw_model.specs.BuiltIn.{built_in}
-use Rattle.mw_model.specs.Theory.{Theory, BeginsWith, initial}
-use Rattle.mw_model.specs.Admission.{add_to_theory}
-use Rattle.mw_model.specs.Fate.{same_functions, same_block, same_blocks, is_one, is_built_in, is_initial}
+use Rattle.mw_model.specs.Terms.Object.{Name, Object, NIL, same_name, same_object}
+use Rattle.mw_model.specs.Terms.Same.{same_names, same_term}
+use Rattle.mw_model.specs.Values.Primitive.{Profile, One, Two}
+use Rattle.mw_model.specs.Values.Definition.{Function, Block, Functions, Choice}
+use Rattle.mw_model.specs.BuiltIns.BuiltIn.{built_in}
+use Rattle.mw_model.specs.Events.Theory.{Theory, BeginsWith, initial}
+use Rattle.mw_model.specs.Events.Admission.{add_to_theory}
+use Rattle.mw_model.specs.Events.Fate.{same_functions, same_block, same_blocks, is_one, is_built_in, is_initial}
 use Rattle.mw_model.proofs.Names.{same_name-refl, same_object-refl}
 use Rattle.mw_model.proofs.SameTerms.{same_term-refl}
 use Rattle.mw_theory.specs.Knowledge.{with_theorem, is_first}

@@ -3,10 +3,10 @@ use Rattle.std.proofs.Common.{◌≡◌, ℕ, ◌≤◌, List, [], ◌∷◌, le
 use Rattle.std.specs.List.{All}
 use Rattle.std.proofs.lemmas.List.{length-take-le, take-append-le}
 use Rattle.std.proofs.lemmas.List.Elements.{All-head, All-tail}
-use Rattle.mw_model.specs.Object.{Object, Pair}
-use Rattle.mw_model.specs.Primitive.{is_symbol, name_of}
-use Rattle.mw_model.specs.Definition.{definitions, arity_table}
-use Rattle.mw_model.specs.Theory.{IsSound}
+use Rattle.mw_model.specs.Terms.Object.{Object, Pair}
+use Rattle.mw_model.specs.Values.Primitive.{is_symbol, name_of}
+use Rattle.mw_model.specs.Values.Definition.{definitions, arity_table}
+use Rattle.mw_model.specs.Events.Theory.{IsSound}
 use Rattle.mw_heap.specs.Objects.{object_at, IsIn, Grows}
 use Rattle.mw_heap.specs.Variants.{profile_of}
 use Rattle.mw_heap.proofs.Objects.{length-Grows, IsIn-Grows, object_at-Grows, take-Grows, Grows-refl, Grows-take}

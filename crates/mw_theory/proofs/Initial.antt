@@ -3,14 +3,14 @@ use Rattle.std.proofs.Common.{◌≡◌, ℕ, None, IfSome, List, [], ◌∷◌,
 use Rattle.std.specs.List.{All}
 use Rattle.std.proofs.lemmas.List.{map-append, reverse-append}
 use Rattle.std.proofs.lemmas.List.Elements.{All-head, All-tail, All-cons, All-nil}
-use Rattle.mw_model.specs.Object.{Object, Pair, NIL}
-use Rattle.mw_model.specs.Term.{formula_object, table_object}
-use Rattle.mw_model.specs.Primitive.{Profile}
-use Rattle.mw_model.specs.Definition.{Block, definitions, arity_table, block_axioms}
-use Rattle.mw_model.specs.Axioms.{primitive_axioms}
-use Rattle.mw_model.specs.BuiltIn.{built_in}
-use Rattle.mw_model.specs.Theory.{axioms_of, initial, IsSound}
-use Rattle.mw_model.specs.Fate.{is_one}
+use Rattle.mw_model.specs.Terms.Object.{Object, Pair, NIL}
+use Rattle.mw_model.specs.Terms.Term.{formula_object, table_object}
+use Rattle.mw_model.specs.Values.Primitive.{Profile}
+use Rattle.mw_model.specs.Values.Definition.{Block, definitions, arity_table, block_axioms}
+use Rattle.mw_model.specs.Proofs.Axioms.{primitive_axioms}
+use Rattle.mw_model.specs.BuiltIns.BuiltIn.{built_in}
+use Rattle.mw_model.specs.Events.Theory.{axioms_of, initial, IsSound}
+use Rattle.mw_model.specs.Events.Fate.{is_one}
 use Rattle.mw_heap.specs.Objects.{object_at, IsIn, Grows}
 use Rattle.mw_heap.specs.Variants.{profile_of}
 use Rattle.mw_heap.proofs.Objects.{Grows-trans, IsIn-Grows, object_at-Grows}

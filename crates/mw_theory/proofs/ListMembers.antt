@@ -1,9 +1,9 @@
 -- A walk over a list: its members so far, and the rest of it.
 use Rattle.std.proofs.Common.{◌≡◌, ℕ, true, false, List, [], ◌∷◌, ◌++◌, refl, sym, ap, ◌∙◌, subst}
 use Rattle.std.specs.List.{All}
-use Rattle.mw_model.specs.Object.{Object, Natural, Symbol, Pair, NIL}
-use Rattle.mw_model.specs.Primitive.{is_pair}
-use Rattle.mw_model.specs.RulesInduction.{is_list_object}
+use Rattle.mw_model.specs.Terms.Object.{Object, Natural, Symbol, Pair, NIL}
+use Rattle.mw_model.specs.Values.Primitive.{is_pair}
+use Rattle.mw_model.specs.Laws.RulesInduction.{is_list_object}
 use Rattle.mw_model.proofs.Names.{same_object-eq}
 use Rattle.mw_heap.specs.Objects.{object_at, IsIn}
 use Rattle.mw_heap.specs.Lists.{list_object}

@@ -1,9 +1,9 @@
 -- Axioms that are put in front of a list, one after another.
 use Rattle.std.proofs.Common.{◌≡◌, ℕ, ◌+◌, ◌<◌, List, [], ◌∷◌, ◌++◌, length, take, map, get_or, refl, sym, ap, ◌∙◌}
 use Rattle.std.proofs.lemmas.List.{take_more}
-use Rattle.mw_model.specs.Object.{Object, Pair}
-use Rattle.mw_model.specs.Term.{Formula, formula_object}
-use Rattle.mw_model.specs.Theory.{add_formulas}
+use Rattle.mw_model.specs.Terms.Object.{Object, Pair}
+use Rattle.mw_model.specs.Terms.Term.{Formula, formula_object}
+use Rattle.mw_model.specs.Events.Theory.{add_formulas}
 use Rattle.mw_theory.specs.Knowledge.{put_all}
 
 pub take_next : (xs : List ℕ) (i x : ℕ) → i < length xs → x ≡ get_or xs i x → take (i + 1) xs ≡ take i xs ++ x ∷ []

@@ -1,12 +1,12 @@
 -- What a PROFILE comes to, by whether the theory is the initial one and by the profile of its number.
 use Rattle.std.proofs.Common.{◌≡◌, ℕ, Bool, true, false, Option, Some, None, option_map, refl, sym, ap, ap₂, ◌∙◌}
-use Rattle.mw_model.specs.Object.{Object}
-use Rattle.mw_model.specs.Primitive.{Profile}
-use Rattle.mw_model.specs.Reading.{when}
-use Rattle.mw_model.specs.Theory.{Theory}
-use Rattle.mw_model.specs.Refusal.{PROFILE, refuse, accept, need}
-use Rattle.mw_model.specs.Fate.{profile, begin_profile}
-use Rattle.mw_model.specs.Fate.{profile_of as profile_asked}
+use Rattle.mw_model.specs.Terms.Object.{Object}
+use Rattle.mw_model.specs.Values.Primitive.{Profile}
+use Rattle.mw_model.specs.Terms.Reading.{when}
+use Rattle.mw_model.specs.Events.Theory.{Theory}
+use Rattle.mw_model.specs.Events.Refusal.{PROFILE, refuse, accept, need}
+use Rattle.mw_model.specs.Events.Fate.{profile, begin_profile}
+use Rattle.mw_model.specs.Events.Fate.{profile_of as profile_asked}
 use Rattle.mw_heap.specs.Objects.{object_at}
 use Rattle.mw_heap.specs.Variants.{profile_of}
 use Rattle.mw_heap.specs.declared.profile.Profile.{Profile as Level}

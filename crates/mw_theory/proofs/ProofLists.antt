@@ -1,12 +1,12 @@
 -- Proofs that are judged one after another, by the objects of their formulas.
 use Rattle.std.proofs.Common.{◌≡◌, ℕ, ◌<◌, true, false, cond, Option, Some, None, List, [], ◌∷◌, length, option_map, refl, sym, ap, ap₂, ◌∙◌, arith, one-add, is_some, true≢false}
-use Rattle.mw_model.specs.Object.{Object, Natural, Symbol, Pair, NIL, same_object, car, cdr, has_members}
-use Rattle.mw_model.specs.Term.{Formula, formula_object}
-use Rattle.mw_model.specs.Primitive.{is_pair}
-use Rattle.mw_model.specs.RulesInduction.{formulas_object, length_object}
-use Rattle.mw_model.specs.Theory.{Theory}
-use Rattle.mw_model.specs.Refusal.{Refusal, COUNT}
-use Rattle.mw_model.specs.Checking.{or_else}
+use Rattle.mw_model.specs.Terms.Object.{Object, Natural, Symbol, Pair, NIL, same_object, car, cdr, has_members}
+use Rattle.mw_model.specs.Terms.Term.{Formula, formula_object}
+use Rattle.mw_model.specs.Values.Primitive.{is_pair}
+use Rattle.mw_model.specs.Laws.RulesInduction.{formulas_object, length_object}
+use Rattle.mw_model.specs.Events.Theory.{Theory}
+use Rattle.mw_model.specs.Events.Refusal.{Refusal, COUNT}
+use Rattle.mw_model.specs.Events.Checking.{or_else}
 use Rattle.mw_heap.specs.declared.refusal.Refusal.{Refusal as Reason}
 use Rattle.mw_heap.specs.Variants.{refusal_of}
 use Rattle.mw_heap.specs.Objects.{object_at, IsIn, Grows}

@@ -1,8 +1,8 @@
 -- The tests of a VERIFY, one after another, and what its fate and the next theory are by them.
 use Rattle.std.proofs.Common.{◌≡◌, Bool, true, false, Option, Some, None, option_map, is_some, refl}
-use Rattle.mw_model.specs.Object.{Object}
-use Rattle.mw_model.specs.Theory.{Theory}
-use Rattle.mw_model.specs.Refusal.{Refusal, NAME, FORMULA}
+use Rattle.mw_model.specs.Terms.Object.{Object}
+use Rattle.mw_model.specs.Events.Theory.{Theory}
+use Rattle.mw_model.specs.Events.Refusal.{Refusal, NAME, FORMULA}
 use Rattle.mw_heap.specs.declared.refusal.Refusal.{Refusal as Reason}
 use Rattle.mw_heap.specs.Variants.{refusal_of}
 use Rattle.mw_theory.specs.Settling.{refusal_by, by_refusal, fate_by}

@@ -1,6 +1,6 @@
 -- A world whose heap was cut.
 use Rattle.std.proofs.Common.{◌≡◌, ℕ, ◌<◌, ◌≤◌, max, List, length, take, sym, ap, ◌∙◌, subst, arith}
-use Rattle.mw_model.specs.Object.{Object}
+use Rattle.mw_model.specs.Terms.Object.{Object}
 use Rattle.mw_heap.specs.Objects.{object_at, IsIn}
 use Rattle.mw_heap.proofs.Objects.{IsIn-take, object_at-take}
 use Rattle.mw_theory.specs.declared.world.World.{World}

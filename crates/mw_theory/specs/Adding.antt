@@ -1,9 +1,9 @@
 -- A block that is added to what a kernel holds.
 use Rattle.std.specs.Prelude.{◌≡◌, ℕ, true, List, [], ◌∷◌, ◌++◌, length, None}
-use Rattle.mw_model.specs.Object.{Object}
-use Rattle.mw_model.specs.Term.{ArityTable, arity_of}
-use Rattle.mw_model.specs.Primitive.{name_of}
-use Rattle.mw_model.specs.Definition.{Block, Definitions, definitions, arity_table, is_block}
+use Rattle.mw_model.specs.Terms.Object.{Object}
+use Rattle.mw_model.specs.Terms.Term.{ArityTable, arity_of}
+use Rattle.mw_model.specs.Values.Primitive.{name_of}
+use Rattle.mw_model.specs.Values.Definition.{Block, Definitions, definitions, arity_table, is_block}
 use Rattle.mw_heap.specs.Objects.{object_at}
 use Rattle.mw_term.specs.Parts.{formals_of}
 use Rattle.mw_code.specs.declared.table.Table.{Table}

@@ -1,7 +1,7 @@
 -- Functions that an event defines.
 use Rattle.std.specs.Prelude.{ℕ, ◌<◌, List, [], ◌∷◌, Option, Some}
-use Rattle.mw_model.specs.Object.{Object}
-use Rattle.mw_model.specs.Admission.{Draft, some_drafts}
+use Rattle.mw_model.specs.Terms.Object.{Object}
+use Rattle.mw_model.specs.Events.Admission.{Draft, some_drafts}
 use Rattle.mw_heap.specs.Objects.{object_at, IsIn}
 use Rattle.mw_define.specs.Blocks.{draft_at, IsDraftIn}
 use Rattle.mw_define.specs.declared.admitted.Entry.{Entry}

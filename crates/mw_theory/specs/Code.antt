@@ -2,7 +2,7 @@
 use Rattle.std.specs.Prelude.{◌≡◌, ℕ, ◌⊎◌, Bool, true, false, List, Option, refl}
 use Rattle.std.specs.Coded.{Coded, code_by, coded_list, coded_option, coded×, coded⊎, coded_ℕ, coded_bool}
 use mathlib.Core.Logic.{inl, inr}
-use Rattle.mw_model.specs.Primitive.{Profile, One, Two}
+use Rattle.mw_model.specs.Values.Primitive.{Profile, One, Two}
 use Rattle.mw_preamble.specs.declared.definition.Definition.{Definition}
 use Rattle.mw_preamble.specs.declared.definition.Definition.TheVariants.{Function, Witness}
 use Rattle.mw_theory.specs.Knowledge.{Parts}

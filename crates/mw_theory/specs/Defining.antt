@@ -1,10 +1,10 @@
 -- A block of definitions that an event adds.
 use Rattle.std.specs.Prelude.{◌≡◌, ℕ, List}
-use Rattle.mw_model.specs.Object.{Object}
-use Rattle.mw_model.specs.Definition.{Block, Definitions, block_axioms}
-use Rattle.mw_model.specs.Theory.{IsSound}
-use Rattle.mw_model.specs.RulesInduction.{formulas_object}
-use Rattle.mw_model.specs.Admission.{add_to_theory}
+use Rattle.mw_model.specs.Terms.Object.{Object}
+use Rattle.mw_model.specs.Values.Definition.{Block, Definitions, block_axioms}
+use Rattle.mw_model.specs.Events.Theory.{IsSound}
+use Rattle.mw_model.specs.Laws.RulesInduction.{formulas_object}
+use Rattle.mw_model.specs.Events.Admission.{add_to_theory}
 use Rattle.mw_heap.specs.Objects.{object_at, IsIn}
 use Rattle.mw_code.specs.Tables.{StandsFor}
 use Rattle.mw_preamble.specs.declared.definition.Definition.{Definition}

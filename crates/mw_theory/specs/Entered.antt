@@ -1,10 +1,10 @@
 -- The definitions that the entries of a theory are read as.
 use Rattle.std.specs.Prelude.{ℕ, List, [], ◌∷◌, Option, Some, None}
-use Rattle.mw_model.specs.Object.{Name, Object, NIL}
-use Rattle.mw_model.specs.Term.{Term, Constant}
-use Rattle.mw_model.specs.Reading.{names_of, term_of}
-use Rattle.mw_model.specs.Primitive.{name_of}
-use Rattle.mw_model.specs.Definition.{Function as Defined, Block, Functions, Choice}
+use Rattle.mw_model.specs.Terms.Object.{Name, Object, NIL}
+use Rattle.mw_model.specs.Terms.Term.{Term, Constant}
+use Rattle.mw_model.specs.Terms.Reading.{names_of, term_of}
+use Rattle.mw_model.specs.Values.Primitive.{name_of}
+use Rattle.mw_model.specs.Values.Definition.{Function as Defined, Block, Functions, Choice}
 use Rattle.mw_heap.specs.Objects.{object_at}
 use Rattle.mw_preamble.specs.declared.definition.Definition.{Definition}
 use Rattle.mw_preamble.specs.declared.definition.Definition.TheVariants.{Function, Witness}

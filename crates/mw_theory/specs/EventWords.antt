@@ -1,7 +1,7 @@
 -- The words of events, as the program has them.
 use Rattle.std.specs.Prelude.{ℕ, Option, None}
-use Rattle.mw_model.specs.Object.{Object, Natural, Symbol, Pair, symbol}
-use Rattle.mw_model.specs.Fate.{EventWord, Verify, Define, Skolem, Switch, Eval, Print, DefineAll, SetProfile, event_words, event_word_among}
+use Rattle.mw_model.specs.Terms.Object.{Object, Natural, Symbol, Pair, symbol}
+use Rattle.mw_model.specs.Events.Fate.{EventWord, Verify, Define, Skolem, Switch, Eval, Print, DefineAll, SetProfile, event_words, event_word_among}
 use Rattle.mw_theory.specs.declared.word.Word.{Word}
 use Rattle.mw_theory.specs.declared.word.Word.TheVariants as word
 

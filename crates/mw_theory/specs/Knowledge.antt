@@ -1,12 +1,12 @@
 -- What is kept of a theory, and the theory that is meant.
 use Rattle.std.specs.Prelude.{◌≡◌, ℕ, ◌≤◌, true, Bool, List, [], ◌∷◌, length, take, Option, Some, None, All, IfSome}
-use Rattle.mw_model.specs.Object.{Name, Object, Pair, Member}
-use Rattle.mw_model.specs.Term.{formula_object, table_object}
-use Rattle.mw_model.specs.Primitive.{Profile, is_symbol, name_of}
-use Rattle.mw_model.specs.Definition.{Definitions, definitions, arity_table}
-use Rattle.mw_model.specs.Axioms.{axiom_1, axiom_2}
-use Rattle.mw_model.specs.Theory.{Theory, IsSound}
-use Rattle.mw_model.specs.Fate.{is_initial}
+use Rattle.mw_model.specs.Terms.Object.{Name, Object, Pair, Member}
+use Rattle.mw_model.specs.Terms.Term.{formula_object, table_object}
+use Rattle.mw_model.specs.Values.Primitive.{Profile, is_symbol, name_of}
+use Rattle.mw_model.specs.Values.Definition.{Definitions, definitions, arity_table}
+use Rattle.mw_model.specs.Proofs.Axioms.{axiom_1, axiom_2}
+use Rattle.mw_model.specs.Events.Theory.{Theory, IsSound}
+use Rattle.mw_model.specs.Events.Fate.{is_initial}
 use Rattle.mw_heap.specs.Objects.{object_at, IsIn}
 use Rattle.mw_heap.specs.Variants.{profile_of}
 use Rattle.mw_term.specs.declared.cell_mark.CellMark.{CellMark}

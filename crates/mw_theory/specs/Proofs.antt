@@ -1,10 +1,10 @@
 -- Why the proofs that an event comes with are refused by a judge, where they are.
 use Rattle.std.specs.Prelude.{cond, List, length, Option, Some}
-use Rattle.mw_model.specs.Object.{Object, has_members}
-use Rattle.mw_model.specs.Term.{Formula, formula_object}
-use Rattle.mw_model.specs.Theory.{Theory}
-use Rattle.mw_model.specs.Refusal.{Refusal, COUNT}
-use Rattle.mw_model.specs.Demand.{Judge as ByFormula, each_judged}
+use Rattle.mw_model.specs.Terms.Object.{Object, has_members}
+use Rattle.mw_model.specs.Terms.Term.{Formula, formula_object}
+use Rattle.mw_model.specs.Events.Theory.{Theory}
+use Rattle.mw_model.specs.Events.Refusal.{Refusal, COUNT}
+use Rattle.mw_model.specs.Commands.Demand.{Judge as ByFormula, each_judged}
 
 -- A judge says at a theory why an object is refused as a proof of the formula that another object is, where it is.
 abbrev pub Judge : Type 0

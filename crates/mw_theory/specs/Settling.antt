@@ -1,13 +1,13 @@
 -- What events come to by a judge of proofs.
 use Rattle.std.specs.Prelude.{◌≡◌, ℕ, Bool, true, false, List, [], Option, Some, None}
-use Rattle.mw_model.specs.Object.{Object}
-use Rattle.mw_model.specs.Primitive.{is_symbol}
-use Rattle.mw_model.specs.Definition.{Block, arity_table}
-use Rattle.mw_model.specs.Rules.{is_formula_object}
-use Rattle.mw_model.specs.Theory.{Theory, IsSound}
-use Rattle.mw_model.specs.Refusal.{Refusal, EVENT, NAME, FORMULA, Fate, Accepted, Refused, refuse, accept, need}
-use Rattle.mw_model.specs.Admission.{Draft, skolem, add_to_theory}
-use Rattle.mw_model.specs.Demand.{define_demand, settled}
+use Rattle.mw_model.specs.Terms.Object.{Object}
+use Rattle.mw_model.specs.Values.Primitive.{is_symbol}
+use Rattle.mw_model.specs.Values.Definition.{Block, arity_table}
+use Rattle.mw_model.specs.Laws.Rules.{is_formula_object}
+use Rattle.mw_model.specs.Events.Theory.{Theory, IsSound}
+use Rattle.mw_model.specs.Events.Refusal.{Refusal, EVENT, NAME, FORMULA, Fate, Accepted, Refused, refuse, accept, need}
+use Rattle.mw_model.specs.Events.Admission.{Draft, skolem, add_to_theory}
+use Rattle.mw_model.specs.Commands.Demand.{define_demand, settled}
 use Rattle.mw_heap.specs.Objects.{object_at}
 use Rattle.mw_theory.specs.Knowledge.{with_theorem}
 use Rattle.mw_theory.specs.Words.{skolem_event}

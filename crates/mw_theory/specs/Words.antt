@@ -1,6 +1,6 @@
 -- The events, by their members.
 use Rattle.std.specs.Prelude.{◌≡◌, ℕ, ◌<◌, List}
-use Rattle.mw_model.specs.Object.{Object, Pair, symbol, list2, list3, list4}
+use Rattle.mw_model.specs.Terms.Object.{Object, Pair, symbol, list2, list3, list4}
 use Rattle.mw_heap.specs.Objects.{object_at}
 use Rattle.mw_theory.specs.EventWords.{word_symbol}
 use Rattle.mw_theory.specs.declared.word.Word.{Word}

@@ -1,5 +1,5 @@
 -- A world: what is kept of a theory, the heap that has its objects, and how much of that it needs.
-use Rattle.mw_model.specs.Theory.{Theory}
+use Rattle.mw_model.specs.Events.Theory.{Theory}
 use Rattle.mw_theory.specs.declared.world.World.{World}
 use Rattle.mw_theory.specs.Knowledge.{parts_of, meant, IsKernel}
 

@@ -1,8 +1,8 @@
 //! A block of definitions more.
 ghost use Rattle.std.specs.Prelude.{◌≡◌, ℕ, ◌-◌, ◌≤◌, true, List, [], ◌∷◌, ◌++◌, length, take, drop, map, reverse, All, IfOk, OnOk, OnErr};
-ghost use Rattle.mw_model.specs.Object.{Object};
-ghost use Rattle.mw_model.specs.Term.{ArityTable, table_object};
-ghost use Rattle.mw_model.specs.Definition.{Block, Definitions, arity_table};
+ghost use Rattle.mw_model.specs.Terms.Object.{Object};
+ghost use Rattle.mw_model.specs.Terms.Term.{ArityTable, table_object};
+ghost use Rattle.mw_model.specs.Values.Definition.{Block, Definitions, arity_table};
 ghost use Rattle.mw_heap.specs.Objects.{object_at, IsIn, Grows};
 ghost use Rattle.mw_translate.specs.Expands.{ArePairsOfSymbols, with_pairs};
 ghost use Rattle.mw_code.specs.Tables.{StandsFor};

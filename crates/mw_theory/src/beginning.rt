@@ -1,9 +1,9 @@
 //! The initial theory.
 ghost use Rattle.std.specs.Prelude.{◌≡◌, ◌++◌, true, map, reverse, All, IfOk, OnOk};
-ghost use Rattle.mw_model.specs.Object.{Natural, Symbol, Pair, is_name, name_of_bytes};
-ghost use Rattle.mw_model.specs.Term.{table_object};
-ghost use Rattle.mw_model.specs.Theory.{initial};
-ghost use Rattle.mw_model.specs.Fate.{is_one};
+ghost use Rattle.mw_model.specs.Terms.Object.{Natural, Symbol, Pair, is_name, name_of_bytes};
+ghost use Rattle.mw_model.specs.Terms.Term.{table_object};
+ghost use Rattle.mw_model.specs.Events.Theory.{initial};
+ghost use Rattle.mw_model.specs.Events.Fate.{is_one};
 ghost use Rattle.mw_heap.specs.Objects.{object_at, IsIn, Grows};
 ghost use Rattle.mw_heap.specs.Variants.{profile_of};
 ghost use Rattle.mw_theory.specs.Knowledge.{parts_of, meant, put_all, IsHeld};

@@ -1,7 +1,7 @@
 //! The code of a block.
 ghost use Rattle.std.specs.Prelude.{◌≡◌, List, map, IfOk, OnOk, OnErr};
-ghost use Rattle.mw_model.specs.Object.{Object};
-ghost use Rattle.mw_model.specs.Definition.{Block, Definitions};
+ghost use Rattle.mw_model.specs.Terms.Object.{Object};
+ghost use Rattle.mw_model.specs.Values.Definition.{Block, Definitions};
 ghost use Rattle.mw_code.specs.Tables.{StandsFor};
 ghost use Rattle.mw_preamble.specs.Defining.{spelling_of};
 ghost use Rattle.mw_theory.specs.Adding.{with_block, MayBeAdded};

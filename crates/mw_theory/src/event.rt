@@ -1,7 +1,7 @@
 //! The events, by their members.
 ghost use Rattle.std.specs.Prelude.{◌≡◌, false, MatchOption, None};
-ghost use Rattle.mw_model.specs.Object.{has_members};
-ghost use Rattle.mw_model.specs.Fate.{event_word, is_out_of_range};
+ghost use Rattle.mw_model.specs.Terms.Object.{has_members};
+ghost use Rattle.mw_model.specs.Events.Fate.{event_word, is_out_of_range};
 ghost use Rattle.mw_heap.specs.Objects.{object_at, IsIn};
 ghost use Rattle.mw_theory.specs.EventWords.{members_after};
 ghost use Rattle.mw_theory.specs.Words.{IsEvent, IsEventOf};

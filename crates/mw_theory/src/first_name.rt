@@ -1,7 +1,7 @@
 //! Which objects stand before the names of a block.
 ghost use Rattle.std.specs.Prelude.{◌≡◌, ◌≤◌, List, length, min};
-ghost use Rattle.mw_model.specs.Term.{ArityTable};
-ghost use Rattle.mw_model.specs.Definition.{Block, add_block};
+ghost use Rattle.mw_model.specs.Terms.Term.{ArityTable};
+ghost use Rattle.mw_model.specs.Values.Definition.{Block, add_block};
 ghost use Rattle.mw_term.specs.declared.cell_mark.CellMark.{CellMark};
 ghost use Rattle.mw_term.specs.Marking.{AreMarks};
 ghost use Rattle.mw_preamble.specs.Entries.{IsBlock};

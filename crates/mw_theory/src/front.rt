@@ -1,6 +1,6 @@
 //! Lists that grow at their front.
 ghost use Rattle.std.specs.Prelude.{◌≡◌, All, IfOk, OnErr, map};
-ghost use Rattle.mw_model.specs.Object.{Natural, Pair};
+ghost use Rattle.mw_model.specs.Terms.Object.{Natural, Pair};
 ghost use Rattle.mw_heap.specs.Objects.{object_at, IsIn, Grows};
 ghost use Rattle.mw_theory.specs.Knowledge.{put_all};
 

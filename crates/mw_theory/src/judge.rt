@@ -1,6 +1,6 @@
 //! Judging the proofs that events come with.
 ghost use Rattle.std.specs.Prelude.{◌≡◌, ℕ, List, IfOk, option_map};
-ghost use Rattle.mw_model.specs.Object.{Object};
+ghost use Rattle.mw_model.specs.Terms.Object.{Object};
 ghost use Rattle.mw_heap.specs.Objects.{object_at, IsIn, Grows};
 ghost use Rattle.mw_heap.specs.Variants.{refusal_of};
 ghost use Rattle.mw_term.specs.Marking.{AreMarks};

@@ -1,7 +1,7 @@
 //! The members of lists.
 ghost use Rattle.std.specs.Prelude.{◌≡◌, ◌<◌, true, false, All, MatchOption, IfOk};
-ghost use Rattle.mw_model.specs.Object.{Pair, has_members, list1, list2, list3, list4};
-ghost use Rattle.mw_model.specs.RulesInduction.{is_list_object};
+ghost use Rattle.mw_model.specs.Terms.Object.{Pair, has_members, list1, list2, list3, list4};
+ghost use Rattle.mw_model.specs.Laws.RulesInduction.{is_list_object};
 ghost use Rattle.mw_heap.specs.Objects.{object_at, IsIn};
 ghost use Rattle.mw_heap.specs.Lists.{list_object};
 

@@ -1,6 +1,6 @@
 //! The names of a block, each with the number of its formals.
 ghost use Rattle.std.specs.Prelude.{◌≡◌, All, IfOk, OnOk, map};
-ghost use Rattle.mw_model.specs.Term.{ArityTable, table_object};
+ghost use Rattle.mw_model.specs.Terms.Term.{ArityTable, table_object};
 ghost use Rattle.mw_heap.specs.Objects.{object_at, IsIn, Grows};
 ghost use Rattle.mw_translate.specs.Expands.{ArePairsOfSymbols, with_pairs};
 ghost use Rattle.mw_preamble.specs.Defining.{spelling_of};

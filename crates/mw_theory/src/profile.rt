@@ -1,6 +1,6 @@
 //! The profile that an event asks for.
 ghost use Rattle.std.specs.Prelude.{◌≡◌, option_map};
-ghost use Rattle.mw_model.specs.Fate.{profile_of as profile_asked};
+ghost use Rattle.mw_model.specs.Events.Fate.{profile_of as profile_asked};
 ghost use Rattle.mw_heap.specs.Objects.{object_at, IsIn};
 ghost use Rattle.mw_heap.specs.Variants.{profile_of};
 

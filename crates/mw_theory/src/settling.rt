@@ -1,8 +1,8 @@
 //! Events whose proofs a judge judges, and those without proofs: why they are refused, or the theory with what they add.
 ghost use Rattle.std.specs.Prelude.{◌≡◌, None, IfOk, IfSome, OnOk, OnErr, option_map};
-ghost use Rattle.mw_model.specs.Object.{Object, NIL};
-ghost use Rattle.mw_model.specs.Theory.{IsSound};
-ghost use Rattle.mw_model.specs.Fate.{profile};
+ghost use Rattle.mw_model.specs.Terms.Object.{Object, NIL};
+ghost use Rattle.mw_model.specs.Events.Theory.{IsSound};
+ghost use Rattle.mw_model.specs.Events.Fate.{profile};
 ghost use Rattle.mw_heap.specs.Objects.{object_at, IsIn};
 ghost use Rattle.mw_heap.specs.Variants.{refusal_of};
 ghost use Rattle.mw_theory.specs.Proofs.{Judge as Judges};

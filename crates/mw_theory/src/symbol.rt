@@ -1,6 +1,6 @@
 //! Objects that are symbols.
 ghost use Rattle.std.specs.Prelude.{◌≡◌};
-ghost use Rattle.mw_model.specs.Primitive.{is_symbol};
+ghost use Rattle.mw_model.specs.Values.Primitive.{is_symbol};
 ghost use Rattle.mw_heap.specs.Objects.{object_at, IsIn};
 
 use mw_heap::{Heap, Ref, View};

@@ -1,8 +1,8 @@
 //! What is kept of a theory.
 ghost use Rattle.std.specs.Prelude.{◌≡◌, IfOk, OnOk, OnErr};
-ghost use Rattle.mw_model.specs.Definition.{Block};
-ghost use Rattle.mw_model.specs.Theory.{IsSound};
-ghost use Rattle.mw_model.specs.Admission.{add_to_theory};
+ghost use Rattle.mw_model.specs.Values.Definition.{Block};
+ghost use Rattle.mw_model.specs.Events.Theory.{IsSound};
+ghost use Rattle.mw_model.specs.Events.Admission.{add_to_theory};
 ghost use Rattle.mw_heap.specs.Objects.{object_at, IsIn, Grows};
 ghost use Rattle.mw_theory.specs.Knowledge.{parts_of, meant, with_theorem, IsHeld};
 ghost use Rattle.mw_theory.specs.Defining.{IsNewBlock, HasOtherCode};

@@ -1,7 +1,7 @@
 //! The tests of a VERIFY.
 ghost use Rattle.std.specs.Prelude.{◌≡◌, List, IfOk, option_map};
-ghost use Rattle.mw_model.specs.Primitive.{is_symbol};
-ghost use Rattle.mw_model.specs.Object.{Object};
+ghost use Rattle.mw_model.specs.Values.Primitive.{is_symbol};
+ghost use Rattle.mw_model.specs.Terms.Object.{Object};
 ghost use Rattle.mw_heap.specs.Objects.{object_at, IsIn, Grows};
 ghost use Rattle.mw_heap.specs.Variants.{refusal_of};
 ghost use Rattle.mw_term.specs.Marking.{AreMarks};

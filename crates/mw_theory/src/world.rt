@@ -1,11 +1,11 @@
 //! A theory in its heap, and how it changes.
 ghost use Rattle.std.specs.Prelude.{◌≡◌, ℕ, ◌≤◌, List, [], length, take, IfOk, OnOk, OnErr};
-ghost use Rattle.mw_model.specs.Object.{Object};
-ghost use Rattle.mw_model.specs.Term.{ArityTable};
-ghost use Rattle.mw_model.specs.Primitive.{One, Two};
-ghost use Rattle.mw_model.specs.Definition.{Block};
-ghost use Rattle.mw_model.specs.Theory.{initial, IsSound};
-ghost use Rattle.mw_model.specs.Admission.{add_to_theory};
+ghost use Rattle.mw_model.specs.Terms.Object.{Object};
+ghost use Rattle.mw_model.specs.Terms.Term.{ArityTable};
+ghost use Rattle.mw_model.specs.Values.Primitive.{One, Two};
+ghost use Rattle.mw_model.specs.Values.Definition.{Block};
+ghost use Rattle.mw_model.specs.Events.Theory.{initial, IsSound};
+ghost use Rattle.mw_model.specs.Events.Admission.{add_to_theory};
 ghost use Rattle.mw_heap.specs.Objects.{object_at, IsIn};
 ghost use Rattle.mw_term.specs.Marking.{AreMarks};
 ghost use Rattle.mw_theory.specs.Worlds.{theory_in, IsWorld};

@@ -1,10 +1,10 @@
 -- Lists in the heap from references, as the heap grows and as one list comes after another.
 use Rattle.std.proofs.Common.{◌≡◌, ℕ, Bool, true, false, cond, map, Option, Some, None, List, [], ◌∷◌, ◌++◌, refl, sym, ap, ap₂, ◌∙◌}
-use Rattle.mw_model.specs.Object.{Name, Object, Symbol, Pair, NIL, symbol, list3}
-use Rattle.mw_model.specs.Term.{Term, Terms, NoTerms, More, is_among, variables, are_formals, names_object, terms_object, term_object}
-use Rattle.mw_model.specs.Primitive.{name_of}
-use Rattle.mw_model.specs.Definition.{variable_terms}
-use Rattle.mw_model.specs.Expansion.{without}
+use Rattle.mw_model.specs.Terms.Object.{Name, Object, Symbol, Pair, NIL, symbol, list3}
+use Rattle.mw_model.specs.Terms.Term.{Term, Terms, NoTerms, More, is_among, variables, are_formals, names_object, terms_object, term_object}
+use Rattle.mw_model.specs.Values.Primitive.{name_of}
+use Rattle.mw_model.specs.Values.Definition.{variable_terms}
+use Rattle.mw_model.specs.Events.Expansion.{without}
 use Rattle.mw_heap.specs.Objects.{object_at, IsIn, Grows}
 use Rattle.mw_heap.proofs.Objects.{object_at-Grows, IsIn-Grows}
 use Rattle.mw_term.specs.Parts.{names_at, AreSymbols}

@@ -1,7 +1,7 @@
 -- An arity by two tables, the newer one in front.
 use Rattle.std.proofs.Common.{◌≡◌, ℕ, Bool, true, false, cond, [], ◌∷◌, ◌++◌, Some, None, refl}
-use Rattle.mw_model.specs.Object.{Name, same_name}
-use Rattle.mw_model.specs.Term.{ArityTable, arity_of}
+use Rattle.mw_model.specs.Terms.Object.{Name, same_name}
+use Rattle.mw_model.specs.Terms.Term.{ArityTable, arity_of}
 
 pub arity-newer : (A B : ArityTable) (f : Name) (n : ℕ) → arity_of A f ≡ Some n → arity_of (A ++ B) f ≡ Some n
 arity-newer [] B f n h = cc

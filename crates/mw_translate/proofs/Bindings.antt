@@ -1,10 +1,10 @@
 -- Bindings that were read from a list of names and a list of values, and those that are left.
 use Rattle.std.proofs.Common.{◌≡◌, ℕ, true, false, List, [], ◌∷◌, ◌++◌, refl, sym, ap, ◌∙◌, subst}
 use Rattle.std.proofs.lemmas.List.{append-nil}
-use Rattle.mw_model.specs.Object.{Name, Object, Symbol, Pair}
-use Rattle.mw_model.specs.Primitive.{is_pair}
-use Rattle.mw_model.specs.Term.{Term, names_object, term_object, terms_object}
-use Rattle.mw_model.specs.Expansion.{bound_names}
+use Rattle.mw_model.specs.Terms.Object.{Name, Object, Symbol, Pair}
+use Rattle.mw_model.specs.Values.Primitive.{is_pair}
+use Rattle.mw_model.specs.Terms.Term.{Term, names_object, term_object, terms_object}
+use Rattle.mw_model.specs.Events.Expansion.{bound_names}
 use Rattle.mw_heap.specs.Objects.{object_at}
 use Rattle.mw_translate.specs.declared.shape.Two.{Two}
 use Rattle.mw_translate.specs.Lets.{AreBindings}

@@ -1,10 +1,10 @@
 -- Calls of functions, places in lists, and calls of lambdas, by their parts.
 use Rattle.std.proofs.Common.{◌≡◌, ℕ, zero, suc, Bool, true, false, ◌&&◌, ◌||◌, not, eqb, cond, List, length, Option, Some, None, refl, sym, ap, ap₂, ◌∙◌, subst, eqb-true, arith}
-use Rattle.mw_model.specs.Object.{Name, Object, Natural, Symbol, Pair, named, symbol, same_name, same_object, nil_name, NIL, list1, list2, list3}
-use Rattle.mw_model.specs.Term.{Term, Terms, NoTerms, More, If, Call, ArityTable, count, names_object, term_object, terms_object, is_term, are_terms, are_formals, is_closed}
-use Rattle.mw_model.specs.Reading.{names_of, more_terms, lambda_of, when}
-use Rattle.mw_model.specs.Primitive.{is_pair}
-use Rattle.mw_model.specs.Expansion.{Other, expanded, expanded_each, form_with}
+use Rattle.mw_model.specs.Terms.Object.{Name, Object, Natural, Symbol, Pair, named, symbol, same_name, same_object, nil_name, NIL, list1, list2, list3}
+use Rattle.mw_model.specs.Terms.Term.{Term, Terms, NoTerms, More, If, Call, ArityTable, count, names_object, term_object, terms_object, is_term, are_terms, are_formals, is_closed}
+use Rattle.mw_model.specs.Terms.Reading.{names_of, more_terms, lambda_of, when}
+use Rattle.mw_model.specs.Values.Primitive.{is_pair}
+use Rattle.mw_model.specs.Events.Expansion.{Other, expanded, expanded_each, form_with}
 use Rattle.mw_model.proofs.Names.{same_name-eq, same_object-eq}
 use Rattle.mw_model.proofs.ReadBack.{names_back}
 use Rattle.mw_translate.specs.Meaning.{Meaning, of_term, of_terms, of_head, head_meaning, meaning}

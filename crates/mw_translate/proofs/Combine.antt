@@ -4,10 +4,10 @@ use Rattle.std.proofs.Common.{eqb, eqb-true, eq-eqb, rules}
 use denote.Enum.Bare.{same_true}
 use Rattle.mw_translate.specs.contracts.part.Kind.{the_type}
 use Rattle.std.proofs.lemmas.Bool.{and_parts, and_from}
-use Rattle.mw_model.specs.Object.{Object}
-use Rattle.mw_model.specs.Term.{Term, ArityTable, is_term, term_object}
-use Rattle.mw_model.specs.Reading.{that, when}
-use Rattle.mw_model.specs.Expansion.{expand, expanded}
+use Rattle.mw_model.specs.Terms.Object.{Object}
+use Rattle.mw_model.specs.Terms.Term.{Term, ArityTable, is_term, term_object}
+use Rattle.mw_model.specs.Terms.Reading.{that, when}
+use Rattle.mw_model.specs.Events.Expansion.{expand, expanded}
 use Rattle.mw_model.proofs.ReadBack.{some_one}
 use Rattle.mw_heap.specs.Objects.{object_at, IsIn}
 use Rattle.mw_translate.specs.declared.part.Part.{Part}

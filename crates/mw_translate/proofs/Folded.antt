@@ -1,10 +1,10 @@
 -- Members of AND, OR, LIST and COND by their first and the rest.
 use Rattle.std.proofs.Common.{◌≡◌, Bool, true, false, ◌&&◌, cond, Option, Some, None, option_map, refl, sym, ap, ◌∙◌}
-use Rattle.mw_model.specs.Object.{Object, Natural, Symbol, Pair, named, symbol, same_object, NIL, list2, list3}
-use Rattle.mw_model.specs.Term.{Term, Terms, NoTerms, More, If, Constant, ArityTable, term_object, is_term}
-use Rattle.mw_model.specs.Reading.{more_terms, both, when}
-use Rattle.mw_model.specs.Primitive.{is_pair}
-use Rattle.mw_model.specs.Expansion.{expanded, expanded_each, and_term, or_term, list_term, cond_term, clauses}
+use Rattle.mw_model.specs.Terms.Object.{Object, Natural, Symbol, Pair, named, symbol, same_object, NIL, list2, list3}
+use Rattle.mw_model.specs.Terms.Term.{Term, Terms, NoTerms, More, If, Constant, ArityTable, term_object, is_term}
+use Rattle.mw_model.specs.Terms.Reading.{more_terms, both, when}
+use Rattle.mw_model.specs.Values.Primitive.{is_pair}
+use Rattle.mw_model.specs.Events.Expansion.{expanded, expanded_each, and_term, or_term, list_term, cond_term, clauses}
 use Rattle.mw_translate.specs.Meaning.{Meaning, of_term, meaning}
 use Rattle.mw_translate.specs.Checked.{if_made, cons_made, given, takes}
 use Rattle.mw_translate.specs.Shapes.{is_list2}

@@ -1,9 +1,9 @@
 -- A form by its word and what follows it.
 use Rattle.std.proofs.Common.{◌≡◌, ℕ, Bool, true, false, ◌&&◌, ◌||◌, not, cond, List, Option, Some, None, option_map, refl, sym, ap, ap₂, ◌∙◌, subst}
-use Rattle.mw_model.specs.Object.{Name, Object, Natural, Symbol, Pair, named, symbol, same_name, same_object, nil_name, NIL, T, list2}
-use Rattle.mw_model.specs.Term.{Term, Terms, Constant, Variable, NoTerms, ArityTable}
-use Rattle.mw_model.specs.Reading.{more_terms, constant_of, when}
-use Rattle.mw_model.specs.Expansion.{Abbreviation, AND, OR, COND, LIST, LET, LETSTAR, FIRST, SECOND, THIRD, FOURTH, FIFTH, QUOTE, Other, abbreviation_of, expanded, expanded_each, form, form_with, clause, clauses, cond_term, bindings, let_of, let_star, and_term, or_term, list_term}
+use Rattle.mw_model.specs.Terms.Object.{Name, Object, Natural, Symbol, Pair, named, symbol, same_name, same_object, nil_name, NIL, T, list2}
+use Rattle.mw_model.specs.Terms.Term.{Term, Terms, Constant, Variable, NoTerms, ArityTable}
+use Rattle.mw_model.specs.Terms.Reading.{more_terms, constant_of, when}
+use Rattle.mw_model.specs.Events.Expansion.{Abbreviation, AND, OR, COND, LIST, LET, LETSTAR, FIRST, SECOND, THIRD, FOURTH, FIFTH, QUOTE, Other, abbreviation_of, expanded, expanded_each, form, form_with, clause, clauses, cond_term, bindings, let_of, let_star, and_term, or_term, list_term}
 use Rattle.mw_model.proofs.Names.{same_name-eq}
 use Rattle.mw_translate.specs.Meaning.{Meaning, of_term, meaning}
 use Rattle.mw_translate.specs.Forms.{with_terms, place_of, let_form, let_star_form}

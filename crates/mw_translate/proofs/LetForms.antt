@@ -1,10 +1,10 @@
 -- LET and LET* from what was made of their bindings and their body.
 use Rattle.std.proofs.Common.{◌≡◌, ℕ, arith, length, Bool, true, false, ◌&&◌, cond, List, [], ◌∷◌, ◌++◌, Option, Some, None, option_map, refl, sym, ap, ap₂, ◌∙◌, subst}
 use Rattle.std.proofs.lemmas.Bool.{and_parts, and_from}
-use Rattle.mw_model.specs.Object.{Name, Object, Natural, Symbol, Pair, same_name, nil_name, list2}
-use Rattle.mw_model.specs.Term.{Term, NoTerms, More, ArityTable, count, names_object, term_object, terms_object, are_formals, is_term, are_terms}
-use Rattle.mw_model.specs.Reading.{and_more, when}
-use Rattle.mw_model.specs.Expansion.{expanded, binding, binding_of, bindings, bound_names, let_term, let_of, let_star, let_star_of}
+use Rattle.mw_model.specs.Terms.Object.{Name, Object, Natural, Symbol, Pair, same_name, nil_name, list2}
+use Rattle.mw_model.specs.Terms.Term.{Term, NoTerms, More, ArityTable, count, names_object, term_object, terms_object, are_formals, is_term, are_terms}
+use Rattle.mw_model.specs.Terms.Reading.{and_more, when}
+use Rattle.mw_model.specs.Events.Expansion.{expanded, binding, binding_of, bindings, bound_names, let_term, let_of, let_star, let_star_of}
 use Rattle.mw_model.proofs.ReadBack.{some_one}
 use Rattle.mw_model.proofs.NewNames.{none_some}
 use Rattle.mw_heap.specs.Objects.{object_at, IsIn}

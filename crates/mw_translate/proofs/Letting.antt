@@ -1,10 +1,10 @@
 -- When a LET is a term: where its names are formals, and its body and values are terms.
 use Rattle.std.proofs.Common.{◌≡◌, ◌+◌, Bool, true, false, ◌&&◌, ◌||◌, not, eqb, cond, List, [], ◌∷◌, ◌++◌, length, filter, refl, sym, ap, ap₂, ◌∙◌, eq-eqb, length-append, arith}
 use Rattle.std.proofs.lemmas.Bool.{and_parts, and_from}
-use Rattle.mw_model.specs.Object.{Name, same_name}
-use Rattle.mw_model.specs.Term.{Term, Terms, Variable, Constant, If, Call, Lambda, NoTerms, More, ArityTable, count, is_among, is_variable, are_variables, are_distinct, are_formals, occurrences, all_occurrences, firsts, variables, is_closed, is_term, are_terms}
-use Rattle.mw_model.specs.Definition.{variable_terms}
-use Rattle.mw_model.specs.Expansion.{without, bound_names, let_actuals, let_term}
+use Rattle.mw_model.specs.Terms.Object.{Name, same_name}
+use Rattle.mw_model.specs.Terms.Term.{Term, Terms, Variable, Constant, If, Call, Lambda, NoTerms, More, ArityTable, count, is_among, is_variable, are_variables, are_distinct, are_formals, occurrences, all_occurrences, firsts, variables, is_closed, is_term, are_terms}
+use Rattle.mw_model.specs.Values.Definition.{variable_terms}
+use Rattle.mw_model.specs.Events.Expansion.{without, bound_names, let_actuals, let_term}
 use Rattle.mw_model.proofs.Names.{same_name-eq, same_name-refl}
 use Rattle.mw_model.proofs.Closed.{closed_exactly}
 use Rattle.mw_model.proofs.Formed.{Formed, AreFormed, formed}

@@ -1,10 +1,10 @@
 -- Lists of terms, and of the names and values of bindings, by their first and the rest.
 use Rattle.std.proofs.Common.{◌≡◌, suc, ◌+◌, Bool, true, false, ◌&&◌, cond, List, [], Option, Some, None, option_map, refl, sym, ap, add-one}
-use Rattle.mw_model.specs.Object.{Name, Object, Natural, Symbol, Pair, same_object, NIL, list1}
-use Rattle.mw_model.specs.Term.{Term, Terms, NoTerms, ArityTable, count, term_object, terms_object, is_term, are_terms}
-use Rattle.mw_model.specs.Reading.{and_more, more_terms, when}
-use Rattle.mw_model.specs.Primitive.{is_symbol}
-use Rattle.mw_model.specs.Expansion.{expanded, expanded_each, bindings, binding_of}
+use Rattle.mw_model.specs.Terms.Object.{Name, Object, Natural, Symbol, Pair, same_object, NIL, list1}
+use Rattle.mw_model.specs.Terms.Term.{Term, Terms, NoTerms, ArityTable, count, term_object, terms_object, is_term, are_terms}
+use Rattle.mw_model.specs.Terms.Reading.{and_more, more_terms, when}
+use Rattle.mw_model.specs.Values.Primitive.{is_symbol}
+use Rattle.mw_model.specs.Events.Expansion.{expanded, expanded_each, bindings, binding_of}
 use Rattle.mw_translate.specs.Meaning.{Meaning, of_term, of_terms, of_names, binding_names, values_of, meaning}
 use Rattle.mw_translate.specs.Shapes.{is_list1, is_headed_by_symbol}
 use Rattle.mw_translate.specs.declared.part.Kind.TheVariants as kind

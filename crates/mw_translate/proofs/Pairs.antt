@@ -1,9 +1,9 @@
 -- New functions in front of an arity table, one after another.
 use Rattle.std.proofs.Common.{◌≡◌, ℕ, zero, suc, ◌<◌, Bool, true, false, ◌||◌, not, cond, List, [], ◌∷◌, ◌++◌, length, get_or, take, Some, None, refl, sym, ap, ap₂, ◌∙◌, arith}
 use Rattle.std.proofs.lemmas.Bool.{and_parts}
-use Rattle.mw_model.specs.Object.{Name, Object, same_name}
-use Rattle.mw_model.specs.Term.{ArityTable, arity_of, is_among, are_distinct}
-use Rattle.mw_model.specs.Primitive.{is_symbol, name_of}
+use Rattle.mw_model.specs.Terms.Object.{Name, Object, same_name}
+use Rattle.mw_model.specs.Terms.Term.{ArityTable, arity_of, is_among, are_distinct}
+use Rattle.mw_model.specs.Values.Primitive.{is_symbol, name_of}
 use Rattle.mw_model.proofs.Names.{same_name-eq, same_name-refl}
 use Rattle.mw_heap.specs.Objects.{object_at, IsIn}
 use Rattle.mw_translate.specs.Expands.{ArePairsOfSymbols, pair_names, with_pairs}

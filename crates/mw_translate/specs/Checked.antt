@@ -1,8 +1,8 @@
 -- Terms that are made where a function takes so many arguments.
 use Rattle.std.specs.Prelude.{◌≡◌, ℕ, zero, suc, Bool, false, ◌&&◌, ◌||◌, not, eqb, cond, List, length, Option, Some, None}
-use Rattle.mw_model.specs.Object.{Name, Object, Symbol, Pair, named, symbol, same_name, same_object, list2, list3, NIL}
-use Rattle.mw_model.specs.Term.{Term, ArityTable, arity_of, has_arity, are_formals, is_closed}
-use Rattle.mw_model.specs.Reading.{names_of}
+use Rattle.mw_model.specs.Terms.Object.{Name, Object, Symbol, Pair, named, symbol, same_name, same_object, list2, list3, NIL}
+use Rattle.mw_model.specs.Terms.Term.{Term, ArityTable, arity_of, has_arity, are_formals, is_closed}
+use Rattle.mw_model.specs.Terms.Reading.{names_of}
 use Rattle.mw_heap.specs.Objects.{object_at, IsIn}
 use Rattle.mw_translate.specs.declared.progress.Progress.{Progress}
 use Rattle.mw_translate.specs.declared.progress.Progress.TheVariants as progress

@@ -1,10 +1,10 @@
 -- Calls of lambdas whose formals are some names and the other variables of their body, which stand for themselves.
 use Rattle.std.specs.Prelude.{◌≡◌, ℕ, true, false, cond, List, [], ◌∷◌, ◌++◌, Option, Some, None}
-use Rattle.mw_model.specs.Object.{Name, Object, Symbol, Pair, symbol, list3}
-use Rattle.mw_model.specs.Term.{Term, Terms, Lambda, NoTerms, More, ArityTable, variables, is_among, are_formals, is_term, term_object}
-use Rattle.mw_model.specs.Definition.{variable_terms}
-use Rattle.mw_model.specs.Expansion.{without, let_term}
-use Rattle.mw_model.specs.Primitive.{name_of}
+use Rattle.mw_model.specs.Terms.Object.{Name, Object, Symbol, Pair, symbol, list3}
+use Rattle.mw_model.specs.Terms.Term.{Term, Terms, Lambda, NoTerms, More, ArityTable, variables, is_among, are_formals, is_term, term_object}
+use Rattle.mw_model.specs.Values.Definition.{variable_terms}
+use Rattle.mw_model.specs.Events.Expansion.{without, let_term}
+use Rattle.mw_model.specs.Values.Primitive.{name_of}
 use Rattle.mw_heap.specs.Objects.{object_at, IsIn}
 use Rattle.mw_translate.specs.declared.shape.Two.{Two}
 use Rattle.mw_translate.specs.declared.progress.Progress.{Progress}

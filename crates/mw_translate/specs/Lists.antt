@@ -1,6 +1,6 @@
 -- The end of a list, and a list with one more in front.
 use Rattle.std.specs.Prelude.{◌≡◌, ℕ, ◌+◌, false, List}
-use Rattle.mw_model.specs.Object.{Object, Pair, same_object, NIL}
+use Rattle.mw_model.specs.Terms.Object.{Object, Pair, same_object, NIL}
 use Rattle.mw_heap.specs.Objects.{object_at, IsIn}
 use Rattle.mw_translate.specs.declared.made.Made.{Made}
 use Rattle.mw_translate.specs.declared.progress.Progress.{Progress}

@@ -1,9 +1,9 @@
 -- What is made of each part of a raw term: an object, and a count of its members where it is a list of terms.
 use Rattle.std.specs.Prelude.{ℕ, ◌&&◌, cond, List, [], ◌∷◌, length, Option, Some, None, option_map}
-use Rattle.mw_model.specs.Object.{Name, Object, Symbol, Pair, symbol, same_object, list3, NIL}
-use Rattle.mw_model.specs.Term.{Term, Terms, NoTerms, More, ArityTable, count, names_object, term_object, terms_object, are_formals, is_closed, is_term, are_terms}
-use Rattle.mw_model.specs.Reading.{names_of, and_more, if_nil, when}
-use Rattle.mw_model.specs.Expansion.{and_term, or_term, list_term, expanded, expanded_each, clauses, bindings}
+use Rattle.mw_model.specs.Terms.Object.{Name, Object, Symbol, Pair, symbol, same_object, list3, NIL}
+use Rattle.mw_model.specs.Terms.Term.{Term, Terms, NoTerms, More, ArityTable, count, names_object, term_object, terms_object, are_formals, is_closed, is_term, are_terms}
+use Rattle.mw_model.specs.Terms.Reading.{names_of, and_more, if_nil, when}
+use Rattle.mw_model.specs.Events.Expansion.{and_term, or_term, list_term, expanded, expanded_each, clauses, bindings}
 use Rattle.mw_translate.specs.declared.part.Kind.{Kind}
 use Rattle.mw_translate.specs.declared.part.Kind.TheVariants as kind
 

@@ -1,7 +1,7 @@
 -- Proper lists of one and of two members, and pairs that begin with a symbol.
 use Rattle.std.specs.Prelude.{◌≡◌, ℕ, ◌<◌, Bool, true, false, List, Option, Some, None}
-use Rattle.mw_model.specs.Object.{Object, Symbol, Pair, same_name, nil_name, list1, list2}
-use Rattle.mw_model.specs.Primitive.{is_symbol}
+use Rattle.mw_model.specs.Terms.Object.{Object, Symbol, Pair, same_name, nil_name, list1, list2}
+use Rattle.mw_model.specs.Values.Primitive.{is_symbol}
 use Rattle.mw_heap.specs.Objects.{object_at, IsIn}
 use Rattle.mw_translate.specs.declared.shape.Two.{Two}
 

@@ -1,6 +1,6 @@
 //! Lists and terms from their parts.
 ghost use Rattle.std.specs.Prelude.{◌≡◌, true, IfOk};
-ghost use Rattle.mw_model.specs.Object.{Symbol, Pair, symbol, is_name, name_of_bytes, list1, list2, list3};
+ghost use Rattle.mw_model.specs.Terms.Object.{Symbol, Pair, symbol, is_name, name_of_bytes, list1, list2, list3};
 ghost use Rattle.mw_heap.specs.Objects.{object_at, IsIn, Grows};
 
 use mw_heap::{Heap, Memory, Ref};

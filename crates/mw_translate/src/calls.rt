@@ -1,10 +1,10 @@
 //! Calls of functions and of lambdas.
 ghost use Rattle.std.specs.Prelude.{◌≡◌, ◌<◌, ◌+◌, ◌++◌, ◌&&◌, ◌||◌, not, eqb, true, false, Some, IfOk};
-ghost use Rattle.mw_model.specs.Object.{Pair, is_name, name_of_bytes, named, same_name};
-ghost use Rattle.mw_model.specs.Term.{Term, ArityTable};
-ghost use Rattle.mw_model.specs.Reading.{term_of};
-ghost use Rattle.mw_model.specs.Primitive.{is_pair, is_symbol, name_of};
-ghost use Rattle.mw_model.specs.Expansion.{Other, form_with, expanded, expanded_each};
+ghost use Rattle.mw_model.specs.Terms.Object.{Pair, is_name, name_of_bytes, named, same_name};
+ghost use Rattle.mw_model.specs.Terms.Term.{Term, ArityTable};
+ghost use Rattle.mw_model.specs.Terms.Reading.{term_of};
+ghost use Rattle.mw_model.specs.Values.Primitive.{is_pair, is_symbol, name_of};
+ghost use Rattle.mw_model.specs.Events.Expansion.{Other, form_with, expanded, expanded_each};
 ghost use Rattle.mw_heap.specs.Objects.{object_at, IsIn, Grows};
 ghost use Rattle.mw_translate.specs.Checked.{takes as takes_count, call_made, head_made, IsMade};
 ghost use Rattle.mw_translate.specs.Meaning.{of_term};

@@ -1,6 +1,6 @@
 //! Expansion of raw terms.
 ghost use Rattle.std.specs.Prelude.{◌≡◌, ◌++◌, [], true, IfOk};
-ghost use Rattle.mw_model.specs.Term.{are_distinct};
+ghost use Rattle.mw_model.specs.Terms.Term.{are_distinct};
 ghost use Rattle.mw_heap.specs.Objects.{object_at, IsIn, Grows};
 ghost use Rattle.mw_translate.specs.Expands.{IsExpanded, ArePairsOfSymbols, pair_names, with_pairs};
 

@@ -1,10 +1,10 @@
 //! Calls of lambdas that LET and LET* stand for.
 ghost use Rattle.std.specs.Prelude.{◌≡◌, ◌<◌, ◌+◌, List, length, true, Some, IfOk, IfSome, OnOk};
-ghost use Rattle.mw_model.specs.Object.{Name, NIL};
-ghost use Rattle.mw_model.specs.Term.{Term, Terms, ArityTable, variables, is_term, are_terms, names_object, term_object, terms_object};
-ghost use Rattle.mw_model.specs.Primitive.{is_symbol};
-ghost use Rattle.mw_model.specs.Reading.{term_of};
-ghost use Rattle.mw_model.specs.Expansion.{without};
+ghost use Rattle.mw_model.specs.Terms.Object.{Name, NIL};
+ghost use Rattle.mw_model.specs.Terms.Term.{Term, Terms, ArityTable, variables, is_term, are_terms, names_object, term_object, terms_object};
+ghost use Rattle.mw_model.specs.Values.Primitive.{is_symbol};
+ghost use Rattle.mw_model.specs.Terms.Reading.{term_of};
+ghost use Rattle.mw_model.specs.Events.Expansion.{without};
 ghost use Rattle.mw_heap.specs.Objects.{object_at, IsIn, Grows};
 ghost use Rattle.mw_term.specs.Parts.{names_at, AreSymbols};
 ghost use Rattle.mw_translate.specs.Lets.{append_object, prepend, extended_object, AreAllIn, AreMembers, AddsOther, IsLet};

@@ -1,15 +1,15 @@
 -- The premises of the law of admission are not empty: they hold of a recursive function over the built-in definitions.
 use Rattle.std.proofs.Common.{◌≡◌, ◌+◌, true, false, ltb, List, [], ◌∷◌, refl, sym, ap, ap₂, ◌∙◌, subst, arith, lt-ltb}
 use Rattle.std.proofs.lemmas.Bool.{and_from}
-use Rattle.mw_model.specs.Object.{Object, Natural, Symbol, Pair, named, NIL, T, truth_of, cdr}
-use Rattle.mw_model.specs.Term.{IsTerm, Term, Constant, If, Equal, Or}
-use Rattle.mw_model.specs.Primitive.{Profile, One, Two, number, is_pair}
-use Rattle.mw_model.specs.Definition.{Function, Functions, IsWellMade, arities, is_block, are_blocks}
-use Rattle.mw_model.specs.Value.{Environment, lookup, HasValue, block_calls, IsTotal}
-use Rattle.mw_model.specs.Truth.{IsTrueIn, AreTrueIn}
-use Rattle.mw_model.specs.Obligation.{Measures, ordinal_formula, below_formula, obligations}
-use Rattle.mw_model.specs.Writing.{var, call}
-use Rattle.mw_model.specs.BuiltIn.{built_in, built_in_definitions}
+use Rattle.mw_model.specs.Terms.Object.{Object, Natural, Symbol, Pair, named, NIL, T, truth_of, cdr}
+use Rattle.mw_model.specs.Terms.Term.{IsTerm, Term, Constant, If, Equal, Or}
+use Rattle.mw_model.specs.Values.Primitive.{Profile, One, Two, number, is_pair}
+use Rattle.mw_model.specs.Values.Definition.{Function, Functions, IsWellMade, arities, is_block, are_blocks}
+use Rattle.mw_model.specs.Values.Value.{Environment, lookup, HasValue, block_calls, IsTotal}
+use Rattle.mw_model.specs.Values.Truth.{IsTrueIn, AreTrueIn}
+use Rattle.mw_model.specs.Events.Obligation.{Measures, ordinal_formula, below_formula, obligations}
+use Rattle.mw_model.specs.Events.Writing.{var, call}
+use Rattle.mw_model.specs.BuiltIns.BuiltIn.{built_in, built_in_definitions}
 use Rattle.mw_ordinal.proofs.Computed.{ord_less_exact, ordp_exact}
 use Rattle.mw_model.proofs.BuiltInRead.{well_made}
 use Rattle.mw_model.proofs.BuiltInValue.{pairs}

@@ -1,13 +1,13 @@
 -- A block of functions whose obligations are true keeps the definitions total, by descent along its measures.
 use Rattle.std.proofs.Common.{◌≡◌, Bool, true, false, ◌&&◌, List, [], ◌∷◌, refl}
 use Rattle.std.proofs.lemmas.Bool.{and_parts}
-use Rattle.mw_model.specs.Term.{ArityTable, IsTerm, is_term, is_closed, are_formals}
-use Rattle.mw_model.specs.Primitive.{Profile}
-use Rattle.mw_model.specs.Definition.{Function, Block, Functions, definitions, add_functions, arities, is_new, are_functions, function_axioms}
-use Rattle.mw_model.specs.Value.{block_calls, IsTotal}
-use Rattle.mw_model.specs.Truth.{Each}
-use Rattle.mw_model.specs.Obligation.{Measures, measure_of, calls_none}
-use Rattle.mw_model.specs.Descent.{OfBlock, goal}
+use Rattle.mw_model.specs.Terms.Term.{ArityTable, IsTerm, is_term, is_closed, are_formals}
+use Rattle.mw_model.specs.Values.Primitive.{Profile}
+use Rattle.mw_model.specs.Values.Definition.{Function, Block, Functions, definitions, add_functions, arities, is_new, are_functions, function_axioms}
+use Rattle.mw_model.specs.Values.Value.{block_calls, IsTotal}
+use Rattle.mw_model.specs.Values.Truth.{Each}
+use Rattle.mw_model.specs.Events.Obligation.{Measures, measure_of, calls_none}
+use Rattle.mw_model.specs.Laws.Descent.{OfBlock, goal}
 use Rattle.mw_ordinal.specs.Descending.{Passes}
 use Rattle.mw_model.proofs.Formed.{Formed, formed}
 use Rattle.mw_model.proofs.Depth.{block_calls-det}

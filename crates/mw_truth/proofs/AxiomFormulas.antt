@@ -2,12 +2,12 @@
 use Rattle.std.proofs.Common.{◌≡◌, ℕ, Bool, true, ◌&&◌, List, [], ◌∷◌, Some, refl, sym}
 use Rattle.std.proofs.lemmas.Bool.{and_parts, and_from}
 use Rattle.std.proofs.lemmas.List.{append-nil}
-use Rattle.mw_model.specs.Object.{Name}
-use Rattle.mw_model.specs.Term.{Formula, Equal, Not, Or, ArityTable, arity_of, is_term, is_formula, IsFormula}
-use Rattle.mw_model.specs.Primitive.{Profile, One, Two, primitive_arities}
-use Rattle.mw_model.specs.Definition.{Block, Definitions, arities, arity_table, are_blocks, IsWellMade}
-use Rattle.mw_model.specs.Truth.{Each}
-use Rattle.mw_model.specs.Axioms.{primitive_axioms}
+use Rattle.mw_model.specs.Terms.Object.{Name}
+use Rattle.mw_model.specs.Terms.Term.{Formula, Equal, Not, Or, ArityTable, arity_of, is_term, is_formula, IsFormula}
+use Rattle.mw_model.specs.Values.Primitive.{Profile, One, Two, primitive_arities}
+use Rattle.mw_model.specs.Values.Definition.{Block, Definitions, arities, arity_table, are_blocks, IsWellMade}
+use Rattle.mw_model.specs.Values.Truth.{Each}
+use Rattle.mw_model.specs.Proofs.Axioms.{primitive_axioms}
 use Rattle.mw_model.proofs.Formed.{formed, is_term-from}
 use Rattle.mw_model.proofs.Older.{formed_more}
 use Rattle.mw_model.proofs.Begins.{begins_arity}

@@ -1,14 +1,14 @@
 -- A block whose obligations are true keeps that each term has a value.
 use Rattle.std.proofs.Common.{◌≡◌, ◌≢◌, Bool, true, false, ◌||◌, cond, List, [], ◌∷◌, ◌++◌, map, length, Option, Some, None, refl, sym, ap, ◌∙◌, subst, inl, inr}
 use Rattle.std.proofs.lemmas.Bool.{or_parts, or_from, true≢false, false≢true}
-use Rattle.mw_model.specs.Object.{Name, Object, named, same_name, NIL}
-use Rattle.mw_model.specs.Term.{Term, Terms, Variable, Constant, If, Call, Lambda, NoTerms, More, Formula, Equal, Not, Or, ArityTable, arity_of, is_closed, is_call_name, count}
-use Rattle.mw_model.specs.Substitution.{Substitution, substitute, substitute_each, image, actuals_for}
-use Rattle.mw_model.specs.Primitive.{Profile, Primitive, primitive_named}
-use Rattle.mw_model.specs.Definition.{Function, function_named, add_functions, is_present, are_new}
-use Rattle.mw_model.specs.Value.{Environment, lookup, bind, Calls, OnCall, HasValue, HaveValues, OnFunction, CallAtSomeDepth}
-use Rattle.mw_model.specs.Truth.{TrueAt, TrueFor, Each}
-use Rattle.mw_model.specs.Obligation.{mentions, any_mentions, Test, IsNotNil, IsNil, RecursiveCall, under_test, Pending, pend, pending_terms, all_calls, call_or, collect, actuals_with, recursive_calls, Measures, measure_of, ordinal_formula, tested, test_formula, under_tests, falls, obligation, is_empty, calls_none}
+use Rattle.mw_model.specs.Terms.Object.{Name, Object, named, same_name, NIL}
+use Rattle.mw_model.specs.Terms.Term.{Term, Terms, Variable, Constant, If, Call, Lambda, NoTerms, More, Formula, Equal, Not, Or, ArityTable, arity_of, is_closed, is_call_name, count}
+use Rattle.mw_model.specs.Terms.Substitution.{Substitution, substitute, substitute_each, image, actuals_for}
+use Rattle.mw_model.specs.Values.Primitive.{Profile, Primitive, primitive_named}
+use Rattle.mw_model.specs.Values.Definition.{Function, function_named, add_functions, is_present, are_new}
+use Rattle.mw_model.specs.Values.Value.{Environment, lookup, bind, Calls, OnCall, HasValue, HaveValues, OnFunction, CallAtSomeDepth}
+use Rattle.mw_model.specs.Values.Truth.{TrueAt, TrueFor, Each}
+use Rattle.mw_model.specs.Events.Obligation.{mentions, any_mentions, Test, IsNotNil, IsNil, RecursiveCall, under_test, Pending, pend, pending_terms, all_calls, call_or, collect, actuals_with, recursive_calls, Measures, measure_of, ordinal_formula, tested, test_formula, under_tests, falls, obligation, is_empty, calls_none}
 use Rattle.mw_model.proofs.Names.{same_name-eq}
 use Rattle.mw_model.proofs.Formed.{Formed, AreFormed}
 use Rattle.mw_model.proofs.Values.{Det, ev_det, Induces, ev_sub-back, evs_sub-back, ev_vars}

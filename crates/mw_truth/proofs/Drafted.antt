@@ -1,14 +1,14 @@
 -- What the tests of DEFINE and DEFINE-ALL give: the functions make a block that is well made, with a measure for each.
 use Rattle.std.proofs.Common.{◌≡◌, Bool, true, false, ◌&&◌, not, cond, List, [], ◌∷◌, length, map, Option, Some, None, refl, sym, ap, ◌∙◌, subst}
 use Rattle.std.proofs.lemmas.Bool.{and_parts, and_from, or_parts, not-true, cond-true, cond-false, false≢true}
-use Rattle.mw_model.specs.Object.{Name, Object, Natural, Symbol, Pair, same_name}
-use Rattle.mw_model.specs.Term.{Term, ArityTable, is_among, are_formals, are_distinct, is_closed, is_term, IsTerm}
-use Rattle.mw_model.specs.Reading.{names_of, both, that}
-use Rattle.mw_model.specs.Definition.{Function, function_named, add_functions, is_absent, is_new, are_new, are_functions, is_some_function}
-use Rattle.mw_model.specs.Truth.{Each}
-use Rattle.mw_model.specs.Obligation.{measure_of, is_empty}
-use Rattle.mw_model.specs.Expansion.{expanded, expand}
-use Rattle.mw_model.specs.Admission.{Draft, all_of, new_name, formals_of, add_names, functions, measures, are_closed_by}
+use Rattle.mw_model.specs.Terms.Object.{Name, Object, Natural, Symbol, Pair, same_name}
+use Rattle.mw_model.specs.Terms.Term.{Term, ArityTable, is_among, are_formals, are_distinct, is_closed, is_term, IsTerm}
+use Rattle.mw_model.specs.Terms.Reading.{names_of, both, that}
+use Rattle.mw_model.specs.Values.Definition.{Function, function_named, add_functions, is_absent, is_new, are_new, are_functions, is_some_function}
+use Rattle.mw_model.specs.Values.Truth.{Each}
+use Rattle.mw_model.specs.Events.Obligation.{measure_of, is_empty}
+use Rattle.mw_model.specs.Events.Expansion.{expanded, expand}
+use Rattle.mw_model.specs.Events.Admission.{Draft, all_of, new_name, formals_of, add_names, functions, measures, are_closed_by}
 use Rattle.mw_model.proofs.Names.{same_name-refl, name_differ, name_differ-from}
 use Rattle.mw_model.proofs.ReadBack.{some_one, and_more-back, when_some}
 

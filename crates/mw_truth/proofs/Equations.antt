@@ -1,13 +1,13 @@
 -- The equations that methods conclude: of calls with equal actuals, of a lambda call, and of a primitive of constants.
 use Rattle.std.proofs.Common.{◌≡◌, ◌≢◌, true, false, List, [], ◌∷◌, Some, refl, sym, ◌∙◌, subst, ◌⊎◌, inl, inr}
 use Rattle.std.proofs.lemmas.Bool.{and_parts}
-use Rattle.mw_model.specs.Object.{Name, Object, same_object, NIL}
-use Rattle.mw_model.specs.Term.{Term, Terms, Constant, If, Call, Lambda, NoTerms, More, Formula, Equal, Not, Or, ArityTable, count, is_formula, IsTerm, IsFormula}
-use Rattle.mw_model.specs.Substitution.{substitute, actuals_for}
-use Rattle.mw_model.specs.Primitive.{Profile, Primitive, primitive_named, apply, choose}
-use Rattle.mw_model.specs.Value.{Environment, bind, Calls, OnCall, HasValue, HaveValues}
-use Rattle.mw_model.specs.Truth.{TrueAt}
-use Rattle.mw_model.specs.Proof.{unless_equal, three_terms, constants}
+use Rattle.mw_model.specs.Terms.Object.{Name, Object, same_object, NIL}
+use Rattle.mw_model.specs.Terms.Term.{Term, Terms, Constant, If, Call, Lambda, NoTerms, More, Formula, Equal, Not, Or, ArityTable, count, is_formula, IsTerm, IsFormula}
+use Rattle.mw_model.specs.Terms.Substitution.{substitute, actuals_for}
+use Rattle.mw_model.specs.Values.Primitive.{Profile, Primitive, primitive_named, apply, choose}
+use Rattle.mw_model.specs.Values.Value.{Environment, bind, Calls, OnCall, HasValue, HaveValues}
+use Rattle.mw_model.specs.Values.Truth.{TrueAt}
+use Rattle.mw_model.specs.Proofs.Proof.{unless_equal, three_terms, constants}
 use Rattle.mw_model.proofs.Names.{object_cases}
 use Rattle.mw_model.proofs.Formed.{formed}
 use Rattle.mw_model.proofs.Values.{Det, ev_det, evs_det, ev_sub-back, ev_vars}

@@ -1,22 +1,22 @@
 -- Each event keeps a sound theory sound, and what it accepts is true, where what the checker says yes to is true.
 use Rattle.std.proofs.Common.{◌≡◌, ℕ, suc, Bool, true, false, ◌&&◌, ltb, not, cond, List, [], ◌∷◌, length, map, Option, Some, None, refl, sym, ap, subst}
 use Rattle.std.proofs.lemmas.Bool.{and_from, not-true}
-use Rattle.mw_model.specs.Object.{Name, Object, Natural, Symbol, Pair, car, cdr, second_of, third_of, fourth_of, fifth_of, sixth_of, same_object, has_members, is_member}
-use Rattle.mw_model.specs.Term.{Term, Formula, formula_object, is_formula, IsFormula, are_formals, are_distinct, is_closed, is_term}
-use Rattle.mw_model.specs.Reading.{formula_of, formula_under, both, when}
-use Rattle.mw_model.specs.Primitive.{Profile, One, Two, is_symbol}
-use Rattle.mw_model.specs.Definition.{Block, Functions, Choice, arity_table, add_functions, is_new, are_new, are_functions, is_some_function, is_block, are_blocks, block_axioms}
-use Rattle.mw_model.specs.Truth.{Each, IsTrueIn, AreTrueIn}
-use Rattle.mw_model.specs.Obligation.{measure_of, is_nested, is_empty, obligations}
-use Rattle.mw_model.specs.Evaluation.{Outcome, Value, Steps, Overflow, Witness, evaluate}
-use Rattle.mw_model.specs.Expansion.{expand}
-use Rattle.mw_model.specs.Printing.{text_of}
-use Rattle.mw_model.specs.Theory.{Theory, initial, claim, IsSound}
-use Rattle.mw_model.specs.Refusal.{Refusal, RANGE, FORMALS, EVENT, STEPS, OVERFLOW, WITNESS, LONG, CONCLUSION, Fate, Accepted, refuse, accept, need, must, unless}
-use Rattle.mw_model.specs.Checking.{judged, judged_as, or_else, judged_each}
-use Rattle.mw_model.specs.Admission.{Draft, all_of, new_name, new_names, formals_of, add_names, functions, measures, are_closed_by, add_to_theory, define, draft_of, drafts_of, some_drafts, add_witness}
-use Rattle.mw_model.specs.Fate.{EventWord, Verify, Define, Skolem, Switch, Eval, Print, DefineAll, SetProfile, checker_named, longest, show, show_outcome, begin_profile, event_word, is_out_of_range, happens_by, happens}
-use Rattle.mw_model.specs.Keeping.{one_or_none, formulas_of_word, formulas_by, EventKeeps}
+use Rattle.mw_model.specs.Terms.Object.{Name, Object, Natural, Symbol, Pair, car, cdr, second_of, third_of, fourth_of, fifth_of, sixth_of, same_object, has_members, is_member}
+use Rattle.mw_model.specs.Terms.Term.{Term, Formula, formula_object, is_formula, IsFormula, are_formals, are_distinct, is_closed, is_term}
+use Rattle.mw_model.specs.Terms.Reading.{formula_of, formula_under, both, when}
+use Rattle.mw_model.specs.Values.Primitive.{Profile, One, Two, is_symbol}
+use Rattle.mw_model.specs.Values.Definition.{Block, Functions, Choice, arity_table, add_functions, is_new, are_new, are_functions, is_some_function, is_block, are_blocks, block_axioms}
+use Rattle.mw_model.specs.Values.Truth.{Each, IsTrueIn, AreTrueIn}
+use Rattle.mw_model.specs.Events.Obligation.{measure_of, is_nested, is_empty, obligations}
+use Rattle.mw_model.specs.Events.Evaluation.{Outcome, Value, Steps, Overflow, Witness, evaluate}
+use Rattle.mw_model.specs.Events.Expansion.{expand}
+use Rattle.mw_model.specs.Texts.Printing.{text_of}
+use Rattle.mw_model.specs.Events.Theory.{Theory, initial, claim, IsSound}
+use Rattle.mw_model.specs.Events.Refusal.{Refusal, RANGE, FORMALS, EVENT, STEPS, OVERFLOW, WITNESS, LONG, CONCLUSION, Fate, Accepted, refuse, accept, need, must, unless}
+use Rattle.mw_model.specs.Events.Checking.{judged, judged_as, or_else, judged_each}
+use Rattle.mw_model.specs.Events.Admission.{Draft, all_of, new_name, new_names, formals_of, add_names, functions, measures, are_closed_by, add_to_theory, define, draft_of, drafts_of, some_drafts, add_witness}
+use Rattle.mw_model.specs.Events.Fate.{EventWord, Verify, Define, Skolem, Switch, Eval, Print, DefineAll, SetProfile, checker_named, longest, show, show_outcome, begin_profile, event_word, is_out_of_range, happens_by, happens}
+use Rattle.mw_model.specs.Reports.Keeping.{one_or_none, formulas_of_word, formulas_by, EventKeeps}
 use Rattle.mw_model.proofs.Names.{same_object-eq}
 use Rattle.mw_model.proofs.Formed.{formed}
 use Rattle.mw_model.proofs.NewNames.{each_found, no_if}

@@ -1,14 +1,14 @@
 -- A sound theory stays sound with a new theorem, a new block or a claimed checker.
 use Rattle.std.proofs.Common.{◌≡◌, suc, true, List, ◌∷◌, length, Option, Some, None, refl, ap, subst, eqb-true}
-use Rattle.mw_model.specs.Object.{Name, Object, Natural, Symbol, Pair, later, is_member}
-use Rattle.mw_model.specs.Term.{Formula, formula_object}
-use Rattle.mw_model.specs.Definition.{Function, Block, IsWellMade, block_axioms}
-use Rattle.mw_model.specs.Value.{IsTotal}
-use Rattle.mw_model.specs.Evaluation.{code_of}
-use Rattle.mw_model.specs.BuiltIn.{built_in}
-use Rattle.mw_model.specs.Theory.{Theory, claim, BeginsWith, IsClaimed, IsSound}
-use Rattle.mw_model.specs.Admission.{add_to_theory}
-use Rattle.mw_model.specs.Fate.{has_four_formals, checker_named}
+use Rattle.mw_model.specs.Terms.Object.{Name, Object, Natural, Symbol, Pair, later, is_member}
+use Rattle.mw_model.specs.Terms.Term.{Formula, formula_object}
+use Rattle.mw_model.specs.Values.Definition.{Function, Block, IsWellMade, block_axioms}
+use Rattle.mw_model.specs.Values.Value.{IsTotal}
+use Rattle.mw_model.specs.Events.Evaluation.{code_of}
+use Rattle.mw_model.specs.BuiltIns.BuiltIn.{built_in}
+use Rattle.mw_model.specs.Events.Theory.{Theory, claim, BeginsWith, IsClaimed, IsSound}
+use Rattle.mw_model.specs.Events.Admission.{add_to_theory}
+use Rattle.mw_model.specs.Events.Fate.{has_four_formals, checker_named}
 use Rattle.mw_model.proofs.ReadBack.{some_one, when_some}
 use Rattle.mw_model.proofs.Follows.{member_true}
 use Rattle.mw_model.proofs.CodeStays.{code_stays}

@@ -1,14 +1,14 @@
 -- Having values, by denials; what the formulas on ordinals say.
 use Rattle.std.proofs.Common.{◌≡◌, suc, Bool, true, false, cond, List, [], ◌∷◌, ◌++◌, length, refl, sym, ap, ap₂, ◌∙◌, subst, ◌⊎◌, inl, inr, ⊎_elim, arith}
 use Rattle.std.proofs.lemmas.Bool.{or_cases, both_ways, false≢true, cond-true}
-use Rattle.mw_model.specs.Object.{Name, Object, named, same_name, NIL, T, truth_of}
-use Rattle.mw_model.specs.Term.{Term, Terms, NoTerms, More, Formula, Equal, Not, Or, is_among, count}
-use Rattle.mw_model.specs.Substitution.{Substitution, substitute_each, image, actuals_for}
-use Rattle.mw_model.specs.Primitive.{Profile}
-use Rattle.mw_model.specs.Value.{Environment, lookup, bind, Calls, HasValue, HaveValues}
-use Rattle.mw_model.specs.Truth.{TrueAt, Each}
-use Rattle.mw_model.specs.Ordinal.{is_below, is_ordinal}
-use Rattle.mw_model.specs.Obligation.{ordinal_formula, below_formula}
+use Rattle.mw_model.specs.Terms.Object.{Name, Object, named, same_name, NIL, T, truth_of}
+use Rattle.mw_model.specs.Terms.Term.{Term, Terms, NoTerms, More, Formula, Equal, Not, Or, is_among, count}
+use Rattle.mw_model.specs.Terms.Substitution.{Substitution, substitute_each, image, actuals_for}
+use Rattle.mw_model.specs.Values.Primitive.{Profile}
+use Rattle.mw_model.specs.Values.Value.{Environment, lookup, bind, Calls, HasValue, HaveValues}
+use Rattle.mw_model.specs.Values.Truth.{TrueAt, Each}
+use Rattle.mw_model.specs.Laws.Ordinal.{is_below, is_ordinal}
+use Rattle.mw_model.specs.Events.Obligation.{ordinal_formula, below_formula}
 use Rattle.mw_model.proofs.Names.{same_name-eq, same_name-refl, same_name-from, same_object-from}
 use Rattle.mw_model.proofs.Values.{Det, ev_det, Induces}
 pub use Rattle.mw_model.proofs.SomeValue.{Has, CallsHave, evs_length, on_has, if_has, term_has, terms_have}

@@ -1,14 +1,14 @@
 -- An induction whose premises are true: its formula passes from the ordinals below the measure's value to that value, so it is true.
 use Rattle.std.proofs.Common.{◌≡◌, true, List, [], ◌∷◌, map}
 use Rattle.std.proofs.lemmas.Bool.{and_parts}
-use Rattle.mw_model.specs.Object.{Object}
-use Rattle.mw_model.specs.Term.{Term, Formula, Not, ArityTable, IsTerm}
-use Rattle.mw_model.specs.Substitution.{Substitution, substitute, substitute_formula, is_substitution}
-use Rattle.mw_model.specs.Primitive.{Profile}
-use Rattle.mw_model.specs.Value.{Environment, Calls, HasValue}
-use Rattle.mw_model.specs.Truth.{TrueAt, TrueFor, Each}
-use Rattle.mw_model.specs.Obligation.{ordinal_formula}
-use Rattle.mw_model.specs.Induction.{Case, disjunction, base_premise, step_premise, fall_premise, fall_premises, premises, are_substitutions, are_cases}
+use Rattle.mw_model.specs.Terms.Object.{Object}
+use Rattle.mw_model.specs.Terms.Term.{Term, Formula, Not, ArityTable, IsTerm}
+use Rattle.mw_model.specs.Terms.Substitution.{Substitution, substitute, substitute_formula, is_substitution}
+use Rattle.mw_model.specs.Values.Primitive.{Profile}
+use Rattle.mw_model.specs.Values.Value.{Environment, Calls, HasValue}
+use Rattle.mw_model.specs.Values.Truth.{TrueAt, TrueFor, Each}
+use Rattle.mw_model.specs.Events.Obligation.{ordinal_formula}
+use Rattle.mw_model.specs.Proofs.Induction.{Case, disjunction, base_premise, step_premise, fall_premise, fall_premises, premises, are_substitutions, are_cases}
 use Rattle.mw_model.proofs.Values.{Det, ev_sub-back}
 use Rattle.mw_ordinal.proofs.Descents.{Ordinal, Below, Passes, at_each}
 use Rattle.mw_truth.proofs.Having.{Orders, stable, each_left, each_right, ordp_says, less_says}

@@ -1,16 +1,16 @@
 -- Each event of a log keeps a sound theory sound and the checker built in, and what gets a yes is true.
 use Rattle.std.proofs.Common.{◌≡◌, ℕ, suc, Bool, true, false, List, [], ◌∷◌, ◌++◌, Option, Some, None, refl, sym, ap, ◌∙◌, subst}
-use Rattle.mw_model.specs.Object.{Object}
-use Rattle.mw_model.specs.Term.{Formula}
-use Rattle.mw_model.specs.Primitive.{One}
-use Rattle.mw_model.specs.Definition.{arity_table}
-use Rattle.mw_model.specs.Truth.{Each, AreTrueIn}
-use Rattle.mw_model.specs.Theory.{Theory, initial, IsSound}
-use Rattle.mw_model.specs.Keeping.{formulas_by}
-use Rattle.mw_model.specs.Demand.{Demand, Denied, Wants, demand, with_proofs}
-use Rattle.mw_model.specs.Log.{Answer, Yes, No, Entry, entry_of, conclusions, are_concluded, answer_to_goal, answer_to_demand, answer_to_steps, answer_to_entry, logged, is_step}
-use Rattle.mw_model.specs.LogReport.{Log, with_event, log_from, log_of, theory_after}
-use Rattle.mw_model.specs.Headlines.{formulas_answered, EntryKeeps}
+use Rattle.mw_model.specs.Terms.Object.{Object}
+use Rattle.mw_model.specs.Terms.Term.{Formula}
+use Rattle.mw_model.specs.Values.Primitive.{One}
+use Rattle.mw_model.specs.Values.Definition.{arity_table}
+use Rattle.mw_model.specs.Values.Truth.{Each, AreTrueIn}
+use Rattle.mw_model.specs.Events.Theory.{Theory, initial, IsSound}
+use Rattle.mw_model.specs.Reports.Keeping.{formulas_by}
+use Rattle.mw_model.specs.Commands.Demand.{Demand, Denied, Wants, demand, with_proofs}
+use Rattle.mw_model.specs.Commands.Log.{Answer, Yes, No, Entry, entry_of, conclusions, are_concluded, answer_to_goal, answer_to_demand, answer_to_steps, answer_to_entry, logged, is_step}
+use Rattle.mw_model.specs.Commands.LogReport.{Log, with_event, log_from, log_of, theory_after}
+use Rattle.mw_model.specs.Reports.Headlines.{formulas_answered, EntryKeeps}
 use Rattle.mw_model.proofs.Leading.{Asks, asks}
 use Rattle.mw_model.proofs.LogAccepted.{yes_is_accepted, no_leaves_theory}
 use Rattle.mw_truth.specs.Logged.{LoggedKeeps}

@@ -1,17 +1,17 @@
 -- Each method of proof keeps truth.
 use Rattle.std.proofs.Common.{◌≡◌, true, List, [], ◌∷◌, map, subst}
 use Rattle.std.proofs.lemmas.Bool.{and_parts}
-use Rattle.mw_model.specs.Object.{Object, Member, named, T}
-use Rattle.mw_model.specs.Term.{Term, Formula, Constant, Call, If, Lambda, Equal, More, NoTerms, formula_object, is_term, IsTerm, IsFormula}
-use Rattle.mw_model.specs.Substitution.{substitute, substitute_formula, actuals_for}
-use Rattle.mw_model.specs.Definition.{Definitions, arity_table}
-use Rattle.mw_model.specs.Value.{IsTotal, block_calls}
-use Rattle.mw_model.specs.Truth.{Each, IsTrueIn}
-use Rattle.mw_model.specs.Obligation.{ordinal_formula}
-use Rattle.mw_model.specs.Induction.{Case, step_premise, fall_premises, premises, are_cases}
-use Rattle.mw_model.specs.Proof.{Axiom, Theorem, PropositionalSchema, FunctionalEquality, BetaReduction, BaseEval, Expansion, Contraction, Associativity, Cut, Instantiation, three_terms, by_axiom, by_theorem, by_schema, by_equality, by_if_equality, by_beta, by_base, by_base_if, by_expansion, by_contraction, by_associativity, by_cut, by_instantiation}
-use Rattle.mw_model.specs.Theory.{AreTrueFormulas}
-use Rattle.mw_model.specs.Descent.{OfFormula, goal}
+use Rattle.mw_model.specs.Terms.Object.{Object, Member, named, T}
+use Rattle.mw_model.specs.Terms.Term.{Term, Formula, Constant, Call, If, Lambda, Equal, More, NoTerms, formula_object, is_term, IsTerm, IsFormula}
+use Rattle.mw_model.specs.Terms.Substitution.{substitute, substitute_formula, actuals_for}
+use Rattle.mw_model.specs.Values.Definition.{Definitions, arity_table}
+use Rattle.mw_model.specs.Values.Value.{IsTotal, block_calls}
+use Rattle.mw_model.specs.Values.Truth.{Each, IsTrueIn}
+use Rattle.mw_model.specs.Events.Obligation.{ordinal_formula}
+use Rattle.mw_model.specs.Proofs.Induction.{Case, step_premise, fall_premises, premises, are_cases}
+use Rattle.mw_model.specs.Proofs.Proof.{Axiom, Theorem, PropositionalSchema, FunctionalEquality, BetaReduction, BaseEval, Expansion, Contraction, Associativity, Cut, Instantiation, three_terms, by_axiom, by_theorem, by_schema, by_equality, by_if_equality, by_beta, by_base, by_base_if, by_expansion, by_contraction, by_associativity, by_cut, by_instantiation}
+use Rattle.mw_model.specs.Events.Theory.{AreTrueFormulas}
+use Rattle.mw_model.specs.Laws.Descent.{OfFormula, goal}
 use Rattle.mw_model.proofs.Formed.{formed, is_term-from}
 use Rattle.mw_model.proofs.Read.{formula_object-one}
 use Rattle.mw_model.proofs.Depth.{block_calls-det}

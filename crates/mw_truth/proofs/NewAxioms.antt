@@ -1,12 +1,12 @@
 -- The axioms of a new block are formulas, and true once the definitions with the block are total.
 use Rattle.std.proofs.Common.{◌≡◌, ◌≢◌, suc, true, false, ◌&&◌, List, [], ◌∷◌, map, length, Some, refl, sym, ap, ap₂, ◌∙◌, subst, ◌⊎◌, inl, inr}
 use Rattle.std.proofs.lemmas.Bool.{and_parts, and_from, or_cases, cond-true, cond-false, false≢true}
-use Rattle.mw_model.specs.Object.{Name, Object, same_name, NIL}
-use Rattle.mw_model.specs.Term.{Term, Terms, Call, Lambda, More, ArityTable, arity_of, is_variable, are_variables, are_distinct, are_formals, is_among, is_closed, count, is_term, IsTerm, IsFormula}
-use Rattle.mw_model.specs.Primitive.{Profile, primitive_named}
-use Rattle.mw_model.specs.Definition.{Function, Block, Functions, Choice, definitions, function_named, arities, is_new, are_functions, is_block, are_blocks, variable_terms, function_axiom, function_axioms, choice_axiom, block_axioms}
-use Rattle.mw_model.specs.Value.{Environment, lookup, bind, Calls, HasValue, HaveValues, OnFunction, pick, CallAtSomeDepth, Satisfies, IsWitness, extend_by, block_calls, IsTotal}
-use Rattle.mw_model.specs.Truth.{IsTrueIn, Each}
+use Rattle.mw_model.specs.Terms.Object.{Name, Object, same_name, NIL}
+use Rattle.mw_model.specs.Terms.Term.{Term, Terms, Call, Lambda, More, ArityTable, arity_of, is_variable, are_variables, are_distinct, are_formals, is_among, is_closed, count, is_term, IsTerm, IsFormula}
+use Rattle.mw_model.specs.Values.Primitive.{Profile, primitive_named}
+use Rattle.mw_model.specs.Values.Definition.{Function, Block, Functions, Choice, definitions, function_named, arities, is_new, are_functions, is_block, are_blocks, variable_terms, function_axiom, function_axioms, choice_axiom, block_axioms}
+use Rattle.mw_model.specs.Values.Value.{Environment, lookup, bind, Calls, HasValue, HaveValues, OnFunction, pick, CallAtSomeDepth, Satisfies, IsWitness, extend_by, block_calls, IsTotal}
+use Rattle.mw_model.specs.Values.Truth.{IsTrueIn, Each}
 use Rattle.mw_model.proofs.CallDepth.{no_primitive, on_no_primitive}
 use Rattle.mw_model.proofs.Names.{same_name-eq, same_name-refl, name_cases}
 use Rattle.mw_model.proofs.Formed.{Formed, AreFormed, formed, is_term-from}

@@ -1,9 +1,9 @@
 -- What the axioms on naturals say of values.
 use Rattle.std.proofs.Common.{[], ◌∷◌, arith}
-use Rattle.mw_model.specs.Object.{Object, named}
-use Rattle.mw_model.specs.Primitive.{Profile, Two}
-use Rattle.mw_model.specs.Value.{Environment}
-use Rattle.mw_model.specs.Axioms.{axiom_27, axiom_28, axiom_29, axiom_30, axiom_31, axiom_32, axiom_33, axiom_34, axiom_35, axiom_36, axiom_37, axiom_38, axiom_39, axiom_40, axiom_41, axiom_42, axiom_43, axiom_44, axiom_45, axiom_46, axiom_47, axiom_48, axiom_49, axiom_50, axiom_51, axiom_52, axiom_54, axiom_55, axiom_56, axiom_57, axiom_58, axiom_59, axiom_60}
+use Rattle.mw_model.specs.Terms.Object.{Object, named}
+use Rattle.mw_model.specs.Values.Primitive.{Profile, Two}
+use Rattle.mw_model.specs.Values.Value.{Environment}
+use Rattle.mw_model.specs.Proofs.Axioms.{axiom_27, axiom_28, axiom_29, axiom_30, axiom_31, axiom_32, axiom_33, axiom_34, axiom_35, axiom_36, axiom_37, axiom_38, axiom_39, axiom_40, axiom_41, axiom_42, axiom_43, axiom_44, axiom_45, axiom_46, axiom_47, axiom_48, axiom_49, axiom_50, axiom_51, axiom_52, axiom_54, axiom_55, axiom_56, axiom_57, axiom_58, axiom_59, axiom_60}
 use Rattle.mw_truth.proofs.PrimitiveValues.{Says}
 use Rattle.mw_truth.proofs.Tells.{tells}
 

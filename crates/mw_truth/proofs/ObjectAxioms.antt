@@ -1,10 +1,10 @@
 -- What the axioms on objects, pairs and symbols say of values.
 use Rattle.std.proofs.Common.{◌≡◌, ℕ, true, false, List, [], ◌∷◌, refl, ap, subst, ◌⊎◌, inl, inr, ⊎_elim, arith}
 use Rattle.std.proofs.lemmas.Bool.{cases_Bool, both_ways}
-use Rattle.mw_model.specs.Object.{Object, Natural, Symbol, Pair, named, same_bytes, is_before_bytes, truth_of, NIL, T}
-use Rattle.mw_model.specs.Primitive.{Profile, name_of}
-use Rattle.mw_model.specs.Value.{Environment}
-use Rattle.mw_model.specs.Axioms.{axiom_1, axiom_2, axiom_3, axiom_4, axiom_5, axiom_6, axiom_7, axiom_8, axiom_9, axiom_10, axiom_11, axiom_12, axiom_13, axiom_14, axiom_15, axiom_16, axiom_17, axiom_18, axiom_19, axiom_20, axiom_21, axiom_22, axiom_23, axiom_24, axiom_25, axiom_26, axiom_53}
+use Rattle.mw_model.specs.Terms.Object.{Object, Natural, Symbol, Pair, named, same_bytes, is_before_bytes, truth_of, NIL, T}
+use Rattle.mw_model.specs.Values.Primitive.{Profile, name_of}
+use Rattle.mw_model.specs.Values.Value.{Environment}
+use Rattle.mw_model.specs.Proofs.Axioms.{axiom_1, axiom_2, axiom_3, axiom_4, axiom_5, axiom_6, axiom_7, axiom_8, axiom_9, axiom_10, axiom_11, axiom_12, axiom_13, axiom_14, axiom_15, axiom_16, axiom_17, axiom_18, axiom_19, axiom_20, axiom_21, axiom_22, axiom_23, axiom_24, axiom_25, axiom_26, axiom_53}
 use Rattle.mw_model.proofs.Names.{same_bytes-refl, same_name-eq, object_cases}
 use Rattle.mw_model.proofs.Order.{bytes_tri}
 use Rattle.mw_model.proofs.BytesOrder.{bytes_irreflexive, bytes_transitive}

@@ -1,13 +1,13 @@
 -- The obligations of a block are formulas under the older table.
 use Rattle.std.proofs.Common.{◌≡◌, Bool, true, false, not, cond, List, [], ◌∷◌, map, filter, Option, Some, None, refl, sym, ap, ◌∙◌}
 use Rattle.std.proofs.lemmas.Bool.{or_parts, and_from}
-use Rattle.mw_model.specs.Object.{Name, Object, named, same_name, NIL, T}
-use Rattle.mw_model.specs.Term.{Term, Terms, Variable, Constant, If, Call, Lambda, NoTerms, More, Formula, Equal, Or, ArityTable, arity_of, is_variable, is_term, is_formula, IsFormula, firsts}
-use Rattle.mw_model.specs.Same.{same_formula}
-use Rattle.mw_model.specs.Substitution.{Substitution, substitute, substitute_each, image, actuals_for}
-use Rattle.mw_model.specs.Definition.{Function, function_named, add_functions, is_present}
-use Rattle.mw_model.specs.Truth.{Each}
-use Rattle.mw_model.specs.Obligation.{mentions, any_mentions, Test, IsNotNil, IsNil, RecursiveCall, under_test, Actual, Pending, pend, pending_terms, pending_calls, all_calls, call_or, collect, actuals_with, recursive_calls, some_nested, is_nested, Measures, measure_of, ordinal_formula, tested, test_formula, under_tests, falls, obligation, owed, calls_none, obligations}
+use Rattle.mw_model.specs.Terms.Object.{Name, Object, named, same_name, NIL, T}
+use Rattle.mw_model.specs.Terms.Term.{Term, Terms, Variable, Constant, If, Call, Lambda, NoTerms, More, Formula, Equal, Or, ArityTable, arity_of, is_variable, is_term, is_formula, IsFormula, firsts}
+use Rattle.mw_model.specs.Terms.Same.{same_formula}
+use Rattle.mw_model.specs.Terms.Substitution.{Substitution, substitute, substitute_each, image, actuals_for}
+use Rattle.mw_model.specs.Values.Definition.{Function, function_named, add_functions, is_present}
+use Rattle.mw_model.specs.Values.Truth.{Each}
+use Rattle.mw_model.specs.Events.Obligation.{mentions, any_mentions, Test, IsNotNil, IsNil, RecursiveCall, under_test, Actual, Pending, pend, pending_terms, pending_calls, all_calls, call_or, collect, actuals_with, recursive_calls, some_nested, is_nested, Measures, measure_of, ordinal_formula, tested, test_formula, under_tests, falls, obligation, owed, calls_none, obligations}
 use Rattle.mw_model.proofs.PremisesObject.{each_append}
 use Rattle.mw_model.proofs.Formed.{Formed, AreFormed, is_term-from}
 use Rattle.mw_truth.proofs.Having.{count_subs}

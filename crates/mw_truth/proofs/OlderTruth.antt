@@ -1,12 +1,12 @@
 -- A newer block changes the truth of no older formula.
 use Rattle.std.proofs.Common.{◌≡◌, true, List, ◌∷◌}
 use Rattle.std.proofs.lemmas.Bool.{and_parts, and_from}
-use Rattle.mw_model.specs.Object.{Object}
-use Rattle.mw_model.specs.Term.{Term, Formula, Equal, Not, Or, is_term, is_formula, IsTerm, IsFormula}
-use Rattle.mw_model.specs.Primitive.{Profile}
-use Rattle.mw_model.specs.Definition.{Block, arities, are_blocks}
-use Rattle.mw_model.specs.Value.{Environment, HasValue, block_calls}
-use Rattle.mw_model.specs.Truth.{TrueAt}
+use Rattle.mw_model.specs.Terms.Object.{Object}
+use Rattle.mw_model.specs.Terms.Term.{Term, Formula, Equal, Not, Or, is_term, is_formula, IsTerm, IsFormula}
+use Rattle.mw_model.specs.Values.Primitive.{Profile}
+use Rattle.mw_model.specs.Values.Definition.{Block, arities, are_blocks}
+use Rattle.mw_model.specs.Values.Value.{Environment, HasValue, block_calls}
+use Rattle.mw_model.specs.Values.Truth.{TrueAt}
 use Rattle.mw_model.proofs.Formed.{formed, is_term-from}
 use Rattle.mw_model.proofs.Older.{formed_more, arity_stays, older_to, older_from}
 

@@ -1,12 +1,12 @@
 -- ORD< and ORDP compute the order and the test of ordinals in all definitions that begin with the built-in ones.
 use Rattle.std.proofs.Common.{◌≡◌, true, List, Some, refl}
-use Rattle.mw_model.specs.Object.{named}
-use Rattle.mw_model.specs.Term.{arity_of}
-use Rattle.mw_model.specs.Primitive.{Profile, One, Two}
-use Rattle.mw_model.specs.Definition.{Block, arities, are_blocks}
-use Rattle.mw_model.specs.Value.{block_calls}
-use Rattle.mw_model.specs.BuiltIn.{built_in}
-use Rattle.mw_model.specs.Theory.{BeginsWith}
+use Rattle.mw_model.specs.Terms.Object.{named}
+use Rattle.mw_model.specs.Terms.Term.{arity_of}
+use Rattle.mw_model.specs.Values.Primitive.{Profile, One, Two}
+use Rattle.mw_model.specs.Values.Definition.{Block, arities, are_blocks}
+use Rattle.mw_model.specs.Values.Value.{block_calls}
+use Rattle.mw_model.specs.BuiltIns.BuiltIn.{built_in}
+use Rattle.mw_model.specs.Events.Theory.{BeginsWith}
 use Rattle.mw_model.proofs.Begins.{begins_arity}
 use Rattle.mw_ordinal.proofs.Computed.{ord_less_value, ordp_value}
 use Rattle.mw_truth.proofs.Having.{Orders}

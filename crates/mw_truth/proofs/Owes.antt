@@ -1,13 +1,13 @@
 -- What a block owes, from the list of its obligations.
 use Rattle.std.proofs.Common.{◌≡◌, Bool, true, false, not, cond, List, [], ◌∷◌, map, filter, refl, sym, ◌∙◌, subst}
 use Rattle.std.proofs.lemmas.Bool.{or_parts, false≢true, true≢false}
-use Rattle.mw_model.specs.Term.{Formula, firsts}
-use Rattle.mw_model.specs.Same.{same_formula}
-use Rattle.mw_model.specs.Primitive.{Profile}
-use Rattle.mw_model.specs.Definition.{Function}
-use Rattle.mw_model.specs.Value.{Calls}
-use Rattle.mw_model.specs.Truth.{TrueFor, Each}
-use Rattle.mw_model.specs.Obligation.{any_mentions, RecursiveCall, recursive_calls, some_nested, is_nested, Measures, measure_of, ordinal_formula, obligation, owed, is_empty, calls_none, obligations}
+use Rattle.mw_model.specs.Terms.Term.{Formula, firsts}
+use Rattle.mw_model.specs.Terms.Same.{same_formula}
+use Rattle.mw_model.specs.Values.Primitive.{Profile}
+use Rattle.mw_model.specs.Values.Definition.{Function}
+use Rattle.mw_model.specs.Values.Value.{Calls}
+use Rattle.mw_model.specs.Values.Truth.{TrueFor, Each}
+use Rattle.mw_model.specs.Events.Obligation.{any_mentions, RecursiveCall, recursive_calls, some_nested, is_nested, Measures, measure_of, ordinal_formula, obligation, owed, is_empty, calls_none, obligations}
 use Rattle.mw_model.proofs.SameTerms.{same_formula-eq}
 use Rattle.mw_truth.proofs.Having.{each_left, each_right}
 use Rattle.mw_truth.proofs.BlockTotal.{Owed}

@@ -1,12 +1,12 @@
 -- Terms of primitives alone: their one value is computed, whatever the calls of defined functions are.
 use Rattle.std.proofs.Common.{◌≡◌, ◌≢◌, Bool, true, false, ◌&&◌, List, [], ◌∷◌, Option, Some, None, refl, sym, ap, ap₂, ◌∙◌, subst, ◌⊎◌, inl, inr}
 use Rattle.std.proofs.lemmas.Bool.{and_parts}
-use Rattle.mw_model.specs.Object.{Name, Object, same_object, NIL}
-use Rattle.mw_model.specs.Term.{Term, Terms, Variable, Constant, If, Call, Lambda, NoTerms, More, Formula, Equal, Not, Or}
-use Rattle.mw_model.specs.Primitive.{Profile, Primitive, primitive_named, apply, choose}
-use Rattle.mw_model.specs.Definition.{is_present}
-use Rattle.mw_model.specs.Value.{Environment, lookup, bind, Calls, OnCall, HasValue, HaveValues}
-use Rattle.mw_model.specs.Truth.{TrueAt, TrueFor, Each}
+use Rattle.mw_model.specs.Terms.Object.{Name, Object, same_object, NIL}
+use Rattle.mw_model.specs.Terms.Term.{Term, Terms, Variable, Constant, If, Call, Lambda, NoTerms, More, Formula, Equal, Not, Or}
+use Rattle.mw_model.specs.Values.Primitive.{Profile, Primitive, primitive_named, apply, choose}
+use Rattle.mw_model.specs.Values.Definition.{is_present}
+use Rattle.mw_model.specs.Values.Value.{Environment, lookup, bind, Calls, OnCall, HasValue, HaveValues}
+use Rattle.mw_model.specs.Values.Truth.{TrueAt, TrueFor, Each}
 use Rattle.mw_model.proofs.Names.{object_cases, same_object-from}
 
 abbrev pub value_of_call : Option Primitive → List Object → Object

@@ -1,13 +1,13 @@
 -- A proof from true axioms and theorems has a true conclusion: by the proof's parts, each method keeping truth.
 use Rattle.std.proofs.Common.{List}
-use Rattle.mw_model.specs.Object.{Object}
-use Rattle.mw_model.specs.Term.{Formula}
-use Rattle.mw_model.specs.Definition.{Definitions, arity_table, IsWellMade}
-use Rattle.mw_model.specs.Value.{IsTotal}
-use Rattle.mw_model.specs.Truth.{Each}
-use Rattle.mw_model.specs.Proof.{Method, Axiom, Theorem, PropositionalSchema, FunctionalEquality, BetaReduction, BaseEval, Expansion, Contraction, Associativity, Cut, Instantiation, Induction, by_induction, Proves, ProveEach, proof, no_proofs, more_proofs}
-use Rattle.mw_model.specs.BuiltIn.{built_in}
-use Rattle.mw_model.specs.Theory.{BeginsWith, AreTrueFormulas}
+use Rattle.mw_model.specs.Terms.Object.{Object}
+use Rattle.mw_model.specs.Terms.Term.{Formula}
+use Rattle.mw_model.specs.Values.Definition.{Definitions, arity_table, IsWellMade}
+use Rattle.mw_model.specs.Values.Value.{IsTotal}
+use Rattle.mw_model.specs.Values.Truth.{Each}
+use Rattle.mw_model.specs.Proofs.Proof.{Method, Axiom, Theorem, PropositionalSchema, FunctionalEquality, BetaReduction, BaseEval, Expansion, Contraction, Associativity, Cut, Instantiation, Induction, by_induction, Proves, ProveEach, proof, no_proofs, more_proofs}
+use Rattle.mw_model.specs.BuiltIns.BuiltIn.{built_in}
+use Rattle.mw_model.specs.Events.Theory.{BeginsWith, AreTrueFormulas}
 use Rattle.mw_truth.specs.Methods.{IsTrueFormula, Needs, KeepsTruth, InductionDescends}
 use Rattle.mw_truth.proofs.OrdinalFunctions.{orders}
 use Rattle.mw_truth.proofs.MethodsTrue.{axiom_keeps, theorem_keeps, schema_keeps, equality_keeps, beta_keeps, base_keeps, expansion_keeps, contraction_keeps, associativity_keeps, cut_keeps, instantiation_keeps, induction_descends, induction_concludes}

@@ -1,18 +1,18 @@
 -- The initial theories are sound, and so is each theory reached from the first under the built-in checker.
 use Rattle.std.proofs.Common.{◌≡◌, ℕ, List, [], ◌∷◌, Option, Some, None, refl, sym, ◌∙◌, subst}
-use Rattle.mw_model.specs.Object.{Object, Symbol, NIL, T, second_of, Member}
-use Rattle.mw_model.specs.Term.{Constant, Formula, Equal, formula_object}
-use Rattle.mw_model.specs.Primitive.{Profile, One, Two}
-use Rattle.mw_model.specs.Definition.{arity_table}
-use Rattle.mw_model.specs.Truth.{IsTrueIn}
-use Rattle.mw_model.specs.Proof.{HasMembers, two, three, four, Proves, proof}
-use Rattle.mw_model.specs.Judgment.{judge}
-use Rattle.mw_model.specs.BuiltIn.{built_in, built_in_definitions}
-use Rattle.mw_model.specs.Theory.{Theory, initial, IsSound}
-use Rattle.mw_model.specs.Refusal.{Refusal, PROOF}
-use Rattle.mw_model.specs.Checking.{no_unless, judged_by}
-use Rattle.mw_model.specs.Fate.{next, after}
-use Rattle.mw_model.specs.Keeping.{EventKeeps, EachKeeps}
+use Rattle.mw_model.specs.Terms.Object.{Object, Symbol, NIL, T, second_of, Member}
+use Rattle.mw_model.specs.Terms.Term.{Constant, Formula, Equal, formula_object}
+use Rattle.mw_model.specs.Values.Primitive.{Profile, One, Two}
+use Rattle.mw_model.specs.Values.Definition.{arity_table}
+use Rattle.mw_model.specs.Values.Truth.{IsTrueIn}
+use Rattle.mw_model.specs.Proofs.Proof.{HasMembers, two, three, four, Proves, proof}
+use Rattle.mw_model.specs.Proofs.Judgment.{judge}
+use Rattle.mw_model.specs.BuiltIns.BuiltIn.{built_in, built_in_definitions}
+use Rattle.mw_model.specs.Events.Theory.{Theory, initial, IsSound}
+use Rattle.mw_model.specs.Events.Refusal.{Refusal, PROOF}
+use Rattle.mw_model.specs.Events.Checking.{no_unless, judged_by}
+use Rattle.mw_model.specs.Events.Fate.{next, after}
+use Rattle.mw_model.specs.Reports.Keeping.{EventKeeps, EachKeeps}
 use Rattle.mw_model.proofs.Names.{same_object-from}
 use Rattle.mw_model.proofs.Read.{formula_object-one}
 use Rattle.mw_model.proofs.Judging.{judge_good}

@@ -1,7 +1,7 @@
 -- What the object of a test tells of the test.
 use Rattle.std.proofs.Common.{◌≡◌, ◌≢◌, ℕ, ◌<◌, ◌≤◌, Bool, true, false, refl, sym, ap, ◌⊎◌, inl, inr, ltb, lt-ltb, le-ltb, true≢false}
 use Rattle.std.proofs.lemmas.Bool.{cases_lt}
-use Rattle.mw_model.specs.Object.{truth_of, NIL, T}
+use Rattle.mw_model.specs.Terms.Object.{truth_of, NIL, T}
 use Rattle.mw_model.proofs.Names.{same_object-from}
 
 pub t_not_nil : T ≢ NIL

@@ -1,11 +1,11 @@
 -- Definitions are total exactly where each call of what they define is not without a value; a witness keeps that.
 use Rattle.std.proofs.Common.{◌≡◌, suc, Bool, true, false, cond, List, [], ◌∷◌, length, Some, refl, sym, ap, ◌∙◌, subst}
-use Rattle.mw_model.specs.Object.{Name, Object, same_name}
-use Rattle.mw_model.specs.Term.{Term, Call, ArityTable, arity_of, count}
-use Rattle.mw_model.specs.Primitive.{Profile, primitive_named}
-use Rattle.mw_model.specs.Definition.{Block, Choice, Definitions, definitions, arities, arity_table, are_blocks}
-use Rattle.mw_model.specs.Value.{Calls, IsWitness, pick, extend_by, block_calls, IsTotal}
-use Rattle.mw_model.specs.Proof.{constants}
+use Rattle.mw_model.specs.Terms.Object.{Name, Object, same_name}
+use Rattle.mw_model.specs.Terms.Term.{Term, Call, ArityTable, arity_of, count}
+use Rattle.mw_model.specs.Values.Primitive.{Profile, primitive_named}
+use Rattle.mw_model.specs.Values.Definition.{Block, Choice, Definitions, definitions, arities, arity_table, are_blocks}
+use Rattle.mw_model.specs.Values.Value.{Calls, IsWitness, pick, extend_by, block_calls, IsTotal}
+use Rattle.mw_model.specs.Proofs.Proof.{constants}
 use Rattle.mw_model.proofs.CallDepth.{no_primitive, constants_are}
 use Rattle.mw_model.proofs.Formed.{AreFormed, formed, is_term-from}
 use Rattle.mw_model.proofs.Depth.{one_value}

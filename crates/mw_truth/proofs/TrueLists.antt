@@ -1,13 +1,13 @@
 -- Lists of true formulas: adding to them, keeping them under a newer block, and the axioms of definitions that are total.
 use Rattle.std.proofs.Common.{◌≡◌, true, List, [], ◌∷◌, refl}
-use Rattle.mw_model.specs.Object.{Object, Pair, NIL, first, later}
-use Rattle.mw_model.specs.Term.{Formula, formula_object, IsFormula}
-use Rattle.mw_model.specs.Primitive.{Profile}
-use Rattle.mw_model.specs.Definition.{Block, Definitions, definitions, arity_table, are_blocks, block_axioms}
-use Rattle.mw_model.specs.Value.{IsTotal}
-use Rattle.mw_model.specs.Truth.{Each, AreTrueIn}
-use Rattle.mw_model.specs.Axioms.{primitive_axioms}
-use Rattle.mw_model.specs.Theory.{add_formulas, axioms_of, AreTrueFormulas}
+use Rattle.mw_model.specs.Terms.Object.{Object, Pair, NIL, first, later}
+use Rattle.mw_model.specs.Terms.Term.{Formula, formula_object, IsFormula}
+use Rattle.mw_model.specs.Values.Primitive.{Profile}
+use Rattle.mw_model.specs.Values.Definition.{Block, Definitions, definitions, arity_table, are_blocks, block_axioms}
+use Rattle.mw_model.specs.Values.Value.{IsTotal}
+use Rattle.mw_model.specs.Values.Truth.{Each, AreTrueIn}
+use Rattle.mw_model.specs.Proofs.Axioms.{primitive_axioms}
+use Rattle.mw_model.specs.Events.Theory.{add_formulas, axioms_of, AreTrueFormulas}
 use Rattle.mw_model.proofs.Older.{older_made}
 use Rattle.mw_truth.specs.Methods.{IsTrueFormula}
 use Rattle.mw_truth.proofs.AxiomsTrue.{axioms_true}

@@ -1,11 +1,11 @@
 -- A substituted formula is true where the formula is true of the values of the substituted terms.
 use Rattle.std.proofs.Common.{◌≡◌, true, ◌&&◌, [], ◌∷◌, refl}
 use Rattle.std.proofs.lemmas.Bool.{and_parts}
-use Rattle.mw_model.specs.Term.{Term, Formula, Equal, Not, Or, ArityTable, is_term, is_variable, IsTerm}
-use Rattle.mw_model.specs.Substitution.{Substitution, substitute_formula, is_substitution}
-use Rattle.mw_model.specs.Primitive.{Profile}
-use Rattle.mw_model.specs.Value.{Environment, Calls, HasValue}
-use Rattle.mw_model.specs.Truth.{TrueAt}
+use Rattle.mw_model.specs.Terms.Term.{Term, Formula, Equal, Not, Or, ArityTable, is_term, is_variable, IsTerm}
+use Rattle.mw_model.specs.Terms.Substitution.{Substitution, substitute_formula, is_substitution}
+use Rattle.mw_model.specs.Values.Primitive.{Profile}
+use Rattle.mw_model.specs.Values.Value.{Environment, Calls, HasValue}
+use Rattle.mw_model.specs.Values.Truth.{TrueAt}
 use Rattle.mw_model.proofs.Values.{Det, Induces, ev_sub, ev_sub-back}
 use Rattle.mw_truth.proofs.Having.{Has, induces_more}
 

@@ -1,12 +1,12 @@
 -- What is asked of a new block of functions before it is admitted.
 use Rattle.std.specs.Prelude.{◌≡◌, true, false, List, ◌∷◌}
-use Rattle.mw_model.specs.Term.{IsTerm, is_closed}
-use Rattle.mw_model.specs.Definition.{Function, Block, Functions, Definitions, definitions, arity_table, IsWellMade}
-use Rattle.mw_model.specs.Value.{IsTotal}
-use Rattle.mw_model.specs.Truth.{Each, AreTrueIn}
-use Rattle.mw_model.specs.Obligation.{Measures, measure_of, is_nested, obligations}
-use Rattle.mw_model.specs.BuiltIn.{built_in}
-use Rattle.mw_model.specs.Theory.{BeginsWith}
+use Rattle.mw_model.specs.Terms.Term.{IsTerm, is_closed}
+use Rattle.mw_model.specs.Values.Definition.{Function, Block, Functions, Definitions, definitions, arity_table, IsWellMade}
+use Rattle.mw_model.specs.Values.Value.{IsTotal}
+use Rattle.mw_model.specs.Values.Truth.{Each, AreTrueIn}
+use Rattle.mw_model.specs.Events.Obligation.{Measures, measure_of, is_nested, obligations}
+use Rattle.mw_model.specs.BuiltIns.BuiltIn.{built_in}
+use Rattle.mw_model.specs.Events.Theory.{BeginsWith}
 
 -- the definitions and one newer block
 abbrev pub with_block : Definitions → Block → Definitions

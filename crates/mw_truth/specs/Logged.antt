@@ -1,10 +1,10 @@
 -- What holds of an event of a log at a theory.
 use Rattle.std.specs.Prelude.{◌≡◌, List, None}
-use Rattle.mw_model.specs.Object.{Object}
-use Rattle.mw_model.specs.Truth.{AreTrueIn}
-use Rattle.mw_model.specs.Theory.{Theory, IsSound}
-use Rattle.mw_model.specs.Log.{Objection, No, logged}
-use Rattle.mw_model.specs.Headlines.{formulas_answered}
+use Rattle.mw_model.specs.Terms.Object.{Object}
+use Rattle.mw_model.specs.Values.Truth.{AreTrueIn}
+use Rattle.mw_model.specs.Events.Theory.{Theory, IsSound}
+use Rattle.mw_model.specs.Commands.Log.{Objection, No, logged}
+use Rattle.mw_model.specs.Reports.Headlines.{formulas_answered}
 
 pub record LoggedKeeps (t : Theory) (steps : List Object) (e : Object) : Type 0 where
   -- each formula with a yes, and each axiom that it adds, is true in the standard model of the definitions then admitted

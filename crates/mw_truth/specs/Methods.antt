@@ -1,15 +1,15 @@
 -- What it means that a method of proof keeps truth.
 use Rattle.std.specs.Prelude.{◌≡◌, true, List}
-use Rattle.mw_model.specs.Object.{Object}
-use Rattle.mw_model.specs.Term.{Term, Formula, IsFormula}
-use Rattle.mw_model.specs.Definition.{Definitions, arity_table, IsWellMade}
-use Rattle.mw_model.specs.Value.{IsTotal}
-use Rattle.mw_model.specs.Truth.{Each, IsTrueIn}
-use Rattle.mw_model.specs.Induction.{Case, premises, are_cases}
-use Rattle.mw_model.specs.Proof.{Method, Axiom, Theorem, PropositionalSchema, FunctionalEquality, BetaReduction, BaseEval, Expansion, Contraction, Associativity, Cut, Instantiation, Induction, Follows, Proves}
-use Rattle.mw_model.specs.BuiltIn.{built_in}
-use Rattle.mw_model.specs.Theory.{BeginsWith, AreTrueFormulas}
-use Rattle.mw_model.specs.Descent.{OfFormula, goal}
+use Rattle.mw_model.specs.Terms.Object.{Object}
+use Rattle.mw_model.specs.Terms.Term.{Term, Formula, IsFormula}
+use Rattle.mw_model.specs.Values.Definition.{Definitions, arity_table, IsWellMade}
+use Rattle.mw_model.specs.Values.Value.{IsTotal}
+use Rattle.mw_model.specs.Values.Truth.{Each, IsTrueIn}
+use Rattle.mw_model.specs.Proofs.Induction.{Case, premises, are_cases}
+use Rattle.mw_model.specs.Proofs.Proof.{Method, Axiom, Theorem, PropositionalSchema, FunctionalEquality, BetaReduction, BaseEval, Expansion, Contraction, Associativity, Cut, Instantiation, Induction, Follows, Proves}
+use Rattle.mw_model.specs.BuiltIns.BuiltIn.{built_in}
+use Rattle.mw_model.specs.Events.Theory.{BeginsWith, AreTrueFormulas}
+use Rattle.mw_model.specs.Laws.Descent.{OfFormula, goal}
 use Rattle.mw_ordinal.specs.Descending.{Passes}
 
 -- a formula of the definitions, and true there

@@ -1,12 +1,12 @@
 -- Theories that are reached by events.
 use Rattle.std.specs.Prelude.{◌≡◌, ℕ, List, [], ◌∷◌, None}
-use Rattle.mw_model.specs.Object.{Object, second_of}
-use Rattle.mw_model.specs.Term.{Formula, formula_object, IsFormula}
-use Rattle.mw_model.specs.Definition.{arity_table}
-use Rattle.mw_model.specs.Truth.{IsTrueIn}
-use Rattle.mw_model.specs.Theory.{Theory}
-use Rattle.mw_model.specs.Checking.{judged}
-use Rattle.mw_model.specs.Fate.{next}
+use Rattle.mw_model.specs.Terms.Object.{Object, second_of}
+use Rattle.mw_model.specs.Terms.Term.{Formula, formula_object, IsFormula}
+use Rattle.mw_model.specs.Values.Definition.{arity_table}
+use Rattle.mw_model.specs.Values.Truth.{IsTrueIn}
+use Rattle.mw_model.specs.Events.Theory.{Theory}
+use Rattle.mw_model.specs.Events.Checking.{judged}
+use Rattle.mw_model.specs.Events.Fate.{next}
 
 -- what the theory's checker says yes to has a true conclusion
 abbrev pub JudgesTruly : Theory → ℕ → Type 0

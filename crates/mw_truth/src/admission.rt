@@ -1,13 +1,13 @@
 //! Admission of a block keeps totality and truth.
 
 ghost use Rattle.std.specs.Prelude.{◌↔◌, List};
-ghost use Rattle.mw_model.specs.Object.{Name, Object};
-ghost use Rattle.mw_model.specs.Term.{Term, Formula, IsTerm, IsFormula};
-ghost use Rattle.mw_model.specs.Definition.{Function, Block, Functions, Choice, Definitions, arity_table, IsWellMade, function_axioms, choice_axiom};
-ghost use Rattle.mw_model.specs.Value.{Environment, IsValue, IsTotal};
-ghost use Rattle.mw_model.specs.Truth.{Each, IsTrueIn};
-ghost use Rattle.mw_model.specs.Obligation.{Measures};
-ghost use Rattle.mw_model.specs.Descent.{OfBlock, goal};
+ghost use Rattle.mw_model.specs.Terms.Object.{Name, Object};
+ghost use Rattle.mw_model.specs.Terms.Term.{Term, Formula, IsTerm, IsFormula};
+ghost use Rattle.mw_model.specs.Values.Definition.{Function, Block, Functions, Choice, Definitions, arity_table, IsWellMade, function_axioms, choice_axiom};
+ghost use Rattle.mw_model.specs.Values.Value.{Environment, IsValue, IsTotal};
+ghost use Rattle.mw_model.specs.Values.Truth.{Each, IsTrueIn};
+ghost use Rattle.mw_model.specs.Events.Obligation.{Measures};
+ghost use Rattle.mw_model.specs.Laws.Descent.{OfBlock, goal};
 ghost use Rattle.mw_ordinal.specs.Descending.{Passes};
 ghost use Rattle.mw_truth.specs.Methods.{IsTrueFormula};
 ghost use Rattle.mw_truth.specs.Admitted.{with_block, IsAdmissible};

@@ -1,9 +1,9 @@
 //! The axioms of the primitives.
 
-ghost use Rattle.mw_model.specs.Term.{IsFormula};
-ghost use Rattle.mw_model.specs.Definition.{Definitions, arity_table, IsWellMade};
-ghost use Rattle.mw_model.specs.Truth.{Each, AreTrueIn};
-ghost use Rattle.mw_model.specs.Axioms.{primitive_axioms};
+ghost use Rattle.mw_model.specs.Terms.Term.{IsFormula};
+ghost use Rattle.mw_model.specs.Values.Definition.{Definitions, arity_table, IsWellMade};
+ghost use Rattle.mw_model.specs.Values.Truth.{Each, AreTrueIn};
+ghost use Rattle.mw_model.specs.Proofs.Axioms.{primitive_axioms};
 
 /// Each axiom of the primitives of a profile is true in all definitions of that profile, and a formula of them where
 /// they are well made.

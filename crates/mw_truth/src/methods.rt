@@ -1,10 +1,10 @@
 //! The methods of proof keep truth.
 
-ghost use Rattle.mw_model.specs.Object.{Object};
-ghost use Rattle.mw_model.specs.Term.{Formula};
-ghost use Rattle.mw_model.specs.Definition.{arity_table};
-ghost use Rattle.mw_model.specs.Proof.{Axiom, Theorem, PropositionalSchema, FunctionalEquality, BetaReduction, BaseEval, Expansion, Contraction, Associativity, Cut, Instantiation, Induction, Proves};
-ghost use Rattle.mw_model.specs.Theory.{Theory, IsSound};
+ghost use Rattle.mw_model.specs.Terms.Object.{Object};
+ghost use Rattle.mw_model.specs.Terms.Term.{Formula};
+ghost use Rattle.mw_model.specs.Values.Definition.{arity_table};
+ghost use Rattle.mw_model.specs.Proofs.Proof.{Axiom, Theorem, PropositionalSchema, FunctionalEquality, BetaReduction, BaseEval, Expansion, Contraction, Associativity, Cut, Instantiation, Induction, Proves};
+ghost use Rattle.mw_model.specs.Events.Theory.{Theory, IsSound};
 ghost use Rattle.mw_truth.specs.Methods.{IsTrueFormula, KeepsTruth, InductionDescends, ProofsKeepTruth};
 
 /// Where the conclusions of the subproofs are true formulas, what follows from them by a method is true. Besides, AXIOM

@@ -1,15 +1,15 @@
 //! Events keep theories sound.
 
 ghost use Rattle.std.specs.Prelude.{◌≡◌, ℕ, List, Option, None};
-ghost use Rattle.mw_model.specs.Object.{Object, NIL, T, Member};
-ghost use Rattle.mw_model.specs.Term.{Constant, Equal, formula_object};
-ghost use Rattle.mw_model.specs.Primitive.{Profile, One};
-ghost use Rattle.mw_model.specs.Truth.{Each};
-ghost use Rattle.mw_model.specs.Theory.{Theory, initial, IsSound};
-ghost use Rattle.mw_model.specs.Fate.{after};
-ghost use Rattle.mw_model.specs.Keeping.{EventKeeps, EachKeeps};
-ghost use Rattle.mw_model.specs.LogReport.{last_logged, log_of};
-ghost use Rattle.mw_model.specs.Headlines.{EntryKeeps};
+ghost use Rattle.mw_model.specs.Terms.Object.{Object, NIL, T, Member};
+ghost use Rattle.mw_model.specs.Terms.Term.{Constant, Equal, formula_object};
+ghost use Rattle.mw_model.specs.Values.Primitive.{Profile, One};
+ghost use Rattle.mw_model.specs.Values.Truth.{Each};
+ghost use Rattle.mw_model.specs.Events.Theory.{Theory, initial, IsSound};
+ghost use Rattle.mw_model.specs.Events.Fate.{after};
+ghost use Rattle.mw_model.specs.Reports.Keeping.{EventKeeps, EachKeeps};
+ghost use Rattle.mw_model.specs.Commands.LogReport.{last_logged, log_of};
+ghost use Rattle.mw_model.specs.Reports.Headlines.{EntryKeeps};
 ghost use Rattle.mw_truth.specs.Logged.{LoggedKeeps};
 ghost use Rattle.mw_truth.specs.Reached.{JudgesTruly, StaysBuiltIn};
 

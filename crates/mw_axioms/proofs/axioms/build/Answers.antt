@@ -1,8 +1,8 @@
 -- The machine makes what the table means, and this is the axioms.
 use Rattle.std.proofs.Common.{sym, ap, ap₂, ◌∙◌}
 use Rattle.std.specs.Prelude.{map, reverse}
-use Rattle.mw_model.specs.Term.{formula_object}
-use Rattle.mw_model.specs.Axioms.{primitive_axioms}
+use Rattle.mw_model.specs.Terms.Term.{formula_object}
+use Rattle.mw_model.specs.Proofs.Axioms.{primitive_axioms}
 use Rattle.mw_heap.specs.Variants.{profile_of}
 use Rattle.mw_heap.specs.declared.profile.Profile.{Profile}
 use Rattle.mw_axioms.specs.declared.table.TheConstants.{SHARED, OF_TIMES}

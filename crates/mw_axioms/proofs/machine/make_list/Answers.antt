@@ -1,6 +1,6 @@
 -- Each object taken goes to the front of the members, and the list takes the place of all.
 use Rattle.std.proofs.Common.{◌≡◌, ◌+◌, length, sym, ap, ap₂, ◌∙◌, subst, arith, append-nil}
-use Rattle.mw_model.specs.Object.{Symbol, Pair, name_of_bytes}
+use Rattle.mw_model.specs.Terms.Object.{Symbol, Pair, name_of_bytes}
 use Rattle.mw_heap.proofs.Objects.{Grows-trans, object_at-Grows}
 use Rattle.mw_axioms.specs.Stacks.{stack_of, AreIn}
 use Rattle.mw_axioms.proofs.OnStack.{AreIn-grows, AreIn-push}

@@ -1,6 +1,6 @@
 -- A symbol or a number goes on the stack.
 use Rattle.std.proofs.Common.{[], ◌∷◌, ◌++◌, sym, ap, ap₂, ◌∙◌}
-use Rattle.mw_model.specs.Object.{Symbol, name_of_bytes}
+use Rattle.mw_model.specs.Terms.Object.{Symbol, name_of_bytes}
 use Rattle.mw_axioms.specs.Pieces.{step}
 use Rattle.mw_axioms.specs.Stacks.{stack_of}
 use Rattle.mw_axioms.proofs.OnStack.{stack_of-put}

@@ -1,6 +1,6 @@
 -- Equality does not look which object comes first.
 use Rattle.std.proofs.Common.{sym, ap, ◌∙◌}
-use Rattle.mw_model.specs.Object.{same_object, NIL, truth_of}
+use Rattle.mw_model.specs.Terms.Object.{same_object, NIL, truth_of}
 use Rattle.mw_model.proofs.SameObject.{same_object-swap}
 use Rattle.mw_heap.specs.Parts.{part_at}
 use Rattle.mw_base.proofs.compare.is_truth.Goals as goal

@@ -1,6 +1,6 @@
 -- What is left of the list tells.
 use Rattle.std.proofs.Common.{◌≡◌}
-use Rattle.mw_model.specs.Rules.{are_constant_objects}
+use Rattle.mw_model.specs.Laws.Rules.{are_constant_objects}
 use Rattle.mw_heap.specs.Objects.{object_at, IsIn}
 use Rattle.mw_base.proofs.constants.are_constants.Given as goal
 

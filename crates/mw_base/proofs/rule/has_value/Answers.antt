@@ -1,7 +1,7 @@
 -- The word of the name has the logic's value at the constants, in their places.
 use Rattle.std.proofs.Common.{[], ◌∷◌, sym, ap, ap₂, ◌∙◌}
-use Rattle.mw_model.specs.Object.{same_object, second_of}
-use Rattle.mw_model.specs.Primitive.{name_of}
+use Rattle.mw_model.specs.Terms.Object.{same_object, second_of}
+use Rattle.mw_model.specs.Values.Primitive.{name_of}
 use Rattle.mw_heap.specs.Objects.{object_at}
 use Rattle.mw_heap.specs.Parts.{part_at}
 use Rattle.mw_base.specs.Answers.{value_of}

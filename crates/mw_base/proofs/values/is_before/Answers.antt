@@ -1,6 +1,6 @@
 -- Slices are compared as names are.
 use Rattle.std.proofs.Common.{sym, ap₂, ◌∙◌}
-use Rattle.mw_model.specs.Object.{is_before_bytes}
+use Rattle.mw_model.specs.Terms.Object.{is_before_bytes}
 use Rattle.mw_heap.proofs.NameOrder.{is_before_bytes-slices}
 use Rattle.mw_base.proofs.values.is_before.Goals as goal
 

@@ -1,9 +1,9 @@
 -- The piece that is owed for each verdict.
 use Rattle.std.proofs.Common.{[], ◌∷◌, ◌++◌, codes, subst}
 use Rattle.std.proofs.lemmas.Result.{on_ok_weaker}
-use Rattle.mw_model.specs.Report.{spaced}
-use Rattle.mw_model.specs.Written.{IsWritten}
-use Rattle.mw_model.specs.TautologyBook.{remark}
+use Rattle.mw_model.specs.Reports.Report.{spaced}
+use Rattle.mw_model.specs.Texts.Written.{IsWritten}
+use Rattle.mw_model.specs.Commands.TautologyBook.{remark}
 use Rattle.mw_book.specs.Verdicts.{IsVerdict}
 use Rattle.mw_book.proofs.Owing.{owes_shape, owes_many, owes_choice, owes_theorem}
 use Rattle.mw_book.proofs.answer.write_answer.Goals as goal

@@ -1,5 +1,5 @@
 -- All was read, and the last line written.
-use Rattle.mw_model.specs.Report.{status_of}
+use Rattle.mw_model.specs.Reports.Report.{status_of}
 use Rattle.mw_book.specs.Due.{IsLastText, refused_for}
 use Rattle.mw_book.specs.Answering.{fault_of}
 use Rattle.mw_book.proofs.Headlines.{ends_with, concludes_reads}

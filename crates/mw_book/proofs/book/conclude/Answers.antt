@@ -1,6 +1,6 @@
 -- What the sink took of the lines and the last text.
 use Rattle.std.proofs.Common.{inl, subst}
-use Rattle.mw_model.specs.Report.{status_of}
+use Rattle.mw_model.specs.Reports.Report.{status_of}
 use Rattle.mw_book.specs.Answering.{fault_of}
 use Rattle.mw_book.specs.Books.{TakesSome}
 use Rattle.mw_book.specs.Due.{IsLastText, refused_for}

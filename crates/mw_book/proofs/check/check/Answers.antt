@@ -1,6 +1,6 @@
 -- Nothing was read.
 use Rattle.std.proofs.Common.{refl}
-use Rattle.mw_model.specs.Request.{Check}
+use Rattle.mw_model.specs.Reports.Request.{Check}
 use Rattle.mw_book.proofs.Rounds.{part_none}
 use Rattle.mw_book.proofs.check.check.Goals as goal
 

@@ -1,9 +1,9 @@
 -- The book was judged and its lines were dropped, or memory was refused.
 use Rattle.std.proofs.Common.{None, ◌∙◌, ap, sym, subst}
-use Rattle.mw_model.specs.Request.{Check}
-use Rattle.mw_model.specs.Trial.{trial_book}
-use Rattle.mw_model.specs.Grammar.{trees}
-use Rattle.mw_model.specs.Report.{last_line}
+use Rattle.mw_model.specs.Reports.Request.{Check}
+use Rattle.mw_model.specs.Reports.Trial.{trial_book}
+use Rattle.mw_model.specs.Texts.Grammar.{trees}
+use Rattle.mw_model.specs.Reports.Report.{last_line}
 use Rattle.mw_book.specs.Answering.{ReadWhole}
 use Rattle.mw_book.specs.Checks.{TrialEnds}
 use Rattle.mw_book.specs.Knowing.{JudgedFor}

@@ -1,6 +1,6 @@
 -- What was written is what the request promises; where memory is refused before anything is done, nothing was written.
 use Rattle.std.proofs.Common.{IfSome, sym, ap, subst, ◌∙◌}
-use Rattle.mw_model.specs.Request.{Check}
+use Rattle.mw_model.specs.Reports.Request.{Check}
 use Rattle.mw_book.specs.Statuses.{report_status, Keeps}
 use Rattle.mw_book.specs.Words.{meaning_of}
 use Rattle.mw_book.proofs.Asked.{nothing_written}

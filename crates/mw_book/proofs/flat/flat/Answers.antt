@@ -1,6 +1,6 @@
 -- Nothing was read.
 use Rattle.std.proofs.Common.{refl}
-use Rattle.mw_model.specs.Request.{Flat}
+use Rattle.mw_model.specs.Reports.Request.{Flat}
 use Rattle.mw_book.proofs.Rounds.{part_none}
 use Rattle.mw_book.proofs.flat.flat.Goals as goal
 

@@ -1,6 +1,6 @@
 -- The members from the index on stand before the last one.
 use Rattle.std.proofs.Common.{◌≡◌, drop}
-use Rattle.mw_model.specs.Object.{list1}
+use Rattle.mw_model.specs.Terms.Object.{list1}
 use Rattle.mw_heap.specs.Objects.{object_at, IsIn}
 use Rattle.mw_book.specs.FlatEvents.{put_before}
 use Rattle.mw_book.proofs.flat_event.event_with.Given as goal

@@ -1,8 +1,8 @@
 -- The text is no longer than one that is written without labels.
 use Rattle.std.proofs.Common.{◌≡◌, ◌≤◌, ◌∷◌, ◌++◌, [], length, sym, ap, ◌∙◌, subst, arith, length-append, append_assoc}
-use Rattle.mw_model.specs.Object.{Natural}
-use Rattle.mw_model.specs.Fate.{longest}
-use Rattle.mw_model.specs.Printing.{text_of}
+use Rattle.mw_model.specs.Terms.Object.{Natural}
+use Rattle.mw_model.specs.Events.Fate.{longest}
+use Rattle.mw_model.specs.Texts.Printing.{text_of}
 use Rattle.mw_heap.specs.Objects.{object_at}
 use Rattle.mw_theory.specs.Words.{verify_event}
 use Rattle.mw_book.proofs.ShortTheorems.{short_line}

@@ -1,8 +1,8 @@
 -- The number stands in the place of the proof.
 use Rattle.std.proofs.Common.{◌∷◌, ◌++◌, [], refl, ap, ◌∙◌, subst}
 use Rattle.std.proofs.lemmas.Result.{IfOk-weaker}
-use Rattle.mw_model.specs.Object.{Natural, Pair, list1, symbol}
-use Rattle.mw_model.specs.Written.{IsWritten}
+use Rattle.mw_model.specs.Terms.Object.{Natural, Pair, list1, symbol}
+use Rattle.mw_model.specs.Texts.Written.{IsWritten}
 use Rattle.mw_heap.specs.Objects.{object_at}
 use Rattle.mw_book.specs.FlatEvents.{put_before}
 use Rattle.mw_book.proofs.flat_event.write_long_theorem.Goals as goal

@@ -1,7 +1,7 @@
 -- The event made has the numbers of the proofs up to the end of their list.
 use Rattle.std.proofs.Common.{ap, ◌∙◌}
 use Rattle.std.proofs.lemmas.Result.{IfOk-weaker}
-use Rattle.mw_model.specs.Object.{Pair, list1}
+use Rattle.mw_model.specs.Terms.Object.{Pair, list1}
 use Rattle.mw_heap.specs.Objects.{object_at}
 use Rattle.mw_heap.specs.Lists.{list_object}
 use Rattle.mw_heap.specs.Words.{word_object}

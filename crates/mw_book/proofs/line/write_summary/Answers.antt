@@ -1,6 +1,6 @@
 use Rattle.std.proofs.Common.{◌-◌, [], ◌∷◌, ◌++◌, ap, ◌∙◌}
 use Rattle.std.specs.Prelude.{codes}
-use Rattle.mw_model.specs.Printing.{numeral}
+use Rattle.mw_model.specs.Texts.Printing.{numeral}
 use Rattle.mw_book.proofs.Summary.{summary-joined}
 use Rattle.mw_book.proofs.line.write_summary.Goals as goal
 

@@ -1,6 +1,6 @@
 -- Nothing was read.
 use Rattle.std.proofs.Common.{refl}
-use Rattle.mw_model.specs.Request.{Lower}
+use Rattle.mw_model.specs.Reports.Request.{Lower}
 use Rattle.mw_book.proofs.Rounds.{part_none}
 use Rattle.mw_book.proofs.lower.lower.Goals as goal
 

@@ -1,6 +1,6 @@
 use Rattle.std.proofs.Common.{◌≡◌, ◌∙◌, ◌+◌, ◌≤◌, ℕ, true, List, zero, suc, leb, leb-true, length, drop, drop-cons, add-one, get_or, refl, sym, arith}
 use Rattle.std.proofs.lemmas.Bool.{and_parts}
-use Rattle.mw_model.specs.Lexemes.{all_are, is_digit}
+use Rattle.mw_model.specs.Texts.Lexemes.{all_are, is_digit}
 use Rattle.mw_read.proofs.Digits.{decimal_next, power, power_more, power_small}
 use Rattle.mw_book.proofs.number.decimal.Goals as goal
 

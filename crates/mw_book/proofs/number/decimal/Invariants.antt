@@ -1,5 +1,5 @@
 use Rattle.std.proofs.Common.{◌≡◌, ◌<◌, take, drop}
-use Rattle.mw_model.specs.Lexemes.{all_are, is_digit, decimal_value}
+use Rattle.mw_model.specs.Texts.Lexemes.{all_are, is_digit, decimal_value}
 use Rattle.mw_read.proofs.Digits.{power}
 use Rattle.mw_book.proofs.number.decimal.Given as goal
 

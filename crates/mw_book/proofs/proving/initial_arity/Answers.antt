@@ -1,8 +1,8 @@
 -- The definitions of the first profile are those of the initial theory.
 use Rattle.std.proofs.Common.{◌≡◌, refl, ◌∙◌}
-use Rattle.mw_model.specs.Primitive.{One}
-use Rattle.mw_model.specs.Definition.{arity_table}
-use Rattle.mw_model.specs.TautologyBook.{initial_arities}
+use Rattle.mw_model.specs.Values.Primitive.{One}
+use Rattle.mw_model.specs.Values.Definition.{arity_table}
+use Rattle.mw_model.specs.Commands.TautologyBook.{initial_arities}
 use Rattle.mw_preamble.specs.Admitted.{definitions_of}
 use Rattle.mw_book.proofs.proving.initial_arity.Goals as goal
 

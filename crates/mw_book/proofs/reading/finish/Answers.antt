@@ -1,6 +1,6 @@
 -- Each datum that the end of the book completes, and the end.
 use Rattle.std.proofs.Common.{[], ◌∷◌, ◌++◌, ◌∙◌, true, true≢false, refl, sym, ap, subst, inl, inr}
-use Rattle.mw_model.specs.Fate.{is_out_of_range}
+use Rattle.mw_model.specs.Events.Fate.{is_out_of_range}
 use Rattle.mw_read.specs.Feeding.{Continues}
 use Rattle.mw_read.specs.declared.step.Step.TheVariants as steps
 use Rattle.mw_book.specs.Answering.{Answers}

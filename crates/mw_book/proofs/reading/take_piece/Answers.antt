@@ -1,7 +1,7 @@
 -- Each datum of a piece, and the end of the piece.
 use Rattle.std.proofs.Common.{◌≡◌, ◌∙◌, ◌+◌, ℕ, List, [], ◌∷◌, ◌++◌, sym, ap, subst, drop, rules}
-use Rattle.mw_model.specs.Object.{Object}
-use Rattle.mw_model.specs.Fate.{is_out_of_range}
+use Rattle.mw_model.specs.Terms.Object.{Object}
+use Rattle.mw_model.specs.Events.Fate.{is_out_of_range}
 use Rattle.mw_read.specs.Standing.{Stands, Gives, GivesBehind, Says}
 use Rattle.mw_read.specs.declared.step.Step.{Step}
 use Rattle.mw_read.proofs.Beginning.{rest_is}

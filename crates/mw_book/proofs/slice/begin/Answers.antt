@@ -1,6 +1,6 @@
 -- What was boxed is what was made.
 use Rattle.std.proofs.Common.{[], sym, subst}
-use Rattle.mw_model.specs.Object.{name_of_bytes}
+use Rattle.mw_model.specs.Terms.Object.{name_of_bytes}
 use Rattle.mw_book.specs.Sliced.{Sliced}
 use Rattle.mw_book.proofs.slice.begin.Goals as goal
 

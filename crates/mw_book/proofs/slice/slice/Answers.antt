@@ -1,7 +1,7 @@
 -- Nothing was read.
 use Rattle.std.proofs.Common.{[], refl, sym, subst, ap₂}
-use Rattle.mw_model.specs.Object.{name_of_bytes}
-use Rattle.mw_model.specs.Request.{Slice}
+use Rattle.mw_model.specs.Terms.Object.{name_of_bytes}
+use Rattle.mw_model.specs.Reports.Request.{Slice}
 use Rattle.mw_book.specs.Checks.{BookEnds}
 use Rattle.mw_book.specs.Sliced.{Sliced, name_asked}
 use Rattle.mw_book.proofs.Rounds.{part_none}

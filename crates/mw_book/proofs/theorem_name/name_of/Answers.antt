@@ -1,9 +1,9 @@
 -- The book of one line is the text with a line end.
 use Rattle.std.proofs.Common.{◌∷◌, [], ◌++◌, sym, ap, ◌∙◌, subst, option_map, ◌≡◌, Some}
 use Rattle.std.proofs.lemmas.Result.{IfOk-weaker}
-use Rattle.mw_model.specs.Object.{name_of_bytes}
+use Rattle.mw_model.specs.Terms.Object.{name_of_bytes}
 use Rattle.mw_book.specs.Arguments.{name_of, symbol_among}
-use Rattle.mw_model.specs.Grammar.{trees}
+use Rattle.mw_model.specs.Texts.Grammar.{trees}
 use Rattle.mw_read.specs.Feeding.{IsReady}
 use Rattle.mw_book.proofs.theorem_name.name_of.Goals as goal
 

@@ -1,6 +1,6 @@
 -- What comes first, and second.
 use Rattle.std.proofs.Common.{◌≡◌, ◌∙◌, [], ◌∷◌, None, sym, ap}
-use Rattle.mw_model.specs.Grammar.{book}
+use Rattle.mw_model.specs.Texts.Grammar.{book}
 use Rattle.mw_heap.proofs.Objects.{IsIn-Grows, object_at-Grows}
 use Rattle.mw_book.proofs.OneDatum.{none_first, none_second, one_read}
 use Rattle.mw_book.proofs.theorem_name.only_datum.Goals as goal

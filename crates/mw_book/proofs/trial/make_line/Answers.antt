@@ -1,5 +1,5 @@
 use Rattle.std.proofs.Common.{◌*◌, ◌%◌, [], ◌∷◌, ◌++◌, sym, ap, ◌∙◌}
-use Rattle.mw_model.specs.Trial.{odd_line, even_line, sum_formula}
+use Rattle.mw_model.specs.Reports.Trial.{odd_line, even_line, sum_formula}
 use Rattle.mw_book.proofs.Trials.{trial_line-odd, trial_line-even}
 use Rattle.mw_book.proofs.trial.make_line.Goals as goal
 use Rattle.mw_book.proofs.trial.make_line.Goals.{then-odd, else-odd}

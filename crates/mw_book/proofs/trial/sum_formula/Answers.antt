@@ -1,7 +1,7 @@
 use Rattle.std.proofs.Common.{◌*◌, ◌%◌, ◌+◌, ◌<◌, ◌^◌, [], ◌∷◌, arith}
 use Rattle.std.specs.Prelude.{codes}
 use Rattle.std.proofs.lemmas.Nat.{mul-lt}
-use Rattle.mw_model.specs.Printing.{numeral}
+use Rattle.mw_model.specs.Texts.Printing.{numeral}
 use Rattle.mw_book.proofs.Trials.{appended-is}
 use Rattle.mw_book.proofs.trial.sum_formula.Goals as goal
 

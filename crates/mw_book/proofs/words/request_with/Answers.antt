@@ -1,5 +1,5 @@
 use Rattle.std.proofs.Common.{◌∙◌, option_map, refl, sym}
-use Rattle.mw_model.specs.Object.{name_of_bytes}
+use Rattle.mw_model.specs.Terms.Object.{name_of_bytes}
 use Rattle.mw_book.proofs.Requests.{name_asks}
 use Rattle.mw_book.proofs.words.request_with.Goals as goal
 

@@ -1,7 +1,7 @@
 -- The places that are known are right, and what is left of the formals begins at the next one.
 use Rattle.std.proofs.Common.{◌≡◌, ◌+◌, List, drop, Some}
-use Rattle.mw_model.specs.Object.{Name}
-use Rattle.mw_model.specs.Reading.{names_of}
+use Rattle.mw_model.specs.Terms.Object.{Name}
+use Rattle.mw_model.specs.Terms.Reading.{names_of}
 use Rattle.mw_heap.specs.Objects.{object_at, IsIn}
 use Rattle.mw_code.specs.Places.{ArePlaces}
 use Rattle.mw_code.proofs.scope.learn_places.Given as goal

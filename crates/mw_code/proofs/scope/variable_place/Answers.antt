@@ -1,8 +1,8 @@
 -- A place that is known is right.
 use Rattle.std.proofs.Common.{◌≡◌, ◌+◌, ◌≤◌, Some, sym, ap, ◌∙◌, subst, arith, rules}
 use Rattle.std.specs.Map.{lookup}
-use Rattle.mw_model.specs.Primitive.{name_of}
-use Rattle.mw_model.specs.Reading.{names_of}
+use Rattle.mw_model.specs.Values.Primitive.{name_of}
+use Rattle.mw_model.specs.Terms.Reading.{names_of}
 use Rattle.mw_model.proofs.ReadBack.{some_one}
 use Rattle.mw_heap.specs.Objects.{object_at}
 use Rattle.mw_heap.specs.Parts.{part_at}

@@ -1,8 +1,8 @@
 -- The names fail.
 use Rattle.std.proofs.Common.{ap, ◌∙◌}
-use Rattle.mw_model.specs.Term.{are_distinct}
-use Rattle.mw_model.specs.Reading.{that}
-use Rattle.mw_model.specs.Admission.{new_name}
+use Rattle.mw_model.specs.Terms.Term.{are_distinct}
+use Rattle.mw_model.specs.Terms.Reading.{that}
+use Rattle.mw_model.specs.Events.Admission.{new_name}
 use Rattle.mw_define.specs.BlockTests.{no_names}
 use Rattle.mw_define.proofs.BlockRead.{of-drafts}
 use Rattle.mw_define.proofs.admission.admit_drafts.Goals as goal

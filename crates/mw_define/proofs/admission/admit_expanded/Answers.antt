@@ -1,7 +1,7 @@
 -- The last tests.
 use Rattle.std.proofs.Common.{refl, inr, ap, ◌∙◌}
-use Rattle.mw_model.specs.Definition.{function_axioms}
-use Rattle.mw_model.specs.RulesInduction.{formulas_object}
+use Rattle.mw_model.specs.Values.Definition.{function_axioms}
+use Rattle.mw_model.specs.Laws.RulesInduction.{formulas_object}
 use Rattle.mw_heap.proofs.Objects.{object_at-Grows, IsIn-Grows}
 use Rattle.mw_define.proofs.Expanding.{each-expanded-Grows, functions-Grows}
 use Rattle.mw_define.proofs.BlockRead.{closed-all}

@@ -1,6 +1,6 @@
 -- One test after another.
 use Rattle.std.proofs.Common.{sym, ap, ◌∙◌, subst}
-use Rattle.mw_model.specs.Term.{are_distinct}
+use Rattle.mw_model.specs.Terms.Term.{are_distinct}
 use Rattle.mw_term.specs.Parts.{names_at, AreSymbols}
 use Rattle.mw_translate.specs.Expands.{ArePairsOfSymbols, pair_names, with_pairs}
 use Rattle.mw_define.specs.Blocks.{Each2, Expands, HasNoTerm}

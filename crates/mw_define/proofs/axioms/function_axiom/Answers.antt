@@ -1,6 +1,6 @@
 -- The equation of the call and the body.
 use Rattle.std.proofs.Common.{ap₂, ◌∙◌}
-use Rattle.mw_model.specs.Rules.{equal_object}
+use Rattle.mw_model.specs.Laws.Rules.{equal_object}
 use Rattle.mw_heap.proofs.Objects.{object_at-Grows}
 use Rattle.mw_define.proofs.axioms.function_axiom.Goals as goal
 

@@ -1,7 +1,7 @@
 -- One draft after another.
 use Rattle.std.proofs.Common.{List, [], Option, sym, ap, ◌∙◌, subst}
-use Rattle.mw_model.specs.Admission.{formals_of}
-use Rattle.mw_model.specs.Object.{Name}
+use Rattle.mw_model.specs.Events.Admission.{formals_of}
+use Rattle.mw_model.specs.Terms.Object.{Name}
 use Rattle.mw_define.specs.declared.draft.Draft.{Draft as Given}
 use Rattle.mw_heap.specs.Objects.{object_at}
 use Rattle.mw_define.specs.Blocks.{Each2, IsCounted}

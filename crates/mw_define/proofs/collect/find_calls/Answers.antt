@@ -1,6 +1,6 @@
 -- A term that mentions none of the functions has no calls of them.
 use Rattle.std.proofs.Common.{◌≡◌, [], false, sym, ap, ◌∙◌, subst}
-use Rattle.mw_model.specs.Obligation.{mentions}
+use Rattle.mw_model.specs.Events.Obligation.{mentions}
 use Rattle.mw_term.specs.Parts.{names_at}
 use Rattle.mw_define.specs.Collecting.{the_term, AreFoundCalls, found_calls}
 use Rattle.mw_define.proofs.Unmentioned.{no-calls}

@@ -1,6 +1,6 @@
 -- The list of what was made.
 use Rattle.std.proofs.Common.{ap, ◌∙◌}
-use Rattle.mw_model.specs.Object.{NIL}
+use Rattle.mw_model.specs.Terms.Object.{NIL}
 use Rattle.mw_translate.specs.Lets.{prepend}
 use Rattle.mw_translate.proofs.Appended.{all_in-Grows, prepend-Grows}
 use Rattle.mw_define.proofs.BlockAxioms.{axioms-in, listed-axioms}

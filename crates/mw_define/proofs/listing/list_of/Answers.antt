@@ -1,6 +1,6 @@
 -- The copy has the same references.
 use Rattle.std.proofs.Common.{sym, ap₂, ◌∙◌, subst}
-use Rattle.mw_model.specs.Object.{NIL}
+use Rattle.mw_model.specs.Terms.Object.{NIL}
 use Rattle.mw_translate.specs.Lets.{prepend, AreAllIn}
 use Rattle.mw_translate.proofs.Appended.{all_in-Grows, prepend-Grows}
 use Rattle.mw_define.proofs.listing.list_of.Goals as goal

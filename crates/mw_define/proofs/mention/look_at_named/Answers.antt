@@ -1,9 +1,9 @@
 -- A constant, an IF, a call of the block or another call.
 use Rattle.std.proofs.Common.{◌≡◌, Some, sym, ap, ◌∙◌}
-use Rattle.mw_model.specs.Object.{Pair, symbol}
-use Rattle.mw_model.specs.Term.{is_among}
-use Rattle.mw_model.specs.Reading.{term_of, terms_of}
-use Rattle.mw_model.specs.Primitive.{name_of}
+use Rattle.mw_model.specs.Terms.Object.{Pair, symbol}
+use Rattle.mw_model.specs.Terms.Term.{is_among}
+use Rattle.mw_model.specs.Terms.Reading.{term_of, terms_of}
+use Rattle.mw_model.specs.Values.Primitive.{name_of}
 use Rattle.mw_model.proofs.Names.{same_object-eq}
 use Rattle.mw_heap.specs.Objects.{object_at}
 use Rattle.mw_term.specs.Parts.{names_at}

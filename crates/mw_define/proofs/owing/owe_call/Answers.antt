@@ -1,6 +1,6 @@
 -- The obligation of one call.
 use Rattle.std.proofs.Common.{List, ◌∷◌, [], sym, subst}
-use Rattle.mw_model.specs.Object.{Object}
+use Rattle.mw_model.specs.Terms.Object.{Object}
 use Rattle.mw_heap.specs.Objects.{object_at}
 use Rattle.mw_define.specs.Blocks.{functions_at}
 use Rattle.mw_define.specs.Collecting.{found_calls}

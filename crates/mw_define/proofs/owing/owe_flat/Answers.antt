@@ -1,7 +1,7 @@
 -- The ordinal, and then the calls.
 use Rattle.std.proofs.Common.{◌∷◌, [], sym, subst}
-use Rattle.mw_model.specs.Primitive.{name_of}
-use Rattle.mw_model.specs.Obligation.{ordinal_formula, measure_of}
+use Rattle.mw_model.specs.Values.Primitive.{name_of}
+use Rattle.mw_model.specs.Events.Obligation.{ordinal_formula, measure_of}
 use Rattle.mw_heap.specs.Objects.{object_at}
 use Rattle.mw_term.specs.Parts.{names_at}
 use Rattle.mw_define.specs.Collecting.{AreFoundCalls, found_calls}

@@ -1,7 +1,7 @@
 -- Nested, none, or some.
 use Rattle.std.proofs.Common.{◌∷◌, sym, ap, ◌∙◌, subst}
-use Rattle.mw_model.specs.Primitive.{name_of}
-use Rattle.mw_model.specs.Obligation.{ordinal_formula, measure_of, is_empty, some_nested}
+use Rattle.mw_model.specs.Values.Primitive.{name_of}
+use Rattle.mw_model.specs.Events.Obligation.{ordinal_formula, measure_of, is_empty, some_nested}
 use Rattle.mw_heap.specs.Objects.{object_at}
 use Rattle.mw_define.specs.Blocks.{functions_at, measures_at}
 use Rattle.mw_define.specs.Owed.{Adds, owed_at}

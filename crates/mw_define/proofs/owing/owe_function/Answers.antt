@@ -1,6 +1,6 @@
 -- The calls that were found are all.
 use Rattle.std.proofs.Common.{List, sym, ap, ◌∙◌, subst}
-use Rattle.mw_model.specs.Object.{Object}
+use Rattle.mw_model.specs.Terms.Object.{Object}
 use Rattle.mw_term.specs.Parts.{names_at}
 use Rattle.mw_define.specs.Collecting.{AreFoundCalls, found_calls}
 use Rattle.mw_define.specs.Blocks.{functions_at, function_at}

@@ -1,8 +1,8 @@
 -- The measure is that of the function.
 use Rattle.std.proofs.Common.{◌≡◌, ◌∷◌, [], Some, sym, ap, ◌∙◌}
-use Rattle.mw_model.specs.Reading.{term_of}
-use Rattle.mw_model.specs.Primitive.{name_of}
-use Rattle.mw_model.specs.Obligation.{ordinal_formula, measure_of}
+use Rattle.mw_model.specs.Terms.Reading.{term_of}
+use Rattle.mw_model.specs.Values.Primitive.{name_of}
+use Rattle.mw_model.specs.Events.Obligation.{ordinal_formula, measure_of}
 use Rattle.mw_heap.specs.Objects.{object_at}
 use Rattle.mw_define.specs.Blocks.{measures_at}
 use Rattle.mw_define.proofs.OwedSoFar.{adds-later}

@@ -1,9 +1,9 @@
 -- One test after another.
 use Rattle.std.proofs.Common.{◌≡◌, Some, option_map, IfSome, sym, ap, ◌∙◌, subst}
-use Rattle.mw_model.specs.Object.{Pair}
-use Rattle.mw_model.specs.Reading.{term_of}
-use Rattle.mw_model.specs.Primitive.{name_of}
-use Rattle.mw_model.specs.Expansion.{expand}
+use Rattle.mw_model.specs.Terms.Object.{Pair}
+use Rattle.mw_model.specs.Terms.Reading.{term_of}
+use Rattle.mw_model.specs.Values.Primitive.{name_of}
+use Rattle.mw_model.specs.Events.Expansion.{expand}
 use Rattle.mw_model.proofs.Formed.{formed}
 use Rattle.mw_model.proofs.Read.{term_read}
 use Rattle.mw_heap.specs.Objects.{object_at}

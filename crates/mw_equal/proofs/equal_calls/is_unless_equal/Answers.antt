@@ -1,7 +1,7 @@
 -- What is no disjunction is none of these.
 use Rattle.std.proofs.Common.{sym, ap₂, ◌∙◌}
-use Rattle.mw_model.specs.Object.{same_object}
-use Rattle.mw_model.specs.Rules.{unless_equal_object}
+use Rattle.mw_model.specs.Terms.Object.{same_object}
+use Rattle.mw_model.specs.Laws.Rules.{unless_equal_object}
 use Rattle.mw_heap.specs.Objects.{object_at}
 use Rattle.mw_equal.proofs.equal_calls.is_unless_equal.Goals as goal
 

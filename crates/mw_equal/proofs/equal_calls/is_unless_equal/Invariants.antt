@@ -1,7 +1,7 @@
 -- What is left of the disjunction and of the two lists decides.
 use Rattle.std.proofs.Common.{◌≡◌}
-use Rattle.mw_model.specs.Object.{same_object}
-use Rattle.mw_model.specs.Rules.{unless_equal_object}
+use Rattle.mw_model.specs.Terms.Object.{same_object}
+use Rattle.mw_model.specs.Laws.Rules.{unless_equal_object}
 use Rattle.mw_heap.specs.Objects.{object_at, IsIn}
 use Rattle.mw_equal.proofs.equal_calls.is_unless_equal.Given as goal
 

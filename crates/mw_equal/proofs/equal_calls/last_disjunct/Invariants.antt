@@ -1,6 +1,6 @@
 -- The last disjunct of what is left is that of the whole.
 use Rattle.std.proofs.Common.{◌≡◌}
-use Rattle.mw_model.specs.Rules.{last_disjunct_object}
+use Rattle.mw_model.specs.Laws.Rules.{last_disjunct_object}
 use Rattle.mw_heap.specs.Objects.{object_at, IsIn}
 use Rattle.mw_equal.proofs.equal_calls.last_disjunct.Given as goal
 

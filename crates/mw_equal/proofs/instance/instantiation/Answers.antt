@@ -1,7 +1,7 @@
 -- The objects are those before the looks were taken.
 use Rattle.std.proofs.Common.{◌≡◌, true, IfOk, sym, subst}
-use Rattle.mw_model.specs.Term.{ArityTable}
-use Rattle.mw_model.specs.Rules.{is_formula_object, object_is_instance}
+use Rattle.mw_model.specs.Terms.Term.{ArityTable}
+use Rattle.mw_model.specs.Laws.Rules.{is_formula_object, object_is_instance}
 use Rattle.mw_heap.specs.Objects.{object_at}
 use Rattle.mw_term.specs.Marking.{AreMarks}
 use Rattle.mw_equal.proofs.instance.instantiation.Goals as goal

@@ -1,8 +1,8 @@
 -- A substitution is a list of pairs, and on the object of a formula it substitutes in the formula.
 use Rattle.std.proofs.Common.{◌&&◌, sym, ap, ◌∙◌}
 use Rattle.std.proofs.lemmas.Result.{IfOk-weaker}
-use Rattle.mw_model.specs.Object.{same_object}
-use Rattle.mw_model.specs.Rules.{substitute_object, substitute_formula_object}
+use Rattle.mw_model.specs.Terms.Object.{same_object}
+use Rattle.mw_model.specs.Laws.Rules.{substitute_object, substitute_formula_object}
 use Rattle.mw_model.proofs.SameObject.{same_object-swap}
 use Rattle.mw_heap.specs.Objects.{object_at}
 use Rattle.mw_subst.proofs.PairLists.{substitution_pairs}

@@ -1,6 +1,6 @@
 -- The pairs so far stand before those of what is left.
 use Rattle.std.proofs.Common.{◌≡◌}
-use Rattle.mw_model.specs.Rules.{actuals_object}
+use Rattle.mw_model.specs.Laws.Rules.{actuals_object}
 use Rattle.mw_heap.specs.Objects.{object_at, IsIn}
 use Rattle.mw_heap.specs.Parts.{part_at}
 use Rattle.mw_subst.specs.Sigma.{AreIn}

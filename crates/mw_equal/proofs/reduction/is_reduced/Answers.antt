@@ -2,8 +2,8 @@
 use Rattle.std.proofs.Common.{◌≡◌, ap₂, ◌∙◌, subst}
 use Rattle.std.specs.Prelude.{IfOk}
 use Rattle.std.proofs.lemmas.Result.{IfOk-weaker}
-use Rattle.mw_model.specs.Object.{same_object, second_of}
-use Rattle.mw_model.specs.Rules.{substitute_object, actuals_object}
+use Rattle.mw_model.specs.Terms.Object.{same_object, second_of}
+use Rattle.mw_model.specs.Laws.Rules.{substitute_object, actuals_object}
 use Rattle.mw_model.proofs.SameObject.{same_object-swap}
 use Rattle.mw_heap.specs.Objects.{object_at}
 use Rattle.mw_heap.proofs.Objects.{object_at-Grows}

@@ -1,8 +1,8 @@
 -- Both sides begin with PNOT*.
 use Rattle.std.proofs.Common.{sym, ap, ◌∙◌}
 use Rattle.std.proofs.Math.Bool.{and-true}
-use Rattle.mw_model.specs.Object.{same_object}
-use Rattle.mw_model.specs.Rules.{not_object, equal_object}
+use Rattle.mw_model.specs.Terms.Object.{same_object}
+use Rattle.mw_model.specs.Laws.Rules.{not_object, equal_object}
 use Rattle.mw_heap.specs.Objects.{object_at}
 use Rattle.mw_equal.proofs.shapes.is_inequality.Goals as goal
 

@@ -1,10 +1,10 @@
 -- The heap grows, and is cut back to where it was.
 use Rattle.std.proofs.Common.{◌≡◌, ℕ, ◌<◌, true, List, Option, Some, None, Result, Ok, Err, IfOk, IfSome, sym, ◌∙◌, subst, arith}
-use Rattle.mw_model.specs.Object.{Object}
-use Rattle.mw_model.specs.Term.{Formula, ArityTable}
-use Rattle.mw_model.specs.Primitive.{Profile}
-use Rattle.mw_model.specs.Rules.{is_formula_object}
-use Rattle.mw_model.specs.Log.{conclusion}
+use Rattle.mw_model.specs.Terms.Object.{Object}
+use Rattle.mw_model.specs.Terms.Term.{Formula, ArityTable}
+use Rattle.mw_model.specs.Values.Primitive.{Profile}
+use Rattle.mw_model.specs.Laws.Rules.{is_formula_object}
+use Rattle.mw_model.specs.Commands.Log.{conclusion}
 use Rattle.mw_heap.specs.Objects.{object_at, IsIn}
 use Rattle.mw_heap.proofs.Objects.{length-Grows, take-Grows-mark}
 use Rattle.mw_theory.specs.Knowledge.{parts_of, meant}

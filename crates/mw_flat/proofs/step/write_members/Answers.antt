@@ -1,8 +1,8 @@
 -- Five members, of which the first and the fourth are no objects of the heap.
 use Rattle.std.proofs.Common.{[], ◌∷◌, ◌++◌, map, ap, ◌∙◌, subst, append_assoc}
-use Rattle.mw_model.specs.Object.{Natural, car, second_of, third_of, fourth_of}
-use Rattle.mw_model.specs.Printing.{numeral, text_of}
-use Rattle.mw_model.specs.Flattening.{numbers_among}
+use Rattle.mw_model.specs.Terms.Object.{Natural, car, second_of, third_of, fourth_of}
+use Rattle.mw_model.specs.Texts.Printing.{numeral, text_of}
+use Rattle.mw_model.specs.Commands.Flattening.{numbers_among}
 use Rattle.mw_heap.specs.Objects.{object_at}
 use Rattle.mw_flat.specs.Members.{WritesMember}
 use Rattle.mw_flat.proofs.Writing.{writes_none, writes_more, writes_text}

@@ -1,6 +1,6 @@
 -- A symbol is measured by its name.
 use Rattle.std.proofs.Common.{◌≡◌, length, get_or, ◌<◌, sym, ap, ◌∙◌, subst, arith}
-use Rattle.mw_model.specs.Object.{Symbol, name_of_bytes}
+use Rattle.mw_model.specs.Terms.Object.{Symbol, name_of_bytes}
 use Rattle.mw_heap.specs.Lengths.{lengths_of, IsMeasurable}
 use Rattle.mw_heap.specs.Cells.{bytes_of, object}
 use Rattle.mw_heap.proofs.NameSet.{length-bytes_of, get_or-bytes_of}

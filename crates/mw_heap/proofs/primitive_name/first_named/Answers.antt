@@ -1,6 +1,6 @@
 -- A name that is not this one is sought further on.
 use Rattle.std.proofs.Common.{sym, ap, ◌∙◌}
-use Rattle.mw_model.specs.Object.{same_bytes}
+use Rattle.mw_model.specs.Terms.Object.{same_bytes}
 use Rattle.mw_heap.proofs.NameSet.{pointwise-same_bytes}
 use Rattle.mw_heap.proofs.PrimitivesNamed.{first_named-later}
 use Rattle.mw_heap.proofs.primitive_name.first_named.Goals as goal

@@ -1,6 +1,6 @@
 -- A condition and its case at a time. Where the conditions end the cases must end.
 use Rattle.std.proofs.Common.{◌&&◌, sym, ap, ◌∙◌, arith}
-use Rattle.mw_model.specs.Object.{NIL}
+use Rattle.mw_model.specs.Terms.Object.{NIL}
 use Rattle.mw_model.proofs.Names.{same_object-eq}
 use Rattle.mw_heap.specs.Objects.{object_at}
 use Rattle.mw_heap.proofs.NoPair.{shown_no_pair}

@@ -1,7 +1,7 @@
 -- What is left of the conditions and of the cases decides.
 use Rattle.std.proofs.Common.{◌≡◌, ◌<◌, ◌&&◌, eqb, length}
-use Rattle.mw_model.specs.Term.{ArityTable}
-use Rattle.mw_model.specs.RulesInduction.{is_list_object, length_object, are_case_objects}
+use Rattle.mw_model.specs.Terms.Term.{ArityTable}
+use Rattle.mw_model.specs.Laws.RulesInduction.{is_list_object, length_object, are_case_objects}
 use Rattle.mw_heap.specs.Objects.{object_at, IsIn}
 use Rattle.mw_term.specs.Marking.{AreMarks}
 use Rattle.mw_induct.proofs.cases.are_cases.Given as goal

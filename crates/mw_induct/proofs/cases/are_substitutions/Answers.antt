@@ -1,6 +1,6 @@
 -- Each substitution is tested, and the end is NIL.
 use Rattle.std.proofs.Common.{◌&&◌, sym, ap, ◌∙◌, arith}
-use Rattle.mw_model.specs.RulesInduction.{are_substitution_objects}
+use Rattle.mw_model.specs.Laws.RulesInduction.{are_substitution_objects}
 use Rattle.mw_heap.specs.Objects.{object_at}
 use Rattle.mw_heap.proofs.NoPair.{shown_no_pair}
 use Rattle.mw_induct.proofs.Ends.{substitutions_end}

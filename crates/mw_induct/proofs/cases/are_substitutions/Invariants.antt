@@ -1,7 +1,7 @@
 -- What is left of the list decides.
 use Rattle.std.proofs.Common.{◌≡◌, ◌<◌, length}
-use Rattle.mw_model.specs.Term.{ArityTable}
-use Rattle.mw_model.specs.RulesInduction.{are_substitution_objects}
+use Rattle.mw_model.specs.Terms.Term.{ArityTable}
+use Rattle.mw_model.specs.Laws.RulesInduction.{are_substitution_objects}
 use Rattle.mw_heap.specs.Objects.{object_at, IsIn}
 use Rattle.mw_term.specs.Marking.{AreMarks}
 use Rattle.mw_induct.proofs.cases.are_substitutions.Given as goal

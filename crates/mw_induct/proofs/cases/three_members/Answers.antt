@@ -1,6 +1,6 @@
 -- The three views, and that the last part is NIL, make the list.
 use Rattle.std.proofs.Common.{sym, ap, ◌∙◌}
-use Rattle.mw_model.specs.Object.{Pair, NIL}
+use Rattle.mw_model.specs.Terms.Object.{Pair, NIL}
 use Rattle.mw_model.proofs.Names.{same_object-eq}
 use Rattle.mw_heap.specs.Objects.{object_at}
 use Rattle.mw_induct.proofs.cases.three_members.Goals as goal

@@ -1,7 +1,7 @@
 -- One case after another, over the heap at the start.
 use Rattle.std.proofs.Common.{◌≡◌, false, drop, sym, ap, ◌∙◌, subst, arith, length-drop}
-use Rattle.mw_model.specs.Object.{same_object}
-use Rattle.mw_model.specs.Primitive.{is_pair}
+use Rattle.mw_model.specs.Terms.Object.{same_object}
+use Rattle.mw_model.specs.Values.Primitive.{is_pair}
 use Rattle.mw_heap.specs.Objects.{object_at}
 use Rattle.mw_heap.proofs.NoPair.{shown_no_pair}
 use Rattle.mw_induct.specs.Conclusions.{conclusions_object}

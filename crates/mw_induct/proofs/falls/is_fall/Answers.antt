@@ -1,8 +1,8 @@
 -- The members that the disjunction and the equation have decide.
 use Rattle.std.proofs.Common.{sym, ◌∙◌}
 use Rattle.std.proofs.lemmas.Result.{IfOk-weaker}
-use Rattle.mw_model.specs.Object.{symbol, list3}
-use Rattle.mw_model.specs.Rules.{substitute_object}
+use Rattle.mw_model.specs.Terms.Object.{symbol, list3}
+use Rattle.mw_model.specs.Laws.Rules.{substitute_object}
 use Rattle.mw_heap.specs.Objects.{object_at}
 use Rattle.mw_induct.proofs.Forms.{same_fall, same_first, other_second}
 use Rattle.mw_induct.proofs.falls.is_fall.Goals as goal

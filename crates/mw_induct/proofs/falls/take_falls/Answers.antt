@@ -2,8 +2,8 @@
 use Rattle.std.proofs.Common.{◌<◌, length, sym, ap, ◌∙◌, arith}
 use Rattle.std.proofs.lemmas.Bool.{and_parts}
 use Rattle.mw_heap.specs.Objects.{object_at}
-use Rattle.mw_model.specs.Object.{same_object}
-use Rattle.mw_model.specs.RulesInduction.{fall_object}
+use Rattle.mw_model.specs.Terms.Object.{same_object}
+use Rattle.mw_model.specs.Laws.RulesInduction.{fall_object}
 use Rattle.mw_subst.specs.Pairs.{is_list_of_pairs}
 use Rattle.mw_induct.specs.Pairs.{are_lists_of_pairs}
 use Rattle.mw_induct.proofs.Forms.{falls_next}

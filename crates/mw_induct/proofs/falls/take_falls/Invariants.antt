@@ -1,7 +1,7 @@
 -- The conclusions and the substitutions that are left decide. All is said over the heap at the start.
 use Rattle.std.proofs.Common.{◌≡◌, ◌≤◌, true, length, drop}
-use Rattle.mw_model.specs.Object.{Object, same_object}
-use Rattle.mw_model.specs.RulesInduction.{falls_object}
+use Rattle.mw_model.specs.Terms.Object.{Object, same_object}
+use Rattle.mw_model.specs.Laws.RulesInduction.{falls_object}
 use Rattle.mw_heap.specs.Objects.{object_at, IsIn}
 use Rattle.mw_induct.specs.Conclusions.{conclusions_object}
 use Rattle.mw_induct.specs.Pairs.{are_lists_of_pairs}

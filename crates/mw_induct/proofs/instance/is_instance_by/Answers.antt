@@ -1,8 +1,8 @@
 -- The substitution that is read is that of the object.
 use Rattle.std.proofs.Common.{ap, ◌∙◌}
 use Rattle.std.proofs.lemmas.Result.{IfOk-weaker}
-use Rattle.mw_model.specs.Object.{same_object}
-use Rattle.mw_model.specs.Rules.{substitute_object}
+use Rattle.mw_model.specs.Terms.Object.{same_object}
+use Rattle.mw_model.specs.Laws.Rules.{substitute_object}
 use Rattle.mw_model.proofs.SameObject.{same_object-swap}
 use Rattle.mw_heap.specs.Objects.{object_at}
 use Rattle.mw_induct.proofs.instance.is_instance_by.Goals as goal

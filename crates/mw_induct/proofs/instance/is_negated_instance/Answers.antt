@@ -1,8 +1,8 @@
 -- What is negated decides.
 use Rattle.std.proofs.Common.{sym, ap, ◌∙◌}
 use Rattle.std.proofs.lemmas.Result.{IfOk-weaker}
-use Rattle.mw_model.specs.Object.{same_object, symbol}
-use Rattle.mw_model.specs.Rules.{not_object, substitute_formula_object}
+use Rattle.mw_model.specs.Terms.Object.{same_object, symbol}
+use Rattle.mw_model.specs.Laws.Rules.{not_object, substitute_formula_object}
 use Rattle.mw_heap.specs.Objects.{object_at}
 use Rattle.mw_induct.proofs.Forms.{same_list2}
 use Rattle.mw_induct.proofs.instance.is_negated_instance.Goals as goal

@@ -1,8 +1,8 @@
 -- The first premise, the steps and the rest make the premises.
 use Rattle.std.proofs.Common.{◌≡◌, ◌&&◌, ◌-◌, length, take, drop, sym, ap, ◌∙◌, subst}
 use Rattle.std.specs.Prelude.{IfOk}
-use Rattle.mw_model.specs.Object.{Pair, same_object}
-use Rattle.mw_model.specs.RulesInduction.{steps_object, ordinal_object, all_falls_object, premises_object}
+use Rattle.mw_model.specs.Terms.Object.{Pair, same_object}
+use Rattle.mw_model.specs.Laws.RulesInduction.{steps_object, ordinal_object, all_falls_object, premises_object}
 use Rattle.mw_heap.specs.Objects.{object_at}
 use Rattle.mw_induct.specs.Conclusions.{conclusions_object}
 use Rattle.mw_induct.proofs.Rests.{next_conclusion, some_conclusion, takes_some, slice_from}

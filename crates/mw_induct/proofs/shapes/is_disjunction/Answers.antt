@@ -1,7 +1,7 @@
 -- What is no disjunction is none of two or more.
 use Rattle.std.proofs.Common.{sym, ap, ◌∙◌}
-use Rattle.mw_model.specs.Object.{Pair, same_object}
-use Rattle.mw_model.specs.RulesInduction.{disjunction_object}
+use Rattle.mw_model.specs.Terms.Object.{Pair, same_object}
+use Rattle.mw_model.specs.Laws.RulesInduction.{disjunction_object}
 use Rattle.mw_heap.specs.Objects.{object_at}
 use Rattle.mw_induct.proofs.shapes.is_disjunction.Goals as goal
 

@@ -1,7 +1,7 @@
 -- What is left of the disjunction and of the members decides.
 use Rattle.std.proofs.Common.{◌≡◌}
-use Rattle.mw_model.specs.Object.{Pair, same_object}
-use Rattle.mw_model.specs.RulesInduction.{disjunction_object}
+use Rattle.mw_model.specs.Terms.Object.{Pair, same_object}
+use Rattle.mw_model.specs.Laws.RulesInduction.{disjunction_object}
 use Rattle.mw_heap.specs.Objects.{object_at, IsIn}
 use Rattle.mw_induct.proofs.shapes.is_disjunction.Given as goal
 

@@ -1,6 +1,6 @@
 -- The first disjunct decides.
 use Rattle.std.proofs.Common.{sym, ◌∙◌}
-use Rattle.mw_model.specs.Object.{Pair, NIL, symbol}
+use Rattle.mw_model.specs.Terms.Object.{Pair, NIL, symbol}
 use Rattle.mw_heap.specs.Objects.{object_at}
 use Rattle.mw_induct.proofs.Forms.{or_from, not_from, other_first}
 use Rattle.mw_induct.proofs.shapes.is_disjunction_from.Goals as goal

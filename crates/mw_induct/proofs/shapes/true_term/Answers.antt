@@ -1,6 +1,6 @@
 -- The equation and the quotation make: t = 't.
 use Rattle.std.proofs.Common.{sym}
-use Rattle.mw_model.specs.Object.{symbol, list2, T}
+use Rattle.mw_model.specs.Terms.Object.{symbol, list2, T}
 use Rattle.mw_model.proofs.Names.{same_object-eq}
 use Rattle.mw_heap.specs.Objects.{object_at}
 use Rattle.mw_induct.proofs.Forms.{other_second, true_from}

@@ -1,8 +1,8 @@
 -- What is no disjunction is none of two or more.
 use Rattle.std.proofs.Common.{sym, ap, ◌∙◌}
-use Rattle.mw_model.specs.Object.{Pair, same_object}
-use Rattle.mw_model.specs.Rules.{not_object}
-use Rattle.mw_model.specs.RulesInduction.{disjunction_object, hypotheses_object}
+use Rattle.mw_model.specs.Terms.Object.{Pair, same_object}
+use Rattle.mw_model.specs.Laws.Rules.{not_object}
+use Rattle.mw_model.specs.Laws.RulesInduction.{disjunction_object, hypotheses_object}
 use Rattle.mw_heap.specs.Objects.{object_at}
 use Rattle.mw_induct.proofs.steps.are_hypotheses.Goals as goal
 

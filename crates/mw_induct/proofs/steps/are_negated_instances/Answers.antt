@@ -3,10 +3,10 @@ use Rattle.std.proofs.Common.{◌≡◌, Bool, false, ℕ, List, sym, ap, ◌∙
 use Rattle.std.proofs.lemmas.Bool.{and_parts}
 use Rattle.std.proofs.lemmas.Result.{IfOk-weaker}
 use Rattle.std.specs.Prelude.{IfOk}
-use Rattle.mw_model.specs.Object.{Object, Pair, same_object}
-use Rattle.mw_model.specs.Primitive.{is_pair}
-use Rattle.mw_model.specs.Rules.{or_object, not_object, substitute_formula_object}
-use Rattle.mw_model.specs.RulesInduction.{disjunction_object, hypotheses_object}
+use Rattle.mw_model.specs.Terms.Object.{Object, Pair, same_object}
+use Rattle.mw_model.specs.Values.Primitive.{is_pair}
+use Rattle.mw_model.specs.Laws.Rules.{or_object, not_object, substitute_formula_object}
+use Rattle.mw_model.specs.Laws.RulesInduction.{disjunction_object, hypotheses_object}
 use Rattle.mw_heap.specs.Objects.{object_at, IsIn}
 use Rattle.mw_heap.proofs.NoPair.{shown_no_pair}
 use Rattle.mw_subst.specs.Pairs.{is_list_of_pairs}

@@ -1,7 +1,7 @@
 -- What is left of the disjunction and of the substitutions decides.
 use Rattle.std.proofs.Common.{◌≡◌, true}
-use Rattle.mw_model.specs.Object.{Pair, same_object}
-use Rattle.mw_model.specs.RulesInduction.{disjunction_object, hypotheses_object}
+use Rattle.mw_model.specs.Terms.Object.{Pair, same_object}
+use Rattle.mw_model.specs.Laws.RulesInduction.{disjunction_object, hypotheses_object}
 use Rattle.mw_heap.specs.Objects.{object_at, IsIn}
 use Rattle.mw_subst.specs.Pairs.{is_list_of_pairs}
 use Rattle.mw_induct.specs.Pairs.{are_lists_of_pairs}

@@ -1,7 +1,7 @@
 -- The conclusions, the conditions and the cases that are left decide. All is said over the heap at the start.
 use Rattle.std.proofs.Common.{◌≡◌, ◌≤◌, true, length, drop}
-use Rattle.mw_model.specs.Object.{Object, same_object}
-use Rattle.mw_model.specs.RulesInduction.{length_object, steps_object}
+use Rattle.mw_model.specs.Terms.Object.{Object, same_object}
+use Rattle.mw_model.specs.Laws.RulesInduction.{length_object, steps_object}
 use Rattle.mw_heap.specs.Objects.{object_at, IsIn}
 use Rattle.mw_induct.specs.Conclusions.{conclusions_object}
 use Rattle.mw_induct.specs.Pairs.{are_cases_of_pairs}

@@ -1,6 +1,6 @@
 -- Each part means in the end what it meant when it was made.
 use Rattle.std.proofs.Common.{ap, ap₂, ◌∙◌}
-use Rattle.mw_model.specs.Object.{list2, list3, symbol}
+use Rattle.mw_model.specs.Terms.Object.{list2, list3, symbol}
 use Rattle.mw_heap.proofs.Objects.{Grows-trans, object_at-Grows}
 use Rattle.mw_theory.proofs.CallerLemmas.{IfOk-map}
 use Rattle.mw_kernel.proofs.claim.answers_nil.Goals as goal

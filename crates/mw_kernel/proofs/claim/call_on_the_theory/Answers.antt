@@ -1,6 +1,6 @@
 -- Each part means in the end what it meant when it was made.
 use Rattle.std.proofs.Common.{refl, ap₂, ◌∙◌}
-use Rattle.mw_model.specs.Object.{Pair}
+use Rattle.mw_model.specs.Terms.Object.{Pair}
 use Rattle.mw_heap.proofs.Objects.{Grows-trans, object_at-Grows}
 use Rattle.mw_theory.proofs.CallerLemmas.{IfOk-map}
 use Rattle.mw_kernel.proofs.claim.call_on_the_theory.Goals as goal

@@ -1,8 +1,8 @@
 -- Each part means in the end what it meant when it was made.
 use Rattle.std.proofs.Common.{[], ◌∷◌, ap, ap₂, ◌∙◌}
-use Rattle.mw_model.specs.Object.{named, symbol, list2, list3}
-use Rattle.mw_model.specs.Primitive.{name_of}
-use Rattle.mw_model.specs.Writing.{var, call}
+use Rattle.mw_model.specs.Terms.Object.{named, symbol, list2, list3}
+use Rattle.mw_model.specs.Values.Primitive.{name_of}
+use Rattle.mw_model.specs.Events.Writing.{var, call}
 use Rattle.mw_heap.specs.Objects.{object_at}
 use Rattle.mw_heap.proofs.Objects.{Grows-trans, object_at-Grows}
 use Rattle.mw_term.proofs.Symbols.{symbol_is}

@@ -1,6 +1,6 @@
 -- By the tests, in their order.
 use Rattle.std.proofs.Common.{sym, ◌∙◌, subst, Some, None, ◌≡◌}
-use Rattle.mw_model.specs.Expansion.{expand}
+use Rattle.mw_model.specs.Events.Expansion.{expand}
 use Rattle.mw_heap.specs.Objects.{object_at}
 use Rattle.mw_kernel.proofs.Evaluating.{refused_term, refused_variables, expanded-read}
 use Rattle.mw_kernel.proofs.eval.closed_term.Goals as goal

@@ -1,7 +1,7 @@
 -- By the tests, and then by the run.
 use Rattle.std.proofs.Common.{[], sym, ap, ◌∙◌, subst, Some, ◌≡◌}
-use Rattle.mw_model.specs.Expansion.{expand}
-use Rattle.mw_model.specs.Evaluation.{evaluate}
+use Rattle.mw_model.specs.Events.Expansion.{expand}
+use Rattle.mw_model.specs.Events.Evaluation.{evaluate}
 use Rattle.mw_heap.specs.Objects.{object_at}
 use Rattle.mw_kernel.specs.Evaluating.{IsTried}
 use Rattle.mw_kernel.proofs.Evaluating.{tried-closed, evaluated_is, table-grows}

@@ -1,6 +1,6 @@
 -- What the judge answers is what the built-in checker finds.
 use Rattle.std.proofs.Common.{sym, ap, ap₂, ◌∙◌}
-use Rattle.mw_model.specs.Definition.{arity_table}
+use Rattle.mw_model.specs.Values.Definition.{arity_table}
 use Rattle.mw_heap.specs.Objects.{object_at}
 use Rattle.mw_heap.specs.Variants.{profile_of}
 use Rattle.mw_proof.specs.Step.{is_proof}

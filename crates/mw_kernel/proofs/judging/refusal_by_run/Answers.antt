@@ -1,7 +1,7 @@
 -- The checker's code is found, and its run is that of its call on the proof and the theory.
 use Rattle.std.proofs.Common.{[], sym, ◌∙◌, subst}
 use Rattle.std.proofs.lemmas.Result.{IfOk-weaker}
-use Rattle.mw_model.specs.Evaluation.{evaluate}
+use Rattle.mw_model.specs.Events.Evaluation.{evaluate}
 use Rattle.mw_code.specs.Tables.{StandsFor}
 use Rattle.mw_theory.specs.Knowledge.{parts_of, definitions_of}
 use Rattle.mw_kernel.proofs.Judged.{code-found, never-missed, checker_call, checker-count, checker-entry, checker-verdict}

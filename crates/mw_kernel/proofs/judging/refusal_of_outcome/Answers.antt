@@ -1,6 +1,6 @@
 -- What the run came to decides.
 use Rattle.std.proofs.Common.{sym, ap, ◌∙◌, subst}
-use Rattle.mw_model.specs.Checking.{verdict}
+use Rattle.mw_model.specs.Events.Checking.{verdict}
 use Rattle.mw_machine.specs.State.{Answers}
 use Rattle.mw_kernel.proofs.judging.refusal_of_outcome.Goals as goal
 

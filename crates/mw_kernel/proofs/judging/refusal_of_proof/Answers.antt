@@ -1,8 +1,8 @@
 -- By the second member, and then by the theory's checker.
 use Rattle.std.proofs.Common.{sym, ap, ◌∙◌}
 use Rattle.std.proofs.lemmas.Result.{IfOk-weaker}
-use Rattle.mw_model.specs.Object.{same_object}
-use Rattle.mw_model.specs.Checking.{judged_by}
+use Rattle.mw_model.specs.Terms.Object.{same_object}
+use Rattle.mw_model.specs.Events.Checking.{judged_by}
 use Rattle.mw_heap.specs.Objects.{object_at}
 use Rattle.mw_theory.specs.Knowledge.{parts_of, name_read, meant}
 use Rattle.mw_kernel.proofs.Judged.{judged-other, judged-concluded}

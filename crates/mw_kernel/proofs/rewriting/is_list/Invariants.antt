@@ -1,6 +1,6 @@
 -- What is left decides.
 use Rattle.std.proofs.Common.{◌≡◌}
-use Rattle.mw_model.specs.RulesInduction.{is_list_object}
+use Rattle.mw_model.specs.Laws.RulesInduction.{is_list_object}
 use Rattle.mw_heap.specs.Objects.{object_at, IsIn}
 use Rattle.mw_kernel.proofs.rewriting.is_list.Given as goal
 

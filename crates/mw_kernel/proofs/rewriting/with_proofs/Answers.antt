@@ -1,6 +1,6 @@
 -- The other members mean in the end what they meant before.
 use Rattle.std.proofs.Common.{refl, ap, ap₂, ◌∙◌}
-use Rattle.mw_model.specs.Object.{Pair, symbol}
+use Rattle.mw_model.specs.Terms.Object.{Pair, symbol}
 use Rattle.mw_heap.specs.Objects.{object_at}
 use Rattle.mw_heap.proofs.Objects.{object_at-Grows}
 use Rattle.mw_theory.proofs.CallerLemmas.{IfOk-map}

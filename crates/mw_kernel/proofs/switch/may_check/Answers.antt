@@ -1,7 +1,7 @@
 -- By the code of the name.
 use Rattle.std.proofs.Common.{◌∙◌, sym, ap, subst}
-use Rattle.mw_model.specs.Object.{name_of_bytes}
-use Rattle.mw_model.specs.Primitive.{name_of}
+use Rattle.mw_model.specs.Terms.Object.{name_of_bytes}
+use Rattle.mw_model.specs.Values.Primitive.{name_of}
 use Rattle.mw_model.proofs.Names.{name_of_bytes-bytes}
 use Rattle.mw_code.specs.Tables.{IsCodeOf}
 use Rattle.mw_heap.specs.Objects.{object_at}

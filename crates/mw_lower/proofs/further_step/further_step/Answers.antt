@@ -1,6 +1,6 @@
 -- With extras no further rule holds.
 use Rattle.std.proofs.Common.{sym, ◌∙◌}
-use Rattle.mw_model.specs.Object.{NIL}
+use Rattle.mw_model.specs.Terms.Object.{NIL}
 use Rattle.mw_model.proofs.Names.{same_object-eq}
 use Rattle.mw_heap.specs.Objects.{object_at}
 use Rattle.mw_heap.specs.Lists.{list_object}

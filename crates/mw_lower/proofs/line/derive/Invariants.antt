@@ -1,6 +1,6 @@
 -- What is left of the lines leads from the lines that stand to what all of them lead to.
 use Rattle.std.proofs.Common.{◌≡◌, drop, map}
-use Rattle.mw_model.specs.Object.{NIL}
+use Rattle.mw_model.specs.Terms.Object.{NIL}
 use Rattle.mw_heap.specs.Objects.{object_at, IsIn, Grows}
 use Rattle.mw_axioms.specs.Stacks.{AreIn}
 use Rattle.mw_lower.specs.Lines.{all_lines}

@@ -1,6 +1,6 @@
 -- The pair takes the place of the newest two.
 use Rattle.std.proofs.Common.{◌∷◌, ap, ap₂, ◌∙◌}
-use Rattle.mw_model.specs.Object.{Pair}
+use Rattle.mw_model.specs.Terms.Object.{Pair}
 use Rattle.mw_heap.proofs.Objects.{object_at-Grows}
 use Rattle.mw_axioms.specs.Stacks.{stack_of}
 use Rattle.mw_axioms.proofs.OnStack.{stack_of-put}

@@ -1,6 +1,6 @@
 -- A word, a variable or a given object goes on the stack.
 use Rattle.std.proofs.Common.{[], ◌∷◌, ◌++◌, map, sym, ap, ap₂, ◌∙◌}
-use Rattle.mw_model.specs.Object.{Symbol, name_of_bytes}
+use Rattle.mw_model.specs.Terms.Object.{Symbol, name_of_bytes}
 use Rattle.mw_model.proofs.Names.{name_of_bytes-bytes}
 use Rattle.mw_heap.specs.Objects.{object_at}
 use Rattle.mw_axioms.specs.Stacks.{stack_of}

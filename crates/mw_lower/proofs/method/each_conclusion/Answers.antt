@@ -1,6 +1,6 @@
 -- One conclusion more.
 use Rattle.std.proofs.Common.{◌+◌, [], sym, ap, ◌∙◌, subst, append-nil}
-use Rattle.mw_model.specs.Object.{second_of}
+use Rattle.mw_model.specs.Terms.Object.{second_of}
 use Rattle.mw_heap.specs.Objects.{object_at}
 use Rattle.mw_proof.specs.Step.{conclusions_object}
 use Rattle.mw_heap.specs.Lists.{list_object}

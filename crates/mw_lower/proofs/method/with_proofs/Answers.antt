@@ -1,7 +1,7 @@
 -- The step itself, or one that is made.
 use Rattle.std.proofs.Common.{inl, inr, sym, ap, ◌∙◌}
 use Rattle.std.proofs.lemmas.Bool.{true≢false}
-use Rattle.mw_model.specs.Object.{list4}
+use Rattle.mw_model.specs.Terms.Object.{list4}
 use Rattle.mw_model.proofs.Names.{same_object-eq, same_object-from}
 use Rattle.mw_heap.specs.Objects.{object_at}
 use Rattle.mw_heap.proofs.Objects.{IsIn-Grows, object_at-Grows}

@@ -1,6 +1,6 @@
 -- By the members of the step, and by whether its subproofs are few and have conclusions.
 use Rattle.std.proofs.Common.{◌≡◌, false, ◌⊎◌, inl, inr, IfSome, sym, subst, arith}
-use Rattle.mw_model.specs.RulesInduction.{length_object}
+use Rattle.mw_model.specs.Laws.RulesInduction.{length_object}
 use Rattle.mw_heap.specs.Objects.{object_at}
 use Rattle.mw_proof.specs.Gathered.{AddsMembers}
 use Rattle.mw_proof.specs.Judging.{have_conclusions, IsOver, IsAnswer}

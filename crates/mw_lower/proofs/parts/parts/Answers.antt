@@ -1,7 +1,7 @@
 -- One more of which the subproofs are found, or which is no derivation; and at the end all are put in order.
 use Rattle.std.proofs.Common.{◌≡◌, ◌<◌, ◌≤◌, None, length, refl, sym, ◌∙◌, subst, arith}
 use Rattle.std.proofs.lemmas.List.Sorted.{IsNonDecreasingBy-from_sort}
-use Rattle.mw_model.specs.Term.{ArityTable}
+use Rattle.mw_model.specs.Terms.Term.{ArityTable}
 use Rattle.mw_heap.specs.Objects.{object_at, IsIn}
 use Rattle.mw_term.specs.Marking.{AreMarks}
 use Rattle.mw_proof.specs.Gathered.{IsAmong, AreIn, AddsSubproofs}

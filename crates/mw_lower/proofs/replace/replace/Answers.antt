@@ -1,6 +1,6 @@
 -- The test of functional equality on the disjunction, and the premises that are detached from it.
 use Rattle.std.proofs.Common.{sym, ◌∙◌, subst}
-use Rattle.mw_model.specs.Proof.{ProveEach}
+use Rattle.mw_model.specs.Proofs.Proof.{ProveEach}
 use Rattle.mw_heap.specs.Objects.{object_at}
 use Rattle.mw_heap.specs.Lists.{list_object}
 use Rattle.mw_heap.proofs.Objects.{Grows-trans, object_at-Grows}

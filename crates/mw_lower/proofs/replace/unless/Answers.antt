@@ -1,6 +1,6 @@
 -- One premise more before the disjunction.
 use Rattle.std.proofs.Common.{◌≡◌, ◌+◌, ◌-◌, ◌<◌, length, drop, sym, ap, ◌∙◌, subst, arith}
-use Rattle.mw_model.specs.Object.{second_of}
+use Rattle.mw_model.specs.Terms.Object.{second_of}
 use Rattle.mw_heap.specs.Objects.{object_at}
 use Rattle.mw_heap.proofs.Objects.{Grows-refl, Grows-trans, object_at-Grows}
 use Rattle.mw_heap.specs.Lists.{list_object}

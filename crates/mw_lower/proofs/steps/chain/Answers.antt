@@ -1,10 +1,10 @@
 -- The two equations meet in the middle, and the conclusion is compared with that of their ends.
 use Rattle.std.proofs.Common.{ap, ap₂, sym, ◌∙◌, subst}
 use Rattle.std.proofs.lemmas.Bool.{and_left, and_right, and_from}
-use Rattle.mw_model.specs.Object.{symbol, list3}
-use Rattle.mw_model.specs.Term.{Equal}
-use Rattle.mw_model.specs.Same.{same_term, same_formula}
-use Rattle.mw_model.specs.DerivationTest.{is_chained}
+use Rattle.mw_model.specs.Terms.Object.{symbol, list3}
+use Rattle.mw_model.specs.Terms.Term.{Equal}
+use Rattle.mw_model.specs.Terms.Same.{same_term, same_formula}
+use Rattle.mw_model.specs.Commands.DerivationTest.{is_chained}
 use Rattle.mw_model.proofs.LogAccepted.{conclusion_is}
 use Rattle.mw_model.proofs.SameTerms.{same_term-eq, same_formula-eq}
 use Rattle.mw_heap.specs.Objects.{object_at}

@@ -1,9 +1,9 @@
 -- The conclusion is compared with the premise turned round.
 use Rattle.std.proofs.Common.{ap, ap₂, sym, ◌∙◌, subst}
 use Rattle.std.proofs.lemmas.Bool.{and_from}
-use Rattle.mw_model.specs.Object.{symbol, list3}
-use Rattle.mw_model.specs.Term.{Or}
-use Rattle.mw_model.specs.DerivationTest.{is_commuted}
+use Rattle.mw_model.specs.Terms.Object.{symbol, list3}
+use Rattle.mw_model.specs.Terms.Term.{Or}
+use Rattle.mw_model.specs.Commands.DerivationTest.{is_commuted}
 use Rattle.mw_model.proofs.LogAccepted.{conclusion_is}
 use Rattle.mw_model.proofs.SameTerms.{same_formula-eq}
 use Rattle.mw_heap.specs.Objects.{object_at}

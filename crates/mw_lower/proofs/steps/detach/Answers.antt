@@ -1,10 +1,10 @@
 -- The second premise is compared with: not the first or the conclusion.
 use Rattle.std.proofs.Common.{ap, ap₂, sym, ◌∙◌, subst}
 use Rattle.std.proofs.lemmas.Bool.{and_left, and_right, and_from}
-use Rattle.mw_model.specs.Object.{symbol, list2}
-use Rattle.mw_model.specs.Term.{Or, Not, formula_object}
-use Rattle.mw_model.specs.Same.{same_formula}
-use Rattle.mw_model.specs.DerivationTest.{is_detached}
+use Rattle.mw_model.specs.Terms.Object.{symbol, list2}
+use Rattle.mw_model.specs.Terms.Term.{Or, Not, formula_object}
+use Rattle.mw_model.specs.Terms.Same.{same_formula}
+use Rattle.mw_model.specs.Commands.DerivationTest.{is_detached}
 use Rattle.mw_model.proofs.LogAccepted.{conclusion_is}
 use Rattle.mw_model.proofs.SameTerms.{same_formula-eq}
 use Rattle.mw_heap.specs.Objects.{object_at}

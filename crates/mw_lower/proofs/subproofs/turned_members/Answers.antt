@@ -1,7 +1,7 @@
 -- One member after another.
 use Rattle.std.proofs.Common.{[], sym, ap, ◌∙◌, subst, append-nil}
 use Rattle.std.specs.Option.{option_copied}
-use Rattle.mw_model.specs.Object.{NIL}
+use Rattle.mw_model.specs.Terms.Object.{NIL}
 use Rattle.mw_model.proofs.Names.{same_object-eq}
 use Rattle.mw_heap.specs.Objects.{object_at}
 use Rattle.mw_lower.specs.Turned.{AreReplaced}

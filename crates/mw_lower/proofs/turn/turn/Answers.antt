@@ -1,7 +1,7 @@
 -- By its members and its rule.
 use Rattle.std.proofs.Common.{IfSome, sym, ◌∙◌, subst}
 use Rattle.std.specs.List.{All}
-use Rattle.mw_model.specs.Proof.{ProveEach}
+use Rattle.mw_model.specs.Proofs.Proof.{ProveEach}
 use Rattle.mw_heap.specs.Objects.{object_at, IsIn}
 use Rattle.mw_heap.specs.Lists.{list_object}
 use Rattle.mw_heap.specs.Variants.{profile_of}

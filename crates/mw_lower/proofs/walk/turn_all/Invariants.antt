@@ -1,6 +1,6 @@
 -- What the derivations up to the next one become.
 use Rattle.std.proofs.Common.{take}
-use Rattle.mw_model.specs.Term.{ArityTable}
+use Rattle.mw_model.specs.Terms.Term.{ArityTable}
 use Rattle.mw_heap.specs.Objects.{Grows}
 use Rattle.mw_heap.specs.Variants.{profile_of}
 use Rattle.mw_term.specs.Marking.{AreMarks}

@@ -1,6 +1,6 @@
 -- What was made is a call of CAR.
 use Rattle.std.proofs.Common.{sym, ap₂, ◌∙◌}
-use Rattle.mw_model.specs.Object.{Pair}
+use Rattle.mw_model.specs.Terms.Object.{Pair}
 use Rattle.mw_heap.proofs.Objects.{Grows-trans, object_at-Grows}
 use Rattle.mw_code.proofs.PieceForms.{if_ok-along}
 use Rattle.mw_machine_tests.proofs.Forms.{term-grows, car-term}

@@ -1,7 +1,7 @@
 -- No event takes an axiom away, and a second profile begins with both.
-use Rattle.mw_model.specs.Primitive.{One}
-use Rattle.mw_model.specs.Theory.{initial}
-use Rattle.mw_model.specs.DerivationTest.{derived_as}
+use Rattle.mw_model.specs.Values.Primitive.{One}
+use Rattle.mw_model.specs.Events.Theory.{initial}
+use Rattle.mw_model.specs.Commands.DerivationTest.{derived_as}
 use Rattle.mw_model.proofs.FirstAxioms.{initial_first, each_has_first, last_has_first}
 use Rattle.mw_model.proofs.LoweredAccepted.{each_lowering}
 use Rattle.mw_model.proofs.lowering.lowerings_possible.Goals as goal

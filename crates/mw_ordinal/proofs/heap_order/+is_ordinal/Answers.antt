@@ -1,7 +1,7 @@
 -- Each test that fails decides, and each that passes leaves the rest.
 use Rattle.std.proofs.Common.{◌≡◌, true, false, sym, ◌∙◌, arith}
-use Rattle.mw_model.specs.Primitive.{is_pair, is_natural}
-use Rattle.mw_model.specs.Ordinal.{is_ordinal}
+use Rattle.mw_model.specs.Values.Primitive.{is_pair, is_natural}
+use Rattle.mw_model.specs.Laws.Ordinal.{is_ordinal}
 use Rattle.mw_heap.specs.Objects.{object_at}
 use Rattle.mw_ordinal.specs.Leading.{may_lead}
 use Rattle.mw_ordinal.proofs.Passed.{without_leading, passes, is_pair-shown, is_natural-shown, without_term, of_no_kind}

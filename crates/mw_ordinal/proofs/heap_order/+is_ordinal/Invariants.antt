@@ -1,6 +1,6 @@
 -- What has been passed leaves the rest to tell.
 use Rattle.std.proofs.Common.{◌≡◌, ◌≤◌}
-use Rattle.mw_model.specs.Ordinal.{is_ordinal}
+use Rattle.mw_model.specs.Laws.Ordinal.{is_ordinal}
 use Rattle.mw_heap.specs.Objects.{object_at, IsIn}
 use Rattle.mw_ordinal.proofs.heap_order.+is_ordinal.Given as goal
 

@@ -1,7 +1,7 @@
 -- Two pairs are compared by their leading terms, and where these are equal by their rests.
 use Rattle.std.proofs.Common.{◌≡◌, true, false, ltb, sym, ap, ap₂, ◌∙◌}
-use Rattle.mw_model.specs.Object.{same_object, car, cdr}
-use Rattle.mw_model.specs.Primitive.{number}
+use Rattle.mw_model.specs.Terms.Object.{same_object, car, cdr}
+use Rattle.mw_model.specs.Values.Primitive.{number}
 use Rattle.mw_heap.specs.Objects.{object_at}
 use Rattle.mw_ordinal.proofs.Compared.{by_exponents, by_coefficients, by_rests, Turns-along}
 use Rattle.mw_ordinal.proofs.heap_order.compare_once.Goals as goal

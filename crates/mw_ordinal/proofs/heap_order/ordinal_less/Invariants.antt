@@ -1,6 +1,6 @@
 -- The two that are compared are so where the first two are.
 use Rattle.std.proofs.Common.{◌≡◌}
-use Rattle.mw_model.specs.Ordinal.{is_below}
+use Rattle.mw_model.specs.Laws.Ordinal.{is_below}
 use Rattle.mw_heap.specs.Objects.{object_at, IsIn}
 use Rattle.mw_ordinal.proofs.heap_order.ordinal_less.Given as goal
 

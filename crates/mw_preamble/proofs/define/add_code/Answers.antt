@@ -1,6 +1,6 @@
 -- The definition is a block of one.
 use Rattle.std.proofs.Common.{[], ◌∷◌, sym, subst}
-use Rattle.mw_model.specs.Definition.{definitions}
+use Rattle.mw_model.specs.Values.Definition.{definitions}
 use Rattle.mw_code.specs.Blocks.{IsBlockOf}
 use Rattle.mw_preamble.proofs.BlockSpelled.{block-spelled}
 use Rattle.mw_preamble.proofs.define.add_code.Goals as goal

@@ -1,8 +1,8 @@
 -- The definition of the row is added.
 use Rattle.std.proofs.Common.{List, Result, Ok, Err, sym, subst}
 use Rattle.std.specs.Result.{OnOk}
-use Rattle.mw_model.specs.Primitive.{Profile}
-use Rattle.mw_model.specs.Definition.{Block}
+use Rattle.mw_model.specs.Values.Primitive.{Profile}
+use Rattle.mw_model.specs.Values.Definition.{Block}
 use Rattle.mw_preamble.specs.Entries.{IsBlock}
 use Rattle.mw_preamble.specs.Defining.{IsNext, IsNextRow}
 use Rattle.mw_preamble.proofs.define.define_row.Goals as goal

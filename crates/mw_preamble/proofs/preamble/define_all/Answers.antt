@@ -1,7 +1,7 @@
 -- The table begins with no functions, and keeps its profile.
 use Rattle.std.proofs.Common.{◌≡◌, List, [], sym, ap, subst, ◌∙◌}
-use Rattle.mw_model.specs.Object.{Object}
-use Rattle.mw_model.specs.Definition.{definitions}
+use Rattle.mw_model.specs.Terms.Object.{Object}
+use Rattle.mw_model.specs.Values.Definition.{definitions}
 use Rattle.mw_heap.specs.Variants.{profile_of}
 use Rattle.mw_heap.specs.declared.profile.Profile.{Profile}
 use Rattle.mw_code.specs.declared.table.Table.{Table}

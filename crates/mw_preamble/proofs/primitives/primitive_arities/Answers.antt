@@ -1,6 +1,6 @@
 -- The product is new, and comes last.
 use Rattle.std.proofs.Common.{sym, ap, ◌∙◌}
-use Rattle.mw_model.specs.Primitive as model
+use Rattle.mw_model.specs.Values.Primitive as model
 use Rattle.mw_heap.specs.Variants.{profile_of}
 use Rattle.mw_preamble.proofs.PrimitiveTable.{product_new, product_added}
 use Rattle.mw_preamble.proofs.primitives.primitive_arities.Goals as goal

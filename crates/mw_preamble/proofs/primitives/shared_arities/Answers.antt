@@ -1,6 +1,6 @@
 -- One entry more.
 use Rattle.std.proofs.Common.{◌≡◌, ◌+◌, true, drop, sym, subst, ◌∙◌}
-use Rattle.mw_model.specs.Primitive.{One, primitive_arities}
+use Rattle.mw_model.specs.Values.Primitive.{One, primitive_arities}
 use Rattle.mw_preamble.proofs.PrimitiveTable.{are_new, with_entries, table_new, table_made, turn}
 use Rattle.mw_preamble.proofs.primitives.shared_arities.Goals as goal
 use Rattle.mw_preamble.specs.declared.primitives.TheConstants.{PRIMITIVES}

@@ -1,6 +1,6 @@
 -- The entries that are left are new, and make the table whole.
 use Rattle.std.proofs.Common.{◌≡◌, true, drop}
-use Rattle.mw_model.specs.Primitive.{One, primitive_arities}
+use Rattle.mw_model.specs.Values.Primitive.{One, primitive_arities}
 use Rattle.mw_preamble.proofs.PrimitiveTable.{are_new, with_entries}
 use Rattle.mw_preamble.proofs.primitives.shared_arities.Given as goal
 

@@ -1,7 +1,7 @@
 -- The datum of the text is the list of the rows.
 use Rattle.std.proofs.Common.{◌≡◌, ◌≤◌, List, ℕ, [], length, inl, sym, subst, ◌∙◌}
-use Rattle.mw_model.specs.Grammar.{limit}
-use Rattle.mw_model.specs.Printing.{text_of}
+use Rattle.mw_model.specs.Texts.Grammar.{limit}
+use Rattle.mw_model.specs.Texts.Printing.{text_of}
 use Rattle.mw_heap.specs.Variants.{profile_of}
 use Rattle.mw_heap.specs.Objects.{object_at, IsIn}
 use Rattle.mw_preamble.specs.Rows.{built_in_rows}

@@ -1,7 +1,7 @@
 -- A pair that was met is met again.
 use Rattle.std.proofs.Common.{nat_eq, inr, refl, ap, ◌∙◌}
 use Rattle.std.specs.List.{list_any}
-use Rattle.mw_model.specs.Primitive.{is_pair}
+use Rattle.mw_model.specs.Values.Primitive.{is_pair}
 use Rattle.mw_print.proofs.Meeting.{from_not, one_stays}
 use Rattle.mw_print.proofs.repeats.meet.Goals as goal
 

@@ -1,5 +1,5 @@
 use Rattle.std.proofs.Common.{◌≡◌, ◌++◌, All}
-use Rattle.mw_model.specs.Printing.{text_of}
+use Rattle.mw_model.specs.Texts.Printing.{text_of}
 use Rattle.mw_heap.specs.Objects.{object_at}
 use Rattle.mw_print.specs.Parts.{IsPart, parts_text, parts_weight}
 use Rattle.mw_print.proofs.text.text.Given as goal

@@ -1,6 +1,6 @@
 use Rattle.std.proofs.Common.{ap, ◌∙◌}
-use Rattle.mw_model.specs.Object.{weight}
-use Rattle.mw_model.specs.Printing.{tail_text, text_of}
+use Rattle.mw_model.specs.Terms.Object.{weight}
+use Rattle.mw_model.specs.Texts.Printing.{tail_text, text_of}
 use Rattle.mw_print.specs.Parts.{part_text, part_weight}
 use Rattle.mw_print.proofs.Writing.{OnOk-both, opens}
 use Rattle.mw_print.proofs.text.write_part.Goals as goal

@@ -1,8 +1,8 @@
 -- One conclusion more, and the ends of the list.
 use Rattle.std.proofs.Common.{◌≡◌, false, eqb, Some, length, inl, sym, ◌∙◌, ap, subst, arith}
 use Rattle.std.specs.Option.{option_eq}
-use Rattle.mw_model.specs.Object.{second_of}
-use Rattle.mw_model.specs.Rules.{is_formula_object}
+use Rattle.mw_model.specs.Terms.Object.{second_of}
+use Rattle.mw_model.specs.Laws.Rules.{is_formula_object}
 use Rattle.mw_heap.specs.Objects.{object_at}
 use Rattle.mw_proof.proofs.Collecting.{Collects, collects_more, collects_all, stops_at_no_formula}
 use Rattle.mw_proof.proofs.Gathering.{HasMembers-nil, walk_goes_on, walk_ends}

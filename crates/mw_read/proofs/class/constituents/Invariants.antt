@@ -1,6 +1,6 @@
 use Rattle.std.proofs.Common.{◌≡◌, true, take}
-use Rattle.mw_model.specs.Lexemes.{is_constituent}
-use Rattle.mw_model.specs.Lexemes.{all_are}
+use Rattle.mw_model.specs.Texts.Lexemes.{is_constituent}
+use Rattle.mw_model.specs.Texts.Lexemes.{all_are}
 use Rattle.mw_read.proofs.class.constituents.Given as goal
 
 abbrev pub invariant-loop-i : goal.invariant-loop-i

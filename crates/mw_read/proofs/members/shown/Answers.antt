@@ -1,6 +1,6 @@
 -- What is shown of a pair is shown of its parts.
 use Rattle.std.proofs.Common.{sym, ap, ◌∙◌}
-use Rattle.mw_model.specs.Report.{word_text, label_text}
+use Rattle.mw_model.specs.Reports.Report.{word_text, label_text}
 use Rattle.mw_read.specs.Shown.{first_symbol}
 use Rattle.mw_read.proofs.members.shown.Goals as goal
 

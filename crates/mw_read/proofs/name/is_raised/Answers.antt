@@ -1,7 +1,7 @@
 use Rattle.std.proofs.Common.{map, length, sym, ap, ◌∙◌, arith}
 use Rattle.std.proofs.lemmas.List.{length-map, get_or-map, take_all}
-use Rattle.mw_model.specs.Object.{same_bytes}
-use Rattle.mw_model.specs.Lexemes.{raised}
+use Rattle.mw_model.specs.Terms.Object.{same_bytes}
+use Rattle.mw_model.specs.Texts.Lexemes.{raised}
 use Rattle.mw_model.proofs.Names.{same_bytes-refl}
 use Rattle.mw_read.proofs.Raised.{not_same_bytes}
 use Rattle.std.proofs.Common.{get_or}

@@ -1,5 +1,5 @@
 use Rattle.std.proofs.Common.{◌≡◌, map, take}
-use Rattle.mw_model.specs.Lexemes.{raised}
+use Rattle.mw_model.specs.Texts.Lexemes.{raised}
 use Rattle.mw_read.proofs.name.is_raised.Given as goal
 
 abbrev pub invariant-loop-i : goal.invariant-loop-i

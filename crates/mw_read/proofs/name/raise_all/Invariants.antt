@@ -1,5 +1,5 @@
 use Rattle.std.proofs.Common.{◌≡◌, map, take}
-use Rattle.mw_model.specs.Lexemes.{raised}
+use Rattle.mw_model.specs.Texts.Lexemes.{raised}
 use Rattle.mw_read.proofs.name.raise_all.Given as goal
 
 abbrev pub invariant-loop-b : goal.invariant-loop-b

@@ -1,6 +1,6 @@
 -- QUOTE stands in the noted place.
 use Rattle.std.proofs.Common.{sym, ◌∙◌, arith}
-use Rattle.mw_model.specs.Object.{symbol}
+use Rattle.mw_model.specs.Terms.Object.{symbol}
 use Rattle.mw_model.proofs.Names.{same_object-eq}
 use Rattle.mw_heap.specs.Objects.{object_at}
 use Rattle.mw_read.proofs.stack.quote_word.Goals as goal

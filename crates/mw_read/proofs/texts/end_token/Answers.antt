@@ -1,6 +1,6 @@
 use Rattle.std.proofs.Common.{◌∙◌, sym, refl, subst, false, map}
-use Rattle.mw_model.specs.Object.{Natural, Symbol, name_of_bytes}
-use Rattle.mw_model.specs.Lexemes.{raised, decimal_value}
+use Rattle.mw_model.specs.Terms.Object.{Natural, Symbol, name_of_bytes}
+use Rattle.mw_model.specs.Texts.Lexemes.{raised, decimal_value}
 use Rattle.mw_read.specs.Machine.{on}
 use Rattle.mw_read.specs.Held.{Took}
 use Rattle.mw_read.specs.Lexing.{token_lexeme}

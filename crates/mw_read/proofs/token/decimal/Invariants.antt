@@ -1,5 +1,5 @@
 use Rattle.std.proofs.Common.{◌≡◌, take}
-use Rattle.mw_model.specs.Lexemes.{decimal_value}
+use Rattle.mw_model.specs.Texts.Lexemes.{decimal_value}
 use Rattle.mw_read.proofs.token.decimal.Given as goal
 
 abbrev pub invariant-loop-d : goal.invariant-loop-d

@@ -1,8 +1,8 @@
 -- The first two axioms of the primitives are those of equality.
 use Rattle.std.proofs.Common.{◌≡◌, ℕ, List, [], ◌∷◌, map, get_or, sym, ap, ◌∙◌, subst}
-use Rattle.mw_model.specs.Object.{Object, Member, first, later}
-use Rattle.mw_model.specs.Term.{formula_object}
-use Rattle.mw_model.specs.Axioms.{axiom_1, axiom_2}
+use Rattle.mw_model.specs.Terms.Object.{Object, Member, first, later}
+use Rattle.mw_model.specs.Terms.Term.{formula_object}
+use Rattle.mw_model.specs.Proofs.Axioms.{axiom_1, axiom_2}
 use Rattle.mw_heap.specs.Objects.{object_at}
 use Rattle.mw_heap.specs.Lists.{list_object}
 use Rattle.mw_rule_tests.proofs.lower.axioms.Goals as goal

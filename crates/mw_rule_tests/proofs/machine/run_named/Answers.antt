@@ -1,9 +1,9 @@
 -- The code that is found is that of the call of the name on these values.
 use Rattle.std.proofs.Common.{map, sym, ◌∙◌}
 use Rattle.std.proofs.lemmas.List.{length-map}
-use Rattle.mw_model.specs.Object.{name_of_bytes}
-use Rattle.mw_model.specs.Term.{Call}
-use Rattle.mw_model.specs.Proof.{constants}
+use Rattle.mw_model.specs.Terms.Object.{name_of_bytes}
+use Rattle.mw_model.specs.Terms.Term.{Call}
+use Rattle.mw_model.specs.Proofs.Proof.{constants}
 use Rattle.mw_heap.specs.Objects.{object_at}
 use Rattle.mw_preamble.specs.Admitted.{first_definitions}
 use Rattle.mw_rule_tests.proofs.machine.run_named.Goals as goal

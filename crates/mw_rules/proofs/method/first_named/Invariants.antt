@@ -1,6 +1,6 @@
 -- No method before this one is named.
 use Rattle.std.proofs.Common.{◌≡◌, map, drop}
-use Rattle.mw_model.specs.Judgment.{method_among}
+use Rattle.mw_model.specs.Proofs.Judgment.{method_among}
 use Rattle.mw_heap.specs.Objects.{object_at}
 use Rattle.mw_rules.specs.Methods.{method_of_logic}
 use Rattle.mw_rules.proofs.method.first_named.Given as goal

@@ -1,6 +1,6 @@
 -- The rules by how many subproofs they take.
 use Rattle.std.proofs.Common.{◌≡◌, true, Some, sym, ap, ◌∙◌, subst, arith}
-use Rattle.mw_model.specs.Rules.{is_formula_object}
+use Rattle.mw_model.specs.Laws.Rules.{is_formula_object}
 use Rattle.mw_heap.specs.Objects.{object_at}
 use Rattle.mw_heap.specs.Variants.{profile_of}
 use Rattle.mw_heap.proofs.Objects.{Grows-refl}

@@ -1,6 +1,6 @@
 -- What is left of the list has as many members as are still to come.
 use Rattle.std.proofs.Common.{◌≡◌, ◌-◌}
-use Rattle.mw_model.specs.Object.{has_members}
+use Rattle.mw_model.specs.Terms.Object.{has_members}
 use Rattle.mw_heap.specs.Objects.{object_at, IsIn}
 use Rattle.mw_slice.proofs.event.has_members.Given as goal
 

@@ -1,6 +1,6 @@
 -- The proofs of each word that has some.
 use Rattle.std.proofs.Common.{sym, ap, ◌∙◌}
-use Rattle.mw_model.specs.Object.{cdr, car, second_of}
+use Rattle.mw_model.specs.Terms.Object.{cdr, car, second_of}
 use Rattle.mw_heap.specs.Objects.{object_at}
 use Rattle.mw_slice.proofs.EventMembers.{theorems_verified, theorems_defined, theorems_all_defined, no_theorems}
 use Rattle.mw_slice.proofs.event.proofs_of.Goals as goal

@@ -1,7 +1,7 @@
 -- The places of the formulas of the events before this one.
 use Rattle.std.proofs.Common.{◌≡◌, take}
-use Rattle.mw_model.specs.Object.{Object}
-use Rattle.mw_model.specs.Slice.{first_proof}
+use Rattle.mw_model.specs.Terms.Object.{Object}
+use Rattle.mw_model.specs.Commands.Slice.{first_proof}
 use Rattle.mw_slice.specs.Events.{objects_of}
 use Rattle.mw_slice.specs.Firsts.{AreFirsts, first_by}
 use Rattle.mw_slice.proofs.firsts.first_proofs.Given as goal

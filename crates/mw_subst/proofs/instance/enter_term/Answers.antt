@@ -1,6 +1,6 @@
 -- A call comes to the list of its actuals.
 use Rattle.std.proofs.Common.{sym, ap, ◌∙◌, subst}
-use Rattle.mw_model.specs.Rules.{substitute_object}
+use Rattle.mw_model.specs.Laws.Rules.{substitute_object}
 use Rattle.mw_heap.specs.Objects.{object_at}
 use Rattle.mw_heap.proofs.NoPair.{shown_no_pair}
 use Rattle.mw_subst.specs.Sigma.{sigma_object}

@@ -3,7 +3,7 @@ use Rattle.std.proofs.Common.{◌∷◌, [], sym, ap, ◌∙◌, subst, append_a
 use Rattle.mw_model.proofs.SameObject.{same_object-swap}
 use Rattle.mw_heap.specs.Objects.{object_at}
 use Rattle.mw_heap.proofs.NoPair.{shown_no_pair}
-use Rattle.mw_model.specs.Object.{NIL}
+use Rattle.mw_model.specs.Terms.Object.{NIL}
 use Rattle.mw_subst.specs.Sigma.{sigma_object}
 use Rattle.mw_subst.specs.Instances.{Enters}
 use Rattle.mw_subst.specs.declared.part.Part.TheVariants.{Term, Terms}

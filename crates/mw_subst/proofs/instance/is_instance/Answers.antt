@@ -1,6 +1,6 @@
 -- What waits is taken up one after another.
 use Rattle.std.proofs.Common.{ℕ, sym, ◌∙◌, arith}
-use Rattle.mw_model.specs.Rules.{substitute_object}
+use Rattle.mw_model.specs.Laws.Rules.{substitute_object}
 use Rattle.mw_model.proofs.Names.{same_object-from}
 use Rattle.mw_heap.specs.Objects.{object_at}
 use Rattle.mw_subst.specs.Sigma.{sigma_object}

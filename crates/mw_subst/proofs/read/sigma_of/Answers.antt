@@ -1,6 +1,6 @@
 -- A pair goes from what is left to the pairs so far.
 use Rattle.std.proofs.Common.{◌≡◌, ℕ, true, sym, ap, ◌∙◌, subst}
-use Rattle.mw_model.specs.Object.{Pair}
+use Rattle.mw_model.specs.Terms.Object.{Pair}
 use Rattle.mw_heap.specs.Objects.{object_at}
 use Rattle.mw_heap.proofs.NoPair.{shown_no_pair}
 use Rattle.mw_subst.specs.Pairs.{is_list_of_pairs}

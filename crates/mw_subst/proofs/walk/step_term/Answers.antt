@@ -1,7 +1,7 @@
 -- A call is made from its actuals.
 use Rattle.std.proofs.Common.{sym, ap, ◌∙◌}
-use Rattle.mw_model.specs.Object.{Pair}
-use Rattle.mw_model.specs.Rules.{substitute_object, substitute_each_object}
+use Rattle.mw_model.specs.Terms.Object.{Pair}
+use Rattle.mw_model.specs.Laws.Rules.{substitute_object, substitute_each_object}
 use Rattle.mw_heap.specs.Objects.{object_at}
 use Rattle.mw_subst.specs.Sigma.{sigma_object}
 use Rattle.mw_subst.proofs.Made.{result_found, substitute-list}

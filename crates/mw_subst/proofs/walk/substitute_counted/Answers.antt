@@ -1,6 +1,6 @@
 -- Each part is made after the parts that it wants.
 use Rattle.std.proofs.Common.{◌+◌, ◌∷◌, [], inl, inr, sym, ap, ap₂, ◌∙◌, subst, append_assoc, arith, rules, ◌++◌}
-use Rattle.mw_model.specs.Rules.{substitute_object}
+use Rattle.mw_model.specs.Laws.Rules.{substitute_object}
 use Rattle.mw_heap.specs.Objects.{IsIn}
 use Rattle.mw_heap.proofs.Objects.{object_at-Grows, length-Grows, Grows-trans}
 use Rattle.mw_subst.specs.declared.part.Part.TheVariants.{Term}

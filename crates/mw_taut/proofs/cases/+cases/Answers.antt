@@ -1,6 +1,6 @@
 -- What comes of a case is what is due, and what is kept is proved.
 use Rattle.std.proofs.Common.{ℕ, List, ◌++◌, [], ◌∷◌, length, sym, ap, ap₂, ◌∙◌, subst, arith, false, length-append}
-use Rattle.mw_model.specs.Term.{Formula, formula_object}
+use Rattle.mw_model.specs.Terms.Term.{Formula, formula_object}
 use Rattle.mw_heap.specs.Objects.{object_at}
 use Rattle.mw_heap.proofs.Objects.{Grows-trans, object_at-Grows, IsIn-Grows}
 use Rattle.mw_taut.specs.Meaning.{IsEquation}

@@ -1,6 +1,6 @@
 -- The table of the formula is under way.
 use Rattle.std.proofs.Common.{◌≡◌, true}
-use Rattle.mw_model.specs.Term.{Formula, formula_object, ArityTable, is_formula}
+use Rattle.mw_model.specs.Terms.Term.{Formula, formula_object, ArityTable, is_formula}
 use Rattle.mw_heap.specs.Objects.{object_at}
 use Rattle.mw_taut.specs.Building.{IsBuilt, left_over}
 use Rattle.mw_taut.proofs.compile.table_of.Given as goal

@@ -2,8 +2,8 @@
 use Rattle.std.proofs.Common.{length, sym, ap, ◌∙◌, subst, arith}
 use Rattle.std.proofs.lemmas.Bool.{le-ltb}
 use Rattle.std.proofs.lemmas.List.{length-map}
-use Rattle.mw_model.specs.Term.{formula_object}
-use Rattle.mw_model.specs.Tautology.{equations, decision, most_equations}
+use Rattle.mw_model.specs.Terms.Term.{formula_object}
+use Rattle.mw_model.specs.Commands.Tautology.{equations, decision, most_equations}
 use Rattle.mw_heap.specs.Objects.{object_at}
 use Rattle.mw_taut.specs.Decided.{IsDecision}
 use Rattle.mw_taut.proofs.DecidedBy.{few_decided}

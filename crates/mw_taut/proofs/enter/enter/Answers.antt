@@ -1,7 +1,7 @@
 -- What the formula of the table comes to is what is said of the case.
 use Rattle.std.proofs.Common.{◌≡◌, ◌<◌, [], not, length, map, get_or, sym, ap, ap₂, ◌∙◌, subst, arith}
 use Rattle.std.proofs.lemmas.List.{get_or-map}
-use Rattle.mw_model.specs.Term.{formula_object}
+use Rattle.mw_model.specs.Terms.Term.{formula_object}
 use Rattle.mw_heap.specs.Objects.{object_at, IsIn}
 use Rattle.mw_heap.proofs.Objects.{Grows-trans, object_at-Grows}
 use Rattle.mw_taut.specs.Reducing.{form_at, nothing, literal_object, reduce_all}

@@ -1,6 +1,6 @@
 -- The conclusion and the proof mean in the grown heap what they should.
 use Rattle.std.proofs.Common.{◌≡◌, IfOk, ap₂, subst}
-use Rattle.mw_model.specs.Object.{symbol, list1, list3}
+use Rattle.mw_model.specs.Terms.Object.{symbol, list1, list3}
 use Rattle.mw_heap.specs.Objects.{object_at}
 use Rattle.mw_heap.proofs.Objects.{object_at-Grows}
 use Rattle.mw_taut.proofs.steps.associativity.Goals as goal

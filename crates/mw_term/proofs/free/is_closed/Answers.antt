@@ -5,8 +5,8 @@ use Rattle.std.proofs.lemmas.Bool.{and_from}
 use Rattle.std.proofs.lemmas.List.{take_all}
 use Rattle.std.proofs.lemmas.List.Elements.{All-get_or}
 use Rattle.std.proofs.lemmas.List.Folds.{list_all_more, list_all_at}
-use Rattle.mw_model.specs.Primitive.{name_of}
-use Rattle.mw_model.specs.Term.{is_among}
+use Rattle.mw_model.specs.Values.Primitive.{name_of}
+use Rattle.mw_model.specs.Terms.Term.{is_among}
 use Rattle.mw_heap.specs.Objects.{object_at}
 use Rattle.mw_term.specs.Parts.{names_at, AreSymbols}
 use Rattle.mw_term.proofs.Symbols.{IsSymbolIn, symbols_each, list_all-names_at}

@@ -1,8 +1,8 @@
 -- Those before are among the names.
 use Rattle.std.proofs.Common.{◌≡◌, true, take}
 use Rattle.std.specs.List.{list_all}
-use Rattle.mw_model.specs.Primitive.{name_of}
-use Rattle.mw_model.specs.Term.{is_among}
+use Rattle.mw_model.specs.Values.Primitive.{name_of}
+use Rattle.mw_model.specs.Terms.Term.{is_among}
 use Rattle.mw_heap.specs.Objects.{object_at}
 use Rattle.mw_term.specs.Parts.{names_at}
 use Rattle.mw_term.proofs.free.is_closed.Given as goal

@@ -1,6 +1,6 @@
 -- A new symbol goes last.
 use Rattle.std.proofs.Common.{◌∷◌, [], ◌++◌, cond, sym, ap, ◌∙◌, subst, if◌then◌else◌}
-use Rattle.mw_model.specs.Primitive.{name_of}
+use Rattle.mw_model.specs.Values.Primitive.{name_of}
 use Rattle.mw_heap.specs.Objects.{object_at}
 use Rattle.mw_term.specs.Parts.{names_at, AreSymbols}
 use Rattle.mw_term.proofs.FormalList.{names_at-push, symbols-push}

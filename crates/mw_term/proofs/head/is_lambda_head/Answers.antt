@@ -1,7 +1,7 @@
 -- The head of a lambda call has a body that is a term with no other variables than its formals.
 use Rattle.std.proofs.Common.{◌≡◌, ◌<◌, Some, None, length, is_some, option_map, sym, ap, ◌∙◌, arith}
 use Rattle.std.proofs.lemmas.Result.{IfOk-weaker}
-use Rattle.mw_model.specs.Object.{Pair, name_of_bytes}
+use Rattle.mw_model.specs.Terms.Object.{Pair, name_of_bytes}
 use Rattle.mw_heap.specs.Objects.{object_at}
 use Rattle.mw_term.specs.Parts.{names_at, formals_of}
 use Rattle.mw_term.proofs.ListMarks.{term_at}

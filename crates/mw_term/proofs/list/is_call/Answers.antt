@@ -1,7 +1,7 @@
 -- A call is tested by its name, by how many actuals that wants, and by how long they are.
 use Rattle.std.proofs.Common.{true, sym, ap, ap₂, ◌∙◌}
 use Rattle.std.proofs.lemmas.Result.{IfOk-weaker}
-use Rattle.mw_model.specs.Object.{name_of_bytes}
+use Rattle.mw_model.specs.Terms.Object.{name_of_bytes}
 use Rattle.mw_heap.specs.Objects.{object_at}
 use Rattle.mw_term.specs.Parts.{length_of, wanted}
 use Rattle.mw_term.proofs.ListLengths.{fits, is_term-fits, is_term-no_actuals}

@@ -1,6 +1,6 @@
 -- A formula is tested by its shape and the marks of its parts.
 use Rattle.std.proofs.Common.{◌∙◌, ap, sym, arith}
-use Rattle.mw_model.specs.Object.{Pair, name_of_bytes}
+use Rattle.mw_model.specs.Terms.Object.{Pair, name_of_bytes}
 use Rattle.mw_heap.specs.Objects.{object_at}
 use Rattle.mw_term.proofs.ListMarks.{mark_at, is_formula-binary_list, is_formula-negation_list}
 use Rattle.mw_term.proofs.list.is_formula_list.Goals as goal

@@ -1,8 +1,8 @@
 -- A lambda call has a head, and as many actuals as the head has formals.
 use Rattle.std.proofs.Common.{true, is_some, sym, ap, ◌∙◌}
 use Rattle.std.proofs.lemmas.Result.{IfOk-weaker}
-use Rattle.mw_model.specs.Object.{Pair}
-use Rattle.mw_model.specs.Rules.{is_term_object}
+use Rattle.mw_model.specs.Terms.Object.{Pair}
+use Rattle.mw_model.specs.Laws.Rules.{is_term_object}
 use Rattle.mw_heap.specs.Objects.{object_at}
 use Rattle.mw_heap.proofs.NoPair.{shown_no_pair}
 use Rattle.mw_term.specs.Marking.{formal_count}

@@ -1,7 +1,7 @@
 -- A pair's mark comes from its parts' marks.
 use Rattle.std.proofs.Common.{is_some, sym, ap, ◌∙◌}
-use Rattle.mw_model.specs.Object.{Pair}
-use Rattle.mw_model.specs.Rules.{is_term_object, is_formula_object}
+use Rattle.mw_model.specs.Terms.Object.{Pair}
+use Rattle.mw_model.specs.Laws.Rules.{is_term_object, is_formula_object}
 use Rattle.mw_heap.specs.Objects.{object_at}
 use Rattle.mw_term.specs.Marking.{mark_of_object, term_count, formal_count}
 use Rattle.mw_term.proofs.ListMarks.{mark_at, mark_is, symbol_named, terms_of_pair, mark_of_lambda, no_mark}

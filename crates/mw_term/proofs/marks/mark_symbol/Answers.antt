@@ -1,6 +1,6 @@
 -- A symbol is a variable, or the list of no terms, or neither.
 use Rattle.std.proofs.Common.{false, refl, sym, ◌∙◌}
-use Rattle.mw_model.specs.Object.{Symbol, name_of_bytes}
+use Rattle.mw_model.specs.Terms.Object.{Symbol, name_of_bytes}
 use Rattle.mw_term.proofs.Marked.{is_term-symbol}
 use Rattle.mw_term.proofs.ListMarks.{mark_is, terms-symbol}
 use Rattle.mw_term.proofs.marks.mark_symbol.Goals as goal

@@ -1,6 +1,6 @@
 -- Each pair is tested, and the end is NIL.
 use Rattle.std.proofs.Common.{◌&&◌, sym, ap, ◌∙◌, arith}
-use Rattle.mw_model.specs.Rules.{is_substitution_object}
+use Rattle.mw_model.specs.Laws.Rules.{is_substitution_object}
 use Rattle.mw_heap.specs.Objects.{object_at}
 use Rattle.mw_heap.proofs.NoPair.{shown_no_pair}
 use Rattle.mw_term.proofs.SubstitutionLists.{is_substitution_object-pair, is_substitution_object-end}

@@ -1,7 +1,7 @@
 -- What is left of the list decides.
 use Rattle.std.proofs.Common.{◌≡◌, ◌<◌, length}
-use Rattle.mw_model.specs.Term.{ArityTable}
-use Rattle.mw_model.specs.Rules.{is_substitution_object}
+use Rattle.mw_model.specs.Terms.Term.{ArityTable}
+use Rattle.mw_model.specs.Laws.Rules.{is_substitution_object}
 use Rattle.mw_heap.specs.Objects.{object_at, IsIn}
 use Rattle.mw_term.specs.Marking.{AreMarks}
 use Rattle.mw_term.proofs.substitutions.is_substitution.Given as goal

@@ -1,6 +1,6 @@
 -- The pairs are those of the block, in the heap and as it has grown.
 use Rattle.std.proofs.Common.{ap, ◌∙◌}
-use Rattle.mw_model.specs.Term.{table_object}
+use Rattle.mw_model.specs.Terms.Term.{table_object}
 use Rattle.mw_theory.proofs.BlockPairs.{block_formals}
 use Rattle.mw_theory.proofs.BlockAdded.{may_be_added_grows, symbols, symbols_later, new_later, arities, arities_later}
 use Rattle.mw_heap.proofs.Objects.{Grows-refl}

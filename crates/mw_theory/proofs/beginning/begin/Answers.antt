@@ -1,7 +1,7 @@
 -- The axioms are those of the initial theory.
 use Rattle.std.proofs.Common.{◌++◌, reverse, map, None, refl, sym, ap, ap₂, ◌∙◌, subst}
 use Rattle.std.specs.List.{All}
-use Rattle.mw_model.specs.Term.{table_object}
+use Rattle.mw_model.specs.Terms.Term.{table_object}
 use Rattle.mw_heap.specs.Objects.{object_at, IsIn, Grows}
 use Rattle.mw_heap.specs.Variants.{profile_of}
 use Rattle.mw_heap.proofs.Objects.{Grows-trans, IsIn-Grows, object_at-Grows}

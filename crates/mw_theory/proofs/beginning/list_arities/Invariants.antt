@@ -1,6 +1,6 @@
 -- The pairs of the functions so far are listed.
 use Rattle.std.proofs.Common.{◌≡◌, ◌-◌, length, drop}
-use Rattle.mw_model.specs.Term.{table_object}
+use Rattle.mw_model.specs.Terms.Term.{table_object}
 use Rattle.mw_heap.specs.Objects.{object_at, IsIn, Grows}
 use Rattle.mw_theory.proofs.beginning.list_arities.Given as goal
 

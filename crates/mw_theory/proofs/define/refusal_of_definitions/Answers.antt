@@ -1,9 +1,9 @@
 -- The tests of the functions, and then those of their proofs.
 use Rattle.std.proofs.Common.{ap₂, ◌∙◌, subst}
 use Rattle.std.proofs.lemmas.Result.{IfOk-weaker}
-use Rattle.mw_model.specs.Definition.{arity_table}
-use Rattle.mw_model.specs.Obligation.{obligations}
-use Rattle.mw_model.specs.Admission.{functions, measures}
+use Rattle.mw_model.specs.Values.Definition.{arity_table}
+use Rattle.mw_model.specs.Events.Obligation.{obligations}
+use Rattle.mw_model.specs.Events.Admission.{functions, measures}
 use Rattle.mw_heap.specs.Objects.{object_at}
 use Rattle.mw_heap.proofs.Objects.{object_at-Grows, Grows-trans}
 use Rattle.mw_define.specs.BlockTests.{IsBlockOf}

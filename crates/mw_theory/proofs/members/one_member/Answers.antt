@@ -1,6 +1,6 @@
 -- The rest is NIL.
 use Rattle.std.proofs.Common.{ap, ◌∙◌, sym}
-use Rattle.mw_model.specs.Object.{Pair, NIL}
+use Rattle.mw_model.specs.Terms.Object.{Pair, NIL}
 use Rattle.mw_model.proofs.Names.{same_object-eq}
 use Rattle.mw_heap.specs.Objects.{object_at}
 use Rattle.mw_theory.proofs.members.one_member.Goals as goal

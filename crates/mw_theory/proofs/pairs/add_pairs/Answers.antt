@@ -1,9 +1,9 @@
 -- Each name is new, and its pair goes in front.
 use Rattle.std.proofs.Common.{◌≡◌, ◌++◌, ◌∷◌, [], take, sym, ap, ap₂, ◌∙◌, subst, true}
 use Rattle.std.proofs.lemmas.List.{take_more}
-use Rattle.mw_model.specs.Object.{name_of_bytes}
-use Rattle.mw_model.specs.Primitive.{name_of, is_symbol}
-use Rattle.mw_model.specs.Term.{arity_of}
+use Rattle.mw_model.specs.Terms.Object.{name_of_bytes}
+use Rattle.mw_model.specs.Values.Primitive.{name_of, is_symbol}
+use Rattle.mw_model.specs.Terms.Term.{arity_of}
 use Rattle.mw_model.proofs.Names.{name_of_bytes-bytes}
 use Rattle.mw_heap.specs.Objects.{object_at, IsIn}
 use Rattle.mw_translate.specs.Expands.{with_pairs}

@@ -1,9 +1,9 @@
 -- One pair more in front of the list.
 use Rattle.std.proofs.Common.{◌≡◌, ◌++◌, ◌∷◌, [], take, sym, ap, ap₂, ◌∙◌, subst, true}
 use Rattle.std.proofs.lemmas.List.{take_more}
-use Rattle.mw_model.specs.Object.{Natural, Pair}
-use Rattle.mw_model.specs.Primitive.{is_symbol}
-use Rattle.mw_model.specs.Term.{table_object}
+use Rattle.mw_model.specs.Terms.Object.{Natural, Pair}
+use Rattle.mw_model.specs.Values.Primitive.{is_symbol}
+use Rattle.mw_model.specs.Terms.Term.{table_object}
 use Rattle.mw_heap.specs.Objects.{object_at, IsIn}
 use Rattle.mw_heap.proofs.Objects.{Grows-trans, IsIn-Grows, object_at-Grows}
 use Rattle.mw_term.proofs.Symbols.{symbol_is}

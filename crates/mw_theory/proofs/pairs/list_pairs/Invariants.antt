@@ -1,6 +1,6 @@
 -- The pairs so far are listed.
 use Rattle.std.proofs.Common.{◌≡◌, take}
-use Rattle.mw_model.specs.Term.{ArityTable, table_object}
+use Rattle.mw_model.specs.Terms.Term.{ArityTable, table_object}
 use Rattle.mw_heap.specs.Objects.{object_at, IsIn, Grows}
 use Rattle.mw_translate.specs.Expands.{with_pairs}
 use Rattle.mw_theory.proofs.pairs.list_pairs.Given as goal

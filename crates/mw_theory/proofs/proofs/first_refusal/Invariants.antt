@@ -1,6 +1,6 @@
 -- The proofs before the rest are not refused, by a judge that says the same as before and is as ready.
 use Rattle.std.proofs.Common.{◌≡◌, List}
-use Rattle.mw_model.specs.Object.{Object}
+use Rattle.mw_model.specs.Terms.Object.{Object}
 use Rattle.mw_heap.specs.Objects.{Grows}
 use Rattle.mw_theory.proofs.ProofLists.{Walks}
 use Rattle.mw_theory.proofs.proofs.first_refusal.Given as goal

@@ -1,7 +1,7 @@
 -- What is left of both lists decides.
 use Rattle.std.proofs.Common.{◌≡◌}
-use Rattle.mw_model.specs.Object.{has_members}
-use Rattle.mw_model.specs.RulesInduction.{length_object}
+use Rattle.mw_model.specs.Terms.Object.{has_members}
+use Rattle.mw_model.specs.Laws.RulesInduction.{length_object}
 use Rattle.mw_heap.specs.Objects.{object_at, IsIn}
 use Rattle.mw_theory.proofs.proofs.has_as_many.Given as goal
 

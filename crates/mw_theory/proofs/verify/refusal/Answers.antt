@@ -1,7 +1,7 @@
 -- Test by test.
 use Rattle.std.proofs.Common.{sym, ap, ◌∙◌}
 use Rattle.std.proofs.lemmas.Result.{IfOk-weaker}
-use Rattle.mw_model.specs.Rules.{is_formula_object}
+use Rattle.mw_model.specs.Laws.Rules.{is_formula_object}
 use Rattle.mw_heap.specs.Objects.{object_at}
 use Rattle.mw_theory.proofs.Refusing.{refused_formula, proof_refused}
 use Rattle.mw_theory.proofs.verify.refusal.Goals as goal

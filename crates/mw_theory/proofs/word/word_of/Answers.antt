@@ -1,6 +1,6 @@
 -- By the names, one after another.
 use Rattle.std.proofs.Common.{sym, ◌∙◌}
-use Rattle.mw_model.specs.Object.{symbol}
+use Rattle.mw_model.specs.Terms.Object.{symbol}
 use Rattle.mw_model.proofs.Names.{same_object-eq}
 use Rattle.mw_heap.specs.Objects.{object_at}
 use Rattle.mw_theory.proofs.EventWords.{no_word_at}

@@ -1,7 +1,7 @@
 -- The test of the actuals decides.
 use Rattle.std.proofs.Common.{◌≡◌, ◌++◌, ◌&&◌, ◌||◌, not, eqb, Some, refl, sym, ap, ap₂, ◌∙◌}
-use Rattle.mw_model.specs.Object.{Pair, Symbol, named, same_name, name_of_bytes}
-use Rattle.mw_model.specs.Primitive.{name_of}
+use Rattle.mw_model.specs.Terms.Object.{Pair, Symbol, named, same_name, name_of_bytes}
+use Rattle.mw_model.specs.Values.Primitive.{name_of}
 use Rattle.mw_heap.specs.Objects.{object_at}
 use Rattle.mw_model.proofs.Names.{name_of_bytes-bytes}
 use Rattle.mw_term.proofs.Symbols.{symbol_is}

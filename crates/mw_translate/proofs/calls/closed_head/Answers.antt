@@ -1,8 +1,8 @@
 -- The formals and what they close decide.
 use Rattle.std.proofs.Common.{◌≡◌, List, ◌&&◌, cond, length, Some, None, sym, ap, ap₂, ◌∙◌, option_map}
-use Rattle.mw_model.specs.Object.{Object, list3}
+use Rattle.mw_model.specs.Terms.Object.{Object, list3}
 use Rattle.mw_heap.specs.Objects.{object_at}
-use Rattle.mw_model.specs.Reading.{names_of}
+use Rattle.mw_model.specs.Terms.Reading.{names_of}
 use Rattle.mw_term.specs.Parts.{names_at, formals_of}
 use Rattle.mw_term.proofs.Heads.{formals_are}
 use Rattle.mw_term.proofs.FormalList.{length-names_at}

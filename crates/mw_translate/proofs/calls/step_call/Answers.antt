@@ -1,10 +1,10 @@
 -- A call from its actuals.
 use Rattle.std.proofs.Common.{◌++◌, ◌+◌, sym, ◌∙◌, arith}
-use Rattle.mw_model.specs.Primitive.{name_of}
+use Rattle.mw_model.specs.Values.Primitive.{name_of}
 use Rattle.mw_heap.specs.Objects.{object_at}
 use Rattle.mw_translate.specs.Meaning.{of_term}
 use Rattle.mw_translate.specs.declared.part.Kind.TheVariants as kind
-use Rattle.mw_model.specs.Expansion.{Other, form_with, expanded_each}
+use Rattle.mw_model.specs.Events.Expansion.{Other, form_with, expanded_each}
 use Rattle.mw_translate.proofs.Combine.{at, made_found, one-made, one-wanted, step_made}
 use Rattle.mw_translate.proofs.Called.{call_one, call-terms}
 use Rattle.mw_translate.proofs.calls.step_call.Goals as goal

@@ -1,11 +1,11 @@
 -- A head from its body.
 use Rattle.std.proofs.Common.{◌≡◌, Some, sym, ap, ◌∙◌, arith}
-use Rattle.mw_model.specs.Object.{Pair}
+use Rattle.mw_model.specs.Terms.Object.{Pair}
 use Rattle.mw_heap.specs.Objects.{object_at}
 use Rattle.mw_translate.specs.Meaning.{meaning}
 use Rattle.mw_translate.specs.declared.part.Kind.TheVariants as kind
-use Rattle.mw_model.specs.Reading.{term_of}
-use Rattle.mw_model.specs.Expansion.{expanded}
+use Rattle.mw_model.specs.Terms.Reading.{term_of}
+use Rattle.mw_model.specs.Events.Expansion.{expanded}
 use Rattle.mw_model.proofs.Formed.{formed}
 use Rattle.mw_model.proofs.Read.{term_read}
 use Rattle.mw_translate.proofs.Combine.{at, made_found, step_made}

@@ -1,6 +1,6 @@
 -- A lambda call from its head and its actuals.
 use Rattle.std.proofs.Common.{cond, Option, Some, None, sym, ap, ◌∙◌, eq-eqb}
-use Rattle.mw_model.specs.Object.{Pair}
+use Rattle.mw_model.specs.Terms.Object.{Pair}
 use Rattle.mw_heap.specs.Objects.{object_at}
 use Rattle.mw_translate.specs.Meaning.{Meaning, meaning}
 use Rattle.mw_translate.specs.declared.part.Kind.TheVariants as kind

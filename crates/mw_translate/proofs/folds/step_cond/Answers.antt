@@ -1,6 +1,6 @@
 -- COND: from the first clause and the others.
 use Rattle.std.proofs.Common.{◌++◌, refl, ap, ap₂, ◌∙◌, arith}
-use Rattle.mw_model.specs.Object.{Pair}
+use Rattle.mw_model.specs.Terms.Object.{Pair}
 use Rattle.mw_heap.specs.Objects.{object_at}
 use Rattle.mw_translate.specs.Meaning.{meaning}
 use Rattle.mw_translate.specs.declared.part.Kind.TheVariants as kind

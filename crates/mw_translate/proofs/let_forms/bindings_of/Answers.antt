@@ -1,6 +1,6 @@
 -- One more binding was read.
 use Rattle.std.proofs.Common.{sym, subst}
-use Rattle.mw_model.specs.Object.{Pair}
+use Rattle.mw_model.specs.Terms.Object.{Pair}
 use Rattle.mw_translate.specs.Lets.{ArePairsIn}
 use Rattle.mw_translate.proofs.Bindings.{AreSplit, two_of, split-more, split-end, split-end-values}
 use Rattle.mw_heap.specs.Objects.{object_at}

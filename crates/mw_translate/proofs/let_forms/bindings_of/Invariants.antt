@@ -1,8 +1,8 @@
 -- The bindings so far, and those that are left.
 use Rattle.std.proofs.Common.{◌≡◌, List}
-use Rattle.mw_model.specs.Object.{Name}
-use Rattle.mw_model.specs.Term.{Term, names_object, terms_object}
-use Rattle.mw_model.specs.Expansion.{bound_names}
+use Rattle.mw_model.specs.Terms.Object.{Name}
+use Rattle.mw_model.specs.Terms.Term.{Term, names_object, terms_object}
+use Rattle.mw_model.specs.Events.Expansion.{bound_names}
 use Rattle.mw_heap.specs.Objects.{object_at, IsIn}
 use Rattle.mw_translate.specs.Lets.{ArePairsIn}
 use Rattle.mw_translate.specs.Meaning.{values_of}

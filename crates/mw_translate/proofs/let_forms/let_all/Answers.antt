@@ -1,6 +1,6 @@
 -- One more call was made.
 use Rattle.std.proofs.Common.{◌∷◌, [], Some, None, ◌∙◌, subst, rules, arith, IfSome}
-use Rattle.mw_model.specs.Term.{NoTerms, More}
+use Rattle.mw_model.specs.Terms.Term.{NoTerms, More}
 use Rattle.mw_heap.specs.Objects.{IsIn}
 use Rattle.mw_heap.proofs.Objects.{IsIn-Grows, object_at-Grows, Grows-trans}
 use Rattle.mw_translate.specs.Lets.{ArePairsIn, IsLet}

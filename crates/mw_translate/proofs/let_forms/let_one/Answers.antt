@@ -1,7 +1,7 @@
 -- One name and one value.
 use Rattle.std.proofs.Common.{[], ◌∷◌, ap, ◌∙◌}
-use Rattle.mw_model.specs.Object.{list1}
-use Rattle.mw_model.specs.Term.{NoTerms, More}
+use Rattle.mw_model.specs.Terms.Object.{list1}
+use Rattle.mw_model.specs.Terms.Term.{NoTerms, More}
 use Rattle.mw_heap.proofs.Objects.{object_at-Grows, Grows-trans}
 use Rattle.mw_translate.proofs.let_forms.let_one.Goals as goal
 

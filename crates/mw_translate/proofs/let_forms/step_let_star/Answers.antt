@@ -1,7 +1,7 @@
 -- The calls of a LET*, from its names, its values and its body.
 use Rattle.std.proofs.Common.{◌+◌, sym, ap, ◌∙◌, arith}
-use Rattle.mw_model.specs.Object.{list2}
-use Rattle.mw_model.specs.Expansion.{expanded, bindings}
+use Rattle.mw_model.specs.Terms.Object.{list2}
+use Rattle.mw_model.specs.Events.Expansion.{expanded, bindings}
 use Rattle.mw_heap.specs.Objects.{object_at}
 use Rattle.mw_translate.specs.Forms.{let_star_form}
 use Rattle.mw_translate.specs.Meaning.{of_term}

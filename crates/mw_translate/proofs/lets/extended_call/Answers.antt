@@ -1,6 +1,6 @@
 -- The others as a list.
 use Rattle.std.proofs.Common.{◌≡◌, ap, ap₂, ◌∙◌}
-use Rattle.mw_model.specs.Object.{NIL}
+use Rattle.mw_model.specs.Terms.Object.{NIL}
 use Rattle.mw_heap.specs.Objects.{object_at}
 use Rattle.mw_heap.proofs.Objects.{object_at-Grows, Grows-trans}
 use Rattle.mw_translate.specs.Lets.{prepend, extended_object}

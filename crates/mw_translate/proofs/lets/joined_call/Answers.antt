@@ -1,6 +1,6 @@
 -- The formals, the actuals, and the call.
 use Rattle.std.proofs.Common.{ap₂, ◌∙◌}
-use Rattle.mw_model.specs.Object.{Pair, symbol, list3}
+use Rattle.mw_model.specs.Terms.Object.{Pair, symbol, list3}
 use Rattle.mw_heap.proofs.Objects.{object_at-Grows, IsIn-Grows}
 use Rattle.mw_translate.specs.Lets.{append_object}
 use Rattle.mw_translate.proofs.lets.joined_call.Goals as goal

@@ -1,9 +1,9 @@
 -- The names are formals, and the object is that of the call.
 use Rattle.std.proofs.Common.{◌≡◌, List, option_map, Some, None, sym, ap, ap₂, ◌∙◌, subst}
-use Rattle.mw_model.specs.Object.{Object, NIL}
-use Rattle.mw_model.specs.Term.{variables, names_object, terms_object}
-use Rattle.mw_model.specs.Reading.{term_of}
-use Rattle.mw_model.specs.Expansion.{without}
+use Rattle.mw_model.specs.Terms.Object.{Object, NIL}
+use Rattle.mw_model.specs.Terms.Term.{variables, names_object, terms_object}
+use Rattle.mw_model.specs.Terms.Reading.{term_of}
+use Rattle.mw_model.specs.Events.Expansion.{without}
 use Rattle.mw_model.proofs.Formed.{formed}
 use Rattle.mw_model.proofs.Read.{term_read}
 use Rattle.mw_heap.specs.Objects.{object_at}

@@ -2,9 +2,9 @@
 use Rattle.std.proofs.Common.{◌≡◌, ◌++◌, ◌∷◌, [], ◌+◌, cond, take, sym, ap, ◌∙◌, subst}
 use Rattle.std.proofs.lemmas.List.{take_more, take_all}
 use Rattle.std.proofs.lemmas.List.Elements.{All-get_or}
-use Rattle.mw_model.specs.Primitive.{name_of}
-use Rattle.mw_model.specs.Term.{is_among, variables}
-use Rattle.mw_model.specs.Expansion.{without}
+use Rattle.mw_model.specs.Values.Primitive.{name_of}
+use Rattle.mw_model.specs.Terms.Term.{is_among, variables}
+use Rattle.mw_model.specs.Events.Expansion.{without}
 use Rattle.mw_heap.specs.Objects.{object_at}
 use Rattle.mw_term.specs.Parts.{names_at, AreSymbols}
 use Rattle.mw_term.proofs.FormalList.{names_at-push}

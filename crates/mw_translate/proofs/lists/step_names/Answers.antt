@@ -1,7 +1,7 @@
 -- The first name before the others.
 use Rattle.std.proofs.Common.{Some, refl, sym, ap, ap₂, ◌∙◌}
-use Rattle.mw_model.specs.Object.{Symbol, Pair}
-use Rattle.mw_model.specs.Primitive.{name_of}
+use Rattle.mw_model.specs.Terms.Object.{Symbol, Pair}
+use Rattle.mw_model.specs.Values.Primitive.{name_of}
 use Rattle.mw_term.proofs.Symbols.{symbol_is}
 use Rattle.mw_heap.specs.Objects.{object_at}
 use Rattle.mw_translate.specs.Meaning.{meaning}

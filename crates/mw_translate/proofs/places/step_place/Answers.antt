@@ -3,7 +3,7 @@ use Rattle.std.proofs.Common.{◌++◌, ◌+◌, sym, ap, ◌∙◌, arith}
 use Rattle.mw_heap.specs.Objects.{object_at}
 use Rattle.mw_translate.specs.Meaning.{of_term}
 use Rattle.mw_translate.specs.declared.part.Kind.TheVariants as kind
-use Rattle.mw_model.specs.Expansion.{expanded_each}
+use Rattle.mw_model.specs.Events.Expansion.{expanded_each}
 use Rattle.mw_translate.specs.Forms.{with_terms, place_of}
 use Rattle.mw_translate.proofs.Combine.{at, made_found, one-made, one-wanted, step_made}
 use Rattle.mw_translate.proofs.Called.{place_one, place-one, place-shape}

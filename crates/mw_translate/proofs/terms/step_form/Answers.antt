@@ -1,8 +1,8 @@
 -- A form goes on by its word.
 use Rattle.std.proofs.Common.{◌≡◌, ◌++◌, ◌+◌, sym, ap, ap₂, ◌∙◌, refl, arith}
-use Rattle.mw_model.specs.Object.{Pair, name_of_bytes}
-use Rattle.mw_model.specs.Primitive.{name_of}
-use Rattle.mw_model.specs.Expansion.{abbreviation_of, AND, OR, COND, LIST, LET, LETSTAR, FIRST, SECOND, THIRD, FOURTH, FIFTH, QUOTE, Other, form_with, expanded_each}
+use Rattle.mw_model.specs.Terms.Object.{Pair, name_of_bytes}
+use Rattle.mw_model.specs.Values.Primitive.{name_of}
+use Rattle.mw_model.specs.Events.Expansion.{abbreviation_of, AND, OR, COND, LIST, LET, LETSTAR, FIRST, SECOND, THIRD, FOURTH, FIFTH, QUOTE, Other, form_with, expanded_each}
 use Rattle.mw_model.proofs.Names.{name_of_bytes-bytes}
 use Rattle.mw_heap.specs.Objects.{object_at}
 use Rattle.mw_term.proofs.Symbols.{symbol_is}

@@ -1,7 +1,7 @@
 -- T and NIL are constants, and another symbol is a variable.
 use Rattle.std.proofs.Common.{◌≡◌, ◌||◌, Some, sym, ap, ◌∙◌}
-use Rattle.mw_model.specs.Object.{name_of_bytes, named, same_name, nil_name, symbol, list2}
-use Rattle.mw_model.specs.Primitive.{name_of}
+use Rattle.mw_model.specs.Terms.Object.{name_of_bytes, named, same_name, nil_name, symbol, list2}
+use Rattle.mw_model.specs.Values.Primitive.{name_of}
 use Rattle.mw_model.proofs.Names.{name_of_bytes-bytes}
 use Rattle.mw_heap.specs.Objects.{object_at}
 use Rattle.mw_term.proofs.Symbols.{symbol_is}

@@ -1,6 +1,6 @@
 -- Each part is made after the parts that it wants.
 use Rattle.std.proofs.Common.{◌++◌, ◌∷◌, [], inl, inr, sym, ap, ap₂, ◌∙◌, subst, append_assoc, arith}
-use Rattle.mw_model.specs.Expansion.{expanded}
+use Rattle.mw_model.specs.Events.Expansion.{expanded}
 use Rattle.mw_heap.specs.Objects.{object_at, IsIn}
 use Rattle.mw_heap.proofs.Objects.{object_at-Grows, length-Grows}
 use Rattle.mw_translate.specs.Meaning.{meaning}

@@ -1,7 +1,7 @@
 -- The laws, from the lemmas of Reached.
-use Rattle.mw_model.specs.Primitive.{One}
-use Rattle.mw_model.specs.Theory.{initial}
-use Rattle.mw_model.specs.Fate.{after}
+use Rattle.mw_model.specs.Values.Primitive.{One}
+use Rattle.mw_model.specs.Events.Theory.{initial}
+use Rattle.mw_model.specs.Events.Fate.{after}
 use Rattle.mw_truth.proofs.Reached.{initial_sound, each_keeps, reached_sound, sound_consistent}
 use Rattle.mw_truth.proofs.soundness.reached_sound.Goals as goal
 

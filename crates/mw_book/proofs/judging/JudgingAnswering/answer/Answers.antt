@@ -1,6 +1,6 @@
 -- The event is judged.
 use Rattle.std.proofs.Common.{[], ◌∷◌, ◌++◌, sym, ap, subst, ◌∙◌, arith}
-use Rattle.mw_model.specs.Report.{fate_text}
+use Rattle.mw_model.specs.Reports.Report.{fate_text}
 use Rattle.mw_heap.specs.Objects.{object_at}
 use Rattle.mw_read.specs.Shown.{ShowsEvent}
 use Rattle.mw_kernel.specs.Knowledge.{theory_of}

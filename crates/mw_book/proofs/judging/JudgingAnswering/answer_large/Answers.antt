@@ -1,7 +1,7 @@
 -- The event is refused.
 use Rattle.std.proofs.Common.{[], ◌∷◌, ◌++◌, ap, ◌∙◌, arith}
-use Rattle.mw_model.specs.Refusal.{RANGE, Refused}
-use Rattle.mw_model.specs.Report.{fate_text}
+use Rattle.mw_model.specs.Events.Refusal.{RANGE, Refused}
+use Rattle.mw_model.specs.Reports.Report.{fate_text}
 use Rattle.mw_book.proofs.Clauses.{OnOk-three}
 use Rattle.mw_book.proofs.OneMore.{judged_large, known_few}
 use Rattle.mw_book.proofs.judging.JudgingAnswering.answer_large.Goals as goal

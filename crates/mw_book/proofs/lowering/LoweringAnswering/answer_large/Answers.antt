@@ -1,6 +1,6 @@
 -- The event is refused.
 use Rattle.std.proofs.Common.{◌++◌, ◌+◌, ap, ◌∙◌, arith}
-use Rattle.mw_model.specs.Refusal.{RANGE, Refused}
+use Rattle.mw_model.specs.Events.Refusal.{RANGE, Refused}
 use Rattle.mw_kernel.specs.Knowledge.{theory_of}
 use Rattle.mw_book.proofs.Clauses.{OnOk-three}
 use Rattle.mw_book.proofs.LoweredOne.{lowered_one, large_comes, lowered_few, piece_for}

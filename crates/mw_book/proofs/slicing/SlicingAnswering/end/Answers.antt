@@ -1,13 +1,13 @@
 -- The events that are kept, or that there is no such theorem, or the fault.
 use Rattle.std.proofs.Common.{◌≡◌, ◌∙◌, ◌<◌, ℕ, List, ◌++◌, map, Option, Some, None, cond, codes, refl, sym, ap, subst, append_assoc}
 use Rattle.std.specs.Prelude.{All, length}
-use Rattle.mw_model.specs.Object.{name_of_bytes}
-use Rattle.mw_model.specs.Definition.{is_present}
-use Rattle.mw_model.specs.Printing.{numeral}
-use Rattle.mw_model.specs.Report.{spaced}
-use Rattle.mw_model.specs.Written.{IsDatumLine}
-use Rattle.mw_model.specs.Pieces.{InOrder, comment}
-use Rattle.mw_model.specs.Slice.{event_at, target}
+use Rattle.mw_model.specs.Terms.Object.{name_of_bytes}
+use Rattle.mw_model.specs.Values.Definition.{is_present}
+use Rattle.mw_model.specs.Texts.Printing.{numeral}
+use Rattle.mw_model.specs.Reports.Report.{spaced}
+use Rattle.mw_model.specs.Texts.Written.{IsDatumLine}
+use Rattle.mw_model.specs.Texts.Pieces.{InOrder, comment}
+use Rattle.mw_model.specs.Commands.Slice.{event_at, target}
 use Rattle.mw_read.specs.Piles.{kind_of}
 use Rattle.mw_read.specs.declared.step.SyntaxKind.{SyntaxKind}
 use Rattle.mw_slice.specs.Slices.{events_of}

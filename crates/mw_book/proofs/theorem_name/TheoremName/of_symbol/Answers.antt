@@ -1,7 +1,7 @@
 -- A symbol's name is that of its bytes.
 use Rattle.std.proofs.Common.{◌≡◌, ◌∙◌, true, sym, ap}
-use Rattle.mw_model.specs.Object.{Object, Natural, Symbol, Pair, name_of_bytes}
-use Rattle.mw_model.specs.Primitive.{is_symbol, name_of}
+use Rattle.mw_model.specs.Terms.Object.{Object, Natural, Symbol, Pair, name_of_bytes}
+use Rattle.mw_model.specs.Values.Primitive.{is_symbol, name_of}
 use Rattle.mw_model.proofs.Names.{name_of_bytes-bytes}
 use Rattle.mw_heap.specs.Objects.{object_at}
 use Rattle.mw_book.proofs.theorem_name.TheoremName.of_symbol.Goals as goal

@@ -1,6 +1,6 @@
 -- A step that is not good, one that is good, and memory that is refused.
 use Rattle.std.proofs.Common.{◌≡◌, true, Some, None, IfSome, refl, ap, ◌∙◌, subst}
-use Rattle.mw_model.specs.Rules.{is_formula_object}
+use Rattle.mw_model.specs.Laws.Rules.{is_formula_object}
 use Rattle.mw_heap.specs.Objects.{object_at, IsIn}
 use Rattle.mw_flat.specs.Going.{theory_of, going_of}
 use Rattle.mw_flat.proofs.Noting.{Notes, same_theory, notes-after-bad, judged-by, goes-on, goes-on-bad, notes-bad, notes-good, goes-on-good}

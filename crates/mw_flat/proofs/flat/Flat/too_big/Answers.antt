@@ -1,6 +1,6 @@
 -- By the word: a step that is not good, or an event of no form.
 use Rattle.std.proofs.Common.{◌+◌, Some, None, refl, sym, ap, ◌∙◌, subst}
-use Rattle.mw_model.specs.Log.{SHAPE, No}
+use Rattle.mw_model.specs.Commands.Log.{SHAPE, No}
 use Rattle.mw_flat.specs.Going.{theory_of, going_of, ComesBy, is_step_word}
 use Rattle.mw_flat.proofs.Answered.{large-collected, large-entry, no-form, none-collected}
 use Rattle.mw_flat.proofs.flat.Flat.too_big.Goals as goal

@@ -1,6 +1,6 @@
 -- The cell of a pair is inserted.
 use Rattle.std.proofs.Common.{◌≡◌, ◌<◌, length, refl, sym, ap, ap₂, ◌∙◌, arith}
-use Rattle.mw_model.specs.Object.{Pair}
+use Rattle.mw_model.specs.Terms.Object.{Pair}
 use Rattle.mw_heap.specs.Objects.{object_at}
 use Rattle.mw_heap.proofs.Growth.{length-objects}
 use Rattle.mw_heap.proofs.Measuring.{length-measured, measured-result}

@@ -1,6 +1,6 @@
 -- Against what is nothing, the test is the one for NIL.
 use Rattle.std.proofs.Common.{sym, ap, ◌∙◌}
-use Rattle.mw_model.specs.Object.{same_object, NIL}
+use Rattle.mw_model.specs.Terms.Object.{same_object, NIL}
 use Rattle.mw_model.proofs.SameObject.{same_object-swap}
 use Rattle.mw_heap.specs.Parts.{part_at}
 use Rattle.mw_heap.proofs.heap.Heap.is_same.Goals as goal

@@ -1,6 +1,6 @@
 -- Where the words are kept a symbol is known by its place, and else by its name.
 use Rattle.std.proofs.Common.{sym, ap, ap₂, ◌∙◌, subst, arith, length, eqb}
-use Rattle.mw_model.specs.Object.{Symbol, name_of_bytes, same_object}
+use Rattle.mw_model.specs.Terms.Object.{Symbol, name_of_bytes, same_object}
 use Rattle.mw_heap.specs.Objects.{object_at}
 use Rattle.mw_heap.specs.Parts.{part_at, IsPart}
 use Rattle.mw_heap.specs.Words.{word_object, place_of}

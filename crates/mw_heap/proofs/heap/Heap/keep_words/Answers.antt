@@ -1,6 +1,6 @@
 -- One word more stands in its place.
 use Rattle.std.proofs.Common.{◌≡◌, Bool, true, false, not, refl, sym, ap, ◌∙◌, eqb-true}
-use Rattle.mw_model.specs.Object.{Symbol, name_of_bytes}
+use Rattle.mw_model.specs.Terms.Object.{Symbol, name_of_bytes}
 use Rattle.mw_heap.proofs.Objects.{Grows-trans}
 use Rattle.mw_heap.proofs.Words.{one_word_more}
 use Rattle.mw_heap.proofs.heap.Heap.keep_words.Goals as goal

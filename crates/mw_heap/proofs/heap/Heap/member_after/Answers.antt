@@ -1,6 +1,6 @@
 -- The two views, and that the first part is the symbol and the last is NIL, make the list.
 use Rattle.std.proofs.Common.{sym, ap, ap₂, ◌∙◌}
-use Rattle.mw_model.specs.Object.{Pair, NIL}
+use Rattle.mw_model.specs.Terms.Object.{Pair, NIL}
 use Rattle.mw_model.proofs.Names.{same_object-eq}
 use Rattle.mw_heap.specs.Objects.{object_at}
 use Rattle.mw_heap.specs.Words.{word_object}

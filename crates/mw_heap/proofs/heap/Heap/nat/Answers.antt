@@ -1,7 +1,7 @@
 -- A small natural is a cell by itself; a large one is listed, and then its cell.
 use Rattle.std.proofs.Common.{◌∙◌, ◌<◌, ◌≤◌, ◌^◌, refl, ap, arith}
 use Rattle.std.proofs.lemmas.Option.{slice_get_within}
-use Rattle.mw_model.specs.Object.{Natural}
+use Rattle.mw_model.specs.Terms.Object.{Natural}
 use Rattle.mw_heap.specs.Cells.{is_large, bytes_of}
 use Rattle.mw_heap.proofs.Counts.{count_of-le-length}
 use Rattle.mw_heap.proofs.Measuring.{length-measured, measured-result, measured-after, objects-listed_natural}

@@ -1,7 +1,7 @@
 -- A name is listed, and then its cell; where there is no memory for the cell, the name goes too.
 use Rattle.std.proofs.Common.{◌≡◌, [], map, refl, sym, ap, ◌∙◌, arith}
 use Rattle.std.proofs.lemmas.Option.{slice_get_within, get_or_from_slice_get}
-use Rattle.mw_model.specs.Object.{is_name, Symbol, name_of_bytes}
+use Rattle.mw_model.specs.Terms.Object.{is_name, Symbol, name_of_bytes}
 use Rattle.mw_heap.specs.Cells.{is_named, bytes_of, objects}
 use Rattle.mw_heap.proofs.Counts.{count_of-le-length}
 use Rattle.mw_heap.proofs.Sound.{BecomesWith, Inserts-le, stays, grows_from, same_sound, same_objects}

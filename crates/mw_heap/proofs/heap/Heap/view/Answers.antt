@@ -1,7 +1,7 @@
 -- Each cell shows its object.
 use Rattle.std.proofs.Common.{length, get_or, sym, ap, ap₂, ◌∙◌, arith}
-use Rattle.mw_model.specs.Object.{Natural, Pair}
-use Rattle.mw_model.specs.Primitive.{is_symbol}
+use Rattle.mw_model.specs.Terms.Object.{Natural, Pair}
+use Rattle.mw_model.specs.Values.Primitive.{is_symbol}
 use Rattle.mw_heap.specs.Objects.{object_at}
 use Rattle.mw_heap.proofs.Shown.{length-cells, shown, in_range, parts_older, parts_in, large_within}
 use Rattle.mw_heap.proofs.heap.Heap.view.Goals as goal

@@ -1,6 +1,6 @@
 -- The symbol is made by its name.
 use Rattle.std.proofs.Common.{◌≡◌, subst, IfOk}
-use Rattle.mw_model.specs.Object.{Symbol, name_of_bytes}
+use Rattle.mw_model.specs.Terms.Object.{Symbol, name_of_bytes}
 use Rattle.mw_heap.specs.Objects.{object_at, IsIn}
 use Rattle.mw_heap.proofs.heap.Heap.word.Goals as goal
 

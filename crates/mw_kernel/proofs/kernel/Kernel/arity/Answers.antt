@@ -1,7 +1,7 @@
 -- The list is that of the arity table, which is the theory's.
 use Rattle.std.proofs.Common.{◌≡◌, ◌∙◌, ap, subst}
-use Rattle.mw_model.specs.Definition.{arity_table}
-use Rattle.mw_model.specs.Term.{table_object}
+use Rattle.mw_model.specs.Values.Definition.{arity_table}
+use Rattle.mw_model.specs.Terms.Term.{table_object}
 use Rattle.mw_heap.specs.Objects.{object_at}
 use Rattle.mw_kernel.specs.Knowledge.{theory_of}
 use Rattle.mw_theory.proofs.CallerLemmas.{held}

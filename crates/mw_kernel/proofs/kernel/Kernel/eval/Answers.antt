@@ -1,6 +1,6 @@
 -- The run leaves the theory.
 use Rattle.std.proofs.Common.{refl, sym, ap, ◌∙◌, subst}
-use Rattle.mw_model.specs.Fate.{eval}
+use Rattle.mw_model.specs.Events.Fate.{eval}
 use Rattle.mw_heap.specs.Objects.{object_at}
 use Rattle.mw_code.specs.Tables.{StandsFor}
 use Rattle.mw_theory.specs.Knowledge.{parts_of, definitions_of, meant}

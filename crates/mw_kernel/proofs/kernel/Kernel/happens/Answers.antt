@@ -1,8 +1,8 @@
 -- By the event's word.
 use Rattle.std.proofs.Common.{ap, ◌∙◌, subst}
-use Rattle.mw_model.specs.Fate.{show}
-use Rattle.mw_model.specs.Printing.{text_of}
-use Rattle.mw_model.specs.Theory.{IsSound}
+use Rattle.mw_model.specs.Events.Fate.{show}
+use Rattle.mw_model.specs.Texts.Printing.{text_of}
+use Rattle.mw_model.specs.Events.Theory.{IsSound}
 use Rattle.mw_heap.specs.Objects.{object_at}
 use Rattle.mw_kernel.specs.Knowledge.{theory_of}
 use Rattle.mw_theory.proofs.CallerLemmas.{held, IfOk-map, OnOk-map, OnOk-from}

@@ -1,6 +1,6 @@
 -- The world's profile.
 use Rattle.std.proofs.Common.{ap, ◌∙◌}
-use Rattle.mw_model.specs.Fate.{profile}
+use Rattle.mw_model.specs.Events.Fate.{profile}
 use Rattle.mw_heap.specs.Objects.{object_at}
 use Rattle.mw_kernel.specs.Knowledge.{theory_of}
 use Rattle.mw_theory.proofs.CallerLemmas.{OnErr-from}

@@ -1,6 +1,6 @@
 -- The world's witness.
 use Rattle.std.proofs.Common.{sym, ap, ◌∙◌, subst}
-use Rattle.mw_model.specs.Theory.{IsSound}
+use Rattle.mw_model.specs.Events.Theory.{IsSound}
 use Rattle.mw_kernel.specs.Knowledge.{theory_of}
 use Rattle.mw_theory.specs.Settling.{skolem_at}
 use Rattle.mw_theory.proofs.CallerLemmas.{OnErr-from}

@@ -1,7 +1,7 @@
 -- Refused, or a switch.
 use Rattle.std.proofs.Common.{option_map, Some, None, sym, ap, ap₂, ◌∙◌, subst}
-use Rattle.mw_model.specs.Primitive.{is_symbol, name_of}
-use Rattle.mw_model.specs.Theory.{IsSound}
+use Rattle.mw_model.specs.Values.Primitive.{is_symbol, name_of}
+use Rattle.mw_model.specs.Events.Theory.{IsSound}
 use Rattle.mw_heap.specs.Objects.{object_at}
 use Rattle.mw_heap.specs.Variants.{refusal_of}
 use Rattle.mw_kernel.specs.Knowledge.{theory_of}

@@ -1,7 +1,7 @@
 -- The function is the checker.
 use Rattle.std.proofs.Common.{◌+◌, false, Some, sym, ap, ap₂, ◌∙◌, subst, arith}
-use Rattle.mw_model.specs.Primitive.{is_symbol, name_of}
-use Rattle.mw_model.specs.Theory.{IsSound}
+use Rattle.mw_model.specs.Values.Primitive.{is_symbol, name_of}
+use Rattle.mw_model.specs.Events.Theory.{IsSound}
 use Rattle.mw_heap.specs.Objects.{object_at, IsIn}
 use Rattle.mw_theory.specs.Knowledge.{IsKernel}
 use Rattle.mw_kernel.specs.Knowledge.{theory_of}

@@ -1,6 +1,6 @@
 -- The world's theorem, by the theory's checker.
 use Rattle.std.proofs.Common.{sym, ap, ◌∙◌, subst}
-use Rattle.mw_model.specs.Theory.{IsSound}
+use Rattle.mw_model.specs.Events.Theory.{IsSound}
 use Rattle.mw_heap.specs.Objects.{object_at}
 use Rattle.mw_kernel.specs.Knowledge.{theory_of}
 use Rattle.mw_kernel.specs.Proofs.{judged_for}

@@ -1,6 +1,6 @@
 use Rattle.std.proofs.Common.{◌≡◌, ◌∙◌, true, map, sym, subst, IfOk}
-use Rattle.mw_model.specs.Object.{Symbol, is_name, name_of_bytes}
-use Rattle.mw_model.specs.Lexemes.{raised}
+use Rattle.mw_model.specs.Terms.Object.{Symbol, is_name, name_of_bytes}
+use Rattle.mw_model.specs.Texts.Lexemes.{raised}
 use Rattle.mw_model.proofs.Names.{same_bytes-eq}
 use Rattle.mw_heap.specs.Objects.{object_at, IsIn}
 use Rattle.mw_read.proofs.name.Names.find.Goals as goal

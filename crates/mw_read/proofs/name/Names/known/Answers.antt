@@ -1,6 +1,6 @@
 -- The symbol in the slot has the name of the token.
 use Rattle.std.proofs.Common.{map, sym, ◌∙◌, arith}
-use Rattle.mw_model.specs.Lexemes.{raised}
+use Rattle.mw_model.specs.Texts.Lexemes.{raised}
 use Rattle.mw_model.proofs.Names.{same_bytes-eq}
 use Rattle.mw_heap.specs.Objects.{object_at}
 use Rattle.mw_read.proofs.Raised.{symbol_by_name}

@@ -1,6 +1,6 @@
 use Rattle.std.proofs.Common.{◌∙◌, ◌+◌, ap, subst, inl, drop, get_or, length, append-nil}
-use Rattle.mw_model.specs.Object.{Symbol, name_of_bytes}
-use Rattle.mw_model.specs.Lexemes.{Atom}
+use Rattle.mw_model.specs.Terms.Object.{Symbol, name_of_bytes}
+use Rattle.mw_model.specs.Texts.Lexemes.{Atom}
 use Rattle.mw_read.specs.Resume.{resume}
 use Rattle.mw_read.specs.Machine.{on}
 use Rattle.mw_read.specs.Held.{Took}

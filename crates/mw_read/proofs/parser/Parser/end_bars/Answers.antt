@@ -1,5 +1,5 @@
 use Rattle.std.proofs.Common.{◌∙◌, ◌++◌, ap, sym, vec_len, false, refl}
-use Rattle.mw_model.specs.Object.{Symbol, name_of_bytes}
+use Rattle.mw_model.specs.Terms.Object.{Symbol, name_of_bytes}
 use Rattle.mw_read.proofs.Holding.{stack_grows, atom_took, or_small, if_ok_all}
 use Rattle.mw_read.proofs.Bare.{empty_is}
 use Rattle.mw_read.proofs.parser.Parser.end_bars.Goals as goal

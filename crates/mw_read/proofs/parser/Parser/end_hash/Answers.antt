@@ -1,5 +1,5 @@
 use Rattle.std.proofs.Common.{◌≡◌, ◌∙◌, sym, ap, subst, false, refl, vec_len}
-use Rattle.mw_model.specs.Lexemes.{Mark, Ref, decimal_value}
+use Rattle.mw_model.specs.Texts.Lexemes.{Mark, Ref, decimal_value}
 use Rattle.mw_read.specs.Machine.{on}
 use Rattle.mw_read.specs.Held.{Holds, Took}
 use Rattle.mw_read.specs.Stacks.{IsStack}

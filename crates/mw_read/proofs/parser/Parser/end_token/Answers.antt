@@ -1,5 +1,5 @@
 use Rattle.std.proofs.Common.{◌≡◌, ◌++◌, subst, false, IfOk}
-use Rattle.mw_model.specs.Lexemes.{token_form}
+use Rattle.mw_model.specs.Texts.Lexemes.{token_form}
 use Rattle.mw_read.specs.Machine.{State, on, is_full}
 use Rattle.mw_read.specs.Held.{Holds, Took}
 use Rattle.mw_read.specs.Lexing.{token_lexeme}

@@ -1,6 +1,6 @@
 use Rattle.std.proofs.Common.{◌+◌, sym, refl, false}
-use Rattle.mw_model.specs.Lexemes.{Open, Close, Quote}
-use Rattle.mw_model.specs.Lexemes as lex
+use Rattle.mw_model.specs.Texts.Lexemes.{Open, Close, Quote}
+use Rattle.mw_model.specs.Texts.Lexemes as lex
 use Rattle.mw_read.specs.Clamp.{clamp_state}
 use Rattle.mw_read.specs.declared.parser.Parser.{Parser}
 use Rattle.mw_read.specs.declared.step.SyntaxKind.TheVariants as kinds

@@ -1,7 +1,7 @@
 use Rattle.std.proofs.Common.{◌≡◌, ◌∙◌, ◌<◌, ◌+◌, ◌++◌, ◌∷◌, [], Some, sym, ap, ap₂, subst, suc, length, take, drop, get_or, arith, true}
-use Rattle.mw_model.specs.Object.{is_name_byte, Symbol, name_of_bytes}
-use Rattle.mw_model.specs.Lexemes.{all_are, lexemes_from, fault, BYTE}
-use Rattle.mw_model.specs.Grammar.{book}
+use Rattle.mw_model.specs.Terms.Object.{is_name_byte, Symbol, name_of_bytes}
+use Rattle.mw_model.specs.Texts.Lexemes.{all_are, lexemes_from, fault, BYTE}
+use Rattle.mw_model.specs.Texts.Grammar.{book}
 use Rattle.mw_read.specs.Resume.{resume}
 use Rattle.mw_read.specs.Parsing.{IsText, is_inside, ahead}
 use Rattle.mw_read.specs.declared.step.SyntaxKind.TheVariants as kinds

@@ -1,5 +1,5 @@
 use Rattle.std.proofs.Common.{◌∙◌, ◌<◌, ◌+◌, ◌++◌, ◌∷◌, sym, ap, length, take, arith}
-use Rattle.mw_model.specs.Lexemes.{lexemes_from}
+use Rattle.mw_model.specs.Texts.Lexemes.{lexemes_from}
 use Rattle.mw_read.specs.Resume.{resume}
 use Rattle.mw_read.specs.Parsing.{ahead}
 use Rattle.mw_read.proofs.Bare.{take_run}

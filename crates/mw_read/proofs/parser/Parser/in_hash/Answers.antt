@@ -1,5 +1,5 @@
 use Rattle.std.proofs.Common.{◌≡◌, ◌∙◌, ◌<◌, ◌≤◌, ◌+◌, ◌++◌, ◌∷◌, sym, ap, subst, length, take, drop, get_or, arith, refl, []}
-use Rattle.mw_model.specs.Lexemes.{is_digit, lexemes_from}
+use Rattle.mw_model.specs.Texts.Lexemes.{is_digit, lexemes_from}
 use Rattle.mw_read.specs.Machine.{on}
 use Rattle.mw_read.specs.Resume.{resume}
 use Rattle.mw_read.specs.Lexing.{label_lexeme}

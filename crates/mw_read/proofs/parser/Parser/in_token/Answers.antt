@@ -1,5 +1,5 @@
 use Rattle.std.proofs.Common.{◌≡◌, ◌∙◌, ◌<◌, sym, ap, subst, suc, length, take, drop, get_or, arith, true}
-use Rattle.mw_model.specs.Lexemes.{all_are, is_constituent}
+use Rattle.mw_model.specs.Texts.Lexemes.{all_are, is_constituent}
 use Rattle.mw_read.specs.Parsing.{IsText, is_inside}
 use Rattle.mw_read.proofs.Holding.{holds_full, sound_clamp}
 use Rattle.mw_read.proofs.Bare.{split_at, all_append, some_length}

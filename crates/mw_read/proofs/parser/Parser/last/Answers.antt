@@ -1,6 +1,6 @@
 use Rattle.std.proofs.Common.{◌∙◌, [], Some, sym, ap, subst}
-use Rattle.mw_model.specs.Lexemes.{fault, END}
-use Rattle.mw_model.specs.Grammar.{book}
+use Rattle.mw_model.specs.Texts.Lexemes.{fault, END}
+use Rattle.mw_model.specs.Texts.Grammar.{book}
 use Rattle.mw_read.specs.Parsing.{IsText, IsStarted, is_inside}
 use Rattle.mw_read.specs.Standing.{Lasts}
 use Rattle.mw_read.proofs.Holding.{holds_full, sound_clamp}

@@ -1,5 +1,5 @@
 use Rattle.std.proofs.Common.{◌∙◌, ◌-◌, ap, sym, subst, arith, min, length, take}
-use Rattle.mw_model.specs.Grammar.{limit}
+use Rattle.mw_model.specs.Texts.Grammar.{limit}
 use Rattle.mw_read.specs.Piles.{fault_of}
 use Rattle.mw_read.specs.Parsing.{Advances}
 use Rattle.mw_read.specs.Standing.{Reaches, Says}

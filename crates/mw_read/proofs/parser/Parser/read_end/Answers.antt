@@ -1,7 +1,7 @@
 use Rattle.std.proofs.Common.{◌≡◌, ◌∙◌, ◌≤◌, [], ◌∷◌, ◌++◌, None, Some, length, ap, sym, subst, vec_len, append-nil, arith, List}
-use Rattle.mw_model.specs.Object.{Object}
-use Rattle.mw_model.specs.Lexemes.{Ends, fault, END}
-use Rattle.mw_model.specs.Grammar.{book, limit}
+use Rattle.mw_model.specs.Terms.Object.{Object}
+use Rattle.mw_model.specs.Texts.Lexemes.{Ends, fault, END}
+use Rattle.mw_model.specs.Texts.Grammar.{book, limit}
 use Rattle.mw_read.specs.Piles.{fault_of}
 use Rattle.mw_read.specs.Parsing.{offset_of}
 use Rattle.mw_read.specs.Standing.{Lasts, Finishes, Stands}

@@ -3,7 +3,7 @@ use Rattle.std.proofs.Common.{rules, ℕ, List, ap, ◌≡◌, ◌∙◌, ◌<�
 use Rattle.std.proofs.lemmas.List.{drop_all}
 use Rattle.mw_read.specs.Standing.{Stands, Says, IsLast, HasEndedWith}
 use Rattle.mw_read.specs.Feeding.{Continues}
-use Rattle.mw_model.specs.Object.{Object}
+use Rattle.mw_model.specs.Terms.Object.{Object}
 use Rattle.mw_read.proofs.Bare.{empty_is, not_empty}
 use Rattle.mw_read.proofs.Feeding.{says_continues, finishes_here, finishes_behind, ready_from, ready_stands, ready_follows}
 use Rattle.mw_read.proofs.reader.Reader.next.Goals as goal

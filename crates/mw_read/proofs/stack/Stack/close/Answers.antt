@@ -1,5 +1,5 @@
 use Rattle.std.proofs.Common.{◌∙◌, ap₂, subst, sym, length, vec_len}
-use Rattle.mw_model.specs.Lexemes.{Close}
+use Rattle.mw_model.specs.Texts.Lexemes.{Close}
 use Rattle.mw_read.specs.Machine.{Turn, on, labels_of}
 use Rattle.mw_read.specs.Piles.{pile_of, Does, IsInList, closed_with}
 use Rattle.mw_read.proofs.Growth.{length_grows}

@@ -1,5 +1,5 @@
 use Rattle.std.proofs.Common.{◌∙◌, sym, subst, length}
-use Rattle.mw_model.specs.Lexemes.{Mark}
+use Rattle.mw_model.specs.Texts.Lexemes.{Mark}
 use Rattle.mw_read.specs.Machine.{on, labels_of}
 use Rattle.mw_read.specs.Piles.{pile_of, Does, HoldsDatum}
 use Rattle.mw_read.specs.declared.stack.Layer.TheVariants as layers

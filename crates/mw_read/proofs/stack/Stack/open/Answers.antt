@@ -1,5 +1,5 @@
 use Rattle.std.proofs.Common.{◌∙◌, refl, sym, subst, []}
-use Rattle.mw_model.specs.Lexemes.{Open}
+use Rattle.mw_model.specs.Texts.Lexemes.{Open}
 use Rattle.mw_read.specs.Machine.{Turn, Members, labels_of}
 use Rattle.mw_read.specs.Piles.{pile_of, Does}
 use Rattle.mw_read.specs.declared.step.Outcome.TheVariants as outcomes

@@ -1,5 +1,5 @@
 use Rattle.std.proofs.Common.{◌∙◌, sym, subst}
-use Rattle.mw_model.specs.Lexemes.{Ref}
+use Rattle.mw_model.specs.Texts.Lexemes.{Ref}
 use Rattle.mw_heap.specs.Objects.{object_at}
 use Rattle.mw_read.specs.Machine.{Turn, on, labels_of}
 use Rattle.mw_read.specs.Piles.{pile_of, Does}

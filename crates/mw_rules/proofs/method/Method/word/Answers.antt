@@ -1,7 +1,7 @@
 -- The word is the method's name.
 use Rattle.std.proofs.Common.{sym, ap}
-use Rattle.mw_model.specs.Object.{Symbol}
-use Rattle.mw_model.specs.Proof.{method_name}
+use Rattle.mw_model.specs.Terms.Object.{Symbol}
+use Rattle.mw_model.specs.Proofs.Proof.{method_name}
 use Rattle.mw_rules.specs.Methods.{method_of_logic}
 use Rattle.mw_rules.proofs.method.Method.word.Goals as goal
 

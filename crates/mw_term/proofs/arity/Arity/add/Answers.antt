@@ -1,7 +1,7 @@
 use Rattle.std.proofs.Common.{◌≡◌, [], ◌∷◌, ◌++◌, true, sym, ap, ap₂, ◌∙◌, subst}
 use Rattle.indexmap.proofs.CallerLemmas.{insert_entry-new}
-use Rattle.mw_model.specs.Object.{is_name, name_of_bytes}
-use Rattle.mw_model.specs.Term.{arity_of}
+use Rattle.mw_model.specs.Terms.Object.{is_name, name_of_bytes}
+use Rattle.mw_model.specs.Terms.Term.{arity_of}
 use Rattle.mw_term.specs.Tables.{AreNamed, table_of, same_key}
 use Rattle.mw_term.proofs.Entries.{named-append, entries_before-append, lookup-none}
 use Rattle.mw_term.proofs.arity.Arity.add.Goals as goal

@@ -1,6 +1,6 @@
 use Rattle.std.proofs.Common.{sym, ap, ◌∙◌}
-use Rattle.mw_model.specs.Object.{name_of_bytes}
-use Rattle.mw_model.specs.Term.{arity_of}
+use Rattle.mw_model.specs.Terms.Object.{name_of_bytes}
+use Rattle.mw_model.specs.Terms.Term.{arity_of}
 use Rattle.mw_term.proofs.Entries.{arity_of-table_of}
 use Rattle.mw_term.proofs.arity.Arity.lookup.Goals as goal
 

@@ -1,7 +1,7 @@
 -- The entry at the place.
 use Rattle.std.proofs.Common.{◌≡◌, ◌<◌, ◌+◌, ◌-◌, true, [], ◌∷◌, length, drop, Some, sym, ap, ap₂, ◌∙◌, subst, arith}
 use Rattle.std.specs.List.{slice_get}
-use Rattle.mw_model.specs.Object.{is_name, name_of_bytes}
+use Rattle.mw_model.specs.Terms.Object.{is_name, name_of_bytes}
 use Rattle.mw_term.specs.Tables.{table_of}
 use Rattle.mw_term.proofs.Entries.{length-entries_before, entries_before-at, named-at}
 use Rattle.mw_term.proofs.arity.Arity.nth.Goals as goal

@@ -1,6 +1,6 @@
 -- On the object of a term, closed is what it is on the term.
 use Rattle.std.proofs.Common.{ap, ◌∙◌}
-use Rattle.mw_model.specs.Term.{is_closed}
+use Rattle.mw_model.specs.Terms.Term.{is_closed}
 use Rattle.mw_heap.specs.Objects.{object_at}
 use Rattle.mw_term.specs.Parts.{names_at}
 use Rattle.mw_term.proofs.Heads.{closed-object}

@@ -1,6 +1,6 @@
 -- All parts have the block, or none has it.
 use Rattle.std.proofs.Common.{◌≡◌, sym, ap, ◌∙◌, subst}
-use Rattle.mw_model.specs.Definition.{add_block, arity_table}
+use Rattle.mw_model.specs.Values.Definition.{add_block, arity_table}
 use Rattle.mw_term.specs.Marking.{AreMarks}
 use Rattle.mw_term.proofs.CallerLemmas.{AreMarks-grows}
 use Rattle.mw_theory.specs.Knowledge.{parts_of, meant, IsKernel}

@@ -1,7 +1,7 @@
 -- The tests of the functions, which pass again, and then the step that adds them.
 use Rattle.std.proofs.Common.{map, sym, ap, ◌∙◌}
-use Rattle.mw_model.specs.Definition.{Functions}
-use Rattle.mw_model.specs.Admission.{functions, add_to_theory}
+use Rattle.mw_model.specs.Values.Definition.{Functions}
+use Rattle.mw_model.specs.Events.Admission.{functions, add_to_theory}
 use Rattle.mw_theory.specs.Admitting.{function_of_entry}
 use Rattle.mw_theory.proofs.Held.{grown}
 use Rattle.mw_theory.proofs.Results.{OnErr-from}

@@ -1,6 +1,6 @@
 -- One theorem more, in front.
 use Rattle.std.proofs.Common.{sym, ap, ap₂, ◌∙◌, subst, arith}
-use Rattle.mw_model.specs.Theory.{IsSound}
+use Rattle.mw_model.specs.Events.Theory.{IsSound}
 use Rattle.mw_term.specs.Marking.{AreMarks}
 use Rattle.mw_term.proofs.CallerLemmas.{AreMarks-grows}
 use Rattle.mw_theory.specs.Knowledge.{parts_of, meant, with_theorem, IsKernel}

@@ -1,7 +1,7 @@
 -- The tests of the functions and of their proofs; what is accepted is then added.
 use Rattle.std.proofs.Common.{◌≡◌, option_map, IfOk, OnOk, sym, ap, ◌∙◌, subst}
-use Rattle.mw_model.specs.Object.{NIL}
-use Rattle.mw_model.specs.Theory.{IsSound}
+use Rattle.mw_model.specs.Terms.Object.{NIL}
+use Rattle.mw_model.specs.Events.Theory.{IsSound}
 use Rattle.mw_model.proofs.Names.{same_object-eq}
 use Rattle.mw_heap.specs.Objects.{object_at}
 use Rattle.mw_heap.specs.Variants.{refusal_of}

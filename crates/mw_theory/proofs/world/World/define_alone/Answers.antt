@@ -1,8 +1,8 @@
 -- The tests of the functions, and that nothing is owed, and then the step that adds them.
 use Rattle.std.proofs.Common.{map, sym, ap, ◌∙◌}
-use Rattle.mw_model.specs.Object.{NIL}
-use Rattle.mw_model.specs.Definition.{Functions}
-use Rattle.mw_model.specs.Admission.{functions, add_to_theory}
+use Rattle.mw_model.specs.Terms.Object.{NIL}
+use Rattle.mw_model.specs.Values.Definition.{Functions}
+use Rattle.mw_model.specs.Events.Admission.{functions, add_to_theory}
 use Rattle.mw_theory.specs.Admitting.{function_of_entry}
 use Rattle.mw_theory.proofs.Held.{grown}
 use Rattle.mw_theory.proofs.Results.{OnErr-from}

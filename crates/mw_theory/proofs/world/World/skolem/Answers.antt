@@ -1,7 +1,7 @@
 -- The tests of a witness, and then the step that adds it.
 use Rattle.std.proofs.Common.{◌≡◌, IfSome, sym, ap, ◌∙◌, subst, slice_get}
-use Rattle.mw_model.specs.Definition.{Choice}
-use Rattle.mw_model.specs.Admission.{add_to_theory}
+use Rattle.mw_model.specs.Values.Definition.{Choice}
+use Rattle.mw_model.specs.Events.Admission.{add_to_theory}
 use Rattle.mw_preamble.specs.declared.definition.Definition.TheVariants.{Witness}
 use Rattle.mw_theory.proofs.Held.{grown}
 use Rattle.mw_theory.proofs.Results.{OnErr-from}

@@ -1,6 +1,6 @@
 -- Refused, or a theorem more.
 use Rattle.std.proofs.Common.{sym, ap, ap₂, ◌∙◌, subst}
-use Rattle.mw_model.specs.Theory.{IsSound}
+use Rattle.mw_model.specs.Events.Theory.{IsSound}
 use Rattle.mw_heap.specs.Objects.{object_at}
 use Rattle.mw_heap.proofs.Objects.{object_at-Grows, Grows-refl}
 use Rattle.mw_theory.specs.Knowledge.{with_theorem}
