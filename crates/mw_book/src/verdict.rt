@@ -8,7 +8,7 @@ ghost use Rattle.mw_term.specs.Marking.{AreMarks};
 ghost use Rattle.mw_book.specs.Answered.{IsNamed};
 ghost use Rattle.mw_book.specs.Verdicts.{IsVerdict, is_theorem};
 
-use mw_heap::{Heap, Memory, Ref, View, form_of};
+use mw_heap::{Heap, Memory, Ref, View, Word, form_of};
 use mw_taut::{Decision, decide};
 use mw_term::{Arity, Marks, is_formula};
 
@@ -94,7 +94,7 @@ fn theorem_of(heap: &mut Heap, name: Ref, formula: Ref, proof: Ref) -> Result<Re
     ensures grows { Grows heap.old.objects heap.new.objects }
     ensures made { IfOk result (λ r. IsIn heap.new.objects r × (object_at heap.new.objects r ≡ list4 (symbol "VERIFY") (object_at heap.old.objects name) (object_at heap.old.objects formula) (object_at heap.old.objects proof))) }
 {
-    form_of(heap, b"VERIFY", &[name, formula, proof])
+    form_of(heap, Word::Verify, &[name, formula, proof])
 }
 
 // What is found of a datum with these members, of which the second is a formula.

@@ -8,7 +8,7 @@ ghost use Rattle.mw_model.specs.Laws.Rules.{equal_object, or_object, not_object}
 ghost use Rattle.mw_heap.specs.Objects.{object_at, IsIn, Grows};
 ghost use Rattle.mw_heap.specs.Lists.{list_object};
 
-use mw_heap::{Heap, Memory, Ref, form_of, list_of};
+use mw_heap::{Heap, Memory, Ref, list_of};
 use std::alloc::Global;
 
 /// A heap with no objects, in a box. The error is memory that is refused.
@@ -72,7 +72,9 @@ pub fn form(heap: &mut Heap, head: &[u8], parts: &[Ref]) -> Result<Ref, Memory>
     ensures made { IfOk result (λ r. IsIn heap.new.objects r × (object_at heap.new.objects r ≡ Pair (Symbol (name_of_bytes head.now)) (list_object heap.old.objects parts.now))) }
 {
     if are_in(heap, parts) {
-        form_of(heap, head, parts)
+        let rest = list_of(heap, parts)?;
+        let head = heap.symbol(head)?;
+        heap.cons(head, rest)
     } else {
         Err(Memory)
     }

@@ -1,12 +1,12 @@
 //! The claim of a checker.
 ghost use Rattle.std.specs.Prelude.{◌≡◌, true, IfOk};
-ghost use Rattle.mw_model.specs.Terms.Object.{Name, Symbol, NIL};
+ghost use Rattle.mw_model.specs.Terms.Object.{Name, Symbol, NIL, symbol, list2};
 ghost use Rattle.mw_model.specs.Terms.Term.{Term, Constant, Equal, term_object, formula_object};
 ghost use Rattle.mw_model.specs.Values.Primitive.{is_symbol, name_of};
 ghost use Rattle.mw_model.specs.Events.Theory.{on_the_theory, claim};
 ghost use Rattle.mw_heap.specs.Objects.{object_at, IsIn, Grows};
 
-use mw_heap::{Heap, Memory, Ref, form_of, list_of};
+use mw_heap::{Heap, Memory, Ref, Word, form_of, list_of};
 
 /// The formula (por* (pequal* (f x axioms thms atbl) 'nil) (pnot* (pequal* (logic.provablep (logic.conclusion x) axioms thms atbl) 'nil))),
 /// where f is the name.
@@ -17,12 +17,22 @@ pub(crate) fn claim(heap: &mut Heap, name: Ref) -> Result<Ref, Memory>
     ensures claim { IfOk result (λ r. IsIn heap.new.objects r × (object_at heap.new.objects r ≡ formula_object (claim (name_of (object_at heap.old.objects name))))) }
 {
     let x = heap.symbol(b"X")?;
-    let conclusion = form_of(heap, b"LOGIC.CONCLUSION", &[x])?;
+    let conclusion = conclusion_of(heap, x)?;
     let provable = heap.symbol(b"LOGIC.PROVABLEP")?;
     let refuses = answers_nil(heap, name, x)?;
     let unproved = answers_nil(heap, provable, conclusion)?;
-    let proved = form_of(heap, b"PNOT*", &[unproved])?;
-    form_of(heap, b"POR*", &[refuses, proved])
+    let proved = form_of(heap, Word::Pnot, &[unproved])?;
+    form_of(heap, Word::Por, &[refuses, proved])
+}
+
+// The term (logic.conclusion x).
+fn conclusion_of(heap: &mut Heap, x: Ref) -> Result<Ref, Memory>
+    requires { IsIn heap.old.objects x }
+    ensures grows { Grows heap.old.objects heap.new.objects }
+    ensures made { IfOk result (λ r. IsIn heap.new.objects r × (object_at heap.new.objects r ≡ list2 (symbol "LOGIC.CONCLUSION") (object_at heap.old.objects x))) }
+{
+    let function = heap.symbol(b"LOGIC.CONCLUSION")?;
+    list_of(heap, &[function, x])
 }
 
 // The formula (pequal* (f a axioms thms atbl) 'nil).
@@ -35,8 +45,8 @@ fn answers_nil(heap: &mut Heap, function: Ref, argument: Ref) -> Result<Ref, Mem
 {
     let call = call_on_the_theory(heap, function, argument)?;
     let nil = heap.nil()?;
-    let constant = form_of(heap, b"QUOTE", &[nil])?;
-    form_of(heap, b"PEQUAL*", &[call, constant])
+    let constant = form_of(heap, Word::Quote, &[nil])?;
+    form_of(heap, Word::Pequal, &[call, constant])
 }
 
 // The term (f a axioms thms atbl).

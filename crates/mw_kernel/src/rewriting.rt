@@ -11,7 +11,7 @@ ghost use Rattle.mw_theory.specs.Knowledge.{parts_of, meant, IsHeld};
 ghost use Rattle.mw_theory.specs.Words.{verify_event, define_event, define_all_event};
 
 use mw_define::Draft;
-use mw_heap::{Heap, Memory, Ref, View, form_of, list_of};
+use mw_heap::{Heap, Memory, Ref, View, Word, form_of, list_of};
 use mw_proof::{Rewriter, Rewritten};
 use mw_term::Marks;
 use mw_theory::{Event, Theory, event_of};
@@ -118,7 +118,7 @@ fn with_proof<R: Rewriter>(
     ensures rewritten { IfOk result (λ r. (q : Object) × TurnsOrStays R.turns (meant heap.old.objects (parts_of theory.now)) (object_at heap.old.objects proof) q × (object_at heap.new.objects r ≡ verify_event (object_at heap.old.objects name) (object_at heap.old.objects formula) q)) }
 {
     let turned = rewritten_proof(heap, proof, theory, marks, by)?;
-    form_of(heap, b"VERIFY", &[name, formula, turned])
+    form_of(heap, Word::Verify, &[name, formula, turned])
 }
 
 // A DEFINE of these members whose proofs are rewritten.
@@ -143,7 +143,7 @@ fn with_proofs<R: Rewriter>(
     let turned = rewritten_list(heap, proofs, theory, marks, by)?;
     form_of(
         heap,
-        b"DEFINE",
+        Word::Define,
         &[draft.name, draft.formals, draft.body, draft.measure, turned],
     )
 }
@@ -168,7 +168,7 @@ fn with_proofs_of_all<R: Rewriter>(
     ensures rewritten { IfOk result (λ r. (qs : Object) × EachTurnsOrStays R.turns (meant heap.old.objects (parts_of theory.now)) (object_at heap.old.objects proofs) qs × (object_at heap.new.objects r ≡ define_all_event (object_at heap.old.objects definitions) qs)) }
 {
     let turned = rewritten_list(heap, proofs, theory, marks, by)?;
-    form_of(heap, b"DEFINE-ALL", &[definitions, turned])
+    form_of(heap, Word::DefineAll, &[definitions, turned])
 }
 
 // The list of what the members of a proper list of proofs turn to, or of themselves where they turn to nothing.

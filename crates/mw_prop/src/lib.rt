@@ -7,78 +7,77 @@ ghost use Rattle.mw_model.specs.Laws.Rules.{or_object, object_is_schema, object_
 ghost use Rattle.mw_heap.specs.Objects.{object_at, IsIn};
 ghost use Rattle.mw_heap.specs.Parts.{part_at, IsPart};
 
-use mw_heap::{Heap, Ref, Word};
+use mw_heap::{Heap, Ref};
 
 /// Conclude not A or A.
-pub fn schema(heap: &Heap, c: Ref) -> bool
-    requires { IsIn heap.now.objects c }
-    ensures { result ≡ object_is_schema (object_at heap.now.objects c) }
+pub fn schema(heap: &Heap, conclusion: Ref) -> bool
+    requires { IsIn heap.now.objects conclusion }
+    ensures { result ≡ object_is_schema (object_at heap.now.objects conclusion) }
 {
-    heap.is_headed(c, Word::Por) && heap.is_list2(heap.second_of(c), Word::Pnot, heap.third_of(c))
-}
-
-/// From A, conclude B or A.
-pub fn expansion(heap: &Heap, c: Ref, a: Ref) -> bool
-    requires c_in { IsIn heap.now.objects c }
-    requires a_in { IsIn heap.now.objects a }
-    ensures { result ≡ object_is_expansion (object_at heap.now.objects c) (object_at heap.now.objects a) }
-{
-    heap.is_headed(c, Word::Por) && heap.is_same(heap.third_of(c), Some(a))
-}
-
-/// From A or A, conclude A.
-pub fn contraction(heap: &Heap, c: Ref, a: Ref) -> bool
-    requires c_in { IsIn heap.now.objects c }
-    requires a_in { IsIn heap.now.objects a }
-    ensures { result ≡ object_is_contraction (object_at heap.now.objects c) (object_at heap.now.objects a) }
-{
-    heap.is_list3(Some(a), Word::Por, Some(c), Some(c))
-}
-
-/// From A or (B or C), conclude (A or B) or C.
-pub fn associativity(heap: &Heap, c: Ref, a: Ref) -> bool
-    requires c_in { IsIn heap.now.objects c }
-    requires a_in { IsIn heap.now.objects a }
-    ensures { result ≡ object_is_associativity (object_at heap.now.objects c) (object_at heap.now.objects a) }
-{
-    match heap.third_of(a) {
-        Some(bc) => {
-            heap.is_headed(a, Word::Por)
-                && heap.is_headed(bc, Word::Por)
-                && is_left_or(
-                    heap,
-                    c,
-                    heap.second_of(a),
-                    heap.second_of(bc),
-                    heap.third_of(bc),
-                )
-        }
+    match heap.or_parts(Some(conclusion)) {
+        Some((not_a, a)) => heap.is_not(not_a, a),
         None => false,
     }
 }
 
-// Whether c is (x or y) or z.
-#[tactic(auto, using(crate::proofs::ByMembers::by_members))]
-fn is_left_or(heap: &Heap, c: Ref, x: Option<Ref>, y: Option<Ref>, z: Option<Ref>) -> bool
-    requires c_in { IsIn heap.now.objects c }
-    requires x_within { IsPart heap.now.objects x }
-    requires y_within { IsPart heap.now.objects y }
-    requires z_within { IsPart heap.now.objects z }
-    ensures { result ≡ same_object (object_at heap.now.objects c) (or_object (or_object (part_at heap.now.objects x) (part_at heap.now.objects y)) (part_at heap.now.objects z)) }
+/// From A, conclude B or A.
+pub fn expansion(heap: &Heap, conclusion: Ref, premise: Ref) -> bool
+    requires conclusion { IsIn heap.now.objects conclusion }
+    requires premise { IsIn heap.now.objects premise }
+    ensures { result ≡ object_is_expansion (object_at heap.now.objects conclusion) (object_at heap.now.objects premise) }
 {
-    heap.is_list3(heap.second_of(c), Word::Por, x, y)
-        && heap.is_list3(Some(c), Word::Por, heap.second_of(c), z)
+    match heap.or_parts(Some(conclusion)) {
+        Some((_, a)) => heap.is_same(a, Some(premise)),
+        None => false,
+    }
+}
+
+/// From A or A, conclude A.
+pub fn contraction(heap: &Heap, conclusion: Ref, premise: Ref) -> bool
+    requires conclusion { IsIn heap.now.objects conclusion }
+    requires premise { IsIn heap.now.objects premise }
+    ensures { result ≡ object_is_contraction (object_at heap.now.objects conclusion) (object_at heap.now.objects premise) }
+{
+    heap.is_or(Some(premise), Some(conclusion), Some(conclusion))
+}
+
+/// From A or (B or C), conclude (A or B) or C.
+pub fn associativity(heap: &Heap, conclusion: Ref, premise: Ref) -> bool
+    requires conclusion { IsIn heap.now.objects conclusion }
+    requires premise { IsIn heap.now.objects premise }
+    ensures { result ≡ object_is_associativity (object_at heap.now.objects conclusion) (object_at heap.now.objects premise) }
+{
+    let Some((a, b_or_c)) = heap.or_parts(Some(premise)) else {
+        return false;
+    };
+    let Some((b, c)) = heap.or_parts(b_or_c) else {
+        return false;
+    };
+    is_left_or(heap, conclusion, a, b, c)
+}
+
+// Whether x is: (A or B) or C.
+#[tactic(auto, using(crate::proofs::ByMembers::by_members))]
+fn is_left_or(heap: &Heap, x: Ref, a: Option<Ref>, b: Option<Ref>, c: Option<Ref>) -> bool
+    requires within { IsIn heap.now.objects x }
+    requires a_within { IsPart heap.now.objects a }
+    requires b_within { IsPart heap.now.objects b }
+    requires c_within { IsPart heap.now.objects c }
+    ensures { result ≡ same_object (object_at heap.now.objects x) (or_object (or_object (part_at heap.now.objects a) (part_at heap.now.objects b)) (part_at heap.now.objects c)) }
+{
+    heap.is_or(heap.second_of(x), a, b) && heap.is_or(Some(x), heap.second_of(x), c)
 }
 
 /// From A or B and not A or C, conclude B or C.
-pub fn cut(heap: &Heap, c: Ref, a: Ref, b: Ref) -> bool
-    requires c_in { IsIn heap.now.objects c }
-    requires a_in { IsIn heap.now.objects a }
-    requires b_in { IsIn heap.now.objects b }
-    ensures { result ≡ object_is_cut (object_at heap.now.objects c) (object_at heap.now.objects a) (object_at heap.now.objects b) }
+pub fn cut(heap: &Heap, conclusion: Ref, first: Ref, second: Ref) -> bool
+    requires conclusion { IsIn heap.now.objects conclusion }
+    requires first { IsIn heap.now.objects first }
+    requires second { IsIn heap.now.objects second }
+    ensures { result ≡ object_is_cut (object_at heap.now.objects conclusion) (object_at heap.now.objects first) (object_at heap.now.objects second) }
 {
-    heap.is_headed(a, Word::Por)
-        && heap.is_headed(b, Word::Por)
-        && heap.is_list2(heap.second_of(b), Word::Pnot, heap.second_of(a))
-        && heap.is_list3(Some(c), Word::Por, heap.third_of(a), heap.third_of(b))
+    match (heap.or_parts(Some(first)), heap.or_parts(Some(second))) {
+        (Some((a, b)), Some((not_a, c))) => heap.is_not(not_a, a)
+            && heap.is_or(Some(conclusion), b, c),
+        _ => false,
+    }
 }
