@@ -12,26 +12,27 @@ use mw_heap::{Heap, Memory, Primitive, Profile, Ref, View, Word};
 
 /// Conclude (f 'c1 .. 'cn) = 'v, where f is a primitive function of the profile, or IF, and v its value at c1 .. cn. The value
 /// is not made but compared, so that the heap stays as it is and no memory is wanted.
-pub fn base_eval(heap: &mut Heap, c: Ref, profile: Profile) -> Result<bool, Memory>
-    requires { IsIn heap.old.objects c }
-    ensures answer { result ≡ Ok (object_is_base_eval (profile_of profile) (object_at heap.old.objects c)) }
+pub fn base_eval(heap: &mut Heap, conclusion: Ref, profile: Profile) -> Result<bool, Memory>
+    requires { IsIn heap.old.objects conclusion }
+    ensures answer { result ≡ Ok (object_is_base_eval (profile_of profile) (object_at heap.old.objects conclusion)) }
     ensures unchanged { heap.new.objects ≡ heap.old.objects }
     ensures grows { Grows heap.old.objects heap.new.objects }
 {
-    Ok(is_base_eval(heap, c, profile))
+    Ok(is_base_eval(heap, conclusion, profile))
 }
 
 // The rule, on a heap that is only looked at.
-fn is_base_eval(heap: &Heap, c: Ref, profile: Profile) -> bool
-    requires { IsIn heap.now.objects c }
-    ensures { result ≡ object_is_base_eval (profile_of profile) (object_at heap.now.objects c) }
+fn is_base_eval(heap: &Heap, conclusion: Ref, profile: Profile) -> bool
+    requires { IsIn heap.now.objects conclusion }
+    ensures { result ≡ object_is_base_eval (profile_of profile) (object_at heap.now.objects conclusion) }
 {
-    let Some(value) = heap.third_of(c) else {
+    let Some((call, value)) = heap.equal_parts(Some(conclusion)) else {
         return false;
     };
-    heap.is_headed(c, Word::Pequal)
-        && is_constant(heap, value)
-        && is_call_with_value(heap, heap.second_of(c), heap.second_of(value), profile)
+    let Some(constant) = value else {
+        return false;
+    };
+    is_constant(heap, constant) && is_call_with_value(heap, call, heap.second_of(constant), profile)
 }
 
 // Whether x is a call of a primitive function, or of IF, at constants, with the value v.

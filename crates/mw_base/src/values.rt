@@ -6,7 +6,7 @@ ghost use Rattle.mw_heap.specs.Objects.{object_at, IsIn};
 ghost use Rattle.mw_heap.specs.Parts.{part_at, IsPart};
 ghost use Rattle.mw_base.specs.Names.{blocks_of};
 
-use mw_heap::{Heap, Primitive, Ref, View};
+use mw_heap::{Heap, Primitive, Ref, View, Word};
 
 // The bytes of the name; those of NIL of what is no symbol.
 pub(crate) fn name(heap: &Heap, x: Option<Ref>) -> &[u8]
@@ -14,11 +14,11 @@ pub(crate) fn name(heap: &Heap, x: Option<Ref>) -> &[u8]
     ensures { (name_of (part_at heap.now.objects x)).bytes ≡ result.now }
 {
     let Some(x) = x else {
-        return b"NIL";
+        return Word::Nil.name();
     };
     match heap.view(x) {
         View::Symbol => heap.name_of(x),
-        _ => b"NIL",
+        _ => Word::Nil.name(),
     }
 }
 
