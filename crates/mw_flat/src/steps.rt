@@ -13,6 +13,9 @@ const MOST_BYTES: usize = 1 << 28;
 
 const BYTES_FOR_A_STEP: usize = 1 << 10;
 
+// Room for most steps.
+const LINE: usize = 256;
+
 // Puts a line after what `out` has. It takes its bytes of those that are left.
 fn put_line(line: &[u8], left: &mut usize, out: &mut Vec<u8>) -> Result<(), Memory>
     ensures put { OnOk result (out.new.items ≡ out.old.items ++ line.now) }
@@ -43,7 +46,7 @@ pub(crate) fn write_steps(
         .len()
         .saturating_mul(BYTES_FOR_A_STEP)
         .saturating_add(MOST_BYTES);
-    let mut line = Vec::new(heap.alloc());
+    let mut line = Vec::with_capacity(heap.alloc(), LINE)?;
     for (place, x) in complete.as_slice().iter().enumerate() {
         write_step(heap, complete, *x, place as u64 + 1, &mut left, &mut line)?;
         put_line(line.as_slice(), &mut bytes, out)?;

@@ -50,13 +50,16 @@ fn write_part(
     }
 }
 
-// The text of an object, by a stack of what is still to be written.
+// Room for what is still to be written of most texts.
+const PARTS: usize = 16;
+
+// The text of an object, by a stack of what is still to be written. Room for all of a text of at most 65,536 bytes is made at once.
 pub(crate) fn text(heap: &Heap, alloc: Global, x: Ref) -> Result<Vec<u8>, Memory>
     requires { IsIn heap.now.objects x }
     ensures { IfOk result (λ text. text.items ≡ text_of (object_at heap.now.objects x)) }
 {
-    let mut out = Vec::new(alloc);
-    let mut parts = Vec::new(alloc);
+    let mut out = Vec::with_capacity(alloc, heap.lengths(x).0 as usize)?;
+    let mut parts = Vec::with_capacity(alloc, PARTS)?;
     parts.push(Part::Text(x))?;
     while let Some(part) = parts.pop() {
         write_part(heap, part, &mut parts, &mut out)?;
