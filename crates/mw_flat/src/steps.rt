@@ -9,7 +9,7 @@ use indexmap::IndexSet;
 use mw_heap::{Heap, Memory, Ref, looks_for};
 
 // The most bytes of the steps of an event, and how many more for each step.
-const MOST_BYTES: usize = 1 << 28;
+const MOST_BYTES: usize = 1 << 26;
 
 const BYTES_FOR_A_STEP: usize = 1 << 10;
 
@@ -31,7 +31,7 @@ fn put_line(line: &[u8], left: &mut usize, out: &mut Vec<u8>) -> Result<(), Memo
 
 /// Writes the step of each of these proofs, in order, after what `out` has. Many steps may share one long list of subproofs, or one long
 /// conclusion, which each writes. So the numbers in all lists are counted, and the bytes: past 2^24 numbers, and 64 more for each proof, or
-/// 2^28 bytes, and 2^10 more for each proof, the error is the same as where memory is refused.
+/// 2^26 bytes, and 2^10 more for each proof, the error is the same as where memory is refused.
 pub(crate) fn write_steps(
     heap: &Heap,
     complete: &IndexSet<Ref>,
