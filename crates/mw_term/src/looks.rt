@@ -1,4 +1,4 @@
-//! Looks that are taken once a walk is over.
+//! Looks that are taken from those that the heap allows.
 ghost use Rattle.std.specs.Prelude.{◌≡◌};
 ghost use Rattle.mw_heap.specs.Objects.{IsIn};
 
