@@ -7,12 +7,12 @@ ghost use Rattle.mw_heap.specs.Objects.{object_at, IsIn};
 use crate::shapes::{arguments_of_one, is_inequality, members};
 use mw_heap::{Heap, Ref, View, Word};
 
-/// Whether `c` is: not a1 = b1 or .. or not an = bn or (f a1 .. an) = (f b1 .. bn), where f is the name of a function.
-pub fn functional_equality(heap: &Heap, c: Ref) -> bool
-    requires { IsIn heap.now.objects c }
-    ensures { result ≡ object_is_functional_equality (object_at heap.now.objects c) }
+/// Whether the conclusion is: not a1 = b1 or .. or not an = bn or (f a1 .. an) = (f b1 .. bn), where f is the name of a function.
+pub fn functional_equality(heap: &Heap, conclusion: Ref) -> bool
+    requires { IsIn heap.now.objects conclusion }
+    ensures { result ≡ object_is_functional_equality (object_at heap.now.objects conclusion) }
 {
-    ends_with_equality(heap, c, last_disjunct(heap, c))
+    ends_with_equality(heap, conclusion, last_disjunct(heap, conclusion))
 }
 
 // The last disjunct of c.
@@ -50,17 +50,17 @@ fn later_disjunct(heap: &Heap, x: Ref) -> Option<Ref>
     }
 }
 
-// Whether c is a disjunction by which the arguments of the two calls that e equates are equal.
-fn ends_with_equality(heap: &Heap, c: Ref, e: Ref) -> bool
+// Whether c is a disjunction by which the arguments of the two calls that its end equates are equal.
+fn ends_with_equality(heap: &Heap, c: Ref, end: Ref) -> bool
     requires within { IsIn heap.now.objects c }
-    requires end_within { IsIn heap.now.objects e }
-    ensures { result ≡ object_ends_with_equality (object_at heap.now.objects c) (object_at heap.now.objects e) }
+    requires end_within { IsIn heap.now.objects end }
+    ensures { result ≡ object_ends_with_equality (object_at heap.now.objects c) (object_at heap.now.objects end) }
 {
-    if !heap.is_headed(e, Word::Pequal) {
+    let Some((a, b)) = heap.equal_parts(Some(end)) else {
         return false;
-    }
-    match arguments_of_one(heap, heap.second_of(e), heap.third_of(e)) {
-        Some((firsts, seconds)) => is_unless_equal(heap, c, firsts, seconds, e),
+    };
+    match arguments_of_one(heap, a, b) {
+        Some((firsts, seconds)) => is_unless_equal(heap, c, firsts, seconds, end),
         None => false,
     }
 }

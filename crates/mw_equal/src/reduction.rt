@@ -7,21 +7,21 @@ ghost use Rattle.mw_heap.specs.Parts.{part_at, IsPart};
 ghost use Rattle.mw_subst.specs.Sigma.{sigma_object, AreIn};
 
 use crate::shapes::members;
-use mw_heap::{Heap, Memory, Ref, View, Word, take_look};
+use mw_heap::{Heap, Memory, Ref, View, take_look};
 use mw_subst::{Sigma, is_instance, substitute};
 use mw_term::take_looks;
 
-/// Whether `c` is: ((lambda (x1 .. xn) b) t1 .. tn) = b with t1 .. tn for x1 .. xn. Nothing is made, but NIL where a part is missing; the
-/// only error is being out of memory.
-pub fn beta(heap: &mut Heap, c: Ref) -> Result<bool, Memory>
-    requires { IsIn heap.old.objects c }
+/// Whether the conclusion is: ((lambda (x1 .. xn) b) t1 .. tn) = b with t1 .. tn for x1 .. xn. Nothing is made, but NIL where a part is
+/// missing; the only error is being out of memory.
+pub fn beta(heap: &mut Heap, conclusion: Ref) -> Result<bool, Memory>
+    requires { IsIn heap.old.objects conclusion }
     ensures grows { Grows heap.old.objects heap.new.objects }
-    ensures answer { IfOk result (λ b. b ≡ object_is_beta (object_at heap.old.objects c)) }
+    ensures answer { IfOk result (λ b. b ≡ object_is_beta (object_at heap.old.objects conclusion)) }
 {
-    if !heap.is_headed(c, Word::Pequal) {
+    let Some((call, right)) = heap.equal_parts(Some(conclusion)) else {
         return Ok(false);
-    }
-    let Some(call) = heap.second_of(c) else {
+    };
+    let Some(call) = call else {
         return Ok(false);
     };
     let View::Pair(function, arguments) = heap.view(call) else {
@@ -30,7 +30,7 @@ pub fn beta(heap: &mut Heap, c: Ref) -> Result<bool, Memory>
     let View::Pair(_, _) = heap.view(function) else {
         return Ok(false);
     };
-    let right = present(heap, heap.third_of(c))?;
+    let right = present(heap, right)?;
     is_reduced(heap, function, arguments, right)
 }
 

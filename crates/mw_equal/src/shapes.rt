@@ -1,20 +1,13 @@
 //! The shapes of formulas and of calls.
 ghost use Rattle.std.specs.Prelude.{◌≡◌, ◌<◌, ◌&&◌, true, false, IfSome, MatchOption, is_some};
-ghost use Rattle.std.specs.List.{list_any};
-ghost use Rattle.mw_model.specs.Terms.Object.{same_bytes, Object, Pair, is_name, name_of_bytes, same_object, cdr};
-ghost use Rattle.mw_model.specs.Terms.Term.{is_function_name};
-ghost use Rattle.mw_model.specs.Values.Primitive.{is_pair, is_symbol, name_of};
+ghost use Rattle.mw_model.specs.Terms.Object.{Object, Pair, same_object, cdr};
+ghost use Rattle.mw_model.specs.Values.Primitive.{is_pair};
 ghost use Rattle.mw_model.specs.Laws.Rules.{or_object, not_object, equal_object, are_calls_of_one};
 ghost use Rattle.mw_heap.specs.Objects.{object_at, IsIn};
 ghost use Rattle.mw_heap.specs.Parts.{part_at, IsPart};
 
 use mw_heap::{Heap, Ref, View, Word};
-
-// What is no name of a function.
-const OTHER_WORDS: [&[u8]; 18] = [
-    b"NIL", b"T", b"QUOTE", b"LAMBDA", b"PEQUAL*", b"PNOT*", b"POR*", b"AND", b"OR", b"COND",
-    b"LIST", b"LET", b"LET*", b"FIRST", b"SECOND", b"THIRD", b"FOURTH", b"FIFTH",
-];
+use mw_term::is_function_symbol;
 
 // Whether x is: not a = b.
 pub(crate) fn is_inequality(heap: &Heap, x: Ref, a: Ref, b: Ref) -> bool
@@ -24,7 +17,7 @@ pub(crate) fn is_inequality(heap: &Heap, x: Ref, a: Ref, b: Ref) -> bool
     ensures { result ≡ same_object (object_at heap.now.objects x) (not_object (equal_object (object_at heap.now.objects a) (object_at heap.now.objects b))) }
 {
     match heap.member_after(x, Word::Pnot) {
-        Some(equality) => heap.is_list3(Some(equality), Word::Pequal, Some(a), Some(b)),
+        Some(equality) => heap.is_equal(Some(equality), Some(a), Some(b)),
         None => false,
     }
 }
@@ -46,39 +39,13 @@ pub(crate) fn arguments_of_one(heap: &Heap, x: Option<Ref>, y: Option<Ref>) -> O
     let View::Pair(g, seconds) = heap.view(y) else {
         return None;
     };
-    if !is_function(heap, f) {
+    if !is_function_symbol(heap, f) {
         return None;
     }
     if !heap.same(f, g) {
         return None;
     }
     Some((firsts, seconds))
-}
-
-// Whether it is the name of a function.
-fn is_function(heap: &Heap, x: Ref) -> bool
-    requires { IsIn heap.now.objects x }
-    ensures { result ≡ (is_symbol (object_at heap.now.objects x) && is_function_name (name_of (object_at heap.now.objects x))) }
-{
-    match heap.view(x) {
-        View::Symbol => is_function_word(heap.name_of(x)),
-        _ => false,
-    }
-}
-
-// Whether the name is that of a function: no word of the logic and no abbreviation word.
-fn is_function_word(name: &[u8]) -> bool
-    requires { is_name name.now ≡ true }
-    ensures { result ≡ is_function_name (name_of_bytes name.now) }
-{
-    !is_one_of(name, &OTHER_WORDS)
-}
-
-// Whether it is one of the words.
-fn is_one_of(name: &[u8], words: &[&[u8]]) -> bool
-    ensures { result ≡ list_any (λ word. same_bytes name.now word.now) words.now }
-{
-    words.iter().any(|word| name == *word)
 }
 
 // The first member and the rest of each of two lists that have members.

@@ -1,7 +1,7 @@
 -- The head of a lambda call, by its parts.
 use Rattle.std.proofs.Common.{◌≡◌, Bool, true, false, ◌&&◌, cond, List, [], ◌∷◌, length, Option, Some, None, is_some, refl, sym, ap, ap₂, ◌∙◌, subst}
 use Rattle.std.specs.List.{list_all}
-use Rattle.mw_model.specs.Terms.Object.{Name, Object, Symbol, Pair, named, same_name, same_object, NIL}
+use Rattle.mw_model.specs.Terms.Object.{Name, Object, Pair, symbol, same_name, same_object, NIL}
 use Rattle.mw_model.specs.Terms.Term.{Term, ArityTable, is_among, firsts, variables, are_formals, is_closed, is_term}
 use Rattle.mw_model.specs.Terms.Reading.{names_of, term_of, when, that}
 use Rattle.mw_model.specs.Values.Definition.{is_present}
@@ -65,26 +65,26 @@ head-no_formals A (Some xs) (Some b) h = go (are_formals xs) h
     go true k = cc
     go false k = refl
 
-module _ (A : ArityTable) (f : Name) (x l b z : Object) (shape : x ≡ Pair l (Pair b z)) where
-  count_is : formal_count A (Pair (Symbol f) x) ≡ when (same_name f (named "LAMBDA") && same_object z NIL) (head_count A (names_of l) (term_of b))
-  count_is = ap (λ y. formal_count A (Pair (Symbol f) y)) shape
+module _ (A : ArityTable) (word x l b z : Object) (shape : x ≡ Pair l (Pair b z)) where
+  count_is : formal_count A (Pair word x) ≡ when (same_object word (symbol "LAMBDA") && same_object z NIL) (head_count A (names_of l) (term_of b))
+  count_is = ap (λ y. formal_count A (Pair word y)) shape
 
   none_when : {X : Type 0} (t : Bool) (o : Option X) → o ≡ None → when t o ≡ None
   none_when true o h = h
   none_when false o h = refl
 
-  pub formal_count-long : same_object z NIL ≡ false → formal_count A (Pair (Symbol f) x) ≡ None
-  formal_count-long h = count_is ∙ (ap (λ e. when (same_name f (named "LAMBDA") && e) (head_count A (names_of l) (term_of b))) h ∙ never (same_name f (named "LAMBDA")))
+  pub formal_count-long : same_object z NIL ≡ false → formal_count A (Pair word x) ≡ None
+  formal_count-long h = count_is ∙ (ap (λ e. when (same_object word (symbol "LAMBDA") && e) (head_count A (names_of l) (term_of b))) h ∙ never (same_object word (symbol "LAMBDA")))
     where
       never : (t : Bool) → when (t && false) (head_count A (names_of l) (term_of b)) ≡ None
       never true = refl
       never false = refl
 
-  pub formal_count-no_term : is_term_object A b ≡ false → formal_count A (Pair (Symbol f) x) ≡ None
-  formal_count-no_term h = count_is ∙ none_when (same_name f (named "LAMBDA") && same_object z NIL) (head_count A (names_of l) (term_of b)) (head-no_term A (names_of l) (term_of b) h)
+  pub formal_count-no_term : is_term_object A b ≡ false → formal_count A (Pair word x) ≡ None
+  formal_count-no_term h = count_is ∙ none_when (same_object word (symbol "LAMBDA") && same_object z NIL) (head_count A (names_of l) (term_of b)) (head-no_term A (names_of l) (term_of b) h)
 
-  pub formal_count-no_formals : formals_of l ≡ None → formal_count A (Pair (Symbol f) x) ≡ None
-  formal_count-no_formals h = count_is ∙ none_when (same_name f (named "LAMBDA") && same_object z NIL) (head_count A (names_of l) (term_of b)) (head-no_formals A (names_of l) (term_of b) h)
+  pub formal_count-no_formals : formals_of l ≡ None → formal_count A (Pair word x) ≡ None
+  formal_count-no_formals h = count_is ∙ none_when (same_object word (symbol "LAMBDA") && same_object z NIL) (head_count A (names_of l) (term_of b)) (head-no_formals A (names_of l) (term_of b) h)
 
   -- where there are formals and a body
   module _ (xs : List Name) (formals : formals_of l ≡ Some xs) (body : is_term_object A b ≡ true) where
@@ -96,7 +96,7 @@ module _ (A : ArityTable) (f : Name) (x l b z : Object) (shape : x ≡ Pair l (P
         ∙ (ap₂ (λ g h. cond (g && (is_closed xs t.0 && h)) (Some (length xs)) None) p.1 t.2
         ∙ ap (λ c. cond c (Some (length xs)) None) (and_true (is_closed xs t.0) ∙ sym (closed-object xs b t.0 t.1)))
 
-    pub formal_count-closes : same_name f (named "LAMBDA") ≡ true → same_object z NIL ≡ true → is_some (formal_count A (Pair (Symbol f) x)) ≡ is_closed_object xs b
+    pub formal_count-closes : same_object word (symbol "LAMBDA") ≡ true → same_object z NIL ≡ true → is_some (formal_count A (Pair word x)) ≡ is_closed_object xs b
     formal_count-closes n e = ap is_some (count_is ∙ (ap₂ (λ s t. when (s && t) (head_count A (names_of l) (term_of b))) n e ∙ head_is)) ∙ some_cond (is_closed_object xs b)
       where
         some_cond : (t : Bool) → is_some (cond t (Some (length xs)) None) ≡ t

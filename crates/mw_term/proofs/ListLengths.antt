@@ -3,7 +3,7 @@ use Rattle.std.proofs.Common.{◌≡◌, ℕ, suc, Bool, true, false, ◌&&◌, 
 use Rattle.mw_model.specs.Terms.Object.{Name, Object, Natural, Symbol, Pair, named, symbol, same_name, same_object, nil_name, NIL}
 use Rattle.mw_model.specs.Terms.Term.{Term, Terms, NoTerms, ArityTable, arity_of, count, are_formals, is_closed, is_term, are_terms}
 use Rattle.mw_model.specs.Terms.Reading.{names_of, and_more, more_terms, term_of, terms_of, when}
-use Rattle.mw_model.specs.Values.Primitive.{is_pair}
+use Rattle.mw_model.specs.Values.Primitive.{is_pair, is_symbol, name_of}
 use Rattle.mw_model.specs.Laws.Rules.{is_term_object}
 use Rattle.mw_model.proofs.ReadBack.{some_one}
 use Rattle.mw_term.specs.Parts.{is_single, length_of, wanted}
@@ -118,15 +118,26 @@ fits-takes (Some m) true true n = three m n (eqb m 3) (eqb m n) refl refl
 
 module _ (A : ArityTable) where
   -- a call, by how many actuals its function wants and how long they are
-  pub is_term-fits : (f : Name) (r : Object) (t : Bool) → t ≡ is_some (term_count A r) → same_name f (named "QUOTE") ≡ false → is_term_object A (Pair (Symbol f) r) ≡ fits (wanted (arity_of A f) (same_name f (named "IF"))) t (length_of r)
+  is_term-fits : (f : Name) (r : Object) (t : Bool) → t ≡ is_some (term_count A r) → same_name f (named "QUOTE") ≡ false → is_term_object A (Pair (Symbol f) r) ≡ fits (wanted (arity_of A f) (same_name f (named "IF"))) t (length_of r)
   is_term-fits f r t h no_quote =
       is_term-call A f r
       ∙ (ap₂ (λ q c. cond q (is_single r) (takes (arity_of A f) c && allows_if (same_name f (named "IF")) c)) no_quote (term_count-length A r t h)
       ∙ sym (fits-takes (arity_of A f) (same_name f (named "IF")) t (length_of r)))
 
+  pub is_term-symbol_fits : (x r : Object) (t : Bool) → is_symbol x ≡ true → t ≡ is_some (term_count A r) → same_object x (symbol "QUOTE") ≡ false → is_term_object A (Pair x r) ≡ fits (wanted (arity_of A (name_of x)) (same_object x (symbol "IF"))) t (length_of r)
+  is_term-symbol_fits (Natural n) r t s h no_quote = cc
+  is_term-symbol_fits (Symbol f) r t s h no_quote = is_term-fits f r t h no_quote
+  is_term-symbol_fits (Pair a b) r t s h no_quote = cc
+
   -- and one whose actuals are no terms
-  pub is_term-no_actuals : (f : Name) (r : Object) → false ≡ is_some (term_count A r) → same_name f (named "QUOTE") ≡ false → is_term_object A (Pair (Symbol f) r) ≡ false
-  is_term-no_actuals f r h no_quote = is_term-fits f r false h no_quote ∙ no_terms (wanted (arity_of A f) (same_name f (named "IF"))) (length_of r)
+  pub is_term-no_actuals : (x r : Object) → is_symbol x ≡ true → false ≡ is_some (term_count A r) → same_object x (symbol "QUOTE") ≡ false → is_term_object A (Pair x r) ≡ false
+  is_term-no_actuals x r s h no_quote = is_term-symbol_fits x r false s h no_quote ∙ no_terms (wanted (arity_of A (name_of x)) (same_object x (symbol "IF"))) (length_of r)
+
+  -- a constant
+  pub is_term-quoted : (x r : Object) → same_object x (symbol "QUOTE") ≡ true → is_term_object A (Pair x r) ≡ is_single r
+  is_term-quoted (Natural n) r h = cc
+  is_term-quoted (Symbol f) r h = is_term-call A f r ∙ ap (λ q. cond q (is_single r) (takes (arity_of A f) (term_count A r) && allows_if (same_name f (named "IF")) (term_count A r))) h
+  is_term-quoted (Pair a b) r h = cc
 
   lambda_lengths : (m n : ℕ) (h t : Bool) → takes (cond h (Some m) None) (cond t (Some n) None) ≡ (h && (t && eqb m n))
   lambda_lengths m n true true = refl

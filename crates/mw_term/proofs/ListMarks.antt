@@ -1,13 +1,11 @@
 -- What the code tests of a pair is what the pair is.
 use Rattle.std.proofs.Common.{rules, ◌≡◌, ℕ, ◌⊎◌, ◌+◌, ◌<◌, Bool, true, false, ◌&&◌, cond, List, [], ◌∷◌, ◌++◌, length, slice_get, get_or, length-append, inl, inr, arith, Option, Some, None, is_some, refl, sym, ap, ap₂, ◌∙◌}
 use Rattle.std.proofs.lemmas.Option.{get_or_from_slice_get}
-use Rattle.mw_model.specs.Terms.Object.{Name, Object, Natural, Symbol, Pair, name_of_bytes, same_name, same_object, nil_name, NIL}
-use Rattle.mw_model.specs.Values.Primitive.{is_symbol, name_of}
+use Rattle.mw_model.specs.Terms.Object.{Name, Object, Natural, Symbol, Pair, same_name, same_object, nil_name, NIL}
 use Rattle.mw_model.specs.Terms.Term.{ArityTable}
 use Rattle.mw_model.proofs.Names.{same_object-eq}
 use Rattle.mw_model.specs.Laws.Rules.{is_term_object, is_formula_object}
 use Rattle.mw_heap.specs.Objects.{object_at}
-use Rattle.mw_model.proofs.Names.{name_of_bytes-bytes}
 use Rattle.mw_term.specs.declared.cell_mark.CellMark.{CellMark}
 use Rattle.mw_term.specs.Marking.{AreMarks, mark_of_object, term_count, formal_count, is_negation, is_binary}
 use Rattle.mw_heap.proofs.Lists.{slice_get-append, slice_get-seam}
@@ -31,25 +29,19 @@ mark_at A os ms h i a e below d = ap (λ k. get_or ms k d) e ∙ get_or_from_sli
 pub term_at : (A : ArityTable) (os : List Object) (ms : List CellMark) → AreMarks A os ms → (i a : ℕ) → i ≡ a → a < length ms → (d : CellMark) (b : Bool) → (get_or ms i d).is_term ≡ b → is_term_object A (object_at os a) ≡ b
 term_at A os ms h i a e below d b k = ap (λ m. m.is_term) (sym (mark_at A os ms h i a e below d)) ∙ k
 
-module _ (A : ArityTable) (f : Name) (x : Object) where
-  pub is_formula-binary_list : (a b z : Object) (first second : CellMark) → x ≡ Pair a (Pair b z) → first ≡ mark_of_object A a → second ≡ mark_of_object A b → same_object z NIL ≡ true → is_formula_object A (Pair (Symbol f) x) ≡ is_binary f first second
+module _ (A : ArityTable) (head x : Object) where
+  pub is_formula-binary_list : (a b z : Object) (first second : CellMark) → x ≡ Pair a (Pair b z) → first ≡ mark_of_object A a → second ≡ mark_of_object A b → same_object z NIL ≡ true → is_formula_object A (Pair head x) ≡ is_binary head first second
   is_formula-binary_list a b z first second e h k ends =
-      ap (λ y. is_formula_object A (Pair (Symbol f) y)) e ∙ (is_binary-marks A f a b z first second h k ∙ ap (λ t. t && is_binary f first second) ends)
+      ap (λ y. is_formula_object A (Pair head y)) e ∙ (is_binary-marks A head a b z first second h k ∙ ap (λ t. t && is_binary head first second) ends)
 
-  pub is_formula-negation_list : (a z : Object) (part : CellMark) → x ≡ Pair a z → part ≡ mark_of_object A a → same_object z NIL ≡ true → is_formula_object A (Pair (Symbol f) x) ≡ is_negation f part
+  pub is_formula-negation_list : (a z : Object) (part : CellMark) → x ≡ Pair a z → part ≡ mark_of_object A a → same_object z NIL ≡ true → is_formula_object A (Pair head x) ≡ is_negation head part
   is_formula-negation_list a z part e h ends =
-      ap (λ y. is_formula_object A (Pair (Symbol f) y)) (e ∙ ap (Pair a) (same_object-eq z NIL ends)) ∙ is_negation-marks A f a nil_name part h
+      ap (λ y. is_formula_object A (Pair head y)) (e ∙ ap (Pair a) (same_object-eq z NIL ends)) ∙ is_negation-marks A head a nil_name part h
 
 -- a mark by its fields
 pub mark_is : (A : ArityTable) (x : Object) (term terms formula head : Bool) → term ≡ is_term_object A x → terms ≡ is_some (term_count A x) → formula ≡ is_formula_object A x → head ≡ is_some (formal_count A x)
     → record { is_term = term; is_terms = terms; is_formula = formula; is_head = head } ≡ mark_of_object A x
 mark_is A x term terms formula head e f g h = cc
-
--- a symbol by its name's bytes
-pub symbol_named : (x : Object) (b : List ℕ) → is_symbol x ≡ true → (name_of x).bytes ≡ b → x ≡ Symbol (name_of_bytes b)
-symbol_named (Natural n) b s h = cc
-symbol_named (Symbol y) b s h = ap Symbol (sym (name_of_bytes-bytes y) ∙ ap name_of_bytes h)
-symbol_named (Pair a c) b s h = cc
 
 some_more : (b : Bool) (o : Option ℕ) → is_some (one_more b o) ≡ (b && is_some o)
 some_more true None = refl

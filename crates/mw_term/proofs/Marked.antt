@@ -4,6 +4,7 @@ use Rattle.mw_model.specs.Terms.Object.{Name, Object, Natural, Symbol, Pair, nam
 use Rattle.mw_model.specs.Terms.Term.{Term, Terms, Variable, Constant, If, Call, Lambda, NoTerms, More, Formula, Equal, Not, Or, ArityTable, arity_of, has_arity, count, are_formals, is_closed, is_variable, is_term, are_terms, is_formula}
 use Rattle.mw_model.specs.Terms.Reading.{names_of, more_terms, constant_of, if_of, plain_call, lambda_of, term_of, terms_of, equal_of, not_of, or_of, formula_of, when, that}
 use Rattle.mw_model.specs.Values.Definition.{is_present}
+use Rattle.mw_model.specs.Values.Primitive.{is_pair}
 use Rattle.mw_model.specs.Laws.Rules.{is_term_object, is_formula_object}
 use Rattle.mw_model.proofs.Names.{same_name-eq}
 use Rattle.mw_term.specs.Parts.{is_single}
@@ -188,12 +189,21 @@ is_formula-binary A h a b z =
 pub is_formula-unary : (A : ArityTable) (h a : Object) (s : Name) → is_formula_object A (Pair h (Pair a (Symbol s))) ≡ ((same_name s nil_name && same_object h (symbol "PNOT*")) && is_formula_object A a)
 is_formula-unary A h a s = when_is (is_formula A) (same_name s nil_name && same_object h (symbol "PNOT*")) (not_of (formula_of a)) ∙ ap (λ t. (same_name s nil_name && same_object h (symbol "PNOT*")) && t) (not_is A (formula_of a))
 
+-- what ends neither with NIL nor with a pair is none
+pub is_formula-no_list : (A : ArityTable) (h x a z : Object) → x ≡ Pair a z → is_pair z ≡ false → same_object z NIL ≡ false → is_formula_object A (Pair h x) ≡ false
+is_formula-no_list A h x a z shape no_pair no_nil = ap (λ y. is_formula_object A (Pair h y)) shape ∙ ending z no_pair no_nil
+  where
+    ending : (z : Object) → is_pair z ≡ false → same_object z NIL ≡ false → is_formula_object A (Pair h (Pair a z)) ≡ false
+    ending (Natural n) p q = refl
+    ending (Symbol s) p q = is_formula-unary A h a s ∙ ap (λ b. (b && same_object h (symbol "PNOT*")) && is_formula_object A a) q
+    ending (Pair b c) p q = cc
+
 -- by the marks of the parts
 module _ (A : ArityTable) where
-  pub is_negation-marks : (f : Name) (a : Object) (s : Name) (part : CellMark) → part ≡ mark_of_object A a → is_formula_object A (Pair (Symbol f) (Pair a (Symbol s))) ≡ (same_name s nil_name && is_negation f part)
-  is_negation-marks f a s part h =
-      is_formula-unary A (Symbol f) a s ∙ (and_assoc (same_name s nil_name) (same_name f (named "PNOT*")) (is_formula_object A a) ∙ ap (λ m. same_name s nil_name && is_negation f m) (sym h))
+  pub is_negation-marks : (h a : Object) (s : Name) (part : CellMark) → part ≡ mark_of_object A a → is_formula_object A (Pair h (Pair a (Symbol s))) ≡ (same_name s nil_name && is_negation h part)
+  is_negation-marks h a s part e =
+      is_formula-unary A h a s ∙ (and_assoc (same_name s nil_name) (same_object h (symbol "PNOT*")) (is_formula_object A a) ∙ ap (λ m. same_name s nil_name && is_negation h m) (sym e))
 
-  pub is_binary-marks : (f : Name) (a b z : Object) (first second : CellMark) → first ≡ mark_of_object A a → second ≡ mark_of_object A b
-      → is_formula_object A (Pair (Symbol f) (Pair a (Pair b z))) ≡ (same_object z NIL && is_binary f first second)
-  is_binary-marks f a b z first second h k = is_formula-binary A (Symbol f) a b z ∙ ap₂ (λ m n. same_object z NIL && is_binary f m n) (sym h) (sym k)
+  pub is_binary-marks : (h a b z : Object) (first second : CellMark) → first ≡ mark_of_object A a → second ≡ mark_of_object A b
+      → is_formula_object A (Pair h (Pair a (Pair b z))) ≡ (same_object z NIL && is_binary h first second)
+  is_binary-marks h a b z first second e k = is_formula-binary A h a b z ∙ ap₂ (λ m n. same_object z NIL && is_binary h m n) (sym e) (sym k)

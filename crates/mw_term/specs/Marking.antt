@@ -1,6 +1,6 @@
 -- What the marks of objects say under an arity table.
 use Rattle.std.specs.Prelude.{◌≡◌, ℕ, ◌<◌, ◌≤◌, Bool, ◌&&◌, cond, List, length, slice_get, Option, Some, None, is_some}
-use Rattle.mw_model.specs.Terms.Object.{Name, Object, Pair, named, symbol, same_name, same_object, NIL}
+use Rattle.mw_model.specs.Terms.Object.{Name, Object, Pair, symbol, same_object, NIL}
 use Rattle.mw_model.specs.Terms.Term.{Term, Terms, ArityTable, count, are_formals, is_closed, is_term, are_terms}
 use Rattle.mw_model.specs.Terms.Reading.{names_of, term_of, terms_of, when}
 use Rattle.mw_model.specs.Laws.Rules.{is_term_object, is_formula_object}
@@ -27,12 +27,12 @@ formal_count A _ = None
 abbrev pub mark_of_object : ArityTable → Object → CellMark
 mark_of_object A x = record { is_term = is_term_object A x; is_terms = is_some (term_count A x); is_formula = is_formula_object A x; is_head = is_some (formal_count A x) }
 
--- a pair by the marks of its parts: (pnot* f), and (pequal* a b) or (por* f g)
-abbrev pub is_negation : Name → CellMark → Bool
-is_negation f part = same_name f (named "PNOT*") && part.is_formula
+-- a list by its head and the marks of its other members: (pnot* f), and (pequal* a b) or (por* f g)
+abbrev pub is_negation : Object → CellMark → Bool
+is_negation head part = same_object head (symbol "PNOT*") && part.is_formula
 
-abbrev pub is_binary : Name → CellMark → CellMark → Bool
-is_binary f first second = cond (same_name f (named "PEQUAL*")) (first.is_term && second.is_term) (same_name f (named "POR*") && (first.is_formula && second.is_formula))
+abbrev pub is_binary : Object → CellMark → CellMark → Bool
+is_binary head first second = cond (same_object head (symbol "PEQUAL*")) (first.is_term && second.is_term) (same_object head (symbol "POR*") && (first.is_formula && second.is_formula))
 
 -- these are the marks of the first objects of a heap
 pub record AreMarks (A : ArityTable) (os : List Object) (ms : List CellMark) : Type 0 where

@@ -6,7 +6,7 @@ ghost use Rattle.mw_model.specs.Terms.Term.{is_among};
 ghost use Rattle.mw_heap.specs.Objects.{object_at, IsIn};
 ghost use Rattle.mw_term.specs.Parts.{formals_of, names_at, AreSymbols, is_new_variable};
 
-use crate::names::is_variable_name;
+use crate::names::is_variable_symbol;
 use crate::work::Work;
 use indexmap::IndexSet;
 use mw_heap::{Heap, Memory, Ref, View};
@@ -31,7 +31,7 @@ fn add_formal(heap: &Heap, formals: &mut IndexSet<Ref>, x: Ref) -> Result<bool, 
 {
     match heap.view(x) {
         View::Symbol => {
-            if !is_variable_name(heap.name_of(x)) || is_among_symbols(heap, formals, x) {
+            if !is_variable_symbol(heap, x) || is_among_symbols(heap, formals, x) {
                 return Ok(false);
             }
             formals.insert(x)?;

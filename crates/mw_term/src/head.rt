@@ -1,6 +1,6 @@
 //! Heads of lambda calls.
-ghost use Rattle.std.specs.Prelude.{◌≡◌, ◌<◌, length, true, is_some, IfOk};
-ghost use Rattle.mw_model.specs.Terms.Object.{Symbol, Pair, is_name, name_of_bytes};
+ghost use Rattle.std.specs.Prelude.{◌≡◌, ◌<◌, length, is_some, IfOk};
+ghost use Rattle.mw_model.specs.Terms.Object.{Pair};
 ghost use Rattle.mw_model.specs.Terms.Term.{ArityTable};
 ghost use Rattle.mw_heap.specs.Objects.{object_at, IsIn};
 ghost use Rattle.mw_term.specs.Marking.{AreMarks, formal_count};
@@ -8,24 +8,23 @@ ghost use Rattle.mw_term.specs.Marking.{AreMarks, formal_count};
 use crate::cell_mark::CellMark;
 use crate::formals::formal_set;
 use crate::free::is_closed;
-use crate::names::is_word;
 use crate::work::Work;
-use mw_heap::{Heap, Memory, Ref, View};
+use mw_heap::{Heap, Memory, Ref, View, Word};
 
-// Whether (name . rest) is the head of a lambda call.
+// Whether (word . rest) is the head of a lambda call.
 pub(crate) fn is_lambda_head(
     heap: &Heap,
     marks: &[CellMark],
-    name: &[u8],
+    word: Ref,
     rest: Ref,
     work: &mut Work,
 ) -> Result<bool, Memory>
-    requires name { is_name name.now ≡ true }
+    requires word_within { IsIn heap.now.objects word }
     requires within { IsIn heap.now.objects rest }
     requires marked { rest < length marks.now }
-    ensures { (A : ArityTable) → AreMarks A heap.now.objects marks.now → IfOk result (λ b. b ≡ is_some (formal_count A (Pair (Symbol (name_of_bytes name.now)) (object_at heap.now.objects rest)))) }
+    ensures { (A : ArityTable) → AreMarks A heap.now.objects marks.now → IfOk result (λ b. b ≡ is_some (formal_count A (Pair (object_at heap.now.objects word) (object_at heap.now.objects rest)))) }
 {
-    if !is_word(name, b"LAMBDA") {
+    if !heap.is_word(Some(word), Word::Lambda) {
         return Ok(false);
     }
     let View::Pair(list, tail) = heap.view(rest) else {

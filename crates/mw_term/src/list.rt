@@ -1,7 +1,8 @@
 //! Marks of pairs, from the marks of their parts.
 ghost use Rattle.std.specs.Prelude.{◌≡◌, ◌<◌, ◌&&◌, length, true, eqb, is_some, IfOk};
-ghost use Rattle.mw_model.specs.Terms.Object.{Object, Symbol, Pair, is_name, name_of_bytes};
+ghost use Rattle.mw_model.specs.Terms.Object.{Object, Pair};
 ghost use Rattle.mw_model.specs.Terms.Term.{ArityTable};
+ghost use Rattle.mw_model.specs.Values.Primitive.{is_symbol};
 ghost use Rattle.mw_model.specs.Laws.Rules.{is_term_object, is_formula_object};
 ghost use Rattle.mw_heap.specs.Objects.{object_at, IsIn};
 ghost use Rattle.mw_term.specs.Marking.{AreMarks, term_count, formal_count, is_negation, is_binary};
@@ -9,9 +10,8 @@ ghost use Rattle.mw_term.specs.Parts.{is_single, wanted, length_of};
 
 use crate::Arity;
 use crate::cell_mark::CellMark;
-use crate::names::is_word;
 use crate::work::Work;
-use mw_heap::{Heap, Memory, Ref, View};
+use mw_heap::{Heap, Memory, Ref, View, Word};
 
 // Whether a pair is a list of terms, by the marks of its parts.
 pub(crate) fn are_more_terms(first: CellMark, rest: CellMark) -> bool
@@ -103,58 +103,60 @@ fn wanted_count(arity: Option<u64>, is_if: bool) -> Option<u64>
     }
 }
 
-// Whether (name . rest) is a term.
+// Whether (function . rest) is a term.
 pub(crate) fn is_call(
     heap: &Heap,
     arity: &Arity,
-    name: &[u8],
+    function: Ref,
     rest: Ref,
     are_terms: bool,
     work: &mut Work,
 ) -> Result<bool, Memory>
-    requires name { is_name name.now ≡ true }
+    requires function_within { IsIn heap.now.objects function }
+    requires symbol { is_symbol (object_at heap.now.objects function) ≡ true }
     requires within { IsIn heap.now.objects rest }
     requires terms { are_terms ≡ is_some (term_count arity.now (object_at heap.now.objects rest)) }
-    ensures { IfOk result (λ b. b ≡ is_term_object arity.now (Pair (Symbol (name_of_bytes name.now)) (object_at heap.now.objects rest))) }
+    ensures { IfOk result (λ b. b ≡ is_term_object arity.now (Pair (object_at heap.now.objects function) (object_at heap.now.objects rest))) }
 {
-    if is_word(name, b"QUOTE") {
+    if heap.is_word(Some(function), Word::Quote) {
         return Ok(is_single_list(heap, rest));
     }
     if !are_terms {
         return Ok(false);
     }
+    let name = heap.name_of(function);
     work.take_looks_at(name)?;
-    match wanted_count(arity.lookup(name), is_word(name, b"IF")) {
+    match wanted_count(arity.lookup(name), heap.is_word(Some(function), Word::If)) {
         Some(count) => has_length(heap, rest, count, work),
         None => Ok(false),
     }
 }
 
-// Whether a list of a symbol of this name and one object is a formula.
-fn is_negation_of(name: &[u8], part: CellMark) -> bool
-    requires { is_name name.now ≡ true }
-    ensures { result ≡ is_negation (name_of_bytes name.now) part }
+// Whether a list of this head and one object is a formula.
+fn is_negation_of(heap: &Heap, head: Ref, part: CellMark) -> bool
+    requires { IsIn heap.now.objects head }
+    ensures { result ≡ is_negation (object_at heap.now.objects head) part }
 {
-    is_word(name, b"PNOT*") && part.is_formula
+    heap.is_word(Some(head), Word::Pnot) && part.is_formula
 }
 
-// Whether a list of a symbol of this name and two objects is a formula.
-fn is_binary_of(name: &[u8], first: CellMark, second: CellMark) -> bool
-    requires { is_name name.now ≡ true }
-    ensures { result ≡ is_binary (name_of_bytes name.now) first second }
+// Whether a list of this head and two objects is a formula.
+fn is_binary_of(heap: &Heap, head: Ref, first: CellMark, second: CellMark) -> bool
+    requires { IsIn heap.now.objects head }
+    ensures { result ≡ is_binary (object_at heap.now.objects head) first second }
 {
-    if is_word(name, b"PEQUAL*") {
+    if heap.is_word(Some(head), Word::Pequal) {
         return first.is_term && second.is_term;
     }
-    is_word(name, b"POR*") && first.is_formula && second.is_formula
+    heap.is_word(Some(head), Word::Por) && first.is_formula && second.is_formula
 }
 
-// Whether (name . rest) is a formula.
-pub(crate) fn is_formula_list(heap: &Heap, marks: &[CellMark], name: &[u8], rest: Ref) -> bool
-    requires name { is_name name.now ≡ true }
+// Whether (head . rest) is a formula.
+pub(crate) fn is_formula_list(heap: &Heap, marks: &[CellMark], head: Ref, rest: Ref) -> bool
+    requires head_within { IsIn heap.now.objects head }
     requires within { IsIn heap.now.objects rest }
     requires marked { rest < length marks.now }
-    ensures { (A : ArityTable) → AreMarks A heap.now.objects marks.now → result ≡ is_formula_object A (Pair (Symbol (name_of_bytes name.now)) (object_at heap.now.objects rest)) }
+    ensures { (A : ArityTable) → AreMarks A heap.now.objects marks.now → result ≡ is_formula_object A (Pair (object_at heap.now.objects head) (object_at heap.now.objects rest)) }
 {
     let View::Pair(a, more) = heap.view(rest) else {
         return false;
@@ -162,8 +164,8 @@ pub(crate) fn is_formula_list(heap: &Heap, marks: &[CellMark], name: &[u8], rest
     let first = marks[a.index()];
     match heap.view(more) {
         View::Pair(b, end) => {
-            heap.is_nil(Some(end)) && is_binary_of(name, first, marks[b.index()])
+            heap.is_nil(Some(end)) && is_binary_of(heap, head, first, marks[b.index()])
         }
-        _ => heap.is_nil(Some(more)) && is_negation_of(name, first),
+        _ => heap.is_nil(Some(more)) && is_negation_of(heap, head, first),
     }
 }

@@ -1,7 +1,8 @@
-//! Looks that are taken once a walk is over.
+//! Looks that are taken from those that the heap allows.
 ghost use Rattle.std.specs.Prelude.{◌≡◌};
+ghost use Rattle.mw_heap.specs.Objects.{IsIn};
 
-use mw_heap::{Heap, Mark, Memory};
+use mw_heap::{Heap, Mark, Memory, Ref, View};
 
 // The looks that a new cell takes: it stays in the heap for as long as its event.
 const LOOKS_FOR_A_NEW_CELL: u64 = 8;
@@ -27,4 +28,17 @@ pub fn take_looks_since(heap: &mut Heap, had: Mark, looks: u64) -> Result<(), Me
         made.saturating_mul(LOOKS_FOR_A_NEW_CELL)
             .saturating_add(looks),
     )
+}
+
+/// Takes a look for each member of a list, from those that the heap allows. The error is that fewer are left.
+pub fn take_looks_at_members(heap: &mut Heap, list: Ref) -> Result<(), Memory>
+    requires { IsIn heap.old.objects list }
+    ensures { heap.new.objects ≡ heap.old.objects }
+{
+    let mut rest = list;
+    while let View::Pair(_, more) = heap.view(rest) {
+        heap.take_look()?;
+        rest = more;
+    }
+    Ok(())
 }

@@ -1,7 +1,8 @@
 //! Marks of objects.
 ghost use Rattle.std.specs.Prelude.{◌≡◌, ◌<◌, ◌≤◌, true, List, [], length, take, IfOk, OnOk, OnErr};
-ghost use Rattle.mw_model.specs.Terms.Object.{Object, Symbol, Pair, is_name, name_of_bytes};
+ghost use Rattle.mw_model.specs.Terms.Object.{Object, Pair};
 ghost use Rattle.mw_model.specs.Terms.Term.{ArityTable};
+ghost use Rattle.mw_model.specs.Values.Primitive.{is_symbol};
 ghost use Rattle.mw_model.specs.Laws.Rules.{is_term_object, is_formula_object};
 ghost use Rattle.mw_heap.specs.Objects.{object_at, IsIn};
 ghost use Rattle.mw_term.specs.Marking.{AreMarks, mark_of_object};
@@ -10,20 +11,21 @@ use crate::Arity;
 use crate::cell_mark::CellMark;
 use crate::head::is_lambda_head;
 use crate::list::{are_more_terms, is_call, is_formula_list, is_lambda_call};
-use crate::names::{is_variable_name, is_word};
+use crate::names::is_variable_symbol;
 use crate::work::Work;
 use mw_heap::{Heap, Mark, Memory, Ref, View, looks_for};
 use std::alloc::Global;
 use std::marker::Model;
 
-// The mark of the symbol of this name.
-fn mark_symbol(name: &[u8]) -> CellMark
-    requires { is_name name.now ≡ true }
-    ensures { (A : ArityTable) → result ≡ mark_of_object A (Symbol (name_of_bytes name.now)) }
+// The mark of the symbol x.
+fn mark_symbol(heap: &Heap, x: Ref) -> CellMark
+    requires within { IsIn heap.now.objects x }
+    requires symbol { is_symbol (object_at heap.now.objects x) ≡ true }
+    ensures { (A : ArityTable) → result ≡ mark_of_object A (object_at heap.now.objects x) }
 {
     CellMark {
-        is_term: is_variable_name(name),
-        is_terms: is_word(name, b"NIL"),
+        is_term: is_variable_symbol(heap, x),
+        is_terms: heap.is_nil(Some(x)),
         is_formula: false,
         is_head: false,
     }
@@ -53,15 +55,12 @@ fn mark_pair(
             is_formula: false,
             is_head: false,
         }),
-        View::Symbol => {
-            let name = heap.name_of(first);
-            Ok(CellMark {
-                is_term: is_call(heap, arity, name, rest, actuals.is_terms, work)?,
-                is_terms,
-                is_formula: is_formula_list(heap, marks, name, rest),
-                is_head: is_lambda_head(heap, marks, name, rest, work)?,
-            })
-        }
+        View::Symbol => Ok(CellMark {
+            is_term: is_call(heap, arity, first, rest, actuals.is_terms, work)?,
+            is_terms,
+            is_formula: is_formula_list(heap, marks, first, rest),
+            is_head: is_lambda_head(heap, marks, first, rest, work)?,
+        }),
         View::Pair(_, tail) => Ok(CellMark {
             is_term: is_lambda_call(heap, head.is_head, tail, actuals.is_terms, rest, work)?,
             is_terms,
@@ -91,7 +90,7 @@ fn mark_cell(
             is_formula: false,
             is_head: false,
         }),
-        View::Symbol => Ok(mark_symbol(heap.name_of(x))),
+        View::Symbol => Ok(mark_symbol(heap, x)),
         View::Pair(first, rest) => mark_pair(heap, arity, marks, first, rest, work),
     }
 }

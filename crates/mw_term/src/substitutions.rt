@@ -7,7 +7,7 @@ ghost use Rattle.mw_model.specs.Laws.Rules.{is_variable_object, is_term_object, 
 ghost use Rattle.mw_heap.specs.Objects.{object_at, IsIn};
 ghost use Rattle.mw_term.specs.Marking.{AreMarks};
 
-use crate::names::is_variable_name;
+use crate::names::is_variable_symbol;
 use crate::{Marks, is_term};
 use mw_heap::{Heap, Ref, View};
 
@@ -45,7 +45,7 @@ fn is_variable(heap: &Heap, x: Ref) -> bool
     ensures { result ≡ is_variable_object (object_at heap.now.objects x) }
 {
     match heap.view(x) {
-        View::Symbol => is_variable_name(heap.name_of(x)),
+        View::Symbol => is_variable_symbol(heap, x),
         _ => false,
     }
 }

@@ -12,15 +12,15 @@ use Rattle.mw_equal.proofs.instance.is_formula_under.Goals as goal
 pub sigma_of-requires-clause-pairs : goal.sigma_of-requires-clause-pairs
 sigma_of-requires-clause-pairs c =
     let marks = c.requires.marks in
-    substitution_pairs marks.0 (object_at c.args.heap.now.objects c.args.s) (sym (c.is_substitution.ensures marks.0 marks.1) ∙ c.if-not-is_substitution.false)
+    substitution_pairs marks.0 (object_at c.args.heap.now.objects c.args.substitution) (sym (c.is_substitution.ensures marks.0 marks.1) ∙ c.if-not-is_substitution.false)
 
 pub returns-clause-answer : goal.returns-clause-answer
 returns-clause-answer c =
     let o = object_at c.args.heap.now.objects in
     let formula = c.requires.formula in
-    let instance = ap (λ s. substitute_object s (o c.args.a)) c.in_ok-sigma.ensures.read ∙ substitute_object-formula formula.0 (o c.args.s) (o c.args.a) formula.1 in
+    let instance = ap (λ s. substitute_object s (o c.args.premise)) c.in_ok-sigma.ensures.read ∙ substitute_object-formula formula.0 (o c.args.substitution) (o c.args.premise) formula.1 in
     IfOk-weaker c.is_instance.result _ _
     (λ b e A marks. e
-    ∙ (same_object-swap _ (o c.args.c)
-    ∙ (ap (same_object (o c.args.c)) instance ∙ ap (λ t. t && same_object (o c.args.c) (substitute_formula_object (o c.args.s) (o c.args.a))) (sym c.if-not-is_substitution.false ∙ c.is_substitution.ensures A marks))))
+    ∙ (same_object-swap _ (o c.args.conclusion)
+    ∙ (ap (same_object (o c.args.conclusion)) instance ∙ ap (λ t. t && same_object (o c.args.conclusion) (substitute_formula_object (o c.args.substitution) (o c.args.premise))) (sym c.if-not-is_substitution.false ∙ c.is_substitution.ensures A marks))))
     c.is_instance.ensures.instance

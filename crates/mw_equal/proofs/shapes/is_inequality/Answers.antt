@@ -10,7 +10,7 @@ pub returns-in-Some : goal.returns-in-Some
 returns-in-Some c =
     let os = c.args.heap.now.objects in
     let equality = equal_object (object_at os c.args.a) (object_at os c.args.b) in
-    c.is_list3.ensures ∙ (sym (and-true (same_object (object_at os c.in-Some.equality) equality)) ∙ ap (λ x. same_object x (not_object equality)) (sym c.in-Some.ensures.member))
+    c.is_equal.ensures ∙ (sym (and-true (same_object (object_at os c.in-Some.equality) equality)) ∙ ap (λ x. same_object x (not_object equality)) (sym c.in-Some.ensures.member))
 
 pub returns-in-None : goal.returns-in-None
 returns-in-None c =

@@ -1,7 +1,7 @@
 -- The head of a lambda call has a body that is a term with no other variables than its formals.
 use Rattle.std.proofs.Common.{◌≡◌, ◌<◌, Some, None, length, is_some, option_map, sym, ap, ◌∙◌, arith}
 use Rattle.std.proofs.lemmas.Result.{IfOk-weaker}
-use Rattle.mw_model.specs.Terms.Object.{Pair, name_of_bytes}
+use Rattle.mw_model.specs.Terms.Object.{Pair}
 use Rattle.mw_heap.specs.Objects.{object_at}
 use Rattle.mw_term.specs.Parts.{names_at, formals_of}
 use Rattle.mw_term.proofs.ListMarks.{term_at}
@@ -15,7 +15,7 @@ returns-then-not-marks-index c = λ A marked.
     let below : c.in-Pair-view.body < length c.args.marks.now = omega (arith, c.requires.marked, c.in-Pair.ensures.below, c.in-Pair-view.ensures.below) in
     sym
     (ap is_some
-    (formal_count-no_term A (name_of_bytes c.args.name.now) (object_at os c.args.rest) (object_at os c.in-Pair.list) (object_at os c.in-Pair-view.body) (object_at os c.in-Pair-view.end) shape
+    (formal_count-no_term A (object_at os c.args.word) (object_at os c.args.rest) (object_at os c.in-Pair.list) (object_at os c.in-Pair-view.body) (object_at os c.in-Pair-view.end) shape
     (term_at A os c.args.marks.now marked c.index.result c.in-Pair-view.body c.index.ensures below _ _ c.if-not-marks-index.true)))
 
 pub returns-in-None : goal.returns-in-None
@@ -23,7 +23,7 @@ returns-in-None c = λ A marked.
     let os = c.args.heap.now.objects in
     let shape = c.in-Pair.ensures.shows.2 ∙ ap (Pair (object_at os c.in-Pair.list)) c.in-Pair-view.ensures.shows.2 in
     let none : formals_of (object_at os c.in-Pair.list) ≡ None = sym c.in_ok-formals.ensures.formals ∙ ap (option_map (λ s. names_at os s.keys)) c.in-None.is in
-    sym (ap is_some (formal_count-no_formals A (name_of_bytes c.args.name.now) (object_at os c.args.rest) (object_at os c.in-Pair.list) (object_at os c.in-Pair-view.body) (object_at os c.in-Pair-view.end) shape none))
+    sym (ap is_some (formal_count-no_formals A (object_at os c.args.word) (object_at os c.args.rest) (object_at os c.in-Pair.list) (object_at os c.in-Pair-view.body) (object_at os c.in-Pair-view.end) shape none))
 
 pub returns-in-Some : goal.returns-in-Some
 returns-in-Some c = λ A marked.
@@ -33,7 +33,7 @@ returns-in-Some c = λ A marked.
     let below : c.in-Pair-view.body < length c.args.marks.now = omega (arith, c.requires.marked, c.in-Pair.ensures.below, c.in-Pair-view.ensures.below) in
     let formals : formals_of (object_at os c.in-Pair.list) ≡ Some xs = sym c.in_ok-formals.ensures.formals ∙ ap (option_map (λ s. names_at os s.keys)) c.in-Some.is in
     let closes =
-    formal_count-closes A (name_of_bytes c.args.name.now) (object_at os c.args.rest) (object_at os c.in-Pair.list) (object_at os c.in-Pair-view.body) (object_at os c.in-Pair-view.end) shape xs formals
+    formal_count-closes A (object_at os c.args.word) (object_at os c.args.rest) (object_at os c.in-Pair.list) (object_at os c.in-Pair-view.body) (object_at os c.in-Pair-view.end) shape xs formals
     (term_at A os c.args.marks.now marked c.index.result c.in-Pair-view.body c.index.ensures below _ _ c.if-not-marks-index.false)
     (sym c.is_word.ensures ∙ c.if-not-is_word.false)
     (sym c.is_nil.ensures ∙ c.if-not-is_nil.false) in

@@ -1,10 +1,9 @@
 -- A pair's mark comes from its parts' marks.
 use Rattle.std.proofs.Common.{is_some, sym, ap, ◌∙◌}
 use Rattle.mw_model.specs.Terms.Object.{Pair}
-use Rattle.mw_model.specs.Laws.Rules.{is_term_object, is_formula_object}
 use Rattle.mw_heap.specs.Objects.{object_at}
 use Rattle.mw_term.specs.Marking.{mark_of_object, term_count, formal_count}
-use Rattle.mw_term.proofs.ListMarks.{mark_at, mark_is, symbol_named, terms_of_pair, mark_of_lambda, no_mark}
+use Rattle.mw_term.proofs.ListMarks.{mark_at, mark_is, terms_of_pair, mark_of_lambda, no_mark}
 use Rattle.mw_term.proofs.marks.mark_pair.Goals as goal
 
 pub returns-in_ok-is_lambda_head-in-Symbol : goal.returns-in_ok-is_lambda_head-in-Symbol
@@ -14,12 +13,11 @@ returns-in_ok-is_lambda_head-in-Symbol c =
     let A = c.args.arity.now in
     let a = c.args.first in
     let r = c.args.rest in
-    let e = sym (symbol_named (object_at os a) c.name_of-name.result.now c.in-Symbol.ensures.shows c.name_of-name.ensures) in
     mark_is A (Pair (object_at os a) (object_at os r)) _ _ _ _
-    (c.in_ok-is_call-in-Symbol.ensures ∙ ap (λ y. is_term_object A (Pair y (object_at os r))) e)
+    c.in_ok-is_call-in-Symbol.ensures
     (c.are_more_terms-is_terms.ensures ∙ terms_of_pair A os ms c.requires.marked a r c.index.result c.index-2.result no_mark c.index.ensures c.index-2.ensures c.requires.first c.requires.rest)
-    (c.is_formula_list.ensures A c.requires.marked ∙ ap (λ y. is_formula_object A (Pair y (object_at os r))) e)
-    (c.in_ok-is_lambda_head-in-Symbol.ensures A c.requires.marked ∙ ap (λ y. is_some (formal_count A (Pair y (object_at os r)))) e)
+    (c.is_formula_list.ensures A c.requires.marked)
+    (c.in_ok-is_lambda_head-in-Symbol.ensures A c.requires.marked)
 
 pub returns-in_ok-is_lambda_call-in-Pair : goal.returns-in_ok-is_lambda_call-in-Pair
 returns-in_ok-is_lambda_call-in-Pair c =
