@@ -6,7 +6,7 @@ use Rattle.mw_model.specs.Texts.Grammar.{Book, book, trees}
 use Rattle.mw_model.specs.Reports.Report.{Status, Done, SomeRefused, Syntax, status_of}
 use Rattle.mw_model.specs.Reports.Headlines.{Promised}
 use Rattle.mw_port.specs.Ports.{Takes}
-use Rattle.mw_read.specs.Piles.{kind_of}
+use Rattle.mw_read.specs.Kinds.{kind_of}
 use Rattle.mw_read.specs.declared.step.SyntaxKind.{SyntaxKind}
 use Rattle.mw_book.specs.Answering.{fault_of, ReadWhole}
 use Rattle.mw_book.specs.Books.{TakesSome}

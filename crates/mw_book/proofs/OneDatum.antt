@@ -7,7 +7,7 @@ use Rattle.mw_model.specs.Texts.Grammar.{Book, book, limit, reading, trees}
 use Rattle.mw_model.specs.Events.Fate.{is_out_of_range}
 use Rattle.mw_book.specs.Arguments.{symbol_among}
 use Rattle.mw_read.specs.Parsing.{meaning_of}
-use Rattle.mw_read.specs.Piles.{kind_of}
+use Rattle.mw_read.specs.Kinds.{kind_of}
 use Rattle.mw_read.specs.Standing.{Stands}
 use Rattle.mw_read.specs.Feeding.{Continues, GivesNext, UnreadFollows}
 use Rattle.mw_read.specs.declared.parser.Parser.{Parser}

@@ -5,7 +5,7 @@ use Rattle.mw_model.specs.Reports.Report.{Status, Done, SomeRefused, Syntax, rep
 use Rattle.mw_model.specs.Reports.Trial.{trial_book}
 use Rattle.mw_port.specs.Memories.{no_faults}
 use Rattle.mw_port.specs.Ports.{Rises, Takes}
-use Rattle.mw_read.specs.Piles.{kind_of}
+use Rattle.mw_read.specs.Kinds.{kind_of}
 use Rattle.mw_read.specs.declared.step.SyntaxKind.{SyntaxKind}
 use Rattle.mw_reflect.specs.Laws.{EventsKeep}
 use Rattle.mw_book.specs.Books.{Has, TakesSome}

@@ -5,7 +5,7 @@ use Rattle.mw_model.specs.Texts.Lexemes.{Fault, fault, Goes}
 use Rattle.mw_model.specs.Texts.Grammar.{book, reading, trees}
 use Rattle.mw_model.specs.Reports.Request.{Request}
 use Rattle.mw_port.specs.Ports.{Takes as SinkTakes, HasEnded}
-use Rattle.mw_read.specs.Piles.{kind_of}
+use Rattle.mw_read.specs.Kinds.{kind_of}
 use Rattle.mw_read.specs.Standing.{Stands, IsFree}
 use Rattle.mw_read.specs.declared.parser.Parser.{Parser}
 use Rattle.mw_read.specs.declared.step.SyntaxKind.{SyntaxKind}

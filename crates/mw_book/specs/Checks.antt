@@ -6,7 +6,7 @@ use Rattle.mw_model.specs.Reports.Report.{Status, Done, SomeRefused, Syntax, las
 use Rattle.mw_model.specs.Reports.Trial.{trial_book}
 use Rattle.mw_model.specs.Reports.Headline.{TrialHeadline}
 use Rattle.mw_port.specs.Ports.{Rises, Takes, HasEnded}
-use Rattle.mw_read.specs.Piles.{kind_of}
+use Rattle.mw_read.specs.Kinds.{kind_of}
 use Rattle.mw_book.specs.Books.{TakesSome}
 use Rattle.mw_book.specs.Statuses.{report_status, Keeps, IsPartOf, WritesSoFar}
 use Rattle.mw_book.specs.declared.status.Status.{Status as Ending}

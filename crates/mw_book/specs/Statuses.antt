@@ -8,7 +8,7 @@ use Rattle.mw_model.specs.Reports.Report.{Status, Done, SomeRefused, Syntax, las
 use Rattle.mw_model.specs.Reports.Trial.{trial_book}
 use Rattle.mw_model.specs.Reports.Headlines.{Promised, IsBegun}
 use Rattle.mw_port.specs.Ports.{Gives, Takes}
-use Rattle.mw_read.specs.Piles.{kind_of}
+use Rattle.mw_read.specs.Kinds.{kind_of}
 use Rattle.mw_port.specs.declared.sink.Halt.{Halt}
 use Rattle.mw_port.specs.declared.sink.Halt.TheVariants as halt
 use Rattle.mw_book.specs.Due.{AreAnswers}

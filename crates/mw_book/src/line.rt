@@ -5,7 +5,7 @@ ghost use Rattle.mw_model.specs.Values.Primitive.{is_symbol};
 ghost use Rattle.mw_model.specs.Texts.Printing.{numeral};
 ghost use Rattle.mw_model.specs.Reports.Report.{dash, fate_text, kind_word, symbol_text};
 ghost use Rattle.mw_heap.specs.Objects.{object_at, IsIn};
-ghost use Rattle.mw_read.specs.Piles.{kind_of};
+ghost use Rattle.mw_read.specs.Kinds.{kind_of};
 ghost use Rattle.mw_read.specs.Shown.{ShowsEvent, IsShown, shown_text};
 ghost use Rattle.mw_kernel.specs.Fates.{fate_of};
 ghost use Rattle.mw_book.specs.Lines.{line_begun, summary_of, fault_line};

@@ -3,7 +3,7 @@ use Rattle.std.specs.Prelude.{◌≡◌, ◌<◌, ◌⊎◌, true, false, List, 
 use Rattle.mw_model.specs.Terms.Object.{Object}
 use Rattle.mw_model.specs.Texts.Lexemes.{fault, Goes}
 use Rattle.mw_model.specs.Texts.Grammar.{book, reading, trees}
-use Rattle.mw_read.specs.Piles.{kind_of}
+use Rattle.mw_read.specs.Kinds.{kind_of}
 use Rattle.mw_read.specs.Standing.{Stands, IsStanding, IsFree, Follows, HasEnded, Gives, work}
 use Rattle.mw_read.specs.declared.reader.Reader.{Reader}
 use Rattle.mw_read.specs.declared.step.Step.{Step}

@@ -4,6 +4,7 @@ pub mod Clamp
 pub mod Codes
 pub mod Runs
 pub mod Named
+pub mod Kinds
 pub mod Piles
 pub mod Stacks
 pub mod Held

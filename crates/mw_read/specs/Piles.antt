@@ -2,6 +2,7 @@
 use Rattle.std.specs.Prelude.{◌≡◌, ℕ, ◌<◌, Bool, true, false, List, [], ◌∷◌, ◌++◌, length, Option}
 use Rattle.mw_model.specs.Terms.Object.{Object}
 use Rattle.mw_model.specs.Texts.Grammar.{Labels, Unused}
+use Rattle.mw_read.specs.Kinds.{kind_of}
 use Rattle.mw_read.specs.Named.{Agree, IsListed}
 use Rattle.mw_read.specs.Machine.{Frame, Members, Tailed, Quoting, Marking, State, Idle, Within, Full, Broken, Turn, event, given, quiet, fill}
 use Rattle.mw_heap.specs.Objects.{object_at, IsIn, Grows}
@@ -9,8 +10,6 @@ use Rattle.mw_model.specs.Texts.Lexemes as lex
 use Rattle.mw_read.specs.declared.step.Fault as code
 use Rattle.mw_read.specs.declared.step.Outcome.{Outcome}
 use Rattle.mw_read.specs.declared.step.Outcome.TheVariants as outcomes
-use Rattle.mw_read.specs.declared.step.SyntaxKind as codes
-use Rattle.mw_read.specs.declared.step.SyntaxKind.TheVariants as kinds
 use Rattle.mw_read.specs.declared.stack.Layer.{Layer}
 use Rattle.mw_read.specs.declared.stack.Layer.TheVariants as layers
 
@@ -73,15 +72,6 @@ Shows os p m Idle = (p ≡ Frames []) × Agree os m Unused
 Shows os p m (Within f s ls) = (p ≡ Frames (f ∷ s)) × Agree os m ls
 Shows os p m (Full xs x s ls) = (p ≡ Ready xs x s) × Agree os m ls
 Shows os p m (Broken f) = ⊥
-
-abbrev pub kind_of : codes.SyntaxKind → lex.SyntaxKind
-kind_of kinds.End = lex.END
-kind_of kinds.Close = lex.CLOSE
-kind_of kinds.Dot = lex.DOT
-kind_of kinds.Token = lex.TOKEN
-kind_of kinds.Byte = lex.BYTE
-kind_of kinds.Label = lex.LABEL
-kind_of kinds.Length = lex.LENGTH
 
 abbrev pub fault_of : code.Fault → lex.Fault
 fault_of f = lex.fault (kind_of f.kind) f.offset

@@ -7,7 +7,8 @@ use Rattle.mw_model.specs.Events.Fate.{is_out_of_range}
 use Rattle.mw_heap.specs.Objects.{object_at, IsIn}
 use Rattle.mw_read.specs.Machine.{State}
 use Rattle.mw_read.specs.Resume.{onward}
-use Rattle.mw_read.specs.Piles.{kind_of, fault_of}
+use Rattle.mw_read.specs.Kinds.{kind_of}
+use Rattle.mw_read.specs.Piles.{fault_of}
 use Rattle.mw_read.specs.Held.{Holds}
 use Rattle.mw_read.specs.Shown.{ShowsEvent}
 use Rattle.mw_read.specs.Parsing.{meaning_of, Fits, IsParser, IsStarted, Advances, is_inside, offset_of, weight}

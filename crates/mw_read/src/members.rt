@@ -7,7 +7,7 @@ ghost use Rattle.mw_model.specs.Reports.Report.{labelled_words, symbol_text, lab
 ghost use Rattle.mw_heap.specs.Objects.{object_at, IsIn};
 ghost use Rattle.mw_read.specs.Shown.{shown_text, symbol_itself, IsShown, ShowsEvent};
 
-use mw_heap::{Heap, Ref, View};
+use mw_heap::{Heap, Ref, View, Word};
 
 // The object, where it is a symbol.
 fn symbol(heap: &Heap, x: Ref) -> Option<Ref>
@@ -28,11 +28,10 @@ fn is_labelled(heap: &Heap, word: Ref) -> bool
     requires symbol { is_symbol (object_at heap.now.objects word) ≡ true }
     ensures { result ≡ is_among (name_of (object_at heap.now.objects word)) labelled_words }
 {
-    let name = heap.name_of(word);
-    name == b"VERIFY".as_slice()
-        || name == b"DEFINE".as_slice()
-        || name == b"SKOLEM".as_slice()
-        || name == b"SWITCH".as_slice()
+    heap.is_word(Some(word), Word::Verify)
+        || heap.is_word(Some(word), Word::Define)
+        || heap.is_word(Some(word), Word::Skolem)
+        || heap.is_word(Some(word), Word::Switch)
 }
 
 // The second member of an event that begins with a word, where the line shows it.

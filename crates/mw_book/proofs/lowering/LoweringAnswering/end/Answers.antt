@@ -1,6 +1,6 @@
 -- The last line of the lowered book.
 use Rattle.std.proofs.Common.{◌≡◌, ℕ, List, ◌++◌, codes, sym, ap, ◌∙◌, subst, append_assoc}
-use Rattle.mw_read.specs.Piles.{kind_of}
+use Rattle.mw_read.specs.Kinds.{kind_of}
 use Rattle.mw_book.specs.Answering.{fault_of}
 use Rattle.mw_book.specs.Due.{IsLastText}
 use Rattle.mw_book.specs.Lines.{fault_line, summary_of}
