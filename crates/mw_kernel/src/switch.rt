@@ -1,12 +1,10 @@
 //! The tests of a SWITCH.
-ghost use Rattle.std.specs.Prelude.{◌≡◌, All, IfOk, option_map};
-ghost use Rattle.mw_model.specs.Terms.Object.{is_member};
+ghost use Rattle.std.specs.Prelude.{◌≡◌, IfOk, option_map};
 ghost use Rattle.mw_model.specs.Values.Definition.{Definitions, is_present};
 ghost use Rattle.mw_model.specs.Events.Theory.{Theory as Meant};
 ghost use Rattle.mw_model.specs.Events.Fate.{checker_named};
 ghost use Rattle.mw_heap.specs.Objects.{object_at, IsIn, Grows};
 ghost use Rattle.mw_heap.specs.Variants.{refusal_of};
-ghost use Rattle.mw_heap.specs.Lists.{list_object};
 ghost use Rattle.mw_code.specs.Tables.{StandsFor};
 ghost use Rattle.mw_theory.specs.Knowledge.{parts_of, meant, IsHeld};
 ghost use Rattle.mw_kernel.specs.Switching.{switch_refusal};
@@ -14,7 +12,7 @@ ghost use Rattle.mw_kernel.specs.Switching.{switch_refusal};
 use crate::claim::claim;
 use mw_code::Table;
 use mw_heap::{Heap, Memory, Ref, Refusal};
-use mw_rules::Known;
+use mw_rules::is_known;
 use mw_theory::{Theory, is_symbol};
 
 /// Why a switch to the checker of this name is refused, where it is: Checker where no function with code and four formals has the name,
@@ -33,7 +31,7 @@ pub(crate) fn refusal_of_switch(
         return Ok(Some(Refusal::Checker));
     }
     let claim = claim(heap, name)?;
-    if is_known(heap, claim, &theory.known_theorems) {
+    if is_known(heap, &theory.known_theorems, claim) {
         Ok(None)
     } else {
         Ok(Some(Refusal::Claim))
@@ -53,15 +51,4 @@ fn may_check(heap: &Heap, name: Ref, table: &Table) -> bool
         Some(entry) => entry.arity == 4,
         None => false,
     }
-}
-
-// Whether a formula is one of those that are known.
-fn is_known(heap: &Heap, formula: Ref, known: &Known) -> bool
-    requires within { IsIn heap.now.objects formula }
-    requires known_in { All (IsIn heap.now.objects) known.now }
-    ensures { result ≡ is_member (object_at heap.now.objects formula) (list_object heap.now.objects known.now) }
-{
-    // that equal objects have equal references
-    let _ = heap.same(formula, formula);
-    known.holds(formula)
 }

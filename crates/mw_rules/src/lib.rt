@@ -7,4 +7,4 @@ mod rules;
 
 pub use known::Known;
 pub use method::Method;
-pub use rules::follows;
+pub use rules::{follows, is_known};

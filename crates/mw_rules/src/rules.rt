@@ -20,12 +20,12 @@ use mw_induct::premises_hold;
 use mw_prop::{associativity, contraction, cut, expansion, schema};
 use mw_term::Marks;
 
-/// Whether the conclusion `c` follows by the method from those of the subproofs, with these extras, over these axioms and theorems and in
+/// Whether the conclusion follows by the method from those of the subproofs, with these extras, over these axioms and theorems and in
 /// the profile. The marks say what is a term. The error is memory that is refused.
 pub fn follows(
     heap: &mut Heap,
     method: Method,
-    c: Ref,
+    conclusion: Ref,
     conclusions: &[Ref],
     extras: Ref,
     axioms: &Known,
@@ -34,27 +34,27 @@ pub fn follows(
     marks: &Marks,
 ) -> Result<bool, Memory>
     requires marks { (A : ArityTable) × AreMarks A heap.old.objects marks.now }
-    requires conclusion { c < length marks.now }
-    requires formula { (A : ArityTable) × (is_formula_object A (object_at heap.old.objects c) ≡ true) }
+    requires conclusion { conclusion < length marks.now }
+    requires formula { (A : ArityTable) × (is_formula_object A (object_at heap.old.objects conclusion) ≡ true) }
     requires premises { All (IsIn heap.old.objects) conclusions.now }
     requires formulas { All (λ r. (A : ArityTable) × (is_formula_object A (object_at heap.old.objects r) ≡ true)) conclusions.now }
     requires extras { extras < length marks.now }
     requires axioms { All (IsIn heap.old.objects) axioms.now }
     requires theorems { All (IsIn heap.old.objects) theorems.now }
     ensures grows { Grows heap.old.objects heap.new.objects }
-    ensures answer { IfOk result (λ b. (A : ArityTable) → AreMarks A heap.old.objects marks.now → b ≡ rule_holds (list_object heap.old.objects axioms.now) (list_object heap.old.objects theorems.now) A (profile_of profile) (Some (method_of_logic method)) (object_at heap.old.objects c) (list_object heap.old.objects conclusions.now) (object_at heap.old.objects extras)) }
+    ensures answer { IfOk result (λ b. (A : ArityTable) → AreMarks A heap.old.objects marks.now → b ≡ rule_holds (list_object heap.old.objects axioms.now) (list_object heap.old.objects theorems.now) A (profile_of profile) (Some (method_of_logic method)) (object_at heap.old.objects conclusion) (list_object heap.old.objects conclusions.now) (object_at heap.old.objects extras)) }
 {
     match method {
         Method::Instantiation => match conclusions {
-            [a] => instantiation(heap, c, *a, extras, marks),
+            [a] => instantiation(heap, conclusion, *a, extras, marks),
             _ => Ok(false),
         },
-        Method::Induction => premises_hold(heap, c, extras, conclusions, marks),
+        Method::Induction => premises_hold(heap, conclusion, extras, conclusions, marks),
         _ if !heap.is_nil(Some(extras)) => Ok(false),
         _ => match conclusions {
-            [] => follows_from_none(heap, method, c, axioms, theorems, profile),
-            [a] => Ok(follows_from_one(heap, method, c, *a)),
-            [a, b] => Ok(follows_from_two(heap, method, c, *a, *b)),
+            [] => follows_from_none(heap, method, conclusion, axioms, theorems, profile),
+            [a] => Ok(follows_from_one(heap, method, conclusion, *a)),
+            [a, b] => Ok(follows_from_two(heap, method, conclusion, *a, *b)),
             _ => Ok(false),
         },
     }
@@ -64,61 +64,61 @@ pub fn follows(
 fn follows_from_none(
     heap: &mut Heap,
     method: Method,
-    c: Ref,
+    conclusion: Ref,
     axioms: &Known,
     theorems: &Known,
     profile: Profile,
 ) -> Result<bool, Memory>
-    requires within { IsIn heap.old.objects c }
+    requires within { IsIn heap.old.objects conclusion }
     requires axioms { All (IsIn heap.old.objects) axioms.now }
     requires theorems { All (IsIn heap.old.objects) theorems.now }
     ensures grows { Grows heap.old.objects heap.new.objects }
-    ensures answer { IfOk result (λ b. b ≡ rule_of_none (list_object heap.old.objects axioms.now) (list_object heap.old.objects theorems.now) (profile_of profile) (method_of_logic method) (object_at heap.old.objects c)) }
+    ensures answer { IfOk result (λ b. b ≡ rule_of_none (list_object heap.old.objects axioms.now) (list_object heap.old.objects theorems.now) (profile_of profile) (method_of_logic method) (object_at heap.old.objects conclusion)) }
 {
     match method {
-        Method::Axiom => Ok(is_known(heap, axioms, c)),
-        Method::Theorem => Ok(is_known(heap, theorems, c)),
-        Method::PropositionalSchema => Ok(schema(heap, c)),
-        Method::FunctionalEquality => Ok(functional_equality(heap, c)),
-        Method::BetaReduction => beta(heap, c),
-        Method::BaseEval => base_eval(heap, c, profile),
+        Method::Axiom => Ok(is_known(heap, axioms, conclusion)),
+        Method::Theorem => Ok(is_known(heap, theorems, conclusion)),
+        Method::PropositionalSchema => Ok(schema(heap, conclusion)),
+        Method::FunctionalEquality => Ok(functional_equality(heap, conclusion)),
+        Method::BetaReduction => beta(heap, conclusion),
+        Method::BaseEval => base_eval(heap, conclusion, profile),
         _ => Ok(false),
     }
 }
 
-// Whether the object is known.
-fn is_known(heap: &Heap, known: &Known, x: Ref) -> bool
+/// Whether the object is one of those that are known.
+pub fn is_known(heap: &Heap, known: &Known, x: Ref) -> bool
     requires within { IsIn heap.now.objects x }
     requires known { All (IsIn heap.now.objects) known.now }
     ensures { result ≡ is_member (object_at heap.now.objects x) (list_object heap.now.objects known.now) }
 {
-    let _ = heap.same(x, x);
+    heap.order();
     known.holds(x)
 }
 
 // Whether the conclusion follows from one.
-fn follows_from_one(heap: &Heap, method: Method, c: Ref, a: Ref) -> bool
-    requires within { IsIn heap.now.objects c }
-    requires premise { IsIn heap.now.objects a }
-    ensures { result ≡ rule_of_one (method_of_logic method) (object_at heap.now.objects c) (object_at heap.now.objects a) }
+fn follows_from_one(heap: &Heap, method: Method, conclusion: Ref, premise: Ref) -> bool
+    requires within { IsIn heap.now.objects conclusion }
+    requires premise { IsIn heap.now.objects premise }
+    ensures { result ≡ rule_of_one (method_of_logic method) (object_at heap.now.objects conclusion) (object_at heap.now.objects premise) }
 {
     match method {
-        Method::Expansion => expansion(heap, c, a),
-        Method::Contraction => contraction(heap, c, a),
-        Method::Associativity => associativity(heap, c, a),
+        Method::Expansion => expansion(heap, conclusion, premise),
+        Method::Contraction => contraction(heap, conclusion, premise),
+        Method::Associativity => associativity(heap, conclusion, premise),
         _ => false,
     }
 }
 
 // Whether the conclusion follows from two.
-fn follows_from_two(heap: &Heap, method: Method, c: Ref, a: Ref, b: Ref) -> bool
-    requires within { IsIn heap.now.objects c }
-    requires first { IsIn heap.now.objects a }
-    requires second { IsIn heap.now.objects b }
-    ensures { result ≡ rule_of_two (method_of_logic method) (object_at heap.now.objects c) (object_at heap.now.objects a) (object_at heap.now.objects b) }
+fn follows_from_two(heap: &Heap, method: Method, conclusion: Ref, first: Ref, second: Ref) -> bool
+    requires within { IsIn heap.now.objects conclusion }
+    requires first { IsIn heap.now.objects first }
+    requires second { IsIn heap.now.objects second }
+    ensures { result ≡ rule_of_two (method_of_logic method) (object_at heap.now.objects conclusion) (object_at heap.now.objects first) (object_at heap.now.objects second) }
 {
     match method {
-        Method::Cut => cut(heap, c, a, b),
+        Method::Cut => cut(heap, conclusion, first, second),
         _ => false,
     }
 }

@@ -22,8 +22,8 @@ claim-requires-clause-symbol c =
     let t = meant os (parts_of c.args.theory.now) in
     checker-symbol t (object_at os c.args.name) (sym (c.may_check.ensures t (subst (λ T. StandsFor c.args.heap.now.objects T (definitions_of c.args.heap.now.objects (parts_of c.args.theory.now))) (sym c.deref.ensures) c.requires.held.coded)) ∙ c.if-not-may_check.false)
 
-pub is_known-requires-clause-known_in : goal.is_known-requires-clause-known_in
-is_known-requires-clause-known_in c = all-grow c.args.heap.now.objects c.claim.new.heap.objects c.claim.ensures.grows c.args.theory.now.known_theorems c.requires.held.each_theorem_in
+pub is_known-requires-clause-known : goal.is_known-requires-clause-known
+is_known-requires-clause-known c = all-grow c.args.heap.now.objects c.claim.new.heap.objects c.claim.ensures.grows c.args.theory.now.known_theorems c.requires.held.each_theorem_in
 
 pub returns-then-is_known-clause-refusal : goal.returns-then-is_known-clause-refusal
 returns-then-is_known-clause-refusal c =

@@ -17,7 +17,7 @@ returns-in_default-conclusions-3-clause-answer c =
     let ax = list_object os c.args.axioms.now in
     let th = list_object os c.args.theorems.now in
     let P = profile_of c.args.profile in
-    let f = object_at os c.args.c in
+    let f = object_at os c.args.conclusion in
     let x = object_at os c.args.extras in
     instance_of_more ax th A P f x os c.args.conclusions.now c.in_default-conclusions.len_at_least
     ∙ ap (λ m. rule_holds ax th A P (Some (method_of_logic m)) f (list_object os c.args.conclusions.now) x) (sym c.in-Instantiation.is)
@@ -27,7 +27,7 @@ returns-in-len1-conclusions c =
     let os = c.args.heap.now.objects in
     record {
       grows = Grows-refl os;
-      answer = λ A k. c.follows_from_one.ensures ∙ rule_of_one-is (list_object os c.args.axioms.now) (list_object os c.args.theorems.now) A (profile_of c.args.profile) (object_at os c.args.c) (object_at os c.args.extras) os c.args.method c.in_default-2.not-Instantiation c.in_default-2.not-Induction
+      answer = λ A k. c.follows_from_one.ensures ∙ rule_of_one-is (list_object os c.args.axioms.now) (list_object os c.args.theorems.now) A (profile_of c.args.profile) (object_at os c.args.conclusion) (object_at os c.args.extras) os c.args.method c.in_default-2.not-Instantiation c.in_default-2.not-Induction
           (sym c.is_nil.ensures ∙ c.if-not-is_nil.false) c.args.conclusions.now c.a-item-then-conclusions-lt2-2.result c.in-len1-conclusions.len_at_least c.in-len1-conclusions.len_below c.a-item-then-conclusions-lt2-2.is;
     }
 
@@ -36,7 +36,7 @@ returns-in-len2 c =
     let os = c.args.heap.now.objects in
     record {
       grows = Grows-refl os;
-      answer = λ A k. c.follows_from_two.ensures ∙ rule_of_two-is (list_object os c.args.axioms.now) (list_object os c.args.theorems.now) A (profile_of c.args.profile) (object_at os c.args.c) (object_at os c.args.extras) os c.args.method c.in_default-2.not-Instantiation c.in_default-2.not-Induction
+      answer = λ A k. c.follows_from_two.ensures ∙ rule_of_two-is (list_object os c.args.axioms.now) (list_object os c.args.theorems.now) A (profile_of c.args.profile) (object_at os c.args.conclusion) (object_at os c.args.extras) os c.args.method c.in_default-2.not-Instantiation c.in_default-2.not-Induction
           (sym c.is_nil.ensures ∙ c.if-not-is_nil.false) c.args.conclusions.now c.a-item-then-conclusions-lt3.result c.b-item.result c.in-len2.len_at_least c.in-len2.len_below c.a-item-then-conclusions-lt3.is c.b-item.is;
     }
 
@@ -45,7 +45,7 @@ returns-in_default-conclusions-2 c =
     let os = c.args.heap.now.objects in
     record {
       grows = Grows-refl os;
-      answer = λ A k. rule_of_more (list_object os c.args.axioms.now) (list_object os c.args.theorems.now) A (profile_of c.args.profile) (object_at os c.args.c) (object_at os c.args.extras) os c.args.method c.in_default-2.not-Instantiation c.in_default-2.not-Induction
+      answer = λ A k. rule_of_more (list_object os c.args.axioms.now) (list_object os c.args.theorems.now) A (profile_of c.args.profile) (object_at os c.args.conclusion) (object_at os c.args.extras) os c.args.method c.in_default-2.not-Instantiation c.in_default-2.not-Induction
           (sym c.is_nil.ensures ∙ c.if-not-is_nil.false) c.args.conclusions.now c.in_default-conclusions-2.len_at_least;
     }
 
