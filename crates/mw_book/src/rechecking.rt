@@ -1,18 +1,16 @@
 //! Judging the data of a log as they are read.
-ghost use Rattle.std.specs.Prelude.{◌≡◌, ◌+◌, ◌<◌, ◌≤◌, ◌^◌, cond, [], ◌++◌, IfOk, IfSome, OnOk};
+ghost use Rattle.std.specs.Prelude.{◌≡◌, ◌+◌, ◌<◌, ◌≤◌, ◌^◌, cond, [], ◌++◌, IfOk, OnOk};
 ghost use Rattle.mw_model.specs.Terms.Object.{Object};
 ghost use Rattle.mw_model.specs.Reports.Request.{Recheck};
-ghost use Rattle.mw_heap.specs.Objects.{IsIn};
 ghost use Rattle.mw_read.specs.Shown.{ShowsEvent};
-ghost use Rattle.mw_flat.specs.Going.{is_step_word};
 ghost use Rattle.mw_flat.specs.Verdicts.{answer_of};
 ghost use Rattle.mw_book.specs.Lines.{answers_line, line_begun};
 ghost use Rattle.mw_book.specs.Rechecked.{HasEndedDatum, Rechecked, RecheckedFor};
 
 use crate::answering::Answering;
 use crate::line::{begin_line, write_fault, write_number};
-use mw_flat::{Flat, Verdict};
-use mw_heap::{Heap, Memory, Ref, Word};
+use mw_flat::{Flat, Verdict, is_step_word};
+use mw_heap::{Memory, Ref, Word};
 use mw_read::{Reader, Step, SyntaxKind, shown};
 use std::alloc::Global;
 
@@ -36,14 +34,6 @@ fn copy_of(word: &Option<Ref>) -> Option<Ref>
         Some(word) => Some(*word),
         None => None,
     }
-}
-
-// Whether the word is STEP.
-fn is_step_word(heap: &Heap, word: &Option<Ref>) -> bool
-    requires { IfSome word.now (IsIn heap.now.objects) }
-    ensures { result ≡ is_step_word heap.now.objects word.now }
-{
-    heap.is_word(copy_of(word), Word::Step)
 }
 
 // The last line of a log without a fault.

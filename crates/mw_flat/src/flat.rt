@@ -139,7 +139,7 @@ impl Flat {
         requires room { self.old.count + 1 < 2 ^ 64 }
         ensures comes { (x : Object) → is_out_of_range x ≡ true → is_step x ≡ is_step_word self.old.objects word → (steps : List Object) → HasCollected self.old steps → Comes result self.old self.new steps x }
     {
-        if is_step_word(&self.world.heap, word) {
+        if is_step_word(&self.world.heap, &word) {
             self.collected.add_bad();
             return Verdict::Noted;
         }
@@ -271,11 +271,14 @@ fn settle(
 }
 
 /// Whether the word of a datum, as the reader shows it, is STEP.
-pub fn is_step_word(heap: &Heap, word: Option<Ref>) -> bool
-    requires { IfSome word (IsIn heap.now.objects) }
-    ensures { result ≡ is_step_word heap.now.objects word }
+pub fn is_step_word(heap: &Heap, word: &Option<Ref>) -> bool
+    requires { IfSome word.now (IsIn heap.now.objects) }
+    ensures { result ≡ is_step_word heap.now.objects word.now }
 {
-    heap.is_word(word, Word::Step)
+    match word {
+        Some(word) => heap.is_word(Some(*word), Word::Step),
+        None => false,
+    }
 }
 
 // The verdict on an event that is refused for this reason, or not at all: what is owed or given as proofs is told apart from what is
