@@ -438,21 +438,21 @@ fn wrong_limits_of_recursions(alloc: Global) -> Result<String, AllocError> {
 
 #[test]
 fn functions_are_defined(rt: HostRuntime) -> Result<(), Fail> {
-    let wrong = wrong_answers(rt.alloc(), &FUNCTIONS, 4096)?;
+    let wrong = wrong_answers(rt.alloc(), &["check"], &FUNCTIONS, 4096)?;
     assert_eq!(rt; wrong.as_str(), "");
     Ok(())
 }
 
 #[test]
 fn witnesses_are_chosen(rt: HostRuntime) -> Result<(), Fail> {
-    let wrong = wrong_answers(rt.alloc(), &WITNESSES, 4096)?;
+    let wrong = wrong_answers(rt.alloc(), &["check"], &WITNESSES, 4096)?;
     assert_eq!(rt; wrong.as_str(), "");
     Ok(())
 }
 
 #[test]
 fn blocks_are_taken_whole(rt: HostRuntime) -> Result<(), Fail> {
-    let wrong = wrong_answers(rt.alloc(), &BLOCKS, 4096)?;
+    let wrong = wrong_answers(rt.alloc(), &["check"], &BLOCKS, 4096)?;
     assert_eq!(rt; wrong.as_str(), "");
     Ok(())
 }

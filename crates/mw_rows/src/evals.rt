@@ -95,7 +95,7 @@ fn wrong_limits(alloc: Global) -> Result<String, AllocError> {
 
 #[test]
 fn terms_are_evaluated(rt: HostRuntime) -> Result<(), Fail> {
-    let wrong = wrong_answers(rt.alloc(), &VALUES, 4096)?;
+    let wrong = wrong_answers(rt.alloc(), &["check"], &VALUES, 4096)?;
     assert_eq!(rt; wrong.as_str(), "");
     Ok(())
 }

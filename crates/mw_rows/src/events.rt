@@ -215,21 +215,21 @@ const NO_EVENTS: [Row; 9] = [
 
 #[test]
 fn formulas_have_the_fates_of_their_proofs(rt: HostRuntime) -> Result<(), Fail> {
-    let wrong = wrong_answers(rt.alloc(), &PROOFS, 4096)?;
+    let wrong = wrong_answers(rt.alloc(), &["check"], &PROOFS, 4096)?;
     assert_eq!(rt; wrong.as_str(), "");
     Ok(())
 }
 
 #[test]
 fn objects_are_printed(rt: HostRuntime) -> Result<(), Fail> {
-    let wrong = wrong_answers(rt.alloc(), &PRINTED, 4096)?;
+    let wrong = wrong_answers(rt.alloc(), &["check"], &PRINTED, 4096)?;
     assert_eq!(rt; wrong.as_str(), "");
     Ok(())
 }
 
 #[test]
 fn what_is_no_event_is_refused(rt: HostRuntime) -> Result<(), Fail> {
-    let wrong = wrong_answers(rt.alloc(), &NO_EVENTS, 4096)?;
+    let wrong = wrong_answers(rt.alloc(), &["check"], &NO_EVENTS, 4096)?;
     assert_eq!(rt; wrong.as_str(), "");
     Ok(())
 }

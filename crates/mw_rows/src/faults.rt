@@ -213,14 +213,14 @@ const DATA: [Row; 2] = [
 
 #[test]
 fn the_first_fault_ends_a_book(rt: HostRuntime) -> Result<(), Fail> {
-    let wrong = wrong_answers(rt.alloc(), &FAULTS, 4096)?;
+    let wrong = wrong_answers(rt.alloc(), &["check"], &FAULTS, 4096)?;
     assert_eq!(rt; wrong.as_str(), "");
     Ok(())
 }
 
 #[test]
 fn a_label_and_a_quote_begin_data_of_their_own(rt: HostRuntime) -> Result<(), Fail> {
-    let wrong = wrong_answers(rt.alloc(), &DATA, 4096)?;
+    let wrong = wrong_answers(rt.alloc(), &["check"], &DATA, 4096)?;
     assert_eq!(rt; wrong.as_str(), "");
     Ok(())
 }

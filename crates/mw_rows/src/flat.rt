@@ -1,5 +1,5 @@
 //! Books, and the logs that `flat` makes of them.
-use crate::row::{Answer, Row, add_wrong_within, answer_with_faults};
+use crate::row::{Answer, Row, answer_with_faults, wrong_answers};
 use crate::switches::NEVER;
 use mw_book::Status;
 use mw_read::SyntaxKind;
@@ -75,16 +75,7 @@ const FLATTENED: [Row; 10] = [
     },
 ];
 
-// What `flat` does not answer so to these books, which it reads in pieces of so many bytes.
-fn wrong_books(alloc: Global, size: usize) -> Result<String, AllocError> {
-    let mut wrong = String::new(alloc);
-    for row in &FLATTENED {
-        add_wrong_within(&mut wrong, alloc, &["flat"], row, size)?;
-    }
-    Ok(wrong)
-}
-
-// What it answers where the reads and the writes of these numbers fail.
+// What `flat` answers where the reads and the writes of these numbers fail.
 fn flattened_with_faults(
     alloc: Global,
     reads: &[u64],
@@ -96,14 +87,14 @@ fn flattened_with_faults(
 
 #[test]
 fn each_event_is_written_after_its_steps(rt: HostRuntime) -> Result<(), Fail> {
-    let wrong = wrong_books(rt.alloc(), 4096)?;
+    let wrong = wrong_answers(rt.alloc(), &["flat"], &FLATTENED, 4096)?;
     assert_eq!(rt; wrong.as_str(), "");
     Ok(())
 }
 
 #[test]
 fn a_book_that_is_read_byte_by_byte_has_the_same_log(rt: HostRuntime) -> Result<(), Fail> {
-    let wrong = wrong_books(rt.alloc(), 1)?;
+    let wrong = wrong_answers(rt.alloc(), &["flat"], &FLATTENED, 1)?;
     assert_eq!(rt; wrong.as_str(), "");
     Ok(())
 }

@@ -50,7 +50,7 @@ X2 . #74=(Y2))) (POR* (PNOT* (PEQUAL* X1 X2)) (PEQUAL* Y1 . #74#)))))) (#75=(X1 
 
 #[test]
 fn an_induction_is_accepted(rt: HostRuntime) -> Result<(), Fail> {
-    let wrong = wrong_answers(rt.alloc(), &[INDUCTION], 4096)?;
+    let wrong = wrong_answers(rt.alloc(), &["check"], &[INDUCTION], 4096)?;
     assert_eq!(rt; wrong.as_str(), "");
     Ok(())
 }

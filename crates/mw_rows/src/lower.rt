@@ -1,5 +1,5 @@
 //! Books of derivations, and what `lower` writes for them.
-use crate::row::{Answer, Row, add_wrong_within, answer_to, answer_with_faults, answer_within};
+use crate::row::{Answer, Row, answer_to, answer_with_faults, answer_within, wrong_answers};
 use mw_book::Status;
 use mw_read::SyntaxKind;
 use std::alloc::{AllocError, Global};
@@ -74,15 +74,6 @@ fn lowered(alloc: Global, book: &str, size: usize) -> Result<Answer, AllocError>
     answer_within(alloc, &["lower"], book, size)
 }
 
-// What `lower` does not answer so to these books, which it reads in pieces of so many bytes.
-fn wrong_books(alloc: Global, size: usize) -> Result<String, AllocError> {
-    let mut wrong = String::new(alloc);
-    for row in &UNCHANGED {
-        add_wrong_within(&mut wrong, alloc, &["lower"], row, size)?;
-    }
-    Ok(wrong)
-}
-
 // What it answers where the reads and the writes of these numbers fail.
 fn lowered_with_faults(alloc: Global, reads: &[u64], writes: &[u64]) -> Result<Answer, AllocError> {
     let book = "(print a) (print b) (shout)";
@@ -91,14 +82,14 @@ fn lowered_with_faults(alloc: Global, reads: &[u64], writes: &[u64]) -> Result<A
 
 #[test]
 fn what_holds_no_derivations_is_written_as_it_is(rt: HostRuntime) -> Result<(), Fail> {
-    let wrong = wrong_books(rt.alloc(), 4096)?;
+    let wrong = wrong_answers(rt.alloc(), &["lower"], &UNCHANGED, 4096)?;
     assert_eq!(rt; wrong.as_str(), "");
     Ok(())
 }
 
 #[test]
 fn what_is_read_byte_by_byte_is_written_in_the_same_way(rt: HostRuntime) -> Result<(), Fail> {
-    let wrong = wrong_books(rt.alloc(), 1)?;
+    let wrong = wrong_answers(rt.alloc(), &["lower"], &UNCHANGED, 1)?;
     assert_eq!(rt; wrong.as_str(), "");
     Ok(())
 }

@@ -73,7 +73,7 @@ const DATA: [Datum; 5] = [
 #[test]
 fn the_sizes_of_pieces_do_not_matter(rt: HostRuntime) -> Result<(), Fail> {
     for size in [1, 2, 3, 7, 4096] {
-        let wrong = wrong_answers(rt.alloc(), &ROWS, size)?;
+        let wrong = wrong_answers(rt.alloc(), &["check"], &ROWS, size)?;
         assert_eq!(rt; wrong.as_str(), "", "in pieces of {size}");
     }
     Ok(())

@@ -179,7 +179,7 @@ fn other_report_on_a_product(alloc: Global) -> Result<String, AllocError> {
 
 #[test]
 fn a_profile_is_chosen_at_the_beginning(rt: HostRuntime) -> Result<(), Fail> {
-    let wrong = wrong_answers(rt.alloc(), &PROFILES, 4096)?;
+    let wrong = wrong_answers(rt.alloc(), &["check"], &PROFILES, 4096)?;
     assert_eq!(rt; wrong.as_str(), "");
     Ok(())
 }

@@ -1,5 +1,5 @@
 //! Logs, and what `recheck` answers to them.
-use crate::row::{Answer, Row, add_wrong_within, answer_with_faults, answer_within};
+use crate::row::{Answer, Row, answer_with_faults, answer_within, wrong_answers};
 use crate::shared::book_of_the_proof;
 use crate::switches::NEVER;
 use mw_book::Status;
@@ -127,16 +127,7 @@ const LOGS: [Row; 21] = [
     },
 ];
 
-// What `recheck` does not answer so to these logs, which it reads in pieces of so many bytes.
-fn wrong_logs(alloc: Global, size: usize) -> Result<String, AllocError> {
-    let mut wrong = String::new(alloc);
-    for row in &LOGS {
-        add_wrong_within(&mut wrong, alloc, &["recheck"], row, size)?;
-    }
-    Ok(wrong)
-}
-
-// What it answers to the log that `flat` makes of the book.
+// What `recheck` answers to the log that `flat` makes of the book.
 fn answer_to_the_log_of(alloc: Global, book: &str) -> Result<Answer, AllocError> {
     let log = answer_within(alloc, &["flat"], book, 4096)?;
     answer_within(alloc, &["recheck"], log.report.as_str(), 4096)
@@ -154,14 +145,14 @@ fn rechecked_with_faults(
 
 #[test]
 fn each_event_of_a_log_is_answered(rt: HostRuntime) -> Result<(), Fail> {
-    let wrong = wrong_logs(rt.alloc(), 4096)?;
+    let wrong = wrong_answers(rt.alloc(), &["recheck"], &LOGS, 4096)?;
     assert_eq!(rt; wrong.as_str(), "");
     Ok(())
 }
 
 #[test]
 fn a_log_that_is_read_byte_by_byte_has_the_same_report(rt: HostRuntime) -> Result<(), Fail> {
-    let wrong = wrong_logs(rt.alloc(), 1)?;
+    let wrong = wrong_answers(rt.alloc(), &["recheck"], &LOGS, 1)?;
     assert_eq!(rt; wrong.as_str(), "");
     Ok(())
 }

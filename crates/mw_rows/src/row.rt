@@ -111,18 +111,8 @@ pub(crate) fn lines_from(alloc: Global, first: u64, events: &[&str]) -> Result<S
     Ok(lines)
 }
 
-/// Puts the book and the answer to it after the text, where the answer is not the one that is due.
-pub(crate) fn add_wrong(
-    wrong: &mut String,
-    alloc: Global,
-    row: &Row,
-    size: usize,
-) -> Result<(), AllocError> {
-    add_wrong_within(wrong, alloc, &["check"], row, size)
-}
-
-/// The same, of the program that is called with these words.
-pub(crate) fn add_wrong_within(
+// Puts the book and the answer to it after the text, where the answer of the program called with these words is not the one that is due.
+fn add_wrong(
     wrong: &mut String,
     alloc: Global,
     words: &[&str],
@@ -140,15 +130,17 @@ pub(crate) fn add_wrong_within(
     writeln!(wrong, "status {number}")
 }
 
-/// The books whose answers are not those that are due, with what was answered.
+/// The books to which the program called with these words, which reads pieces of so many bytes, does not give the answers that are due, with what it
+/// answered.
 pub(crate) fn wrong_answers(
     alloc: Global,
+    words: &[&str],
     rows: &[Row],
     size: usize,
 ) -> Result<String, AllocError> {
     let mut wrong = String::new(alloc);
     for row in rows {
-        add_wrong(&mut wrong, alloc, row, size)?;
+        add_wrong(&mut wrong, alloc, words, row, size)?;
     }
     Ok(wrong)
 }

@@ -1,5 +1,5 @@
 //! Books, and what `slice` keeps of them.
-use crate::row::{Answer, Row, add_wrong_within, answer_to, answer_with_faults, answer_within};
+use crate::row::{Answer, Row, answer_to, answer_with_faults, answer_within, wrong_answers};
 use crate::wrap::WRAP;
 use mw_book::Status;
 use mw_read::SyntaxKind;
@@ -73,15 +73,6 @@ const SLICED: [Row; 9] = [
 // After the book of WRAP: a switch to it, and what is judged by it.
 const SWITCHED: &str = "(switch wrap) (print a) (verify refl (pequal* x x) (axiom (pequal* x x)))";
 
-// What `slice use` does not answer so to these books, which it reads in pieces of so many bytes.
-fn wrong_books(alloc: Global, size: usize) -> Result<String, AllocError> {
-    let mut wrong = String::new(alloc);
-    for row in &SLICED {
-        add_wrong_within(&mut wrong, alloc, &["slice", "use"], row, size)?;
-    }
-    Ok(wrong)
-}
-
 // What `slice use` answers where the reads and the writes of these numbers fail.
 fn sliced_with_faults(alloc: Global, reads: &[u64], writes: &[u64]) -> Result<Answer, AllocError> {
     let book = "(verify use (pequal* x x) (axiom (pequal* x x)))";
@@ -90,14 +81,14 @@ fn sliced_with_faults(alloc: Global, reads: &[u64], writes: &[u64]) -> Result<An
 
 #[test]
 fn what_a_theorem_rests_on_is_kept(rt: HostRuntime) -> Result<(), Fail> {
-    let wrong = wrong_books(rt.alloc(), 4096)?;
+    let wrong = wrong_answers(rt.alloc(), &["slice", "use"], &SLICED, 4096)?;
     assert_eq!(rt; wrong.as_str(), "");
     Ok(())
 }
 
 #[test]
 fn a_book_that_is_read_byte_by_byte_has_the_same_slice(rt: HostRuntime) -> Result<(), Fail> {
-    let wrong = wrong_books(rt.alloc(), 1)?;
+    let wrong = wrong_answers(rt.alloc(), &["slice", "use"], &SLICED, 1)?;
     assert_eq!(rt; wrong.as_str(), "");
     Ok(())
 }

@@ -292,7 +292,7 @@ fn other_report_after_never(alloc: Global) -> Result<String, AllocError> {
 
 #[test]
 fn checkers_are_switched_to(rt: HostRuntime) -> Result<(), Fail> {
-    let wrong = wrong_answers(rt.alloc(), &SWITCHES, 4096)?;
+    let wrong = wrong_answers(rt.alloc(), &["check"], &SWITCHES, 4096)?;
     assert_eq!(rt; wrong.as_str(), "");
     Ok(())
 }

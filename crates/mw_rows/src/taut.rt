@@ -1,5 +1,5 @@
 //! Books of formulas, and what `taut` writes for them.
-use crate::row::{Answer, Row, add_wrong_within, answer_to, answer_with_faults, answer_within};
+use crate::row::{Answer, Row, answer_to, answer_with_faults, answer_within, wrong_answers};
 use mw_book::Status;
 use mw_read::SyntaxKind;
 use std::alloc::{AllocError, Global};
@@ -86,15 +86,6 @@ fn proofs_of(alloc: Global, book: &str, size: usize) -> Result<Answer, AllocErro
     answer_within(alloc, &["taut"], book, size)
 }
 
-// The books to which it does not answer so, with what it answered.
-fn wrong_proofs(alloc: Global, rows: &[Row], size: usize) -> Result<String, AllocError> {
-    let mut wrong = String::new(alloc);
-    for row in rows {
-        add_wrong_within(&mut wrong, alloc, &["taut"], row, size)?;
-    }
-    Ok(wrong)
-}
-
 // What it answers where the reads and the writes of these numbers fail.
 fn proofs_with_faults(alloc: Global, reads: &[u64], writes: &[u64]) -> Result<Answer, AllocError> {
     let book = "(a) (b (pequal* x y)) 7";
@@ -103,14 +94,14 @@ fn proofs_with_faults(alloc: Global, reads: &[u64], writes: &[u64]) -> Result<An
 
 #[test]
 fn what_is_no_tautology_has_a_comment(rt: HostRuntime) -> Result<(), Fail> {
-    let wrong = wrong_proofs(rt.alloc(), &UNPROVED, 4096)?;
+    let wrong = wrong_answers(rt.alloc(), &["taut"], &UNPROVED, 4096)?;
     assert_eq!(rt; wrong.as_str(), "");
     Ok(())
 }
 
 #[test]
 fn what_is_read_byte_by_byte_is_answered_in_the_same_way(rt: HostRuntime) -> Result<(), Fail> {
-    let wrong = wrong_proofs(rt.alloc(), &UNPROVED, 1)?;
+    let wrong = wrong_answers(rt.alloc(), &["taut"], &UNPROVED, 1)?;
     assert_eq!(rt; wrong.as_str(), "");
     Ok(())
 }
