@@ -95,7 +95,7 @@ fn is_fall(heap: &mut Heap, x: Ref, measure: Ref, condition: Ref, s: Ref) -> Res
     let Some((negation, fall)) = heap.members_after(x, Word::Por) else {
         return Ok(false);
     };
-    if !heap.is_list2(Some(negation), Word::Pnot, Some(condition)) {
+    if !heap.is_not(Some(negation), Some(condition)) {
         return Ok(false);
     }
     let Some(term) = true_term(heap, fall) else {

@@ -17,8 +17,9 @@ use mw_heap::{Heap, Memory, Ref};
 use mw_term::Marks;
 
 /// Whether the conclusions are, in order, the premises of an induction that concludes the formula `f`, by `extras`: a list of the
-/// measure, the conditions, and for each condition a list of substitutions. The marks say what is a term.
-/// Nothing is made; the only error is being out of memory.
+/// measure, the conditions, and for each condition a list of substitutions. The marks say what is a term. Nothing is made. Each member of
+/// a substitution takes a look from those that the heap allows, each time that it is read, since many steps may share it; the only error
+/// is being out of memory, also where no look is left.
 pub fn premises_hold(
     heap: &mut Heap,
     f: Ref,

@@ -93,12 +93,12 @@ fn are_hypotheses(
     ensures hypotheses { IfOk result (λ r. r ≡ same_object (object_at heap.old.objects x) (disjunction_object (Pair (not_object (object_at heap.old.objects b)) (hypotheses_object (object_at heap.old.objects a) (object_at heap.old.objects substitutions))))) }
 {
     let View::Pair(s, more) = heap.view(substitutions) else {
-        return Ok(heap.is_list2(Some(x), Word::Pnot, Some(b)));
+        return Ok(heap.is_not(Some(x), Some(b)));
     };
     let Some((side, others)) = heap.members_after(x, Word::Por) else {
         return Ok(false);
     };
-    if !heap.is_list2(Some(side), Word::Pnot, Some(b)) {
+    if !heap.is_not(Some(side), Some(b)) {
         return Ok(false);
     }
     are_negated_instances(heap, others, a, s, more)
