@@ -1,6 +1,6 @@
 //! Calls of functions and of lambdas.
 ghost use Rattle.std.specs.Prelude.{◌≡◌, ◌<◌, ◌+◌, ◌++◌, ◌&&◌, ◌||◌, not, eqb, true, false, Some, IfOk};
-ghost use Rattle.mw_model.specs.Terms.Object.{Pair, is_name, name_of_bytes, named, same_name};
+ghost use Rattle.mw_model.specs.Terms.Object.{Pair, named, same_name};
 ghost use Rattle.mw_model.specs.Terms.Term.{Term, ArityTable};
 ghost use Rattle.mw_model.specs.Terms.Reading.{term_of};
 ghost use Rattle.mw_model.specs.Values.Primitive.{is_pair, is_symbol, name_of};
@@ -18,16 +18,17 @@ use crate::part::{Kind, Part};
 use crate::progress::Progress;
 use crate::shape::two_members;
 use crate::table::takes;
-use crate::word::is_same_name;
 use mw_heap::{Heap, Memory, Ref, View, Word};
 use mw_term::{Arity, Formals, take_looks};
 
-// Whether the function of this name may be called with so many actuals. IF takes three, whatever else a table says of it.
-fn is_call(newer: &Arity, older: &Arity, name: &[u8], count: u64) -> bool
-    requires { is_name name.now ≡ true }
-    ensures { result ≡ (takes_count (newer.now ++ older.now) (name_of_bytes name.now) count && (not (same_name (name_of_bytes name.now) (named "IF")) || eqb count 3)) }
+// Whether a function may be called with so many actuals. IF takes three, whatever else a table says of it.
+fn is_call(heap: &Heap, newer: &Arity, older: &Arity, function: Ref, count: u64) -> bool
+    requires within { IsIn heap.now.objects function }
+    requires symbol { is_symbol (object_at heap.now.objects function) ≡ true }
+    ensures { result ≡ (takes_count (newer.now ++ older.now) (name_of (object_at heap.now.objects function)) count && (not (same_name (name_of (object_at heap.now.objects function)) (named "IF")) || eqb count 3)) }
 {
-    takes(newer, older, name, count) && (!is_same_name(name, b"IF") || count == 3)
+    takes(newer, older, heap.name_of(function), count)
+        && (!heap.is_word(Some(function), Word::If) || count == 3)
 }
 
 // (head . actuals), where the function may be called with so many.
@@ -44,7 +45,7 @@ fn checked_call(
     ensures grows { Grows heap.old.objects heap.new.objects }
     ensures made { IfOk result (IsMade heap.new.objects (call_made (newer.now ++ older.now) (name_of (object_at heap.old.objects head)) (object_at heap.old.objects actuals.object) actuals.count)) }
 {
-    if !is_call(newer, older, heap.name_of(head), actuals.count) {
+    if !is_call(heap, newer, older, head, actuals.count) {
         return Ok(Progress::Fails);
     }
     Ok(Progress::Made(Made {

@@ -10,7 +10,7 @@ ghost use Rattle.mw_term.specs.Parts.{names_at, AreSymbols};
 ghost use Rattle.mw_translate.specs.Lets.{append_object, prepend, extended_object, AreAllIn, AreMembers, AddsOther, IsLet};
 
 use crate::build::{call_of_two, list_of_one};
-use mw_heap::{Heap, Memory, Ref, View};
+use mw_heap::{Heap, Memory, Ref, View, Word};
 use mw_term::{Formals, take_looks, vars_counted};
 
 // Adds the variable x where it is no formal.
@@ -106,7 +106,7 @@ fn joined_call(
 {
     let formals = append(heap, names, others)?;
     let actuals = append(heap, values, others)?;
-    let head = call_of_two(heap, b"LAMBDA", formals, body)?;
+    let head = call_of_two(heap, Word::Lambda, formals, body)?;
     Ok(heap.cons(head, actuals)?)
 }
 

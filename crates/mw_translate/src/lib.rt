@@ -1,6 +1,7 @@
 //! Expansion of raw terms: abbreviations, plain numbers, T and NIL.
 #![tactic(auto)]
 
+mod abbreviation;
 mod build;
 mod calls;
 mod expansion;
@@ -17,7 +18,6 @@ mod shape;
 mod table;
 mod terms;
 mod walk;
-mod word;
 
 pub use build::{call_of_one, call_of_two, list_of_one, list_of_two, quoted_symbol};
 pub use expansion::{Expanded, arities_of, expand, expand_under};

@@ -1,9 +1,8 @@
 -- A form goes on by its word.
 use Rattle.std.proofs.Common.{◌≡◌, ◌++◌, ◌+◌, sym, ap, ap₂, ◌∙◌, refl, arith}
-use Rattle.mw_model.specs.Terms.Object.{Pair, name_of_bytes}
+use Rattle.mw_model.specs.Terms.Object.{Pair}
 use Rattle.mw_model.specs.Values.Primitive.{name_of}
 use Rattle.mw_model.specs.Events.Expansion.{abbreviation_of, AND, OR, COND, LIST, LET, LETSTAR, FIRST, SECOND, THIRD, FOURTH, FIFTH, QUOTE, Other, form_with, expanded_each}
-use Rattle.mw_model.proofs.Names.{name_of_bytes-bytes}
 use Rattle.mw_heap.specs.Objects.{object_at}
 use Rattle.mw_term.proofs.Symbols.{symbol_is}
 use Rattle.mw_translate.specs.Words.{abbreviation}
@@ -22,8 +21,7 @@ step_call-requires-clause-no_quote c =
     let f = object_at os c.args.head in
     let r = object_at os c.args.rest in
     let name = name_of f in
-    let nm : name_of_bytes c.name_of.result.now ≡ name = ap name_of_bytes (sym c.name_of.ensures) ∙ name_of_bytes-bytes name in
-    no_quote name (ap abbreviation_of (sym nm) ∙ (sym c.word_of.ensures ∙ ap abbreviation c.in-Other.is))
+    no_quote name (sym c.abbreviation_named.ensures ∙ ap abbreviation c.in-Other.is)
 
 pub returns-in-Quote-clause-step : goal.returns-in-Quote-clause-step
 returns-in-Quote-clause-step c =
@@ -33,8 +31,7 @@ returns-in-Quote-clause-step c =
     let f = object_at os c.args.head in
     let r = object_at os c.args.rest in
     let name = name_of f in
-    let nm : name_of_bytes c.name_of.result.now ≡ name = ap name_of_bytes (sym c.name_of.ensures) ∙ name_of_bytes-bytes name in
-    let w : abbreviation_of name ≡ QUOTE = ap abbreviation_of (sym nm) ∙ (sym c.word_of.ensures ∙ ap abbreviation c.in-Quote.is) in
+    let w : abbreviation_of name ≡ QUOTE = sym c.abbreviation_named.ensures ∙ ap abbreviation c.in-Quote.is in
     let e = form_meaning A (object_at os c.args.x) f r name (symbol_is f c.requires.symbol) c.requires.form QUOTE w in
     quote-step A os es (meaning A kind.Term (object_at os c.args.x)) c.args.x c.args.rest name c.step_quote.result (quote_is name w) c.requires.within (c.requires.form ∙ ap₂ Pair (symbol_is f c.requires.symbol) refl) e c.step_quote.ensures
 
@@ -46,8 +43,7 @@ returns-in-And-clause-step c =
     let f = object_at os c.args.head in
     let r = object_at os c.args.rest in
     let name = name_of f in
-    let nm : name_of_bytes c.name_of.result.now ≡ name = ap name_of_bytes (sym c.name_of.ensures) ∙ name_of_bytes-bytes name in
-    let w : abbreviation_of name ≡ AND = ap abbreviation_of (sym nm) ∙ (sym c.word_of.ensures ∙ ap abbreviation c.in-And.is) in
+    let w : abbreviation_of name ≡ AND = sym c.abbreviation_named.ensures ∙ ap abbreviation c.in-And.is in
     let e = form_meaning A (object_at os c.args.x) f r name (symbol_is f c.requires.symbol) c.requires.form AND w in
     forward-step A os es (meaning A kind.Term (object_at os c.args.x)) c.args.x (at kind.And c.args.rest) c.forward_to.result c.requires.made (e ∙ and_part A name r) c.requires.rest_before c.forward_to.ensures
 
@@ -59,8 +55,7 @@ returns-in-Or-clause-step c =
     let f = object_at os c.args.head in
     let r = object_at os c.args.rest in
     let name = name_of f in
-    let nm : name_of_bytes c.name_of.result.now ≡ name = ap name_of_bytes (sym c.name_of.ensures) ∙ name_of_bytes-bytes name in
-    let w : abbreviation_of name ≡ OR = ap abbreviation_of (sym nm) ∙ (sym c.word_of.ensures ∙ ap abbreviation c.in-Or.is) in
+    let w : abbreviation_of name ≡ OR = sym c.abbreviation_named.ensures ∙ ap abbreviation c.in-Or.is in
     let e = form_meaning A (object_at os c.args.x) f r name (symbol_is f c.requires.symbol) c.requires.form OR w in
     forward-step A os es (meaning A kind.Term (object_at os c.args.x)) c.args.x (at kind.Or c.args.rest) c.forward_to-in-Or.result c.requires.made (e ∙ or_part A name r) c.requires.rest_before c.forward_to-in-Or.ensures
 
@@ -72,8 +67,7 @@ returns-in-List-clause-step c =
     let f = object_at os c.args.head in
     let r = object_at os c.args.rest in
     let name = name_of f in
-    let nm : name_of_bytes c.name_of.result.now ≡ name = ap name_of_bytes (sym c.name_of.ensures) ∙ name_of_bytes-bytes name in
-    let w : abbreviation_of name ≡ LIST = ap abbreviation_of (sym nm) ∙ (sym c.word_of.ensures ∙ ap abbreviation c.in-List.is) in
+    let w : abbreviation_of name ≡ LIST = sym c.abbreviation_named.ensures ∙ ap abbreviation c.in-List.is in
     let e = form_meaning A (object_at os c.args.x) f r name (symbol_is f c.requires.symbol) c.requires.form LIST w in
     forward-step A os es (meaning A kind.Term (object_at os c.args.x)) c.args.x (at kind.List c.args.rest) c.forward_to-in-List.result c.requires.made (e ∙ list_part A name r) c.requires.rest_before c.forward_to-in-List.ensures
 
@@ -85,8 +79,7 @@ returns-in-Cond-clause-step c =
     let f = object_at os c.args.head in
     let r = object_at os c.args.rest in
     let name = name_of f in
-    let nm : name_of_bytes c.name_of.result.now ≡ name = ap name_of_bytes (sym c.name_of.ensures) ∙ name_of_bytes-bytes name in
-    let w : abbreviation_of name ≡ COND = ap abbreviation_of (sym nm) ∙ (sym c.word_of.ensures ∙ ap abbreviation c.in-Cond.is) in
+    let w : abbreviation_of name ≡ COND = sym c.abbreviation_named.ensures ∙ ap abbreviation c.in-Cond.is in
     let e = form_meaning A (object_at os c.args.x) f r name (symbol_is f c.requires.symbol) c.requires.form COND w in
     forward-step A os es (meaning A kind.Term (object_at os c.args.x)) c.args.x (at kind.Cond c.args.rest) c.forward_to-in-Cond.result c.requires.made e c.requires.rest_before c.forward_to-in-Cond.ensures
 
@@ -98,8 +91,7 @@ returns-in_ok-step_let-in-Let-clause-step c =
     let f = object_at os c.args.head in
     let r = object_at os c.args.rest in
     let name = name_of f in
-    let nm : name_of_bytes c.name_of.result.now ≡ name = ap name_of_bytes (sym c.name_of.ensures) ∙ name_of_bytes-bytes name in
-    let w : abbreviation_of name ≡ LET = ap abbreviation_of (sym nm) ∙ (sym c.word_of.ensures ∙ ap abbreviation c.in-Let.is) in
+    let w : abbreviation_of name ≡ LET = sym c.abbreviation_named.ensures ∙ ap abbreviation c.in-Let.is in
     let e = form_meaning A (object_at os c.args.x) f r name (symbol_is f c.requires.symbol) c.requires.form LET w in
     step_same A os c.step_let.new.heap.objects es (meaning A kind.Term (object_at os c.args.x)) (of_term A (let_form r)) (c.args.rest + 1) c.args.x c.in_ok-step_let-in-Let.field-0 e (omega (arith, c.requires.rest_before)) (c.in_ok-step_let-in-Let.ensures.step A c.requires.made)
 
@@ -111,8 +103,7 @@ returns-in_ok-step_let_star-in-LetStar-clause-step c =
     let f = object_at os c.args.head in
     let r = object_at os c.args.rest in
     let name = name_of f in
-    let nm : name_of_bytes c.name_of.result.now ≡ name = ap name_of_bytes (sym c.name_of.ensures) ∙ name_of_bytes-bytes name in
-    let w : abbreviation_of name ≡ LETSTAR = ap abbreviation_of (sym nm) ∙ (sym c.word_of.ensures ∙ ap abbreviation c.in-LetStar.is) in
+    let w : abbreviation_of name ≡ LETSTAR = sym c.abbreviation_named.ensures ∙ ap abbreviation c.in-LetStar.is in
     let e = form_meaning A (object_at os c.args.x) f r name (symbol_is f c.requires.symbol) c.requires.form LETSTAR w in
     step_same A os c.step_let_star.new.heap.objects es (meaning A kind.Term (object_at os c.args.x)) (of_term A (let_star_form r)) (c.args.rest + 1) c.args.x c.in_ok-step_let_star-in-LetStar.field-0 e (omega (arith, c.requires.rest_before)) (c.in_ok-step_let_star-in-LetStar.ensures.step A c.requires.made)
 
@@ -124,8 +115,7 @@ returns-in_ok-step_place-in-First-clause-step c =
     let f = object_at os c.args.head in
     let r = object_at os c.args.rest in
     let name = name_of f in
-    let nm : name_of_bytes c.name_of.result.now ≡ name = ap name_of_bytes (sym c.name_of.ensures) ∙ name_of_bytes-bytes name in
-    let w : abbreviation_of name ≡ FIRST = ap abbreviation_of (sym nm) ∙ (sym c.word_of.ensures ∙ ap abbreviation c.in-First.is) in
+    let w : abbreviation_of name ≡ FIRST = sym c.abbreviation_named.ensures ∙ ap abbreviation c.in-First.is in
     let e = form_meaning A (object_at os c.args.x) f r name (symbol_is f c.requires.symbol) c.requires.form FIRST w in
     step_same A os c.step_place.new.heap.objects es (meaning A kind.Term (object_at os c.args.x)) (of_term A (with_terms (place_of 0) (expanded_each r))) (c.args.rest + 1) c.args.x c.in_ok-step_place-in-First.field-0 (e ∙ first_part A name r) (omega (arith, c.requires.rest_before)) c.in_ok-step_place-in-First.ensures.step
 
@@ -137,8 +127,7 @@ returns-in_ok-step_place-in-Second-clause-step c =
     let f = object_at os c.args.head in
     let r = object_at os c.args.rest in
     let name = name_of f in
-    let nm : name_of_bytes c.name_of.result.now ≡ name = ap name_of_bytes (sym c.name_of.ensures) ∙ name_of_bytes-bytes name in
-    let w : abbreviation_of name ≡ SECOND = ap abbreviation_of (sym nm) ∙ (sym c.word_of.ensures ∙ ap abbreviation c.in-Second.is) in
+    let w : abbreviation_of name ≡ SECOND = sym c.abbreviation_named.ensures ∙ ap abbreviation c.in-Second.is in
     let e = form_meaning A (object_at os c.args.x) f r name (symbol_is f c.requires.symbol) c.requires.form SECOND w in
     step_same A os c.step_place-in-Second.new.heap.objects es (meaning A kind.Term (object_at os c.args.x)) (of_term A (with_terms (place_of 1) (expanded_each r))) (c.args.rest + 1) c.args.x c.in_ok-step_place-in-Second.field-0 (e ∙ second_part A name r) (omega (arith, c.requires.rest_before)) c.in_ok-step_place-in-Second.ensures.step
 
@@ -150,8 +139,7 @@ returns-in_ok-step_place-in-Third-clause-step c =
     let f = object_at os c.args.head in
     let r = object_at os c.args.rest in
     let name = name_of f in
-    let nm : name_of_bytes c.name_of.result.now ≡ name = ap name_of_bytes (sym c.name_of.ensures) ∙ name_of_bytes-bytes name in
-    let w : abbreviation_of name ≡ THIRD = ap abbreviation_of (sym nm) ∙ (sym c.word_of.ensures ∙ ap abbreviation c.in-Third.is) in
+    let w : abbreviation_of name ≡ THIRD = sym c.abbreviation_named.ensures ∙ ap abbreviation c.in-Third.is in
     let e = form_meaning A (object_at os c.args.x) f r name (symbol_is f c.requires.symbol) c.requires.form THIRD w in
     step_same A os c.step_place-in-Third.new.heap.objects es (meaning A kind.Term (object_at os c.args.x)) (of_term A (with_terms (place_of 2) (expanded_each r))) (c.args.rest + 1) c.args.x c.in_ok-step_place-in-Third.field-0 (e ∙ third_part A name r) (omega (arith, c.requires.rest_before)) c.in_ok-step_place-in-Third.ensures.step
 
@@ -163,8 +151,7 @@ returns-in_ok-step_place-in-Fourth-clause-step c =
     let f = object_at os c.args.head in
     let r = object_at os c.args.rest in
     let name = name_of f in
-    let nm : name_of_bytes c.name_of.result.now ≡ name = ap name_of_bytes (sym c.name_of.ensures) ∙ name_of_bytes-bytes name in
-    let w : abbreviation_of name ≡ FOURTH = ap abbreviation_of (sym nm) ∙ (sym c.word_of.ensures ∙ ap abbreviation c.in-Fourth.is) in
+    let w : abbreviation_of name ≡ FOURTH = sym c.abbreviation_named.ensures ∙ ap abbreviation c.in-Fourth.is in
     let e = form_meaning A (object_at os c.args.x) f r name (symbol_is f c.requires.symbol) c.requires.form FOURTH w in
     step_same A os c.step_place-in-Fourth.new.heap.objects es (meaning A kind.Term (object_at os c.args.x)) (of_term A (with_terms (place_of 3) (expanded_each r))) (c.args.rest + 1) c.args.x c.in_ok-step_place-in-Fourth.field-0 (e ∙ fourth_part A name r) (omega (arith, c.requires.rest_before)) c.in_ok-step_place-in-Fourth.ensures.step
 
@@ -176,8 +163,7 @@ returns-in_ok-step_place-in-Fifth-clause-step c =
     let f = object_at os c.args.head in
     let r = object_at os c.args.rest in
     let name = name_of f in
-    let nm : name_of_bytes c.name_of.result.now ≡ name = ap name_of_bytes (sym c.name_of.ensures) ∙ name_of_bytes-bytes name in
-    let w : abbreviation_of name ≡ FIFTH = ap abbreviation_of (sym nm) ∙ (sym c.word_of.ensures ∙ ap abbreviation c.in-Fifth.is) in
+    let w : abbreviation_of name ≡ FIFTH = sym c.abbreviation_named.ensures ∙ ap abbreviation c.in-Fifth.is in
     let e = form_meaning A (object_at os c.args.x) f r name (symbol_is f c.requires.symbol) c.requires.form FIFTH w in
     step_same A os c.step_place-in-Fifth.new.heap.objects es (meaning A kind.Term (object_at os c.args.x)) (of_term A (with_terms (place_of 4) (expanded_each r))) (c.args.rest + 1) c.args.x c.in_ok-step_place-in-Fifth.field-0 (e ∙ fifth_part A name r) (omega (arith, c.requires.rest_before)) c.in_ok-step_place-in-Fifth.ensures.step
 
@@ -189,7 +175,6 @@ returns-in_ok-step_call-in-Other-clause-step c =
     let f = object_at os c.args.head in
     let r = object_at os c.args.rest in
     let name = name_of f in
-    let nm : name_of_bytes c.name_of.result.now ≡ name = ap name_of_bytes (sym c.name_of.ensures) ∙ name_of_bytes-bytes name in
-    let w : abbreviation_of name ≡ Other = ap abbreviation_of (sym nm) ∙ (sym c.word_of.ensures ∙ ap abbreviation c.in-Other.is) in
+    let w : abbreviation_of name ≡ Other = sym c.abbreviation_named.ensures ∙ ap abbreviation c.in-Other.is in
     let e = form_meaning A (object_at os c.args.x) f r name (symbol_is f c.requires.symbol) c.requires.form Other w in
     step_same A os c.step_call.new.heap.objects es (meaning A kind.Term (object_at os c.args.x)) (of_term A (form_with Other name (expanded_each r))) (c.args.rest + 1) c.args.x c.in_ok-step_call-in-Other.field-0 e (omega (arith, c.requires.rest_before)) c.in_ok-step_call-in-Other.ensures.step

@@ -1,8 +1,7 @@
 -- T and NIL are constants, and another symbol is a variable.
-use Rattle.std.proofs.Common.{◌≡◌, ◌||◌, Some, sym, ap, ◌∙◌}
-use Rattle.mw_model.specs.Terms.Object.{name_of_bytes, named, same_name, nil_name, symbol, list2}
+use Rattle.std.proofs.Common.{Some, sym, ap, ◌∙◌}
+use Rattle.mw_model.specs.Terms.Object.{symbol, list2}
 use Rattle.mw_model.specs.Values.Primitive.{name_of}
-use Rattle.mw_model.proofs.Names.{name_of_bytes-bytes}
 use Rattle.mw_heap.specs.Objects.{object_at}
 use Rattle.mw_term.proofs.Symbols.{symbol_is}
 use Rattle.mw_translate.specs.Meaning.{meaning}
@@ -14,8 +13,7 @@ pub returns-then-is_constant-clause-step : goal.returns-then-is_constant-clause-
 returns-then-is_constant-clause-step c = λ A.
     let os = c.args.heap.now.objects in
     let f = name_of (object_at os c.args.x) in
-    let nm : name_of_bytes c.name_of.result.now ≡ f = ap name_of_bytes (sym c.name_of.ensures) ∙ name_of_bytes-bytes f in
-    let t = ap (λ g. same_name g (named "T") || same_name g nil_name) (sym nm) ∙ (sym c.is_constant.ensures ∙ c.if-is_constant.true) in
+    let t = sym c.is_constant.ensures ∙ c.if-is_constant.true in
     let is = symbol_is (object_at os c.args.x) c.requires.symbol in
     atom-step A os c.call_of_one.new.heap.objects c.args.memo.now.made.entries (meaning A kind.Term (object_at os c.args.x)) c.args.x c.in_ok-call_of_one.field-0 c.atom.result c.in_ok-call_of_one.ensures.made.0
     (ap (meaning A kind.Term) is ∙ (constant_symbol A f t ∙ ap (λ o. Some (o, 0)) (ap (list2 (symbol "QUOTE")) (sym is) ∙ sym c.in_ok-call_of_one.ensures.made.1)))
@@ -25,8 +23,7 @@ pub returns-clause-step : goal.returns-clause-step
 returns-clause-step c = λ A.
     let os = c.args.heap.now.objects in
     let f = name_of (object_at os c.args.x) in
-    let nm : name_of_bytes c.name_of.result.now ≡ f = ap name_of_bytes (sym c.name_of.ensures) ∙ name_of_bytes-bytes f in
-    let t = ap (λ g. same_name g (named "T") || same_name g nil_name) (sym nm) ∙ (sym c.is_constant.ensures ∙ c.if-is_constant.false) in
+    let t = sym c.is_constant.ensures ∙ c.if-is_constant.false in
     let is = symbol_is (object_at os c.args.x) c.requires.symbol in
     atom-step A os os c.args.memo.now.made.entries (meaning A kind.Term (object_at os c.args.x)) c.args.x c.args.x c.atom-2.result c.requires.within
     (ap (meaning A kind.Term) is ∙ (variable_symbol A f t ∙ ap (λ o. Some (o, 0)) (sym is)))
