@@ -4,7 +4,7 @@ ghost use Rattle.mw_model.specs.Commands.DerivationTest.{rules, rule_among};
 ghost use Rattle.mw_heap.specs.Objects.{object_at, IsIn};
 ghost use Rattle.mw_lower.specs.Further.{rule_of, further_rules, further_among, most_premises, most_premises_of};
 
-use mw_heap::{Heap, Ref};
+use mw_heap::{Heap, Ref, Word};
 use mw_rules::Method;
 
 /// A rule of derivations that is no method of proof.
@@ -35,15 +35,15 @@ pub(crate) fn further_of(heap: &Heap, x: Ref) -> Option<Further>
     requires { IsIn heap.now.objects x }
     ensures { result ≡ further_among further_rules (object_at heap.now.objects x) }
 {
-    if heap.is_named(Some(x), b"COMMUTE-OR") {
+    if heap.is_word(Some(x), Word::CommuteOr) {
         Some(Further::CommuteOr)
-    } else if heap.is_named(Some(x), b"MODUS-PONENS") {
+    } else if heap.is_word(Some(x), Word::ModusPonens) {
         Some(Further::ModusPonens)
-    } else if heap.is_named(Some(x), b"SYMMETRY") {
+    } else if heap.is_word(Some(x), Word::Symmetry) {
         Some(Further::Symmetry)
-    } else if heap.is_named(Some(x), b"TRANSITIVITY") {
+    } else if heap.is_word(Some(x), Word::Transitivity) {
         Some(Further::Transitivity)
-    } else if heap.is_named(Some(x), b"REPLACE") {
+    } else if heap.is_word(Some(x), Word::Replace) {
         Some(Further::Replace)
     } else {
         None

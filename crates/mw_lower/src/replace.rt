@@ -10,7 +10,7 @@ use crate::machine::make;
 use crate::rules::detached;
 use crate::scheme::{FUNCTIONAL, IMPLICATION};
 use mw_equal::functional_equality;
-use mw_heap::{Heap, Memory, Ref, Word};
+use mw_heap::{Heap, Memory, Ref};
 
 /// A proof of c by REPLACE from what the proofs prove.
 pub(crate) fn replace(heap: &mut Heap, c: Ref, proofs: &[Ref]) -> Result<Option<Ref>, Memory>
@@ -19,7 +19,7 @@ pub(crate) fn replace(heap: &mut Heap, c: Ref, proofs: &[Ref]) -> Result<Option<
     ensures grows { Grows heap.old.objects heap.new.objects }
     ensures answer { IfOk result (AnswersAll Replace (object_at heap.old.objects c) (list_object heap.old.objects proofs.now) heap.new.objects) }
 {
-    if !heap.is_headed(c, Word::Pequal) {
+    if heap.equal_parts(Some(c)).is_none() {
         return Ok(None);
     }
     let whole = unless(heap, c, proofs)?;

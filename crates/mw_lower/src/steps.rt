@@ -17,45 +17,50 @@ fn parts_of(heap: &Heap, p: Ref, head: Word) -> Option<(Ref, Ref)>
     heap.members_after(heap.second_of(p)?, head)
 }
 
-/// A proof of c by COMMUTE-OR from what p proves.
-pub(crate) fn commute(heap: &mut Heap, c: Ref, p: Ref) -> Result<Option<Ref>, Memory>
-    requires conclusion { IsIn heap.old.objects c }
+/// A proof of the conclusion by COMMUTE-OR from what p proves.
+pub(crate) fn commute(heap: &mut Heap, conclusion: Ref, p: Ref) -> Result<Option<Ref>, Memory>
+    requires conclusion { IsIn heap.old.objects conclusion }
     requires proof { IsIn heap.old.objects p }
     ensures grows { Grows heap.old.objects heap.new.objects }
-    ensures answer { IfOk result (AnswersOne CommuteOr (object_at heap.old.objects c) (object_at heap.old.objects p) heap.new.objects) }
+    ensures answer { IfOk result (AnswersOne CommuteOr (object_at heap.old.objects conclusion) (object_at heap.old.objects p) heap.new.objects) }
 {
     let Some((f, g)) = parts_of(heap, p, Word::Por) else {
         return Ok(None);
     };
-    if !heap.is_list3(Some(c), Word::Por, Some(g), Some(f)) {
+    if !heap.is_or(Some(conclusion), Some(g), Some(f)) {
         return Ok(None);
     }
     Ok(Some(commuted(heap, f, g, p)?))
 }
 
-/// A proof of c by SYMMETRY from what p proves.
-pub(crate) fn turn_round(heap: &mut Heap, c: Ref, p: Ref) -> Result<Option<Ref>, Memory>
-    requires conclusion { IsIn heap.old.objects c }
+/// A proof of the conclusion by SYMMETRY from what p proves.
+pub(crate) fn turn_round(heap: &mut Heap, conclusion: Ref, p: Ref) -> Result<Option<Ref>, Memory>
+    requires conclusion { IsIn heap.old.objects conclusion }
     requires proof { IsIn heap.old.objects p }
     ensures grows { Grows heap.old.objects heap.new.objects }
-    ensures answer { IfOk result (AnswersOne Symmetry (object_at heap.old.objects c) (object_at heap.old.objects p) heap.new.objects) }
+    ensures answer { IfOk result (AnswersOne Symmetry (object_at heap.old.objects conclusion) (object_at heap.old.objects p) heap.new.objects) }
 {
     let Some((a, b)) = parts_of(heap, p, Word::Pequal) else {
         return Ok(None);
     };
-    if !heap.is_list3(Some(c), Word::Pequal, Some(b), Some(a)) {
+    if !heap.is_equal(Some(conclusion), Some(b), Some(a)) {
         return Ok(None);
     }
     Ok(Some(turned(heap, a, b, p)?))
 }
 
-/// A proof of c by MODUS-PONENS from what p and q prove.
-pub(crate) fn detach(heap: &mut Heap, c: Ref, p: Ref, q: Ref) -> Result<Option<Ref>, Memory>
-    requires conclusion { IsIn heap.old.objects c }
+/// A proof of the conclusion by MODUS-PONENS from what p and q prove.
+pub(crate) fn detach(
+    heap: &mut Heap,
+    conclusion: Ref,
+    p: Ref,
+    q: Ref,
+) -> Result<Option<Ref>, Memory>
+    requires conclusion { IsIn heap.old.objects conclusion }
     requires proof { IsIn heap.old.objects p }
     requires other { IsIn heap.old.objects q }
     ensures grows { Grows heap.old.objects heap.new.objects }
-    ensures answer { IfOk result (AnswersTwo ModusPonens (object_at heap.old.objects c) (object_at heap.old.objects p) (object_at heap.old.objects q) heap.new.objects) }
+    ensures answer { IfOk result (AnswersTwo ModusPonens (object_at heap.old.objects conclusion) (object_at heap.old.objects p) (object_at heap.old.objects q) heap.new.objects) }
 {
     let Some(f) = heap.second_of(p) else {
         return Ok(None);
@@ -63,28 +68,28 @@ pub(crate) fn detach(heap: &mut Heap, c: Ref, p: Ref, q: Ref) -> Result<Option<R
     let Some((negation, g)) = parts_of(heap, q, Word::Por) else {
         return Ok(None);
     };
-    if !heap.is_list2(Some(negation), Word::Pnot, Some(f)) || !heap.same(g, c) {
+    if !heap.is_not(Some(negation), Some(f)) || !heap.same(g, conclusion) {
         return Ok(None);
     }
     Ok(Some(detached(heap, f, g, p, q)?))
 }
 
-/// A proof of c by TRANSITIVITY from what p and q prove.
-pub(crate) fn chain(heap: &mut Heap, c: Ref, p: Ref, q: Ref) -> Result<Option<Ref>, Memory>
-    requires conclusion { IsIn heap.old.objects c }
+/// A proof of the conclusion by TRANSITIVITY from what p and q prove.
+pub(crate) fn chain(heap: &mut Heap, conclusion: Ref, p: Ref, q: Ref) -> Result<Option<Ref>, Memory>
+    requires conclusion { IsIn heap.old.objects conclusion }
     requires proof { IsIn heap.old.objects p }
     requires other { IsIn heap.old.objects q }
     ensures grows { Grows heap.old.objects heap.new.objects }
-    ensures answer { IfOk result (AnswersTwo Transitivity (object_at heap.old.objects c) (object_at heap.old.objects p) (object_at heap.old.objects q) heap.new.objects) }
+    ensures answer { IfOk result (AnswersTwo Transitivity (object_at heap.old.objects conclusion) (object_at heap.old.objects p) (object_at heap.old.objects q) heap.new.objects) }
 {
     let Some((a, b)) = parts_of(heap, p, Word::Pequal) else {
         return Ok(None);
     };
-    let Some((middle, d)) = parts_of(heap, q, Word::Pequal) else {
+    let Some((middle, c)) = parts_of(heap, q, Word::Pequal) else {
         return Ok(None);
     };
-    if !heap.same(b, middle) || !heap.is_list3(Some(c), Word::Pequal, Some(a), Some(d)) {
+    if !heap.same(b, middle) || !heap.is_equal(Some(conclusion), Some(a), Some(c)) {
         return Ok(None);
     }
-    Ok(Some(chained(heap, a, b, d, p, q)?))
+    Ok(Some(chained(heap, a, b, c, p, q)?))
 }

@@ -1,5 +1,5 @@
 -- The test of functional equality on the disjunction, and the premises that are detached from it.
-use Rattle.std.proofs.Common.{sym, ◌∙◌, subst}
+use Rattle.std.proofs.Common.{not, sym, ap, ◌∙◌, subst}
 use Rattle.mw_model.specs.Proofs.Proof.{ProveEach}
 use Rattle.mw_heap.specs.Objects.{object_at}
 use Rattle.mw_heap.specs.Lists.{list_object}
@@ -14,14 +14,14 @@ use Rattle.mw_lower.proofs.replace.replace.Goals as goal
 pub detach_all-requires-clause-proofs : goal.detach_all-requires-clause-proofs
 detach_all-requires-clause-proofs c = AreIn-grows _ _ _ (Grows-trans _ _ _ c.in_ok-whole.ensures.grows c.in_ok-step.ensures.grows) c.requires.proofs
 
-pub returns-then-not-is_headed-clause-answer : goal.returns-then-not-is_headed-clause-answer
-returns-then-not-is_headed-clause-answer c = λ b F Fs has i d hs. not_headed F Fs (object_at c.args.heap.now.objects c.args.c) d (sym c.is_headed.ensures ∙ c.if-not-is_headed.true)
+pub returns-then-is_none-clause-answer : goal.returns-then-is_none-clause-answer
+returns-then-is_none-clause-answer c = λ b F Fs has i d hs. not_headed F Fs (object_at c.args.heap.now.objects c.args.c) d (c.equal_parts.ensures.equal ∙ (c.is_none.ensures ∙ ap not c.if-is_none.true))
 
 pub returns-then-not-functional_equality-clause-answer : goal.returns-then-not-functional_equality-clause-answer
 returns-then-not-functional_equality-clause-answer c = λ b F Fs has i d hs.
     let os = c.args.heap.now.objects in
     let whole = c.in_ok-whole.ensures.made b F Fs d hs in
-    let headed = sym c.is_headed.ensures ∙ c.if-not-is_headed.false in
+    let headed = c.equal_parts.ensures.equal ∙ (c.is_none.ensures ∙ ap not c.if-is_none.false) in
     sym (test_exact b Fs (list_object os c.args.proofs.now) hs F (object_at os c.args.c) _ i d headed whole) ∙ (sym c.functional_equality.ensures ∙ c.if-not-functional_equality.true)
 
 pub returns-clause-answer : goal.returns-clause-answer
@@ -31,7 +31,7 @@ returns-clause-answer c = λ b F Fs has i d hs.
     let new = c.make.new.heap.objects in
     let ps = list_object os c.args.proofs.now in
     let whole = c.in_ok-whole.ensures.made b F Fs d hs in
-    let headed = sym c.is_headed.ensures ∙ c.if-not-is_headed.false in
+    let headed = c.equal_parts.ensures.equal ∙ (c.is_none.ensures ∙ ap not c.if-is_none.false) in
     let holds = sym c.functional_equality.ensures ∙ c.if-not-functional_equality.false in
     let step = c.in_ok-step.ensures.made in
     let grows = Grows-trans os mid new c.in_ok-whole.ensures.grows c.in_ok-step.ensures.grows in

@@ -12,7 +12,7 @@ use Rattle.mw_lower.specs.Schemes.{IsProof}
 use Rattle.mw_lower.proofs.ByMethods.{formed}
 use Rattle.mw_lower.proofs.StepTests.{equal_parts, chained_none, chained_second_none, same_by_objects, same_by_terms, equal_formed}
 use Rattle.mw_lower.proofs.steps.chain.Goals as goal
-use Rattle.mw_lower.proofs.steps.chain.Goals.{then-not-same-via-then-not-same, then-not-same-via-else-not-same+then-not-is_list3}
+use Rattle.mw_lower.proofs.steps.chain.Goals.{then-not-same-via-then-not-same, then-not-same-via-else-not-same+then-not-is_equal}
 
 pub returns-in_default-clause-answer : goal.returns-in_default-clause-answer
 returns-in_default-clause-answer c = λ b F G H has i e h k. chained_none F G H _ (conclusion_is b.axioms b.theorems b.table b.profile _ G h) c.in_default.ensures
@@ -31,9 +31,9 @@ returns-then-not-same-clause-answer c = λ b F G H has i e h k.
       | then-not-same-via-then-not-same w ↦
           let same = same_by_terms b p.right q.left _ _ i1.1 i2.0 p.right_is q.left_is in
           and_left (same_term p.right q.left) (same_formula F (Equal p.left q.right)) (sym same ∙ (sym c.same.ensures.same ∙ w.if-not-same.true))
-      | then-not-same-via-else-not-same+then-not-is_list3 w ↦
-          let same = same_by_objects b F (Equal p.left q.right) (at c.args.c) _ i (and_from _ _ i1.0 i2.1) e (ap₂ (list3 (symbol "PEQUAL*")) p.left_is q.right_is) in
-          and_right (same_term p.right q.left) (same_formula F (Equal p.left q.right)) (sym same ∙ (sym w.is_list3.ensures ∙ w.if-not-is_list3.true))
+      | then-not-same-via-else-not-same+then-not-is_equal w ↦
+          let same = same_by_objects b F (Equal p.left q.right) (at c.args.conclusion) _ i (and_from _ _ i1.0 i2.1) e (ap₂ (list3 (symbol "PEQUAL*")) p.left_is q.right_is) in
+          and_right (same_term p.right q.left) (same_formula F (Equal p.left q.right)) (sym same ∙ (sym w.is_equal.ensures ∙ w.if-not-is_equal.true))
     ]
 
 pub returns-clause-answer : goal.returns-clause-answer
@@ -44,7 +44,7 @@ returns-clause-answer c = λ b F G H has i e h k.
     let i1 = equal_formed b G p.left p.right p.is (formed b _ G h) in
     let i2 = equal_formed b H q.left q.right q.is (formed b _ H k) in
     let meet = sym (same_by_terms b p.right q.left _ _ i1.1 i2.0 p.right_is q.left_is) ∙ (sym c.same.ensures.same ∙ c.if-not-same.false) in
-    let ends = sym (same_by_objects b F (Equal p.left q.right) (at c.args.c) _ i (and_from _ _ i1.0 i2.1) e (ap₂ (list3 (symbol "PEQUAL*")) p.left_is q.right_is)) ∙ (sym c.is_list3.ensures ∙ c.if-not-is_list3.false) in
+    let ends = sym (same_by_objects b F (Equal p.left q.right) (at c.args.conclusion) _ i (and_from _ _ i1.0 i2.1) e (ap₂ (list3 (symbol "PEQUAL*")) p.left_is q.right_is)) ∙ (sym c.is_equal.ensures ∙ c.if-not-is_equal.false) in
     let second = q.is ∙ ap (λ t. Equal t q.right) (sym (same_term-eq p.right q.left meet)) in
     let made = c.in_ok-chained.ensures.made b p.left p.right q.right has p.left_is p.right_is q.right_is (subst (IsProof b (at c.args.p)) p.is h) (subst (IsProof b (at c.args.q)) second k) in
     (ap₂ (is_chained F) p.is q.is ∙ and_from _ _ meet ends, c.in_ok-chained.ensures.within, subst (IsProof b _) (sym (same_formula-eq F (Equal p.left q.right) ends)) made)

@@ -15,20 +15,20 @@ use Rattle.mw_lower.proofs.steps.commute.Goals as goal
 pub returns-in_default-clause-answer : goal.returns-in_default-clause-answer
 returns-in_default-clause-answer c = λ b F G has i e h. commuted_none F G _ (conclusion_is b.axioms b.theorems b.table b.profile _ G h) c.in_default.ensures
 
-pub returns-then-not-is_list3-clause-answer : goal.returns-then-not-is_list3-clause-answer
-returns-then-not-is_list3-clause-answer c = λ b F G has i e h.
+pub returns-then-not-is_or-clause-answer : goal.returns-then-not-is_or-clause-answer
+returns-then-not-is_or-clause-answer c = λ b F G has i e h.
     let at = object_at c.args.heap.now.objects in
     let p = or_parts G _ _ _ (conclusion_is b.axioms b.theorems b.table b.profile _ G h) c.in-Some.ensures.2 in
     let j = or_formed b G p.left p.right p.is (formed b _ G h) in
-    let same = same_by_objects b F (Or p.right p.left) (at c.args.c) _ i (and_from _ _ j.1 j.0) e (ap₂ (list3 (symbol "POR*")) p.right_is p.left_is) in
-    ap (is_commuted F) p.is ∙ (sym same ∙ (sym c.is_list3.ensures ∙ c.if-not-is_list3.true))
+    let same = same_by_objects b F (Or p.right p.left) (at c.args.conclusion) _ i (and_from _ _ j.1 j.0) e (ap₂ (list3 (symbol "POR*")) p.right_is p.left_is) in
+    ap (is_commuted F) p.is ∙ (sym same ∙ (sym c.is_or.ensures ∙ c.if-not-is_or.true))
 
 pub returns-clause-answer : goal.returns-clause-answer
 returns-clause-answer c = λ b F G has i e h.
     let at = object_at c.args.heap.now.objects in
     let p = or_parts G _ _ _ (conclusion_is b.axioms b.theorems b.table b.profile _ G h) c.in-Some.ensures.2 in
     let j = or_formed b G p.left p.right p.is (formed b _ G h) in
-    let same = same_by_objects b F (Or p.right p.left) (at c.args.c) _ i (and_from _ _ j.1 j.0) e (ap₂ (list3 (symbol "POR*")) p.right_is p.left_is) in
-    let holds = sym same ∙ (sym c.is_list3.ensures ∙ c.if-not-is_list3.false) in
+    let same = same_by_objects b F (Or p.right p.left) (at c.args.conclusion) _ i (and_from _ _ j.1 j.0) e (ap₂ (list3 (symbol "POR*")) p.right_is p.left_is) in
+    let holds = sym same ∙ (sym c.is_or.ensures ∙ c.if-not-is_or.false) in
     let made = c.in_ok-commuted.ensures.made b p.left p.right p.left_is p.right_is (subst (IsProof b (at c.args.p)) p.is h) in
     (ap (is_commuted F) p.is ∙ holds, c.in_ok-commuted.ensures.within, subst (IsProof b _) (sym (same_formula-eq F (Or p.right p.left) holds)) made)
