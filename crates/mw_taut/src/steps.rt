@@ -1,23 +1,23 @@
 //! Steps of proof in a heap, by the five rules for propositions. Each is told by its parts what it concludes.
-ghost use Rattle.std.specs.Prelude.{◌≡◌, true, IfOk};
-ghost use Rattle.mw_model.specs.Terms.Object.{Symbol, is_name, name_of_bytes, list1, list3};
+ghost use Rattle.std.specs.Prelude.{◌≡◌, IfOk};
+ghost use Rattle.mw_model.specs.Terms.Object.{list1, list3};
 ghost use Rattle.mw_heap.specs.Objects.{object_at, IsIn, Grows};
+ghost use Rattle.mw_heap.specs.Words.{word_object};
 ghost use Rattle.mw_taut.specs.Steps.{schema, expansion, contraction, associativity, cut};
 
-use crate::formulas::{list1, list2, named2, named3, not, or, or_then};
-use mw_heap::{Heap, Memory, Ref};
+use crate::formulas::{not, or, or_then};
+use mw_heap::{Heap, Memory, Ref, Word, form_of, list_of};
 
-// The step (NAME conclusion (p)).
-fn step_from(heap: &mut Heap, name: &[u8], conclusion: Ref, p: Ref) -> Result<Ref, Memory>
-    requires name { is_name name.now ≡ true }
+// The step (WORD conclusion (p)).
+fn step_from(heap: &mut Heap, word: Word, conclusion: Ref, p: Ref) -> Result<Ref, Memory>
     requires conclusion_in { IsIn heap.old.objects conclusion }
     requires p_in { IsIn heap.old.objects p }
     ensures grows { Grows heap.old.objects heap.new.objects }
     ensures within { IfOk result (λ r. IsIn heap.new.objects r) }
-    ensures made { IfOk result (λ r. object_at heap.new.objects r ≡ list3 (Symbol (name_of_bytes name.now)) (object_at heap.old.objects conclusion) (list1 (object_at heap.old.objects p))) }
+    ensures made { IfOk result (λ r. object_at heap.new.objects r ≡ list3 (word_object word) (object_at heap.old.objects conclusion) (list1 (object_at heap.old.objects p))) }
 {
-    let subproofs = list1(heap, p)?;
-    named3(heap, name, conclusion, subproofs)
+    let subproofs = list_of(heap, &[p])?;
+    form_of(heap, word, &[conclusion, subproofs])
 }
 
 /// not a or a.
@@ -29,7 +29,7 @@ pub(crate) fn schema(heap: &mut Heap, a: Ref) -> Result<Ref, Memory>
 {
     let denial = not(heap, a)?;
     let conclusion = or(heap, denial, a)?;
-    named2(heap, b"PROPOSITIONAL-SCHEMA", conclusion)
+    form_of(heap, Word::PropositionalSchema, &[conclusion])
 }
 
 /// Of b, by p: a or b.
@@ -42,7 +42,7 @@ pub(crate) fn expansion(heap: &mut Heap, a: Ref, b: Ref, p: Ref) -> Result<Ref, 
     ensures made { IfOk result (λ r. object_at heap.new.objects r ≡ expansion (object_at heap.old.objects a) (object_at heap.old.objects b) (object_at heap.old.objects p)) }
 {
     let conclusion = or(heap, a, b)?;
-    step_from(heap, b"EXPANSION", conclusion, p)
+    step_from(heap, Word::Expansion, conclusion, p)
 }
 
 /// Of a or a, by p: a.
@@ -53,7 +53,7 @@ pub(crate) fn contraction(heap: &mut Heap, a: Ref, p: Ref) -> Result<Ref, Memory
     ensures within { IfOk result (λ r. IsIn heap.new.objects r) }
     ensures made { IfOk result (λ r. object_at heap.new.objects r ≡ contraction (object_at heap.old.objects a) (object_at heap.old.objects p)) }
 {
-    step_from(heap, b"CONTRACTION", a, p)
+    step_from(heap, Word::Contraction, a, p)
 }
 
 /// Of a or (b or c), by p: (a or b) or c.
@@ -67,7 +67,7 @@ pub(crate) fn associativity(heap: &mut Heap, a: Ref, b: Ref, c: Ref, p: Ref) -> 
     ensures made { IfOk result (λ r. object_at heap.new.objects r ≡ associativity (object_at heap.old.objects a) (object_at heap.old.objects b) (object_at heap.old.objects c) (object_at heap.old.objects p)) }
 {
     let conclusion = or_then(heap, a, b, c)?;
-    step_from(heap, b"ASSOCIATIVITY", conclusion, p)
+    step_from(heap, Word::Associativity, conclusion, p)
 }
 
 /// Of x or a, by p, and not x or b, by q: a or b.
@@ -81,6 +81,6 @@ pub(crate) fn cut(heap: &mut Heap, a: Ref, b: Ref, p: Ref, q: Ref) -> Result<Ref
     ensures made { IfOk result (λ r. object_at heap.new.objects r ≡ cut (object_at heap.old.objects a) (object_at heap.old.objects b) (object_at heap.old.objects p) (object_at heap.old.objects q)) }
 {
     let conclusion = or(heap, a, b)?;
-    let subproofs = list2(heap, p, q)?;
-    named3(heap, b"CUT", conclusion, subproofs)
+    let subproofs = list_of(heap, &[p, q])?;
+    form_of(heap, Word::Cut, &[conclusion, subproofs])
 }
