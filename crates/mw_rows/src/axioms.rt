@@ -1,6 +1,6 @@
 //! The axioms and the built-in definitions that docs/AXIOMS.md lists, judged by the program.
-use crate::row::other_report;
 use crate::switches::book_with_useless_checker;
+use mw_answers::other_report;
 use std::alloc::{AllocError, Global};
 use std::test::Fail;
 

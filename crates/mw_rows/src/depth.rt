@@ -1,7 +1,7 @@
 //! Data that are nested deep: no call recurses on the depth.
 ghost use Rattle.std.specs.Prelude.{◌<◌};
 
-use crate::row::{Answer, answer_to};
+use mw_answers::{Answer, answer_to};
 use mw_book::Status;
 use std::alloc::{AllocError, Global};
 use std::test::Fail;

@@ -1,5 +1,5 @@
 //! What is due for the beginning of a book, computed from where its data end.
-use crate::row::{Answer, answer_to};
+use mw_answers::{Answer, answer_to};
 use mw_book::Status;
 use mw_read::SyntaxKind;
 use std::alloc::{AllocError, Global};

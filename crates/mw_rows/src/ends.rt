@@ -1,7 +1,6 @@
 //! The ends that are not the book's own, and the numbers of all.
 use crate::due::{Datum, is_due, lines_within};
-use crate::row::{Answer, answer_between};
-use crate::switches::{NEVER, OF_NEVER};
+use mw_answers::{Answer, NEVER, OF_NEVER, answer_between};
 use mw_book::Status;
 use mw_port::{MemSink, MemSource};
 use mw_read::SyntaxKind;

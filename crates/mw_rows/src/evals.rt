@@ -1,5 +1,5 @@
 //! What EVAL shows, and within how many units.
-use crate::row::{Answer, Row, answer_within, wrong_answers};
+use mw_answers::{Answer, Row, answer_within, wrong_answers};
 use mw_book::Status;
 use std::alloc::{AllocError, Global};
 use std::test::Fail;

@@ -1,5 +1,5 @@
 //! The fate of each kind of event.
-use crate::row::{Row, wrong_answers};
+use mw_answers::{Row, wrong_answers};
 use mw_book::Status;
 use std::test::Fail;
 

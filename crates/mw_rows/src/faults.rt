@@ -1,5 +1,5 @@
 //! The first fault of a book's text.
-use crate::row::{Row, wrong_answers};
+use mw_answers::{Row, wrong_answers};
 use mw_book::Status;
 use mw_read::SyntaxKind;
 use std::test::Fail;

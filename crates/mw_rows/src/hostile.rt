@@ -1,6 +1,6 @@
 //! Books whose terms would be large if labels and abbreviations were written out: each ends in time that is linear in what is written and in
 //! the units that it uses, or out of memory at once.
-use crate::row::{Answer, answer_to, answer_within};
+use mw_answers::{Answer, answer_to, answer_within};
 use mw_book::Status;
 use std::alloc::{AllocError, Global};
 use std::test::Fail;

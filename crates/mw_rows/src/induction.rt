@@ -1,5 +1,5 @@
 //! An induction with its two premises: with no cases, and a measure that is the ordinal 0.
-use crate::row::{Row, wrong_answers};
+use mw_answers::{Row, wrong_answers};
 use mw_book::Status;
 use std::test::Fail;
 

@@ -10,8 +10,6 @@ mod books;
 #[cfg(test)]
 mod calls;
 #[cfg(test)]
-mod commands;
-#[cfg(test)]
 mod definitions;
 #[cfg(test)]
 mod depth;
@@ -26,15 +24,9 @@ mod events;
 #[cfg(test)]
 mod faults;
 #[cfg(test)]
-mod flat;
-#[cfg(test)]
 mod hostile;
 #[cfg(test)]
 mod induction;
-#[cfg(test)]
-mod long_logs;
-#[cfg(test)]
-mod lower;
 #[cfg(test)]
 mod pieces;
 #[cfg(test)]
@@ -42,18 +34,10 @@ mod profiles;
 #[cfg(test)]
 mod ranks;
 #[cfg(test)]
-mod recheck;
-#[cfg(test)]
-mod row;
-#[cfg(test)]
 mod shared;
 #[cfg(test)]
-mod slice;
+mod shorthand;
 #[cfg(test)]
 mod switches;
 #[cfg(test)]
-mod taut;
-#[cfg(test)]
 mod trial;
-#[cfg(test)]
-mod wrap;

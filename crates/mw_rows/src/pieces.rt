@@ -1,7 +1,6 @@
 //! A book read in pieces of any size.
 use crate::due::{Datum, is_due};
-use crate::row::{Row, wrong_answers};
-use crate::switches::{NEVER, OF_NEVER};
+use mw_answers::{NEVER, OF_NEVER, Row, wrong_answers};
 use mw_book::Status;
 use std::test::Fail;
 

@@ -1,6 +1,5 @@
 //! The second profile, which has multiplication, and when it can be chosen.
-use crate::row::{Row, lines_from, other_report, wrong_answers};
-use crate::wrap::{WRAP, WRAPPED};
+use mw_answers::{Row, WRAP, WRAPPED, lines_from, other_report, wrong_answers};
 use mw_book::Status;
 use std::alloc::{AllocError, Global};
 use std::test::Fail;

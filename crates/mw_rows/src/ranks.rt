@@ -1,5 +1,5 @@
 //! The book books/ranks.book, after which others define recursive functions: theorems up to the two that a recursion down CDR owes.
-use crate::row::other_report;
+use mw_answers::other_report;
 use std::alloc::{AllocError, Global};
 
 const RANKS: &str =

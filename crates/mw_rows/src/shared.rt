@@ -1,5 +1,5 @@
 //! Books whose labels make a term or a proof of 2^60 parts out of sixty.
-use crate::row::{Answer, answer_to};
+use mw_answers::{Answer, answer_to};
 use mw_book::Status;
 use std::alloc::{AllocError, Global};
 use std::test::Fail;
@@ -14,19 +14,6 @@ fn doubled_term(alloc: Global) -> Result<String, AllocError> {
     Ok(term)
 }
 
-// The proof of which each part cites the one before it twice, down to an axiom.
-fn doubled_proof(alloc: Global) -> Result<String, AllocError> {
-    let mut proof = String::from_str(alloc, "(axiom (pequal* x x))")?;
-    for k in 1..61 {
-        proof = format!(in alloc;
-            "(contraction (pequal* x x) ((cut (por* (pequal* x x) (pequal* x x)) \
-            ((expansion (por* (pequal* y y) (pequal* x x)) (#{k}={proof})) \
-            (expansion (por* (pnot* (pequal* y y)) (pequal* x x)) (#{k}#))))))"
-        )?;
-    }
-    Ok(proof)
-}
-
 // The book that shows the term equal to itself, and then prints it.
 fn book_of_the_term(alloc: Global) -> Result<String, AllocError> {
     let term = doubled_term(alloc)?;
@@ -34,12 +21,6 @@ fn book_of_the_term(alloc: Global) -> Result<String, AllocError> {
         "(verify big (pequal* {term} #60#) \
         (instantiation (pequal* #60# #60#) ((axiom (pequal* x x))) ((x . #60#))))\n(print {term})"
     )
-}
-
-/// The book that shows a variable equal to itself by that proof.
-pub(crate) fn book_of_the_proof(alloc: Global) -> Result<String, AllocError> {
-    let proof = doubled_proof(alloc)?;
-    format!(in alloc; "(verify q (pequal* x x) {proof})")
 }
 
 fn answer_on_the_term(alloc: Global) -> Result<Answer, AllocError> {

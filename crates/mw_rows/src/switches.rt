@@ -1,29 +1,9 @@
 //! Switches to a checker of the book: what is refused, and how proofs are judged after one.
 use crate::ranks::other_report_after_ranks;
-use crate::row::{Row, lines_from, other_report, wrong_answers};
-use crate::wrap::{WRAP, WRAPPED};
+use mw_answers::{NEVER, OF_NEVER, Row, WRAP, WRAPPED, lines_from, other_report, wrong_answers};
 use mw_book::Status;
 use std::alloc::{AllocError, Global};
 use std::test::Fail;
-
-/// A checker that accepts nothing, its claim, the switch to it, and a theorem that it does not take.
-pub(crate) const NEVER: &str = "(define never (x axioms thms atbl) nil nil ())
-(verify claim
- #1=(por* #2=(pequal* (never x axioms thms atbl) 'nil)
-          #3=(pnot* (pequal* (logic.provablep (logic.conclusion x) axioms thms atbl) 'nil)))
- (cut #1# ((expansion (por* #3# #2#) ((axiom #2#)))
-           (propositional-schema (por* (pnot* #3#) #3#)))))
-(switch never)
-(verify refl (pequal* x x) (axiom (pequal* x x)))
-";
-
-/// The report that is due for it.
-pub(crate) const OF_NEVER: &str = "1 DEFINE NEVER accepted
-2 VERIFY CLAIM accepted
-3 SWITCH NEVER accepted
-4 VERIFY REFL refused NIL
-events 4 accepted 3 refused 1 level 2
-";
 
 const SWITCHES: [Row; 4] = [
     Row {

@@ -1,6 +1,5 @@
 //! Books, and what `slice` keeps of them.
-use crate::row::{Answer, Row, answer_to, answer_with_faults, answer_within, wrong_answers};
-use crate::wrap::WRAP;
+use mw_answers::{Answer, Row, WRAP, answer_to, answer_with_faults, answer_within, wrong_answers};
 use mw_book::Status;
 use mw_read::SyntaxKind;
 use std::alloc::{AllocError, Global};

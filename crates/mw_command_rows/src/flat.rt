@@ -1,6 +1,5 @@
 //! Books, and the logs that `flat` makes of them.
-use crate::row::{Answer, Row, answer_with_faults, wrong_answers};
-use crate::switches::NEVER;
+use mw_answers::{Answer, NEVER, Row, answer_with_faults, wrong_answers};
 use mw_book::Status;
 use mw_read::SyntaxKind;
 use std::alloc::{AllocError, Global};

@@ -1,5 +1,5 @@
 //! Books of derivations, and what `lower` writes for them.
-use crate::row::{Answer, Row, answer_to, answer_with_faults, answer_within, wrong_answers};
+use mw_answers::{Answer, Row, answer_to, answer_with_faults, answer_within, wrong_answers};
 use mw_book::Status;
 use mw_read::SyntaxKind;
 use std::alloc::{AllocError, Global};

@@ -1,5 +1,5 @@
 //! Long logs: each is judged in time that is linear in what is written.
-use crate::row::{Answer, answer_within};
+use mw_answers::{Answer, answer_within};
 use mw_book::Status;
 use std::alloc::{AllocError, Global};
 use std::test::Fail;

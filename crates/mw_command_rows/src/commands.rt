@@ -1,5 +1,5 @@
 //! The words of the command line, and what the program does with them.
-use crate::row::{source_of, text_of, texts};
+use mw_answers::{source_of, text_of, texts};
 use mw_book::{Status, run};
 use mw_port::MemSink;
 use std::alloc::{AllocError, Global};

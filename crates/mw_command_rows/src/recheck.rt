@@ -1,7 +1,7 @@
 //! Logs, and what `recheck` answers to them.
-use crate::row::{Answer, Row, answer_with_faults, answer_within, wrong_answers};
-use crate::shared::book_of_the_proof;
-use crate::switches::NEVER;
+use mw_answers::{
+    Answer, NEVER, Row, answer_with_faults, answer_within, book_of_the_proof, wrong_answers,
+};
 use mw_book::Status;
 use mw_read::SyntaxKind;
 use std::alloc::{AllocError, Global};

@@ -4,21 +4,21 @@ use mw_port::{MemSink, MemSource, Text};
 use std::alloc::{AllocError, Global};
 
 /// A book, the report that is due for it and how the program is to end.
-pub(crate) struct Row {
-    pub(crate) book: &'static str,
-    pub(crate) report: &'static str,
-    pub(crate) status: Status,
+pub struct Row {
+    pub book: &'static str,
+    pub report: &'static str,
+    pub status: Status,
 }
 
 /// What the program wrote and how it ended.
 #[derive(Drop)]
-pub(crate) struct Answer {
-    pub(crate) report: String,
-    pub(crate) status: Status,
+pub struct Answer {
+    pub report: String,
+    pub status: Status,
 }
 
 /// These words, as those of a command line.
-pub(crate) fn texts(alloc: Global, words: &[&str]) -> Result<Vec<Text>, AllocError> {
+pub fn texts(alloc: Global, words: &[&str]) -> Result<Vec<Text>, AllocError> {
     let mut texts = Vec::new(alloc);
     for word in words {
         texts.push(Text::new(String::from_str(alloc, word)?))?;
@@ -27,24 +27,24 @@ pub(crate) fn texts(alloc: Global, words: &[&str]) -> Result<Vec<Text>, AllocErr
 }
 
 /// A source that gives the book in pieces of so many bytes.
-pub(crate) fn source_of(alloc: Global, book: &str, size: usize) -> Result<MemSource, AllocError> {
+pub fn source_of(alloc: Global, book: &str, size: usize) -> Result<MemSource, AllocError> {
     let bytes = Vec::from_slice(alloc, book.as_bytes())?;
     let cuts = vec![in alloc; size; book.len()]?;
     Ok(MemSource::new(bytes, cuts, Vec::new(alloc)))
 }
 
 /// What the sink took, as text.
-pub(crate) fn text_of(alloc: Global, sink: &MemSink) -> Result<String, AllocError> {
+pub fn text_of(alloc: Global, sink: &MemSink) -> Result<String, AllocError> {
     String::from_utf8_lossy(alloc, sink.taken())
 }
 
 /// What the program answers to a book that it reads in pieces of so many bytes.
-pub(crate) fn answer_to(alloc: Global, book: &str, size: usize) -> Result<Answer, AllocError> {
+pub fn answer_to(alloc: Global, book: &str, size: usize) -> Result<Answer, AllocError> {
     answer_within(alloc, &["check"], book, size)
 }
 
 /// What the program that is called with these words answers to a book that it reads in pieces of so many bytes.
-pub(crate) fn answer_within(
+pub fn answer_within(
     alloc: Global,
     words: &[&str],
     book: &str,
@@ -56,7 +56,7 @@ pub(crate) fn answer_within(
 }
 
 /// What the program that is called with these words answers between this source and this sink.
-pub(crate) fn answer_between(
+pub fn answer_between(
     alloc: Global,
     words: &[&str],
     source: &mut MemSource,
@@ -70,7 +70,7 @@ pub(crate) fn answer_between(
 
 /// The same where the source gives pieces of seven bytes and the sink takes three at a time, and where the reads and the writes of these numbers
 /// fail.
-pub(crate) fn answer_with_faults(
+pub fn answer_with_faults(
     alloc: Global,
     words: &[&str],
     book: &str,
@@ -86,7 +86,7 @@ pub(crate) fn answer_with_faults(
 }
 
 /// The report on a book within so many units, where it does not begin with what is due.
-pub(crate) fn other_report(
+pub fn other_report(
     alloc: Global,
     steps: &str,
     book: &str,
@@ -101,7 +101,7 @@ pub(crate) fn other_report(
 }
 
 /// The lines of events that are accepted, from this number on: of each its word and its label.
-pub(crate) fn lines_from(alloc: Global, first: u64, events: &[&str]) -> Result<String, AllocError> {
+pub fn lines_from(alloc: Global, first: u64, events: &[&str]) -> Result<String, AllocError> {
     let mut lines = String::new(alloc);
     let mut number = first;
     for event in events {
@@ -132,7 +132,7 @@ fn add_wrong(
 
 /// The books to which the program called with these words, which reads pieces of so many bytes, does not give the answers that are due, with what it
 /// answered.
-pub(crate) fn wrong_answers(
+pub fn wrong_answers(
     alloc: Global,
     words: &[&str],
     rows: &[Row],

@@ -1,0 +1,15 @@
+//! What the program answers to books in memory, and the books that several crates of rows use.
+#![tactic(auto)]
+
+mod never;
+mod row;
+mod shared_proof;
+mod wrap;
+
+pub use never::{NEVER, OF_NEVER};
+pub use row::{
+    Answer, Row, answer_between, answer_to, answer_with_faults, answer_within, lines_from,
+    other_report, source_of, text_of, texts, wrong_answers,
+};
+pub use shared_proof::book_of_the_proof;
+pub use wrap::{WRAP, WRAPPED};

@@ -1,0 +1,20 @@
+//! A switch to a checker that accepts nothing.
+
+/// A checker that accepts nothing, its claim, the switch to it, and a theorem that it does not take.
+pub const NEVER: &str = "(define never (x axioms thms atbl) nil nil ())
+(verify claim
+ #1=(por* #2=(pequal* (never x axioms thms atbl) 'nil)
+          #3=(pnot* (pequal* (logic.provablep (logic.conclusion x) axioms thms atbl) 'nil)))
+ (cut #1# ((expansion (por* #3# #2#) ((axiom #2#)))
+           (propositional-schema (por* (pnot* #3#) #3#)))))
+(switch never)
+(verify refl (pequal* x x) (axiom (pequal* x x)))
+";
+
+/// The report that is due for it.
+pub const OF_NEVER: &str = "1 DEFINE NEVER accepted
+2 VERIFY CLAIM accepted
+3 SWITCH NEVER accepted
+4 VERIFY REFL refused NIL
+events 4 accepted 3 refused 1 level 2
+";
