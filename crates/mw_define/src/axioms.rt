@@ -5,7 +5,7 @@ ghost use Rattle.mw_model.specs.Laws.Rules.{equal_object};
 ghost use Rattle.mw_heap.specs.Objects.{object_at, IsIn, Grows};
 ghost use Rattle.mw_define.specs.Axioms.{quoted_nil, choice_object};
 
-use mw_heap::{Heap, Memory, Ref};
+use mw_heap::{Heap, Memory, Ref, Word};
 use mw_translate::{call_of_one, call_of_two, quoted_symbol};
 
 // The call of a lambda with the bound variable and the free ones on the witness and the free ones.
@@ -19,7 +19,7 @@ fn chosen(heap: &mut Heap, name: Ref, formals: Ref, free: Ref, body: Ref) -> Res
 {
     let call = heap.cons(name, free)?;
     let actuals = heap.cons(call, free)?;
-    let head = call_of_two(heap, b"LAMBDA", formals, body)?;
+    let head = call_of_two(heap, Word::Lambda, formals, body)?;
     Ok(heap.cons(head, actuals)?)
 }
 
@@ -29,8 +29,8 @@ pub(crate) fn equal_nil(heap: &mut Heap, x: Ref) -> Result<Ref, Memory>
     ensures grows { Grows heap.old.objects heap.new.objects }
     ensures made { IfOk result (λ r. IsIn heap.new.objects r × (object_at heap.new.objects r ≡ equal_object (object_at heap.old.objects x) quoted_nil)) }
 {
-    let nil = quoted_symbol(heap, b"NIL")?;
-    Ok(call_of_two(heap, b"PEQUAL*", x, nil)?)
+    let nil = quoted_symbol(heap, Word::Nil)?;
+    Ok(call_of_two(heap, Word::Pequal, x, nil)?)
 }
 
 // body = 'nil or not (the body where the witness stands for the bound variable) = 'nil.
@@ -51,8 +51,8 @@ pub(crate) fn choice_axiom(
     let call = chosen(heap, name, formals, free, body)?;
     let none = equal_nil(heap, body)?;
     let fails = equal_nil(heap, call)?;
-    let holds = call_of_one(heap, b"PNOT*", fails)?;
-    Ok(call_of_two(heap, b"POR*", none, holds)?)
+    let holds = call_of_one(heap, Word::Pnot, fails)?;
+    Ok(call_of_two(heap, Word::Por, none, holds)?)
 }
 
 // (name . formals) = body.
@@ -69,5 +69,5 @@ pub(crate) fn function_axiom(
     ensures made { IfOk result (λ r. IsIn heap.new.objects r × (object_at heap.new.objects r ≡ equal_object (Pair (object_at heap.old.objects name) (object_at heap.old.objects formals)) (object_at heap.old.objects body))) }
 {
     let call = heap.cons(name, formals)?;
-    Ok(call_of_two(heap, b"PEQUAL*", call, body)?)
+    Ok(call_of_two(heap, Word::Pequal, call, body)?)
 }

@@ -7,7 +7,7 @@ ghost use Rattle.mw_heap.specs.Objects.{object_at, IsIn, Grows};
 ghost use Rattle.mw_define.specs.Descent.{Falls};
 
 use mw_equal::reduced;
-use mw_heap::{Heap, Memory, Ref};
+use mw_heap::{Heap, Memory, Ref, Word};
 use mw_translate::{call_of_one, call_of_two, quoted_symbol};
 
 // (ordp measure) = 't.
@@ -16,9 +16,9 @@ pub(crate) fn is_ordinal(heap: &mut Heap, measure: Ref) -> Result<Ref, Memory>
     ensures grows { Grows heap.old.objects heap.new.objects }
     ensures made { IfOk result (λ r. IsIn heap.new.objects r × ((m : Term) → term_of (object_at heap.old.objects measure) ≡ Some m → object_at heap.new.objects r ≡ formula_object (ordinal_formula m))) }
 {
-    let call = call_of_one(heap, b"ORDP", measure)?;
-    let truth = quoted_symbol(heap, b"T")?;
-    Ok(call_of_two(heap, b"PEQUAL*", call, truth)?)
+    let call = call_of_one(heap, Word::Ordp, measure)?;
+    let truth = quoted_symbol(heap, Word::T)?;
+    Ok(call_of_two(heap, Word::Pequal, call, truth)?)
 }
 
 // (ord< lower measure) = 't, where lower is the measure of the called function with the actuals for its formals.
@@ -36,9 +36,9 @@ pub(crate) fn falls(
     ensures grows { Grows heap.old.objects heap.new.objects }
     ensures made { IfOk result (λ r. IsIn heap.new.objects r × Falls heap.old.objects formals called_measure actuals measure (object_at heap.new.objects r)) }
 {
-    let function = call_of_two(heap, b"LAMBDA", formals, called_measure)?;
+    let function = call_of_two(heap, Word::Lambda, formals, called_measure)?;
     let lower = reduced(heap, function, actuals)?;
-    let call = call_of_two(heap, b"ORD<", lower, measure)?;
-    let truth = quoted_symbol(heap, b"T")?;
-    Ok(call_of_two(heap, b"PEQUAL*", call, truth)?)
+    let call = call_of_two(heap, Word::OrdLess, lower, measure)?;
+    let truth = quoted_symbol(heap, Word::T)?;
+    Ok(call_of_two(heap, Word::Pequal, call, truth)?)
 }

@@ -12,7 +12,7 @@ use crate::axioms::equal_nil;
 use crate::mention::mentions_some;
 use crate::piece::Piece;
 use indexmap::IndexSet;
-use mw_heap::{Heap, Memory, Ref, View};
+use mw_heap::{Heap, Memory, Ref, View, Word};
 use mw_translate::{call_of_one, call_of_two};
 
 // What is left to show where a test of this kind fails.
@@ -25,7 +25,7 @@ fn failing(heap: &mut Heap, kind: Ref, term: Ref) -> Result<Ref, Memory>
     let is_nil = heap.is_nil(Some(kind));
     let equation = equal_nil(heap, term)?;
     if is_nil {
-        return Ok(call_of_one(heap, b"PNOT*", equation)?);
+        return Ok(call_of_one(heap, Word::Pnot, equation)?);
     }
     Ok(equation)
 }
@@ -52,7 +52,7 @@ fn under_one(
         return Ok(formula);
     }
     let fails = failing(heap, kind, term)?;
-    Ok(call_of_two(heap, b"POR*", fails, formula)?)
+    Ok(call_of_two(heap, Word::Por, fails, formula)?)
 }
 
 // The formula under those tests of a list, the innermost first, that mention no function of these names. Each cell of a test that is
