@@ -13,7 +13,7 @@ use crate::cases::by_cases;
 use crate::compile::table_of;
 use crate::table::Table;
 use indexmap::IndexMap;
-use mw_heap::{Heap, Memory, Ref};
+use mw_heap::{Heap, Memory, Ref, looks_for};
 use mw_term::Arity;
 
 /// What is decided of a formula.
@@ -60,7 +60,7 @@ fn answer(heap: &Heap, outcome: Outcome) -> Decision
     }
 }
 
-// The decision, where memory suffices.
+// The decision, where memory suffices. The looks that it takes are allowed by the number of the formula's distinct parts.
 fn decided(heap: &mut Heap, f: Ref, arity: &Arity) -> Result<Decision, Memory>
     requires within { IsIn heap.old.objects f }
     requires formula { (F : Formula) × (object_at heap.old.objects f ≡ formula_object F) × (is_formula arity.now F ≡ true) }
@@ -71,13 +71,15 @@ fn decided(heap: &mut Heap, f: Ref, arity: &Arity) -> Result<Decision, Memory>
     if table.equations.len() > MOST_EQUATIONS {
         return Ok(Decision::Many);
     }
+    heap.allow_looks(looks_for(table.nodes.len()));
     let outcome = outcome(heap, f, &table, arity)?;
     Ok(answer(heap, outcome))
 }
 
 /// Whether a formula of these arities is a tautology. It answers that there are many equations exactly when there are more than twelve;
 /// else a proof from no axioms and no theorems under profile one, which holds no natural past the range, exactly when the formula
-/// is a tautology; else the first choice against it. What the heap gets more is not cut back.
+/// is a tautology; else the first choice against it; but where that takes more looks than 2^24, and 64 for each distinct part of the
+/// formula, it is out of memory. What the heap gets more is not cut back.
 pub fn decide(heap: &mut Heap, f: Ref, arity: &Arity) -> Decision
     requires within { IsIn heap.old.objects f }
     requires formula { is_formula_object arity.now (object_at heap.old.objects f) ≡ true }

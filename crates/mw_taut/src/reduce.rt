@@ -10,7 +10,31 @@ use crate::literal::literal_law;
 use crate::node::Node;
 use crate::reduced::Reduced;
 use crate::settled::Settled;
-use mw_heap::{Heap, Memory, Ref};
+use mw_heap::{Heap, Mark, Memory, Ref};
+use mw_term::take_looks;
+
+// The looks of a part that is kept: it is looked up as a table is made.
+const LOOKS_FOR_A_KEPT_PART: u64 = 4;
+
+// The looks of any other part: the cells of its steps are looked up, though they may all stand in the heap already.
+const LOOKS_FOR_A_CHANGED_PART: u64 = 128;
+
+// The looks of each cell that is made for a part: half as many as in other work, since that the parities of twelve equations in two orders
+// are the same takes 2.6 million cells and more.
+const LOOKS_FOR_A_NEW_CELL: u64 = 4;
+
+// Takes the looks of a part that came to this, and those of the cells that were made for it, which came after the mark.
+fn take_looks_at(heap: &mut Heap, had: Mark, reduced: &Reduced) -> Result<(), Memory>
+    ensures { heap.new.objects ≡ heap.old.objects }
+{
+    let part = match reduced {
+        Reduced::Kept => LOOKS_FOR_A_KEPT_PART,
+        _ => LOOKS_FOR_A_CHANGED_PART,
+    };
+    let made = heap.mark().cells().saturating_sub(had.cells()) as u64;
+    let cells = made.saturating_mul(LOOKS_FOR_A_NEW_CELL);
+    take_looks(heap, cells.saturating_add(part))
+}
 
 // An equation, where e has the value.
 fn reduce_equation(heap: &mut Heap, e: Ref, value: bool, x: Ref) -> Result<Reduced, Memory>
@@ -54,7 +78,8 @@ fn reduce(
     }
 }
 
-/// What each node comes to where the equation e has the value, whose denial is d, in order. The error is out of memory.
+/// What each node comes to where the equation e has the value, whose denial is d, in order. The error is out of memory, or that
+/// the looks that the heap allows are used up.
 pub(crate) fn reduce_all(
     heap: &mut Heap,
     d: Ref,
@@ -75,7 +100,9 @@ pub(crate) fn reduce_all(
 {
     let mut done = Vec::new(heap.alloc());
     for node in nodes {
+        let had = heap.mark();
         let reduced = reduce(heap, d, e, value, formulas, done.as_slice(), *node)?;
+        take_looks_at(heap, had, &reduced)?;
         done.push(reduced)?;
     }
     Ok(done)

@@ -1,11 +1,11 @@
 -- What comes of the proof by cases is the decision that is due.
-use Rattle.std.proofs.Common.{length, sym, ap, ◌∙◌, subst, arith}
+use Rattle.std.proofs.Common.{◌≡◌, length, sym, ap, ◌∙◌, subst, arith}
 use Rattle.std.proofs.lemmas.Bool.{le-ltb}
 use Rattle.std.proofs.lemmas.List.{length-map}
 use Rattle.mw_model.specs.Terms.Term.{formula_object}
 use Rattle.mw_model.specs.Commands.Tautology.{equations, decision, most_equations}
 use Rattle.mw_heap.specs.Objects.{object_at}
-use Rattle.mw_taut.specs.Decided.{IsDecision}
+use Rattle.mw_taut.specs.Decided.{IsTableOf, IsDecision}
 use Rattle.mw_taut.proofs.DecidedBy.{few_decided}
 use Rattle.mw_taut.proofs.deciding.decided.Goals as goal
 
@@ -17,7 +17,8 @@ returns-clause-decided c = λ F e f.
     let t = c.in_ok-table.table in
     let o = c.in_ok-outcome.outcome in
     let table = c.in_ok-table.ensures A F e f in
-    let decides = c.in_ok-outcome.ensures.decides F e f table in
+    let same = sym c.allow_looks.ensures in
+    let decides = c.in_ok-outcome.ensures.decides F (subst (λ h. object_at h c.args.f ≡ formula_object F) same e) f (subst (λ h. IsTableOf h F t) same table) in
     let count = sym (length-map t.equations.items (object_at os)) ∙ (ap length table.equations_are ∙ length-map (equations F) formula_object) in
     let few = le-ltb most_equations (length (equations F)) (omega (arith, c.if-len-gt-MOST_EQUATIONS.false, c.len.ensures, t.equations.ok.0, count)) in
     subst (IsDecision new A F (decision F)) (sym c.answer.ensures.answer) (few_decided A F new o decides c.in_ok-outcome.ensures.within c.answer.ensures.in_range few)

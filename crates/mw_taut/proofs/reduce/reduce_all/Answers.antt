@@ -20,4 +20,5 @@ loop-node-preserved c =
     let more = reducing-more start d e c.args.value formulas nodes os c.loop-node.done.items c.loop-node.node-index n c.loop-node.invariant c.loop-node-test.true (default_free nodes c.loop-node.node-index _ n c.loop-node-test.true)
     c.reduce.new.heap.objects c.in_ok-reduced.reduced c.requires.formulas_in c.requires.d_in c.requires.e_in made.grows made.within
     (made.made ∙ ap (λ items. reduce (object_at os d) (object_at os e) c.args.value (map (object_at os) formulas) (each_at os items) n) c.as_slice.ensures.value) in
-    subst (λ items. IsReducing start d e c.args.value formulas nodes c.reduce.new.heap.objects items (c.loop-node.node-index + 1)) (sym c.in_ok-push.ensures.items) more
+    let pushed = subst (λ items. IsReducing start d e c.args.value formulas nodes c.reduce.new.heap.objects items (c.loop-node.node-index + 1)) (sym c.in_ok-push.ensures.items) more in
+    subst (λ h. IsReducing start d e c.args.value formulas nodes h c.push.new.self.items (c.loop-node.node-index + 1)) (sym c.take_looks_at.ensures) pushed
