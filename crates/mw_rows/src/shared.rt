@@ -1,5 +1,5 @@
 //! Books whose labels make a term or a proof of 2^60 parts out of sixty.
-use mw_answers::{Answer, answer_to};
+use mw_answers::{Answer, answer_to, book_of_the_proof};
 use mw_book::Status;
 use std::alloc::{AllocError, Global};
 use std::test::Fail;
