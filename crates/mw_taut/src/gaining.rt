@@ -3,10 +3,9 @@ ghost use Rattle.std.specs.Prelude.{◌≡◌, IfOk};
 ghost use Rattle.mw_heap.specs.Objects.{object_at, IsIn, Grows};
 ghost use Rattle.mw_taut.specs.Steps.{exchanged, exposed, grouped, gained_left, gained_right};
 
-use crate::derived::commuted;
 use crate::formulas::{or, or_then};
 use crate::steps::{associativity, expansion};
-use crate::turning::{replaced, turned};
+use crate::turning::{added_after, added_before, replaced, turned};
 use mw_heap::{Heap, Memory, Ref};
 
 /// Of a or (b or c), by p, and not c or (x or d), by q: d or ((a or b) or x).
@@ -99,11 +98,7 @@ pub(crate) fn gained_left(
     ensures within { IfOk result (λ r. IsIn heap.new.objects r) }
     ensures made { IfOk result (λ r. object_at heap.new.objects r ≡ gained_left (object_at heap.old.objects d) (object_at heap.old.objects k) (object_at heap.old.objects x) (object_at heap.old.objects y) (object_at heap.old.objects p)) }
 {
-    let rest = or(heap, d, k)?;
-    let moved = associativity(heap, d, k, x, p)?;
-    let part = or(heap, rest, x)?;
-    let wider = expansion(heap, y, part, moved)?;
-    let moved = turned(heap, y, rest, x, wider)?;
+    let moved = added_after(heap, d, k, x, y, p)?;
     grouped(heap, d, k, x, y, moved)
 }
 
@@ -126,10 +121,6 @@ pub(crate) fn gained_right(
     ensures within { IfOk result (λ r. IsIn heap.new.objects r) }
     ensures made { IfOk result (λ r. object_at heap.new.objects r ≡ gained_right (object_at heap.old.objects d) (object_at heap.old.objects k) (object_at heap.old.objects x) (object_at heap.old.objects y) (object_at heap.old.objects p)) }
 {
-    let rest = or(heap, d, k)?;
-    let moved = associativity(heap, d, k, y, p)?;
-    let moved = commuted(heap, rest, y, moved)?;
-    let part = or(heap, y, rest)?;
-    let wider = expansion(heap, x, part, moved)?;
-    grouped(heap, d, k, x, y, wider)
+    let moved = added_before(heap, d, k, x, y, p)?;
+    grouped(heap, d, k, x, y, moved)
 }

@@ -6,7 +6,7 @@ ghost use Rattle.mw_taut.specs.Steps.{placed, owed_left, owed_right, owed_alone}
 use crate::derived::commuted;
 use crate::formulas::or;
 use crate::steps::{associativity, expansion};
-use crate::turning::turned;
+use crate::turning::{added_after, added_before, turned};
 use mw_heap::{Heap, Memory, Ref};
 
 // Of s or (t or (k or d)), by p: (d or (s or t)) or k.
@@ -47,11 +47,7 @@ pub(crate) fn owed_left(
     ensures within { IfOk result (λ r. IsIn heap.new.objects r) }
     ensures made { IfOk result (λ r. object_at heap.new.objects r ≡ owed_left (object_at heap.old.objects d) (object_at heap.old.objects k) (object_at heap.old.objects s) (object_at heap.old.objects t) (object_at heap.old.objects p)) }
 {
-    let rest = or(heap, k, d)?;
-    let moved = associativity(heap, k, d, s, p)?;
-    let part = or(heap, rest, s)?;
-    let wider = expansion(heap, t, part, moved)?;
-    let moved = turned(heap, t, rest, s, wider)?;
+    let moved = added_after(heap, k, d, s, t, p)?;
     placed(heap, d, k, s, t, moved)
 }
 
@@ -74,11 +70,8 @@ pub(crate) fn owed_right(
     ensures within { IfOk result (λ r. IsIn heap.new.objects r) }
     ensures made { IfOk result (λ r. object_at heap.new.objects r ≡ owed_right (object_at heap.old.objects d) (object_at heap.old.objects k) (object_at heap.old.objects s) (object_at heap.old.objects t) (object_at heap.old.objects p)) }
 {
-    let moved = turned(heap, k, d, t, p)?;
-    let rest = or(heap, k, d)?;
-    let part = or(heap, t, rest)?;
-    let wider = expansion(heap, s, part, moved)?;
-    placed(heap, d, k, s, t, wider)
+    let moved = added_before(heap, k, d, s, t, p)?;
+    placed(heap, d, k, s, t, moved)
 }
 
 /// Of k or d, by p: (d or s) or k.

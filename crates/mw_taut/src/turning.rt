@@ -1,7 +1,7 @@
 //! Rules that move the parts of a disjunction, and that put others in their place.
 ghost use Rattle.std.specs.Prelude.{◌≡◌, IfOk};
 ghost use Rattle.mw_heap.specs.Objects.{object_at, IsIn, Grows};
-ghost use Rattle.mw_taut.specs.Steps.{turned, turned_twice, detached, replaced, gathered};
+ghost use Rattle.mw_taut.specs.Steps.{turned, turned_twice, detached, replaced, gathered, added_after, added_before};
 
 use crate::derived::{commuted, resolved};
 use crate::formulas::or;
@@ -97,4 +97,55 @@ pub(crate) fn gathered(heap: &mut Heap, n: Ref, w: Ref, p: Ref) -> Result<Ref, M
     let wider = expansion(heap, n, rest, moved)?;
     let twice = associativity(heap, n, w, whole, wider)?;
     contraction(heap, whole, twice)
+}
+
+/// Of a or (b or x), by p: x or (y or (a or b)).
+#[tactic(auto, using(crate::proofs::Growing::growing), unfolding(crate::specs::Steps::added_after))]
+pub(crate) fn added_after(
+    heap: &mut Heap,
+    a: Ref,
+    b: Ref,
+    x: Ref,
+    y: Ref,
+    p: Ref,
+) -> Result<Ref, Memory>
+    requires a_in { IsIn heap.old.objects a }
+    requires b_in { IsIn heap.old.objects b }
+    requires x_in { IsIn heap.old.objects x }
+    requires y_in { IsIn heap.old.objects y }
+    requires p_in { IsIn heap.old.objects p }
+    ensures grows { Grows heap.old.objects heap.new.objects }
+    ensures within { IfOk result (λ r. IsIn heap.new.objects r) }
+    ensures made { IfOk result (λ r. object_at heap.new.objects r ≡ added_after (object_at heap.old.objects a) (object_at heap.old.objects b) (object_at heap.old.objects x) (object_at heap.old.objects y) (object_at heap.old.objects p)) }
+{
+    let rest = or(heap, a, b)?;
+    let moved = associativity(heap, a, b, x, p)?;
+    let part = or(heap, rest, x)?;
+    let wider = expansion(heap, y, part, moved)?;
+    turned(heap, y, rest, x, wider)
+}
+
+/// Of a or (b or y), by p: x or (y or (a or b)).
+#[tactic(auto, using(crate::proofs::Growing::growing), unfolding(crate::specs::Steps::added_before))]
+pub(crate) fn added_before(
+    heap: &mut Heap,
+    a: Ref,
+    b: Ref,
+    x: Ref,
+    y: Ref,
+    p: Ref,
+) -> Result<Ref, Memory>
+    requires a_in { IsIn heap.old.objects a }
+    requires b_in { IsIn heap.old.objects b }
+    requires x_in { IsIn heap.old.objects x }
+    requires y_in { IsIn heap.old.objects y }
+    requires p_in { IsIn heap.old.objects p }
+    ensures grows { Grows heap.old.objects heap.new.objects }
+    ensures within { IfOk result (λ r. IsIn heap.new.objects r) }
+    ensures made { IfOk result (λ r. object_at heap.new.objects r ≡ added_before (object_at heap.old.objects a) (object_at heap.old.objects b) (object_at heap.old.objects x) (object_at heap.old.objects y) (object_at heap.old.objects p)) }
+{
+    let moved = turned(heap, a, b, y, p)?;
+    let rest = or(heap, a, b)?;
+    let part = or(heap, y, rest)?;
+    expansion(heap, x, part, moved)
 }
