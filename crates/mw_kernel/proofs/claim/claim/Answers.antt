@@ -29,10 +29,10 @@ returns-clause-claim c =
     unproved.formula (named "LOGIC.PROVABLEP") (call "LOGIC.CONCLUSION" (var "X" ∷ []))
     (object_at-Grows _ _ refuses.grows c.in_ok-provable.provable provable.made.0 ∙ provable.made.1)
     (object_at-Grows _ _ from_conclusion c.in_ok-conclusion.conclusion conclusion.made.0 ∙ (conclusion.made.1 ∙ ap (list2 (symbol "LOGIC.CONCLUSION")) x.made.1)) in
-    IfOk-map c.form_of-3.result _ _ (λ r made. (
+    IfOk-map c.form_of-2.result _ _ (λ r made. (
       made.0,
       made.1
           ∙ ap₂ (list3 (symbol "POR*"))
           (object_at-Grows _ _ (Grows-trans _ _ _ unproved.grows proved.grows) c.in_ok-refuses.refuses refuses.within ∙ first)
           (proved.made.1 ∙ ap (list2 (symbol "PNOT*")) second),
-    )) c.form_of-3.ensures.made
+    )) c.form_of-2.ensures.made
