@@ -1,8 +1,7 @@
 //! Books, and the logs that `flat` makes of them.
-use mw_answers::{Answer, NEVER, Row, answer_with_faults, wrong_answers};
+use mw_answers::{NEVER, Row, wrong_answers};
 use mw_book::Status;
 use mw_read::SyntaxKind;
-use std::alloc::{AllocError, Global};
 use std::test::Fail;
 
 // Books and their logs. The third is the example of docs/BOOKS.md.
@@ -74,16 +73,6 @@ const FLATTENED: [Row; 10] = [
     },
 ];
 
-// What `flat` answers where the reads and the writes of these numbers fail.
-fn flattened_with_faults(
-    alloc: Global,
-    reads: &[u64],
-    writes: &[u64],
-) -> Result<Answer, AllocError> {
-    let book = "(profile 2) (print b) (shout)";
-    answer_with_faults(alloc, &["flat"], book, reads, writes)
-}
-
 #[test]
 fn each_event_is_written_after_its_steps(rt: HostRuntime) -> Result<(), Fail> {
     let wrong = wrong_answers(rt.alloc(), &["flat"], &FLATTENED, 4096)?;
@@ -95,21 +84,5 @@ fn each_event_is_written_after_its_steps(rt: HostRuntime) -> Result<(), Fail> {
 fn a_book_that_is_read_byte_by_byte_has_the_same_log(rt: HostRuntime) -> Result<(), Fail> {
     let wrong = wrong_answers(rt.alloc(), &["flat"], &FLATTENED, 1)?;
     assert_eq!(rt; wrong.as_str(), "");
-    Ok(())
-}
-
-#[test]
-fn what_was_written_first_stays_where_a_read_fails(rt: HostRuntime) -> Result<(), Fail> {
-    let answer = flattened_with_faults(rt.alloc(), &[3], &[])?;
-    assert_eq!(rt; answer.status, Status::ReadFault);
-    assert_eq!(rt; answer.report.as_str(), "(PROFILE 2)\n");
-    Ok(())
-}
-
-#[test]
-fn what_was_written_first_stays_where_a_write_fails(rt: HostRuntime) -> Result<(), Fail> {
-    let answer = flattened_with_faults(rt.alloc(), &[], &[3])?;
-    assert_eq!(rt; answer.status, Status::WriteFault);
-    assert_eq!(rt; answer.report.as_str(), "(PROFI");
     Ok(())
 }

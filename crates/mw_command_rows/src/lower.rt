@@ -1,5 +1,5 @@
 //! Books of derivations, and what `lower` writes for them.
-use mw_answers::{Answer, Row, answer_to, answer_with_faults, answer_within, wrong_answers};
+use mw_answers::{Answer, Row, answer_to, answer_within, wrong_answers};
 use mw_book::Status;
 use mw_read::SyntaxKind;
 use std::alloc::{AllocError, Global};
@@ -74,12 +74,6 @@ fn lowered(alloc: Global, book: &str, size: usize) -> Result<Answer, AllocError>
     answer_within(alloc, &["lower"], book, size)
 }
 
-// What it answers where the reads and the writes of these numbers fail.
-fn lowered_with_faults(alloc: Global, reads: &[u64], writes: &[u64]) -> Result<Answer, AllocError> {
-    let book = "(print a) (print b) (shout)";
-    answer_with_faults(alloc, &["lower"], book, reads, writes)
-}
-
 #[test]
 fn what_holds_no_derivations_is_written_as_it_is(rt: HostRuntime) -> Result<(), Fail> {
     let wrong = wrong_answers(rt.alloc(), &["lower"], &UNCHANGED, 4096)?;
@@ -132,21 +126,5 @@ fn what_is_refused_has_a_comment_after_what_was_written(rt: HostRuntime) -> Resu
             "\n; 2 VERIFY WRONG refused PROOF\n; events 2 accepted 1 refused 1 level 1\n"
         )
     );
-    Ok(())
-}
-
-#[test]
-fn what_was_written_first_stays_where_a_read_fails(rt: HostRuntime) -> Result<(), Fail> {
-    let answer = lowered_with_faults(rt.alloc(), &[3], &[])?;
-    assert_eq!(rt; answer.status, Status::ReadFault);
-    assert_eq!(rt; answer.report.as_str(), "(PRINT A)\n");
-    Ok(())
-}
-
-#[test]
-fn what_was_written_first_stays_where_a_write_fails(rt: HostRuntime) -> Result<(), Fail> {
-    let answer = lowered_with_faults(rt.alloc(), &[], &[3])?;
-    assert_eq!(rt; answer.status, Status::WriteFault);
-    assert_eq!(rt; answer.report.as_str(), "(PRINT");
     Ok(())
 }

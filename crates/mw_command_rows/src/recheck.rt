@@ -1,7 +1,5 @@
 //! Logs, and what `recheck` answers to them.
-use mw_answers::{
-    Answer, NEVER, Row, answer_with_faults, answer_within, book_of_the_proof, wrong_answers,
-};
+use mw_answers::{Answer, NEVER, Row, answer_within, book_of_the_proof, wrong_answers};
 use mw_book::Status;
 use mw_read::SyntaxKind;
 use std::alloc::{AllocError, Global};
@@ -133,16 +131,6 @@ fn answer_to_the_log_of(alloc: Global, book: &str) -> Result<Answer, AllocError>
     answer_within(alloc, &["recheck"], log.report.as_str(), 4096)
 }
 
-// What it answers where the reads and the writes of these numbers fail.
-fn rechecked_with_faults(
-    alloc: Global,
-    reads: &[u64],
-    writes: &[u64],
-) -> Result<Answer, AllocError> {
-    let log = "(profile 2) (eval 1) (shout)";
-    answer_with_faults(alloc, &["recheck"], log, reads, writes)
-}
-
 #[test]
 fn each_event_of_a_log_is_answered(rt: HostRuntime) -> Result<(), Fail> {
     let wrong = wrong_answers(rt.alloc(), &["recheck"], &LOGS, 4096)?;
@@ -177,21 +165,5 @@ fn the_log_of_a_shared_proof_gets_a_yes(rt: HostRuntime) -> Result<(), Fail> {
         "1 VERIFY Q yes\nevents 1 yes 1 no 0 left 0\n"
     );
     assert_eq!(rt; answer.status, Status::Done);
-    Ok(())
-}
-
-#[test]
-fn what_was_written_first_stays_where_a_read_fails(rt: HostRuntime) -> Result<(), Fail> {
-    let answer = rechecked_with_faults(rt.alloc(), &[3], &[])?;
-    assert_eq!(rt; answer.status, Status::ReadFault);
-    assert_eq!(rt; answer.report.as_str(), "1 PROFILE - yes\n");
-    Ok(())
-}
-
-#[test]
-fn what_was_written_first_stays_where_a_write_fails(rt: HostRuntime) -> Result<(), Fail> {
-    let answer = rechecked_with_faults(rt.alloc(), &[], &[3])?;
-    assert_eq!(rt; answer.status, Status::WriteFault);
-    assert_eq!(rt; answer.report.as_str(), "1 PROF");
     Ok(())
 }

@@ -1,8 +1,7 @@
 //! Books, and what `slice` keeps of them.
-use mw_answers::{Answer, Row, WRAP, answer_to, answer_with_faults, answer_within, wrong_answers};
+use mw_answers::{Row, WRAP, answer_to, answer_within, wrong_answers};
 use mw_book::Status;
 use mw_read::SyntaxKind;
-use std::alloc::{AllocError, Global};
 use std::test::Fail;
 
 // What USE rests on, in the books below.
@@ -72,12 +71,6 @@ const SLICED: [Row; 9] = [
 // After the book of WRAP: a switch to it, and what is judged by it.
 const SWITCHED: &str = "(switch wrap) (print a) (verify refl (pequal* x x) (axiom (pequal* x x)))";
 
-// What `slice use` answers where the reads and the writes of these numbers fail.
-fn sliced_with_faults(alloc: Global, reads: &[u64], writes: &[u64]) -> Result<Answer, AllocError> {
-    let book = "(verify use (pequal* x x) (axiom (pequal* x x)))";
-    answer_with_faults(alloc, &["slice", "use"], book, reads, writes)
-}
-
 #[test]
 fn what_a_theorem_rests_on_is_kept(rt: HostRuntime) -> Result<(), Fail> {
     let wrong = wrong_answers(rt.alloc(), &["slice", "use"], &SLICED, 4096)?;
@@ -123,21 +116,5 @@ fn after_a_switch_all_that_changes_the_theory_is_kept(rt: HostRuntime) -> Result
             .as_str()
             .ends_with("\nevents 10 accepted 10 refused 0 level 2\n")
     );
-    Ok(())
-}
-
-#[test]
-fn nothing_was_written_where_a_read_fails(rt: HostRuntime) -> Result<(), Fail> {
-    let answer = sliced_with_faults(rt.alloc(), &[3], &[])?;
-    assert_eq!(rt; answer.status, Status::ReadFault);
-    assert_eq!(rt; answer.report.as_str(), "");
-    Ok(())
-}
-
-#[test]
-fn what_was_written_first_stays_where_a_write_fails(rt: HostRuntime) -> Result<(), Fail> {
-    let answer = sliced_with_faults(rt.alloc(), &[], &[2])?;
-    assert_eq!(rt; answer.status, Status::WriteFault);
-    assert_eq!(rt; answer.report.as_str(), "(VE");
     Ok(())
 }

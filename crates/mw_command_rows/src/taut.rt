@@ -1,5 +1,5 @@
 //! Books of formulas, and what `taut` writes for them.
-use mw_answers::{Answer, Row, answer_to, answer_with_faults, answer_within, wrong_answers};
+use mw_answers::{Answer, Row, answer_to, answer_within, wrong_answers};
 use mw_book::Status;
 use mw_read::SyntaxKind;
 use std::alloc::{AllocError, Global};
@@ -86,12 +86,6 @@ fn proofs_of(alloc: Global, book: &str, size: usize) -> Result<Answer, AllocErro
     answer_within(alloc, &["taut"], book, size)
 }
 
-// What it answers where the reads and the writes of these numbers fail.
-fn proofs_with_faults(alloc: Global, reads: &[u64], writes: &[u64]) -> Result<Answer, AllocError> {
-    let book = "(a) (b (pequal* x y)) 7";
-    answer_with_faults(alloc, &["taut"], book, reads, writes)
-}
-
 #[test]
 fn what_is_no_tautology_has_a_comment(rt: HostRuntime) -> Result<(), Fail> {
     let wrong = wrong_answers(rt.alloc(), &["taut"], &UNPROVED, 4096)?;
@@ -125,21 +119,5 @@ fn what_is_written_is_accepted(rt: HostRuntime) -> Result<(), Fail> {
     let again = answer_to(rt.alloc(), answer.report.as_str(), 4096)?;
     let due = "1 VERIFY EM accepted\nevents 1 accepted 1 refused 0 level 1\n";
     assert_eq!(rt; again.report.as_str(), due);
-    Ok(())
-}
-
-#[test]
-fn what_was_written_first_stays_where_a_read_fails(rt: HostRuntime) -> Result<(), Fail> {
-    let answer = proofs_with_faults(rt.alloc(), &[3], &[])?;
-    assert_eq!(rt; answer.status, Status::ReadFault);
-    assert_eq!(rt; answer.report.as_str(), "; 1 A SHAPE\n");
-    Ok(())
-}
-
-#[test]
-fn what_was_written_first_stays_where_a_write_fails(rt: HostRuntime) -> Result<(), Fail> {
-    let answer = proofs_with_faults(rt.alloc(), &[], &[3])?;
-    assert_eq!(rt; answer.status, Status::WriteFault);
-    assert_eq!(rt; answer.report.as_str(), "; 1 A ");
     Ok(())
 }
