@@ -1,42 +1,54 @@
--- How long the texts of objects are, cut off at a bound.
-use Rattle.std.specs.Prelude.{◌≡◌, ℕ, ◌+◌, ◌-◌, ◌<◌, min, true, List, [], ◌∷◌, ◌++◌, length, map, get_or, ◌⊎◌}
-use Rattle.mw_model.specs.Terms.Object.{Object, is_name}
-use Rattle.mw_model.specs.Texts.Printing.{text_of, tail_text}
+-- How long the texts of objects are, up to a bound.
+use Rattle.std.specs.Prelude.{◌≡◌, ℕ, ◌+◌, ◌-◌, ◌<◌, cond, ltb, min, true, List, [], ◌∷◌, ◌++◌, length, map, get_or, ◌⊎◌}
+use Rattle.mw_model.specs.Terms.Object.{Object, Natural, Symbol, Pair, is_name, same_name, nil_name}
+use Rattle.mw_model.specs.Texts.Printing.{text_of}
 use Rattle.mw_heap.specs.Cells.{object}
 use Rattle.mw_heap.specs.declared.cell.Cell.{Cell}
 use Rattle.mw_heap.specs.declared.cell.Cell.TheVariants.{Small, Large, Symbol as Named, Pair as Parts}
-use Rattle.mw_heap.specs.declared.lengths.Lengths.{Lengths}
+use Rattle.mw_heap.specs.declared.lengths.Length.{Length}
+use Rattle.mw_heap.specs.declared.lengths.Length.TheVariants.{Nil, Atom, Pair as Joined, Long}
 
--- longer texts count as this long
-abbrev pub cut_off : ℕ → ℕ
-cut_off n = min n 65537
-
--- the length of an object's text, and of its text as the rest of a list, less the closing parenthesis
+-- the length of an object's text, where longer ones than 65,536 count as 65,537
 abbrev pub text_length : Object → ℕ
-text_length x = cut_off (length (text_of x))
+text_length x = min (length (text_of x)) 65537
 
-abbrev pub tail_length : Object → ℕ
-tail_length x = cut_off (length (tail_text x) - 1)
+-- the length that is kept of an object that is no pair and not NIL, and of a pair, by that of its text
+abbrev pub atom_length : ℕ → Length
+atom_length text = cond (ltb 65536 text) Long (Atom (text - 1))
 
-abbrev pub lengths_of : Object → Lengths
-lengths_of x = record { text = text_length x; tail = tail_length x }
+abbrev pub pair_length : ℕ → Length
+pair_length text = cond (ltb 65536 text) Long (Joined (text - 1))
 
--- those of what is no pair and not NIL
-abbrev pub atom_lengths : ℕ → Lengths
-atom_lengths n = record { text = cut_off n; tail = cut_off (n + 3) }
+abbrev pub length_of : Object → Length
+length_of (Natural n) = atom_length (length (text_of (Natural n)))
+length_of (Symbol s) = cond (same_name s nil_name) Nil (atom_length (length (text_of (Symbol s))))
+length_of (Pair a d) = pair_length (length (text_of (Pair a d)))
+
+-- what such a length tells of the text, and of the text as the rest of a list, less the closing parenthesis
+abbrev pub text_told : Length → ℕ
+text_told Nil = 3
+text_told (Atom less) = less + 1
+text_told (Joined less) = less + 1
+text_told Long = 65537
+
+abbrev pub rest_told : Length → ℕ
+rest_told Nil = 0
+rest_told (Atom less) = less + 4
+rest_told (Joined less) = less
+rest_told Long = 65536
 
 module _ (naturals : List ℕ) (names : List (List ℕ)) where
-  -- what a cell points to is there, with lengths of its own where it is an object
-  abbrev pub IsMeasurable : List Lengths → Cell → Type 0
+  -- what a cell points to is there, with a length of its own where it is an object
+  abbrev pub IsMeasurable : List Length → Cell → Type 0
   IsMeasurable lengths (Small n) = Unit {0}
   IsMeasurable lengths (Large i) = i < length naturals
   IsMeasurable lengths (Named i) = (i < length names) × (is_name (get_or names i []) ≡ true)
   IsMeasurable lengths (Parts a b) = (a < length lengths) × (b < length lengths)
 
-  -- the lengths of the cell's object, over older objects of these lengths
-  abbrev pub IsLengthsOf : List Lengths → Cell → Lengths → Type 0
-  IsLengthsOf lengths c measured = (os : List Object) → lengths ≡ map lengths_of os → measured ≡ lengths_of (object naturals names os c)
+  -- the length of the cell's object, over older objects of these lengths
+  abbrev pub IsLengthOf : List Length → Cell → Length → Type 0
+  IsLengthOf lengths c measured = (os : List Object) → lengths ≡ map length_of os → measured ≡ length_of (object naturals names os c)
 
-  -- a cell that is new goes last, and its lengths do
-  abbrev pub Measures : (old new : List Cell) (lengths lengths' : List Lengths) → Cell → Type 0
-  Measures old new lengths lengths' c = ((new ≡ old) × (lengths' ≡ lengths)) ⊎ ((new ≡ old ++ c ∷ []) × (measured : Lengths) × (lengths' ≡ lengths ++ measured ∷ []) × IsLengthsOf lengths c measured)
+  -- a cell that is new goes last, and its length does
+  abbrev pub Measures : (old new : List Cell) (lengths lengths' : List Length) → Cell → Type 0
+  Measures old new lengths lengths' c = ((new ≡ old) × (lengths' ≡ lengths)) ⊎ ((new ≡ old ++ c ∷ []) × (measured : Length) × (lengths' ≡ lengths ++ measured ∷ []) × IsLengthOf lengths c measured)

@@ -3,9 +3,9 @@ use Rattle.std.specs.Prelude.{◌≡◌, ℕ, Bool, true, List, map, codes}
 use Rattle.mw_model.specs.Terms.Object.{Object, Symbol, name_of_bytes}
 use Rattle.mw_heap.specs.Objects.{object_at, IsIn}
 use Rattle.mw_heap.specs.Cells.{objects, IsSound}
-use Rattle.mw_heap.specs.Lengths.{lengths_of}
+use Rattle.mw_heap.specs.Lengths.{length_of}
 use Rattle.mw_heap.specs.declared.cell.Cell.{Cell}
-use Rattle.mw_heap.specs.declared.lengths.Lengths.{Lengths}
+use Rattle.mw_heap.specs.declared.lengths.Length.{Length}
 use Rattle.mw_heap.specs.declared.word.Word.{Word}
 use Rattle.mw_heap.specs.declared.word.Word.TheVariants as word
 
@@ -125,7 +125,7 @@ abbrev pub KeepsWords : Bool → List Object → Type 0
 KeepsWords known os = known ≡ true → (w : Word) → IsIn os (place_of w) × (object_at os (place_of w) ≡ word_object w)
 
 -- a sound heap, whose objects have these lengths, and which may be known to keep the words
-pub record IsKept (naturals : List ℕ) (names : List (List ℕ)) (cells : List Cell) (lengths : List Lengths) (known : Bool) : Type 0 where
+pub record IsKept (naturals : List ℕ) (names : List (List ℕ)) (cells : List Cell) (lengths : List Length) (known : Bool) : Type 0 where
   pub sound : IsSound naturals names cells
-  pub measured : lengths ≡ map lengths_of (objects naturals names cells)
+  pub measured : lengths ≡ map length_of (objects naturals names cells)
   pub words : KeepsWords known (objects naturals names cells)

@@ -3,13 +3,13 @@ ghost use Rattle.std.specs.Prelude.{◌≡◌, ℕ, ◌+◌, ◌<◌, ◌≤◌,
 ghost use Rattle.mw_model.specs.Terms.Object.{Symbol, Natural, Pair, NIL, name_of_bytes, is_name, same_object, is_before_bytes};
 ghost use Rattle.mw_model.specs.Values.Primitive.{is_symbol, name_of};
 ghost use Rattle.mw_model.specs.Events.Fate.{is_out_of_range};
-ghost use Rattle.mw_heap.specs.Lengths.{text_length, tail_length};
+ghost use Rattle.mw_heap.specs.Lengths.{text_length};
 ghost use Rattle.mw_heap.specs.Parts.{part_at, IsPart};
 ghost use Rattle.mw_heap.specs.Words.{word_object};
 ghost use Rattle.mw_heap.specs.Objects.{object_at, IsIn, Grows, Shows, NamesOlder, AreDistinct, ArePartsOlder};
 
 use crate::cell::Cell;
-use crate::lengths::Lengths;
+use crate::lengths::{Length, text_told};
 use crate::looks::take_look;
 use crate::sets::{
     Naturals, can_number, cell_at, counts_from, find_name, insert_measured, insert_name,
@@ -27,7 +27,7 @@ use std::marker::Model;
 #[derive(Drop)]
 pub struct Heap {
     cells: IndexSet<Cell>,
-    lengths: Vec<Lengths>,
+    lengths: Vec<Length>,
     naturals: Naturals,
     names: IndexSet<Vec<u8>>,
     // for each name where its cell may stand, which is looked up there before it is searched for
@@ -307,15 +307,12 @@ impl Heap {
         self.name_of(x) < self.name_of(y)
     }
 
-    /// The length of the object's text, and of what follows the first member in the text of a list of which the object is the rest,
-    /// less the closing parenthesis. Lengths over 65,537 are given as 65,537.
-    pub fn lengths(&self, x: Ref) -> (u64, u64)
+    /// The number of bytes in the object's text. Longer texts than 65,536 bytes count as 65,537.
+    pub fn text_length(&self, x: Ref) -> u64
         requires { IsIn self.now.objects x }
-        ensures text { result.0 ≡ text_length (object_at self.now.objects x) }
-        ensures tail { result.1 ≡ tail_length (object_at self.now.objects x) }
+        ensures { result ≡ text_length (object_at self.now.objects x) }
     {
-        let lengths = self.lengths[x.index()];
-        (lengths.text as u64, lengths.tail as u64)
+        text_told(self.lengths[x.index()]) as u64
     }
 
     /// The number of objects, to go back to.

@@ -1,86 +1,114 @@
 //! How long the texts of objects are.
-ghost use Rattle.std.specs.Prelude.{◌≡◌, ◌+◌, ◌<◌, ◌≤◌, ◌^◌, ℕ, length, min, true};
+ghost use Rattle.std.specs.Prelude.{◌≡◌, ◌+◌, ◌<◌, ◌≤◌, ◌^◌, ℕ, length, true};
 ghost use Rattle.mw_model.specs.Terms.Object.{Object, Natural, Symbol, Pair, is_name, name_of_bytes};
 ghost use Rattle.mw_heap.specs.Cells.{bytes_of};
-ghost use Rattle.mw_heap.specs.Lengths.{lengths_of, atom_lengths, IsMeasurable, IsLengthsOf};
+ghost use Rattle.mw_heap.specs.Lengths.{text_told, rest_told, length_of, atom_length, IsMeasurable, IsLengthOf};
 
 use crate::bare::is_bare_name;
 use crate::cell::Cell;
 use crate::sets::Naturals;
 use indexmap::IndexSet;
 use itoa::Buffer;
+use std::mem::size_of;
 
-/// Longer texts count as this long.
-const MOST: u64 = 65_537;
-
-/// The length of an object's text, and of what follows the first member in a list of which the object is the rest, less the closing
-/// parenthesis. Both are cut off at `MOST`.
-#[derive(Clone, Copy, Debug, PartialEq, Eq)]
-pub(crate) struct Lengths {
-    pub text: u32,
-    pub tail: u32,
+/// How long the text of an object is, with what it is, which tells how it is written as the rest of a list: of a pair all but the opening
+/// parenthesis, of NIL nothing, and anything else after a dot. A number is one less than the bytes of the text, of which there are
+/// some, so that it fits as far as lengths matter.
+#[derive(Clone, Copy)]
+pub(crate) enum Length {
+    /// NIL.
+    Nil,
+    /// No pair and not NIL.
+    Atom(u16),
+    /// A pair.
+    Pair(u16),
+    /// The text has more than 65,536 bytes.
+    Long,
 }
 
-// The lengths of an object that is no pair and not NIL, and has a text of this length.
-fn atom(text: usize) -> Lengths
-    requires { text < 2 ^ 63 + 2 }
-    ensures { result ≡ atom_lengths text }
+// One stands beside each cell.
+const _: () = prove!(size_of::<Length>() == 4);
+
+/// The bytes of the text. Longer ones than 65,536 count as 65,537.
+pub(crate) fn text_told(length: Length) -> u32
+    ensures told { result ≡ text_told length }
+    ensures few { result ≤ 65537 }
 {
-    let text = text as u64;
-    Lengths {
-        text: text.min(MOST) as u32,
-        tail: (text + 3).min(MOST) as u32,
+    match length {
+        Length::Nil => 3,
+        Length::Atom(less) | Length::Pair(less) => less as u32 + 1,
+        Length::Long => 65_537,
     }
 }
 
-// The lengths of a natural.
-fn natural_lengths(n: u128) -> Lengths
-    ensures { result ≡ lengths_of (Natural n) }
+// The bytes of the text as the rest of a list, less the closing parenthesis; of a long one at least 65,536.
+fn rest_told(length: Length) -> u32
+    ensures told { result ≡ rest_told length }
+    ensures few { result < 2 ^ 17 }
+{
+    match length {
+        Length::Nil => 0,
+        Length::Atom(less) => less as u32 + 4,
+        Length::Pair(less) => less as u32,
+        Length::Long => 65_536,
+    }
+}
+
+// The length of an object that is no pair and not NIL, and has a text of this length.
+fn atom_length(text: usize) -> Length
+    requires { 0 < text }
+    ensures { result ≡ atom_length text }
+{
+    match u16::try_from(text - 1) {
+        Ok(less) => Length::Atom(less),
+        Err(_) => Length::Long,
+    }
+}
+
+// The length of a natural.
+fn natural_length(n: u128) -> Length
+    ensures { result ≡ length_of (Natural n) }
 {
     let mut buffer = Buffer::new();
-    atom(buffer.format(n).len())
+    atom_length(buffer.format(n).len())
 }
 
-// The lengths of a symbol.
-fn symbol_lengths(name: &[u8]) -> Lengths
+// The length of a symbol.
+fn symbol_length(name: &[u8]) -> Length
     requires { is_name name.now ≡ true }
-    ensures { result ≡ lengths_of (Symbol (name_of_bytes name.now)) }
+    ensures { result ≡ length_of (Symbol (name_of_bytes name.now)) }
 {
     if name == b"NIL".as_slice() {
-        return Lengths { text: 3, tail: 0 };
+        return Length::Nil;
     }
     let bars = if is_bare_name(name) { 0 } else { 2 };
-    atom(name.len() + bars)
+    atom_length(name.len() + bars)
 }
 
-// The lengths of a pair, by those of its parts.
-fn pair_lengths(first: Lengths, second: Lengths) -> Lengths
-    ensures { (a d : Object) → first ≡ lengths_of a → second ≡ lengths_of d → result ≡ lengths_of (Pair a d) }
+// The length of a pair, by those of its parts.
+fn pair_length(first: Length, rest: Length) -> Length
+    ensures { (a d : Object) → first ≡ length_of a → rest ≡ length_of d → result ≡ length_of (Pair a d) }
 {
-    let parts = first.text as u64 + second.tail as u64;
-    Lengths {
-        text: (parts + 2).min(MOST) as u32,
-        tail: (parts + 1).min(MOST) as u32,
+    match u16::try_from(text_told(first) + rest_told(rest) + 1) {
+        Ok(less) => Length::Pair(less),
+        Err(_) => Length::Long,
     }
 }
 
-// The lengths of a cell's object, by what the cell points to.
+/// The length of a cell's object, by those of what the cell points to.
 pub(crate) fn measure(
     cell: Cell,
     naturals: &Naturals,
     names: &IndexSet<Vec<u8>>,
-    lengths: &[Lengths],
-) -> Lengths
+    lengths: &[Length],
+) -> Length
     requires { IsMeasurable naturals.now.keys (bytes_of names.now.keys) lengths.now cell }
-    ensures { IsLengthsOf naturals.now.keys (bytes_of names.now.keys) lengths.now cell result }
+    ensures { IsLengthOf naturals.now.keys (bytes_of names.now.keys) lengths.now cell result }
 {
     match cell {
-        Cell::Small(n) => natural_lengths(n as u128),
-        Cell::Large(i) => natural_lengths(naturals.as_slice()[i as usize]),
-        Cell::Symbol(i) => symbol_lengths(names.as_slice()[i as usize].as_slice()),
-        Cell::Pair(first, second) => pair_lengths(
-            lengths[first as usize],
-            lengths[second as usize],
-        ),
+        Cell::Small(n) => natural_length(n as u128),
+        Cell::Large(i) => natural_length(naturals.as_slice()[i as usize]),
+        Cell::Symbol(i) => symbol_length(names.as_slice()[i as usize].as_slice()),
+        Cell::Pair(first, rest) => pair_length(lengths[first as usize], lengths[rest as usize]),
     }
 }

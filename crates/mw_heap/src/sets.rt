@@ -6,7 +6,7 @@ ghost use Rattle.mw_heap.specs.Inserted.{Inserts};
 ghost use Rattle.mw_heap.specs.Lengths.{IsMeasurable, Measures};
 
 use crate::cell::Cell;
-use crate::lengths::{Lengths, measure};
+use crate::lengths::{Length, measure};
 use crate::{Memory, Ref};
 use indexmap::IndexSet;
 use std::alloc::Global;
@@ -45,10 +45,10 @@ pub(crate) fn can_number(cells: &IndexSet<Cell>, more: usize) -> bool
     more <= LIMIT.saturating_sub(cells.len())
 }
 
-// The same, where the lengths of a new cell's object are put beside it.
+// The same, where the length of a new cell's object is put beside it.
 pub(crate) fn insert_measured(
     cells: &mut IndexSet<Cell>,
-    lengths: &mut Vec<Lengths>,
+    lengths: &mut Vec<Length>,
     naturals: &Naturals,
     names: &IndexSet<Vec<u8>>,
     cell: Cell,

@@ -28,7 +28,7 @@ pub fn text_len(heap: &Heap, x: Ref) -> u64
     requires { IsIn heap.now.objects x }
     ensures { result ≡ min (length (text_of (object_at heap.now.objects x))) (longest + 1) }
 {
-    heap.lengths(x).0
+    heap.text_length(x)
 }
 
 // The name of a symbol whose text it is.

@@ -1,7 +1,7 @@
 -- What goes is counted, and what stays means what it meant.
 use Rattle.std.proofs.Common.{map, ◌≡◌, ◌+◌, ◌-◌, ◌≤◌, length, take, drop, sym, ap, ◌∙◌, arith}
 use Rattle.std.proofs.lemmas.List.{take-map}
-use Rattle.mw_heap.specs.Lengths.{lengths_of}
+use Rattle.mw_heap.specs.Lengths.{length_of}
 use Rattle.mw_heap.specs.Cells.{objects, natural_count, name_count, bytes_of, is_large, is_named}
 use Rattle.mw_heap.proofs.Counts.{count_of-take-drop}
 use Rattle.mw_heap.proofs.NameSet.{length-bytes_of, bytes_of-take}
@@ -57,7 +57,7 @@ invariant_of-self c = record {
   measured =
       c.truncate-4.ensures.items
       ∙ (ap (λ n. take n c.self.inside.lengths.items) (c.cells-3.ensures ∙ sym c.cells.ensures)
-      ∙ (ap (take c.cells.result) c.self.invariant.measured ∙ (take-map lengths_of c.cells.result _ ∙ ap (map lengths_of) (sym (same_cut c)))));
+      ∙ (ap (take c.cells.result) c.self.invariant.measured ∙ (take-map length_of c.cells.result _ ∙ ap (map length_of) (sym (same_cut c)))));
   words = λ k.
       let kept = c.are_kept-self-inside.ensures k in
       KeepsWords-cut _ _ _ _ (same_cut c) (omega (arith, kept.1, c.cells.ensures, c.cells-4.ensures)) (omega (arith, within c, length-objects c.self.inside.naturals.keys (bytes_of c.self.inside.names.keys) c.self.inside.cells.keys)) kept.0 c.self.invariant.words;

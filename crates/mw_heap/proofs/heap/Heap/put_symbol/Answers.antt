@@ -5,7 +5,7 @@ use Rattle.mw_model.specs.Terms.Object.{is_name, Symbol, name_of_bytes}
 use Rattle.mw_heap.specs.Cells.{is_named, bytes_of, objects}
 use Rattle.mw_heap.proofs.Counts.{count_of-le-length}
 use Rattle.mw_heap.proofs.Sound.{BecomesWith, Inserts-le, stays, grows_from, same_sound, same_objects}
-use Rattle.mw_heap.specs.Lengths.{lengths_of}
+use Rattle.mw_heap.specs.Lengths.{length_of}
 use Rattle.mw_heap.proofs.Measuring.{length-measured, measured-after, objects-listed_name}
 use Rattle.mw_heap.proofs.NameSet.{removed_name}
 use Rattle.mw_heap.proofs.Numbered.{name_adds}
@@ -54,7 +54,7 @@ same_cells c = same_objects _ _ _ _ _ _ refl (same_names c) c.in-Err.ensures.err
 pub invariant_of-self-in-Err : goal.invariant_of-self-in-Err
 invariant_of-self-in-Err c = record {
   sound = same_sound _ _ _ _ _ _ refl (same_names c) c.in-Err.ensures.err c.self.invariant.sound;
-  measured = c.in-Err.ensures.lengths_err ∙ (c.self.invariant.measured ∙ ap (map lengths_of) (sym (same_cells c)));
+  measured = c.in-Err.ensures.lengths_err ∙ (c.self.invariant.measured ∙ ap (map length_of) (sym (same_cells c)));
   words = KeepsWords-Grows _ _ _ _ refl (grows_from _ (same_cells c) (stays _)) c.self.invariant.words;
 }
 
