@@ -18,7 +18,7 @@ use mw_flat::flatten;
 use mw_heap::{Heap, Memory, Ref, View, Word};
 use mw_kernel::{Event, event_of};
 use mw_print::{Printed, print, text_len};
-use mw_slice::copy;
+use mw_slice::{Copies, copy};
 use std::alloc::Global;
 
 // The most bytes of a text without labels.
@@ -58,6 +58,7 @@ fn event_with(
     members: &[Ref],
     last: Ref,
     to: &mut Heap,
+    copies: &mut Copies,
 ) -> Result<Ref, Memory>
     requires members { All (IsIn from.now.objects) members.now }
     requires last { IsIn to.old.objects last }
@@ -66,7 +67,7 @@ fn event_with(
     let end = to.nil()?;
     let mut list = to.cons(last, end)?;
     for index in (0..members.len()).rev() {
-        let member = copy(from, members[index], to)?;
+        let member = copy(from, members[index], to, copies)?;
         list = to.cons(member, list)?;
     }
     let first = to.word(word)?;
@@ -86,6 +87,7 @@ fn write_with_list(
     members: &[Ref],
     proofs: Ref,
     to: &mut Heap,
+    copies: &mut Copies,
     piece: &mut Vec<u8>,
 ) -> Result<(), Memory>
     requires members { All (IsIn heap.now.objects) members.now }
@@ -96,7 +98,7 @@ fn write_with_list(
     let listed = members_of(heap, proofs)?;
     let numbers = flatten(heap, &listed, piece)?;
     let list = list_of_numbers(to, &numbers)?;
-    let event = event_with(heap, word, members, list, to)?;
+    let event = event_with(heap, word, members, list, to, copies)?;
     write_line(piece, to, event)
 }
 
@@ -106,6 +108,7 @@ fn write_definitions(
     word: Word,
     members: &[Ref],
     proofs: Ref,
+    copies: &mut Copies,
     piece: &mut Vec<u8>,
 ) -> Result<(), Memory>
     requires members { All (IsIn heap.now.objects) members.now }
@@ -115,7 +118,7 @@ fn write_definitions(
 {
     let mut own = boxed(heap.alloc())?;
     let to: &mut Heap = &mut own;
-    write_with_list(heap, word, members, proofs, to, piece)
+    write_with_list(heap, word, members, proofs, to, copies, piece)
 }
 
 // Whether the text of an object is written without labels.
@@ -196,13 +199,14 @@ fn write_long_theorem(
     formula: Ref,
     number: u64,
     to: &mut Heap,
+    copies: &mut Copies,
     piece: &mut Vec<u8>,
 ) -> Result<(), Memory>
     requires members { All (IsIn heap.now.objects) (name ∷ formula ∷ []) }
     ensures { OnOk result ((line : List ℕ) × IsDatumLine (verify_event (object_at heap.now.objects name) (object_at heap.now.objects formula) (Natural number)) line × (piece.new.items ≡ piece.old.items ++ line)) }
 {
     let number = to.nat(number as u128)?;
-    let event = event_with(heap, Word::Verify, &[name, formula], number, to)?;
+    let event = event_with(heap, Word::Verify, &[name, formula], number, to, copies)?;
     write_line(piece, to, event)
 }
 
@@ -212,6 +216,7 @@ fn write_theorem(
     name: Ref,
     formula: Ref,
     proof: Ref,
+    copies: &mut Copies,
     piece: &mut Vec<u8>,
 ) -> Result<(), Memory>
     requires members { All (IsIn heap.now.objects) (name ∷ formula ∷ proof ∷ []) }
@@ -224,11 +229,17 @@ fn write_theorem(
     }
     let mut own = boxed(heap.alloc())?;
     let to: &mut Heap = &mut own;
-    write_long_theorem(heap, name, formula, numbers[0], to, piece)
+    write_long_theorem(heap, name, formula, numbers[0], to, copies, piece)
 }
 
 // Writes what is owed for the event of these members, in place of nothing.
-fn write_event(heap: &Heap, event: Ref, members: Event, piece: &mut Vec<u8>) -> Result<bool, Memory>
+fn write_event(
+    heap: &Heap,
+    event: Ref,
+    members: Event,
+    copies: &mut Copies,
+    piece: &mut Vec<u8>,
+) -> Result<bool, Memory>
     requires within { IsIn heap.now.objects event }
     requires event { IsEvent heap.now.objects event members }
     requires empty { piece.old.items ≡ [] }
@@ -240,7 +251,7 @@ fn write_event(heap: &Heap, event: Ref, members: Event, piece: &mut Vec<u8>) -> 
             name,
             formula,
             proof,
-        } => write_theorem(heap, name, formula, proof, piece)?,
+        } => write_theorem(heap, name, formula, proof, copies, piece)?,
         Event::Define {
             name,
             formals,
@@ -249,12 +260,12 @@ fn write_event(heap: &Heap, event: Ref, members: Event, piece: &mut Vec<u8>) -> 
             proofs,
         } => {
             let others = [name, formals, body, measure];
-            write_definitions(heap, Word::Define, &others, proofs, piece)?;
+            write_definitions(heap, Word::Define, &others, proofs, copies, piece)?;
         }
         Event::DefineAll {
             definitions,
             proofs,
-        } => write_definitions(heap, Word::DefineAll, &[definitions], proofs, piece)?,
+        } => write_definitions(heap, Word::DefineAll, &[definitions], proofs, copies, piece)?,
         Event::Skolem { .. } | Event::Profile(_) => write_line(piece, heap, event)?,
         Event::Switch(_) | Event::Eval(_) | Event::Print(_) => return Ok(false),
     }
@@ -264,7 +275,12 @@ fn write_event(heap: &Heap, event: Ref, members: Event, piece: &mut Vec<u8>) -> 
 /// Writes the steps that the proofs of an event are made of, and then the event with their numbers in place of the proofs, each on a
 /// line; nothing for an event whose word no log has. Answers whether it has such a word. The piece is emptied first. The error is that of
 /// `flatten`, or memory that is refused: then part of this may stand.
-pub(crate) fn write_flat(heap: &Heap, event: Ref, piece: &mut Vec<u8>) -> Result<bool, Memory>
+pub(crate) fn write_flat(
+    heap: &Heap,
+    event: Ref,
+    copies: &mut Copies,
+    piece: &mut Vec<u8>,
+) -> Result<bool, Memory>
     requires { IsIn heap.now.objects event }
     ensures word { IfOk result (λ b. b ≡ is_logged_word (event_word (object_at heap.now.objects event))) }
     ensures written { IfOk result (λ b. b ≡ true → OwesFlat (object_at heap.now.objects event) piece.new.items) }
@@ -273,5 +289,5 @@ pub(crate) fn write_flat(heap: &Heap, event: Ref, piece: &mut Vec<u8>) -> Result
     let Some(members) = event_of(heap, event) else {
         return Ok(false);
     };
-    write_event(heap, event, members, piece)
+    write_event(heap, event, members, copies, piece)
 }

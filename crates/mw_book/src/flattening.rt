@@ -15,6 +15,7 @@ use crate::line::{write_fault, write_number};
 use mw_heap::{Memory, Ref, Refusal, Word};
 use mw_kernel::{Fate, Kernel};
 use mw_read::{Reader, Step, SyntaxKind};
+use mw_slice::Copies;
 use std::alloc::Global;
 
 /// The theory so far, what was counted, and the lines that were not written yet.
@@ -31,6 +32,8 @@ pub(crate) struct Flattening {
     lines: Vec<u8>,
     // the steps of the event, and the event, to be written if it is accepted
     piece: Vec<u8>,
+    // what is noted while parts of the event are copied
+    copies: Copies,
 }
 
 // The last line of a book without a fault.
@@ -59,6 +62,7 @@ impl Flattening {
             switched: false,
             lines: Vec::new(alloc),
             piece: Vec::new(alloc),
+            copies: Copies::new(alloc),
         })
     }
 
@@ -67,12 +71,12 @@ impl Flattening {
         requires within { IsIn self.old.kernel.objects x }
         ensures logged { IfOk result (λ b. b ≡ (not self.old.switched && is_logged_word (event_word (object_at self.old.kernel.objects x)))) }
         ensures piece { IfOk result (λ b. b ≡ true → OwesFlat (object_at self.old.kernel.objects x) self.new.piece.items) }
-        ensures rest { self.new ≡ record self.old { piece = self.new.piece } }
+        ensures rest { self.new ≡ record self.old { piece = self.new.piece; copies = self.new.copies } }
     {
         if self.switched {
             return Ok(false);
         }
-        write_flat(self.kernel.heap(), x, &mut self.piece)
+        write_flat(self.kernel.heap(), x, &mut self.copies, &mut self.piece)
     }
 
     // Puts the piece of an event that is accepted after the lines, if it is one of a log, and counts the event.

@@ -11,11 +11,11 @@ use Rattle.mw_slice.specs.declared.copying.Job.{Job}
 use Rattle.mw_slice.specs.declared.copying.Job.TheVariants.{Copy, Join}
 use Rattle.mw_slice.specs.Copies.{copied_cell, copy_of, IsCopied, AreCopies, WillBeCopied, CanBeDone, AllCanBeDone, job_weight, jobs_weight, IsDone}
 
-pub copies-Grows : (from old new : List Object) (copies : List (ℕ × ℕ)) → Grows old new → AreCopies from old copies → AreCopies from new copies
+pub copies-Grows : (from old new : List Object) (copies : List (Option ℕ)) → Grows old new → AreCopies from old copies → AreCopies from new copies
 copies-Grows from old new copies g right x r h = let k = right x r h in (IsIn-Grows old new g r k.0, object_at-Grows old new g r k.0 ∙ k.1)
 
 -- one copy more
-module _ (from to : List Object) (old new : List (ℕ × ℕ)) (x made : ℕ) (puts : (y : ℕ) → copy_of new y ≡ cond (nat_eq x y) (Some made) (copy_of old y)) where
+module _ (from to : List Object) (old new : List (Option ℕ)) (x made : ℕ) (puts : (y : ℕ) → copy_of new y ≡ cond (nat_eq x y) (Some made) (copy_of old y)) where
   pub copies-put : IsIn to made → object_at to made ≡ object_at from x → AreCopies from to old → AreCopies from to new
   copies-put within same right y r h = go (nat_eq x y) refl (sym (puts y) ∙ h)
     where
@@ -47,7 +47,7 @@ some_weight (Natural n) = omega arith
 some_weight (Symbol s) = omega arith
 some_weight (Pair a b) = omega arith
 
-module _ (from : List Object) (old new : List (ℕ × ℕ)) (jobs : List Job) where
+module _ (from : List Object) (old new : List (Option ℕ)) (jobs : List Job) where
   pub done_alone : (job : Job) → ((y : ℕ) → IsCopied old y → IsCopied new y) → IsCopied new (copied_cell job) → IsDone from job old new jobs jobs
   done_alone job kept copied = record {
     more = [];
@@ -62,7 +62,7 @@ module _ (from : List Object) (old new : List (ℕ × ℕ)) (jobs : List Job) wh
       some (Copy x) = let w = some_weight (object_at from x) in omega arith
       some (Join x a d) = omega arith
 
-pub done_pair : (from : List Object) (copies : List (ℕ × ℕ)) (jobs new_jobs : List Job) (x a d : ℕ) → object_at from x ≡ Pair (object_at from a) (object_at from d) → IsIn from a → IsIn from d → new_jobs ≡ jobs ++ Join x a d ∷ Copy d ∷ Copy a ∷ [] → IsDone from (Copy x) copies copies jobs new_jobs
+pub done_pair : (from : List Object) (copies : List (Option ℕ)) (jobs new_jobs : List Job) (x a d : ℕ) → object_at from x ≡ Pair (object_at from a) (object_at from d) → IsIn from a → IsIn from d → new_jobs ≡ jobs ++ Join x a d ∷ Copy d ∷ Copy a ∷ [] → IsDone from (Copy x) copies copies jobs new_jobs
 done_pair from copies jobs new_jobs x a d pair a_in d_in e = record {
   more = Join x a d ∷ Copy d ∷ Copy a ∷ [];
   longer = e;
@@ -73,7 +73,7 @@ done_pair from copies jobs new_jobs x a d pair a_in d_in e = record {
 }
 
 -- a cell that has a copy
-pub is_copied : (copies : List (ℕ × ℕ)) (x : ℕ) → is_some (copy_of copies x) ≡ true → IsCopied copies x
+pub is_copied : (copies : List (Option ℕ)) (x : ℕ) → is_some (copy_of copies x) ≡ true → IsCopied copies x
 is_copied copies x h = go (copy_of copies x) refl h
   where
     go : (o : Option ℕ) → copy_of copies x ≡ o → is_some o ≡ true → IsCopied copies x
@@ -86,18 +86,18 @@ jobs_weight-append : (from : List Object) (ps qs : List Job) → jobs_weight fro
 jobs_weight-append from [] qs = omega arith
 jobs_weight-append from (p ∷ ps) qs = let ih = jobs_weight-append from ps qs in omega arith
 
-pub jobs_fall : (from : List Object) (old new : List (ℕ × ℕ)) (rest jobs was : List Job) (job : Job) → was ≡ rest ++ job ∷ [] → IsDone from job old new rest jobs → jobs_weight from jobs < jobs_weight from was
+pub jobs_fall : (from : List Object) (old new : List (Option ℕ)) (rest jobs was : List Job) (job : Job) → was ≡ rest ++ job ∷ [] → IsDone from job old new rest jobs → jobs_weight from jobs < jobs_weight from was
 jobs_fall from old new rest jobs was job e d =
     let had = ap (jobs_weight from) e ∙ jobs_weight-append from rest (job ∷ []) in
     let has = ap (jobs_weight from) d.longer ∙ jobs_weight-append from rest d.more in
     let less = d.lighter in
     omega arith
 
-pub last_possible : (from : List Object) (copies : List (ℕ × ℕ)) (rest : List Job) (job : Job) → AllCanBeDone from copies (rest ++ job ∷ []) → CanBeDone from copies [] job
+pub last_possible : (from : List Object) (copies : List (Option ℕ)) (rest : List Job) (job : Job) → AllCanBeDone from copies (rest ++ job ∷ []) → CanBeDone from copies [] job
 last_possible from copies [] job h = h.0
 last_possible from copies (j ∷ rest) job h = last_possible from copies rest job h.1
 
-module _ (from : List Object) (old new : List (ℕ × ℕ)) (job : Job) (waited waiting : List Job) (d : IsDone from job old new waited waiting) where
+module _ (from : List Object) (old new : List (Option ℕ)) (job : Job) (waited waiting : List Job) (d : IsDone from job old new waited waiting) where
   will_be-step : (rest : List Job) (x : ℕ) → WillBeCopied old (rest ++ job ∷ []) x → WillBeCopied new (rest ++ d.more) x
   will_be-step rest x (inl c) = inl (d.kept x c)
   will_be-step rest x (inr m) =
@@ -119,19 +119,19 @@ module _ (from : List Object) (old new : List (ℕ × ℕ)) (job : Job) (waited 
 
 -- ---- copying
 
-pub record IsCopying (from to : List Object) (root : ℕ) (copies : List (ℕ × ℕ)) (jobs : List Job) : Type 0 where
+pub record IsCopying (from to : List Object) (root : ℕ) (copies : List (Option ℕ)) (jobs : List Job) : Type 0 where
   pub right : AreCopies from to copies
   pub possible : AllCanBeDone from copies jobs
   pub root_copied : WillBeCopied copies jobs root
 
-pub copying_starts : (from to : List Object) (root : ℕ) (copies : List (ℕ × ℕ)) (jobs : List Job) → IsIn from root → copies ≡ [] → jobs ≡ Copy root ∷ [] → IsCopying from to root copies jobs
-copying_starts from to root copies jobs within e f = subst (λ l. IsCopying from to root l jobs) (sym e) (subst (IsCopying from to root []) (sym f) (record {
-  right = λ x r h. cc;
+pub copying_starts : (from to : List Object) (root : ℕ) (copies : List (Option ℕ)) (jobs : List Job) → IsIn from root → ((x : ℕ) → copy_of copies x ≡ None) → jobs ≡ Copy root ∷ [] → IsCopying from to root copies jobs
+copying_starts from to root copies jobs within none f = subst (IsCopying from to root copies) (sym f) (record {
+  right = λ x r h. let no = none x in cc;
   possible = (within, tt);
   root_copied = inr (0, omega arith, refl);
-}))
+})
 
-module _ (from to more_to : List Object) (root : ℕ) (old new : List (ℕ × ℕ)) (job : Job) (rest jobs : List Job) where
+module _ (from to more_to : List Object) (root : ℕ) (old new : List (Option ℕ)) (job : Job) (rest jobs : List Job) where
   pub copying_goes : IsCopying from to root old (rest ++ job ∷ []) → AreCopies from more_to new → IsDone from job old new rest jobs → IsCopying from more_to root new jobs
   copying_goes c right d = record {
     right = right;
@@ -139,7 +139,7 @@ module _ (from to more_to : List Object) (root : ℕ) (old new : List (ℕ × �
     root_copied = subst (λ l. WillBeCopied new l root) (sym d.longer) (will_be-step from old new job rest jobs d rest root c.root_copied);
   }
 
-pub copying_ends : (from to : List Object) (root : ℕ) (copies : List (ℕ × ℕ)) (jobs : List Job) → IsCopying from to root copies jobs → jobs ≡ [] → IsCopied copies root
+pub copying_ends : (from to : List Object) (root : ℕ) (copies : List (Option ℕ)) (jobs : List Job) → IsCopying from to root copies jobs → jobs ≡ [] → IsCopied copies root
 copying_ends from to root copies jobs c e = elim c.root_copied [ inl h ↦ h | inr m ↦ absurd (none (subst (λ l. Contains (map copied_cell l) root) e m)) ]
   where
     none : Contains [] root → ⊥

@@ -5,4 +5,5 @@ mod EventMembers
 mod FirstPlaces
 mod InOrder
 mod Keeping
+mod Noted
 mod Walking

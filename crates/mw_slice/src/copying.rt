@@ -5,7 +5,7 @@ ghost use Rattle.mw_heap.specs.Objects.{object_at, IsIn, Grows};
 ghost use Rattle.mw_slice.specs.Copies.{AreCopies, IsCopied, CanBeDone, IsDone, copy_of};
 ghost use Rattle.mw_slice.specs.declared.copying.Job.TheVariants.{Copy, Join};
 
-use indexmap::IndexMap;
+use crate::Copies;
 use mw_heap::{Heap, Memory, Ref, View};
 
 /// What is to be done: a cell is copied, or a pair is joined, once its parts have copies.
@@ -16,34 +16,28 @@ pub(crate) enum Job {
 }
 
 // The copy of a cell that has one.
-fn copy_of(copies: &IndexMap<Ref, Ref>, x: Ref) -> Ref
-    requires { IsCopied copies.now.entries x }
-    ensures { copy_of copies.now.entries x ≡ Some result }
+fn copy_of(copies: &Copies, x: Ref) -> Ref
+    requires { IsCopied copies.now x }
+    ensures { copy_of copies.now x ≡ Some result }
 {
-    match copies.get(&x) {
-        Some(made) => *made,
+    match copies.get(x) {
+        Some(made) => made,
         None => unreachable!(),
     }
 }
 
 // Notes the copy of a cell.
-fn note(
-    from: &Heap,
-    to: &Heap,
-    copies: &mut IndexMap<Ref, Ref>,
-    x: Ref,
-    made: Ref,
-) -> Result<(), Memory>
+fn note(from: &Heap, to: &Heap, copies: &mut Copies, x: Ref, made: Ref) -> Result<(), Memory>
     requires within { IsIn to.now.objects made }
     requires same { object_at to.now.objects made ≡ object_at from.now.objects x }
-    requires copies { AreCopies from.now.objects to.now.objects copies.old.entries }
-    ensures copies { OnOk result (AreCopies from.now.objects to.now.objects copies.new.entries) }
-    ensures kept { OnOk result ((y : ℕ) → IsCopied copies.old.entries y → IsCopied copies.new.entries y) }
-    ensures copied { OnOk result (IsCopied copies.new.entries x) }
+    requires copies { AreCopies from.now.objects to.now.objects copies.old }
+    ensures copies { OnOk result (AreCopies from.now.objects to.now.objects copies.new) }
+    ensures kept { OnOk result ((y : ℕ) → IsCopied copies.old y → IsCopied copies.new y) }
+    ensures copied { OnOk result (IsCopied copies.new x) }
 {
     let _ = from;
     let _ = to;
-    copies.insert(x, made)?;
+    copies.put(x, made)?;
     Ok(())
 }
 
@@ -61,17 +55,17 @@ fn enter(jobs: &mut Vec<Job>, x: Ref, first: Ref, second: Ref) -> Result<(), Mem
 fn copy_cell(
     from: &Heap,
     to: &mut Heap,
-    copies: &mut IndexMap<Ref, Ref>,
+    copies: &mut Copies,
     jobs: &mut Vec<Job>,
     x: Ref,
 ) -> Result<(), Memory>
     requires within { IsIn from.now.objects x }
-    requires copies { AreCopies from.now.objects to.old.objects copies.old.entries }
+    requires copies { AreCopies from.now.objects to.old.objects copies.old }
     ensures grows { Grows to.old.objects to.new.objects }
-    ensures copies { OnOk result (AreCopies from.now.objects to.new.objects copies.new.entries) }
-    ensures done { OnOk result (IsDone from.now.objects (Copy x) copies.old.entries copies.new.entries jobs.old.items jobs.new.items) }
+    ensures copies { OnOk result (AreCopies from.now.objects to.new.objects copies.new) }
+    ensures done { OnOk result (IsDone from.now.objects (Copy x) copies.old copies.new jobs.old.items jobs.new.items) }
 {
-    if copies.contains_key(&x) {
+    if copies.get(x).is_some() {
         return Ok(());
     }
     match from.view(x) {
@@ -92,19 +86,19 @@ fn copy_cell(
 fn join(
     from: &Heap,
     to: &mut Heap,
-    copies: &mut IndexMap<Ref, Ref>,
+    copies: &mut Copies,
     x: Ref,
     first: Ref,
     second: Ref,
 ) -> Result<(), Memory>
     requires pair { object_at from.now.objects x ≡ Pair (object_at from.now.objects first) (object_at from.now.objects second) }
-    requires first_copied { IsCopied copies.old.entries first }
-    requires second_copied { IsCopied copies.old.entries second }
-    requires copies { AreCopies from.now.objects to.old.objects copies.old.entries }
+    requires first_copied { IsCopied copies.old first }
+    requires second_copied { IsCopied copies.old second }
+    requires copies { AreCopies from.now.objects to.old.objects copies.old }
     ensures grows { Grows to.old.objects to.new.objects }
-    ensures copies { OnOk result (AreCopies from.now.objects to.new.objects copies.new.entries) }
-    ensures kept { OnOk result ((y : ℕ) → IsCopied copies.old.entries y → IsCopied copies.new.entries y) }
-    ensures copied { OnOk result (IsCopied copies.new.entries x) }
+    ensures copies { OnOk result (AreCopies from.now.objects to.new.objects copies.new) }
+    ensures kept { OnOk result ((y : ℕ) → IsCopied copies.old y → IsCopied copies.new y) }
+    ensures copied { OnOk result (IsCopied copies.new x) }
 {
     let made = to.cons(copy_of(copies, first), copy_of(copies, second))?;
     note(from, to, copies, x, made)?;
@@ -115,15 +109,15 @@ fn join(
 fn work(
     from: &Heap,
     to: &mut Heap,
-    copies: &mut IndexMap<Ref, Ref>,
+    copies: &mut Copies,
     jobs: &mut Vec<Job>,
     job: Job,
 ) -> Result<(), Memory>
-    requires possible { CanBeDone from.now.objects copies.old.entries [] job }
-    requires copies { AreCopies from.now.objects to.old.objects copies.old.entries }
+    requires possible { CanBeDone from.now.objects copies.old [] job }
+    requires copies { AreCopies from.now.objects to.old.objects copies.old }
     ensures grows { Grows to.old.objects to.new.objects }
-    ensures copies { OnOk result (AreCopies from.now.objects to.new.objects copies.new.entries) }
-    ensures done { OnOk result (IsDone from.now.objects job copies.old.entries copies.new.entries jobs.old.items jobs.new.items) }
+    ensures copies { OnOk result (AreCopies from.now.objects to.new.objects copies.new) }
+    ensures done { OnOk result (IsDone from.now.objects job copies.old copies.new jobs.old.items jobs.new.items) }
 {
     match job {
         Job::Copy(x) => copy_cell(from, to, copies, jobs, x)?,
@@ -132,18 +126,19 @@ fn work(
     Ok(())
 }
 
-/// The copy of an object of another heap. It takes time and memory in proportion to the distinct cells of the object. The error is that
-/// memory is refused: the heap may then have grown.
-pub fn copy(from: &Heap, x: Ref, to: &mut Heap) -> Result<Ref, Memory>
+/// The copy of an object of another heap. It takes time in proportion to the distinct cells of the object, and memory, beside that for
+/// the copy, up to the greatest place of a copied cell. Copies of an earlier object are forgotten. The error is that memory is
+/// refused: the heap may then have grown.
+pub fn copy(from: &Heap, x: Ref, to: &mut Heap, copies: &mut Copies) -> Result<Ref, Memory>
     requires { IsIn from.now.objects x }
     ensures grows { Grows to.old.objects to.new.objects }
     ensures made { IfOk result (λ r. IsIn to.new.objects r × (object_at to.new.objects r ≡ object_at from.now.objects x)) }
 {
-    let mut copies = IndexMap::new(to.alloc());
+    copies.begin();
     let mut jobs = Vec::new(to.alloc());
     jobs.push(Job::Copy(x))?;
     while let Some(job) = jobs.pop() {
-        work(from, to, &mut copies, &mut jobs, job)?;
+        work(from, to, copies, &mut jobs, job)?;
     }
-    Ok(copy_of(&copies, x))
+    Ok(copy_of(copies, x))
 }

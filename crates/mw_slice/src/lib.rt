@@ -3,6 +3,7 @@
 
 mod added;
 mod basis;
+mod copies;
 mod copying;
 mod event;
 mod firsts;
@@ -16,6 +17,7 @@ mod positions;
 mod slicer;
 mod walk;
 
+pub use copies::Copies;
 pub use copying::copy;
 pub use picked::Picked;
 pub use positions::Positions;

@@ -9,7 +9,7 @@ ghost use Rattle.mw_slice.specs.Slices.{events_of, Adds};
 use crate::added::Added;
 use crate::copying::copy;
 use crate::picking::pick;
-use crate::{Picked, Positions};
+use crate::{Copies, Picked, Positions};
 use mw_heap::{Heap, Memory, Ref};
 use std::alloc::Global;
 use std::marker::Model;
@@ -21,6 +21,8 @@ pub struct Slicer {
     // stands for parts of events that are missing
     nil: Ref,
     added: Vec<Added>,
+    // what `add` notes while it copies an event
+    copies: Copies,
 }
 
 impl Model for Slicer {
@@ -36,14 +38,20 @@ impl Model for Slicer {
 }
 
 // Copies an event from another heap and adds it at the end. Where memory is refused the heap may have grown.
-fn add_copy(heap: &mut Heap, added: &mut Vec<Added>, from: &Heap, event: Ref) -> Result<(), Memory>
+fn add_copy(
+    heap: &mut Heap,
+    added: &mut Vec<Added>,
+    copies: &mut Copies,
+    from: &Heap,
+    event: Ref,
+) -> Result<(), Memory>
     requires { IsIn from.now.objects event }
     ensures grows { Grows heap.old.objects heap.new.objects }
     ensures added { OnOk result (Adds heap.old.objects heap.new.objects added.old.items added.new.items (object_at from.now.objects event)) }
     ensures err { OnErr result (added.new.items ≡ added.old.items) }
 {
     let start = heap.mark();
-    let event = copy(from, event, heap)?;
+    let event = copy(from, event, heap, copies)?;
     added.push(Added { start, event })?;
     Ok(())
 }
@@ -60,6 +68,7 @@ impl Slicer {
             heap,
             nil,
             added: Vec::new(alloc),
+            copies: Copies::new(alloc),
         })
     }
 
@@ -72,7 +81,13 @@ impl Slicer {
         ensures heap { OnErr result (self.new.objects ≡ self.old.objects) }
     {
         let start = self.heap.mark();
-        match add_copy(&mut self.heap, &mut self.added, from, event) {
+        match add_copy(
+            &mut self.heap,
+            &mut self.added,
+            &mut self.copies,
+            from,
+            event,
+        ) {
             Ok(()) => Ok(()),
             Err(refusal) => {
                 self.heap.cut_back(start);

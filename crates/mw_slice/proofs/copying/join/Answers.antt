@@ -9,4 +9,4 @@ pub cons-requires-clause-second_in : goal.cons-requires-clause-second_in
 cons-requires-clause-second_in c = (c.requires.copies c.args.second c.copy_of-2.result c.copy_of-2.ensures).0
 
 pub note-requires-clause-copies : goal.note-requires-clause-copies
-note-requires-clause-copies c = copies-Grows c.args.from.now.objects c.args.to.now.objects c.cons.new.self.objects c.args.copies.now.entries c.cons.ensures.grows c.requires.copies
+note-requires-clause-copies c = copies-Grows c.args.from.now.objects c.args.to.now.objects c.cons.new.self.objects c.args.copies.now c.cons.ensures.grows c.requires.copies

@@ -4,7 +4,7 @@ use Rattle.mw_slice.proofs.copying.note.Goals as goal
 
 pub returns-clause-copies : goal.returns-clause-copies
 returns-clause-copies c =
-    copies-put c.args.from.now.objects c.args.to.now.objects c.args.copies.now.entries c.insert.new.self.entries c.args.x c.args.made c.in_ok-insert.ensures.updates.0 c.requires.within c.requires.same c.requires.copies
+    copies-put c.args.from.now.objects c.args.to.now.objects c.args.copies.now c.put.new.self c.args.x c.args.made c.in_ok-put.ensures c.requires.within c.requires.same c.requires.copies
 
 pub returns-clause-kept : goal.returns-clause-kept
-returns-clause-kept c = kept-put c.args.from.now.objects c.args.to.now.objects c.args.copies.now.entries c.insert.new.self.entries c.args.x c.args.made c.in_ok-insert.ensures.updates.0
+returns-clause-kept c = kept-put c.args.from.now.objects c.args.to.now.objects c.args.copies.now c.put.new.self c.args.x c.args.made c.in_ok-put.ensures

@@ -8,8 +8,8 @@ use Rattle.mw_slice.proofs.copying.work.Goals as goal
 pub returns-in_ok-join-in-Join-clause-done : goal.returns-in_ok-join-in-Join-clause-done
 returns-in_ok-join-in-Join-clause-done c =
     let from = c.args.from.now.objects in
-    let old = c.args.copies.now.entries in
-    let new = c.join.new.copies.entries in
+    let old = c.args.copies.now in
+    let new = c.join.new.copies in
     let jobs = c.args.jobs.now.items in
     let j = c.in-Join in
     let joined = c.in_ok-join-in-Join.ensures in
