@@ -10,6 +10,7 @@ ghost use Rattle.mw_term.specs.Parts.{is_single, wanted, length_of};
 
 use crate::Arity;
 use crate::cell_mark::CellMark;
+use crate::packed_mark::{PackedMark, mark_at};
 use crate::work::Work;
 use mw_heap::{Heap, Memory, Ref, View, Word};
 
@@ -152,7 +153,7 @@ fn is_binary_of(heap: &Heap, head: Ref, first: CellMark, second: CellMark) -> bo
 }
 
 // Whether (head . rest) is a formula.
-pub(crate) fn is_formula_list(heap: &Heap, marks: &[CellMark], head: Ref, rest: Ref) -> bool
+pub(crate) fn is_formula_list(heap: &Heap, marks: &[PackedMark], head: Ref, rest: Ref) -> bool
     requires head_within { IsIn heap.now.objects head }
     requires within { IsIn heap.now.objects rest }
     requires marked { rest < length marks.now }
@@ -161,10 +162,10 @@ pub(crate) fn is_formula_list(heap: &Heap, marks: &[CellMark], head: Ref, rest: 
     let View::Pair(a, more) = heap.view(rest) else {
         return false;
     };
-    let first = marks[a.index()];
+    let first = mark_at(marks, a);
     match heap.view(more) {
         View::Pair(b, end) => {
-            heap.is_nil(Some(end)) && is_binary_of(heap, head, first, marks[b.index()])
+            heap.is_nil(Some(end)) && is_binary_of(heap, head, first, mark_at(marks, b))
         }
         _ => heap.is_nil(Some(more)) && is_negation_of(heap, head, first),
     }

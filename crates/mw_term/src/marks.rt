@@ -12,6 +12,7 @@ use crate::cell_mark::CellMark;
 use crate::head::is_lambda_head;
 use crate::list::{are_more_terms, is_call, is_formula_list, is_lambda_call};
 use crate::names::is_variable_symbol;
+use crate::packed_mark::{PackedMark, mark_at};
 use crate::work::Work;
 use mw_heap::{Heap, Mark, Memory, Ref, View, looks_for};
 use std::alloc::Global;
@@ -35,7 +36,7 @@ fn mark_symbol(heap: &Heap, x: Ref) -> CellMark
 fn mark_pair(
     heap: &Heap,
     arity: &Arity,
-    marks: &[CellMark],
+    marks: &[PackedMark],
     first: Ref,
     rest: Ref,
     work: &mut Work,
@@ -45,8 +46,8 @@ fn mark_pair(
     requires rest { rest < length marks.now }
     ensures { IfOk result (λ m. m ≡ mark_of_object arity.now (Pair (object_at heap.now.objects first) (object_at heap.now.objects rest))) }
 {
-    let head = marks[first.index()];
-    let actuals = marks[rest.index()];
+    let head = mark_at(marks, first);
+    let actuals = mark_at(marks, rest);
     let is_terms = are_more_terms(head, actuals);
     match heap.view(first) {
         View::Nat(_) => Ok(CellMark {
@@ -74,7 +75,7 @@ fn mark_pair(
 fn mark_cell(
     heap: &Heap,
     arity: &Arity,
-    marks: &[CellMark],
+    marks: &[PackedMark],
     x: Ref,
     work: &mut Work,
 ) -> Result<CellMark, Memory>
@@ -97,7 +98,7 @@ fn mark_cell(
 
 // Adds the marks of the objects up to an index. What stood stays, whatever comes.
 fn mark_up_to(
-    cells: &mut Vec<CellMark>,
+    cells: &mut Vec<PackedMark>,
     heap: &Heap,
     arity: &Arity,
     end: usize,
@@ -112,7 +113,7 @@ fn mark_up_to(
 {
     for i in cells.len()..end {
         let mark = mark_cell(heap, arity, cells.as_slice(), heap.nth(i), work)?;
-        cells.push(mark)?;
+        cells.push(PackedMark::new(mark))?;
     }
     Ok(())
 }
@@ -121,7 +122,7 @@ fn mark_up_to(
 /// says for which heap and table they hold: as the heap grows they stay right, and `extend` adds those of the new objects.
 #[derive(Drop)]
 pub struct Marks {
-    cells: Vec<CellMark>,
+    cells: Vec<PackedMark>,
     // how many of the heap's first objects have had marks: of those that have none now they were forgotten
     had: usize,
     // how many marks may still be made anew
@@ -233,7 +234,7 @@ pub fn is_term(marks: &Marks, x: Ref) -> bool
     requires { x < length marks.now }
     ensures { (A : ArityTable) (os : List Object) → AreMarks A os marks.now → result ≡ is_term_object A (object_at os x) }
 {
-    marks.cells.as_slice()[x.index()].is_term
+    mark_at(marks.cells.as_slice(), x).is_term
 }
 
 /// Whether an object is a formula.
@@ -241,5 +242,5 @@ pub fn is_formula(marks: &Marks, x: Ref) -> bool
     requires { x < length marks.now }
     ensures { (A : ArityTable) (os : List Object) → AreMarks A os marks.now → result ≡ is_formula_object A (object_at os x) }
 {
-    marks.cells.as_slice()[x.index()].is_formula
+    mark_at(marks.cells.as_slice(), x).is_formula
 }
