@@ -5,16 +5,16 @@ ghost use Rattle.mw_model.specs.Terms.Term.{ArityTable};
 ghost use Rattle.mw_heap.specs.Objects.{object_at, IsIn};
 ghost use Rattle.mw_term.specs.Marking.{AreMarks, formal_count};
 
+use crate::cell_mark::{CellMark, mark_at};
 use crate::formals::formal_set;
 use crate::free::is_closed;
-use crate::packed_mark::{PackedMark, mark_at};
 use crate::work::Work;
 use mw_heap::{Heap, Memory, Ref, View, Word};
 
 // Whether (word . rest) is the head of a lambda call.
 pub(crate) fn is_lambda_head(
     heap: &Heap,
-    marks: &[PackedMark],
+    marks: &[CellMark],
     word: Ref,
     rest: Ref,
     work: &mut Work,
@@ -36,7 +36,7 @@ pub(crate) fn is_lambda_head(
     if !heap.is_nil(Some(end)) {
         return Ok(false);
     }
-    if !mark_at(marks, body).is_term {
+    if !mark_at(marks, body).is_term() {
         return Ok(false);
     }
     match formal_set(heap, list, work)? {

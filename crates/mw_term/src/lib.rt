@@ -12,7 +12,6 @@ mod list;
 mod looks;
 mod marks;
 mod names;
-mod packed_mark;
 mod part;
 mod substitutions;
 mod variables;

@@ -8,11 +8,10 @@ ghost use Rattle.mw_heap.specs.Objects.{object_at, IsIn};
 ghost use Rattle.mw_term.specs.Marking.{AreMarks, mark_of_object};
 
 use crate::Arity;
-use crate::cell_mark::CellMark;
+use crate::cell_mark::{CellMark, mark_at};
 use crate::head::is_lambda_head;
 use crate::list::{are_more_terms, is_call, is_formula_list, is_lambda_call};
 use crate::names::is_variable_symbol;
-use crate::packed_mark::{PackedMark, mark_at};
 use crate::work::Work;
 use mw_heap::{Heap, Mark, Memory, Ref, View, looks_for};
 use std::alloc::Global;
@@ -24,19 +23,14 @@ fn mark_symbol(heap: &Heap, x: Ref) -> CellMark
     requires symbol { is_symbol (object_at heap.now.objects x) ≡ true }
     ensures { (A : ArityTable) → result ≡ mark_of_object A (object_at heap.now.objects x) }
 {
-    CellMark {
-        is_term: is_variable_symbol(heap, x),
-        is_terms: heap.is_nil(Some(x)),
-        is_formula: false,
-        is_head: false,
-    }
+    CellMark::no_formula(is_variable_symbol(heap, x), heap.is_nil(Some(x)))
 }
 
 // The mark of the pair of first and rest, whose marks stand.
 fn mark_pair(
     heap: &Heap,
     arity: &Arity,
-    marks: &[PackedMark],
+    marks: &[CellMark],
     first: Ref,
     rest: Ref,
     work: &mut Work,
@@ -50,24 +44,17 @@ fn mark_pair(
     let actuals = mark_at(marks, rest);
     let is_terms = are_more_terms(head, actuals);
     match heap.view(first) {
-        View::Nat(_) => Ok(CellMark {
-            is_term: false,
+        View::Nat(_) => Ok(CellMark::no_formula(false, is_terms)),
+        View::Symbol => Ok(CellMark::new(
+            is_call(heap, arity, first, rest, actuals.is_terms(), work)?,
             is_terms,
-            is_formula: false,
-            is_head: false,
-        }),
-        View::Symbol => Ok(CellMark {
-            is_term: is_call(heap, arity, first, rest, actuals.is_terms, work)?,
+            is_formula_list(heap, marks, first, rest),
+            is_lambda_head(heap, marks, first, rest, work)?,
+        )),
+        View::Pair(_, tail) => Ok(CellMark::no_formula(
+            is_lambda_call(heap, head.is_head(), tail, actuals.is_terms(), rest, work)?,
             is_terms,
-            is_formula: is_formula_list(heap, marks, first, rest),
-            is_head: is_lambda_head(heap, marks, first, rest, work)?,
-        }),
-        View::Pair(_, tail) => Ok(CellMark {
-            is_term: is_lambda_call(heap, head.is_head, tail, actuals.is_terms, rest, work)?,
-            is_terms,
-            is_formula: false,
-            is_head: false,
-        }),
+        )),
     }
 }
 
@@ -75,7 +62,7 @@ fn mark_pair(
 fn mark_cell(
     heap: &Heap,
     arity: &Arity,
-    marks: &[PackedMark],
+    marks: &[CellMark],
     x: Ref,
     work: &mut Work,
 ) -> Result<CellMark, Memory>
@@ -85,12 +72,7 @@ fn mark_cell(
     ensures { IfOk result (λ m. m ≡ mark_of_object arity.now (object_at heap.now.objects x)) }
 {
     match heap.view(x) {
-        View::Nat(_) => Ok(CellMark {
-            is_term: false,
-            is_terms: false,
-            is_formula: false,
-            is_head: false,
-        }),
+        View::Nat(_) => Ok(CellMark::no_formula(false, false)),
         View::Symbol => Ok(mark_symbol(heap, x)),
         View::Pair(first, rest) => mark_pair(heap, arity, marks, first, rest, work),
     }
@@ -98,7 +80,7 @@ fn mark_cell(
 
 // Adds the marks of the objects up to an index. What stood stays, whatever comes.
 fn mark_up_to(
-    cells: &mut Vec<PackedMark>,
+    cells: &mut Vec<CellMark>,
     heap: &Heap,
     arity: &Arity,
     end: usize,
@@ -113,7 +95,7 @@ fn mark_up_to(
 {
     for i in cells.len()..end {
         let mark = mark_cell(heap, arity, cells.as_slice(), heap.nth(i), work)?;
-        cells.push(PackedMark::new(mark))?;
+        cells.push(mark)?;
     }
     Ok(())
 }
@@ -122,7 +104,7 @@ fn mark_up_to(
 /// says for which heap and table they hold: as the heap grows they stay right, and `extend` adds those of the new objects.
 #[derive(Drop)]
 pub struct Marks {
-    cells: Vec<PackedMark>,
+    cells: Vec<CellMark>,
     // how many of the heap's first objects have had marks: of those that have none now they were forgotten
     had: usize,
     // how many marks may still be made anew
@@ -137,9 +119,12 @@ const ANEW_FOR_A_CELL: u64 = 256;
 
 impl Model for Marks {
     ghost use Rattle.std.specs.Prelude.{List};
-    ghost use Rattle.mw_term.specs.declared.cell_mark.CellMark.{CellMark};
+    ghost use Rattle.std.specs.Coded.{coded_list};
+    ghost use Rattle.mw_term.specs.Marking.{ObjectMark, coded_mark};
 
-    ghost Value = { List CellMark };
+    ghost Value = { List ObjectMark };
+
+    ghost coded = { coded_list coded_mark };
 
     ghost view = { λ m. m.cells.items };
 }
@@ -234,7 +219,7 @@ pub fn is_term(marks: &Marks, x: Ref) -> bool
     requires { x < length marks.now }
     ensures { (A : ArityTable) (os : List Object) → AreMarks A os marks.now → result ≡ is_term_object A (object_at os x) }
 {
-    mark_at(marks.cells.as_slice(), x).is_term
+    mark_at(marks.cells.as_slice(), x).is_term()
 }
 
 /// Whether an object is a formula.
@@ -242,5 +227,5 @@ pub fn is_formula(marks: &Marks, x: Ref) -> bool
     requires { x < length marks.now }
     ensures { (A : ArityTable) (os : List Object) → AreMarks A os marks.now → result ≡ is_formula_object A (object_at os x) }
 {
-    mark_at(marks.cells.as_slice(), x).is_formula
+    mark_at(marks.cells.as_slice(), x).is_formula()
 }

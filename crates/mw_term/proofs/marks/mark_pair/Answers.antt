@@ -14,7 +14,8 @@ returns-in_ok-is_lambda_head-in-Symbol c =
     let r = object_at os c.args.rest in
     let head = c.mark_at-head.ensures A os c.requires.marked in
     let actuals = c.mark_at-actuals.ensures A os c.requires.marked in
-    mark_is A (Pair a r) _ _ _ _
+    c.new.ensures
+    ∙ mark_is A (Pair a r) _ _ _ _
     c.in_ok-is_call-in-Symbol.ensures
     (c.are_more_terms-is_terms.ensures ∙ terms_of_pair A a r _ _ head actuals)
     (c.is_formula_list.ensures A c.requires.marked)
@@ -31,7 +32,7 @@ returns-in_ok-is_lambda_call-in-Pair c =
     let e = c.in-Pair.ensures.shows.2 in
     let head = c.mark_at-head.ensures A os c.requires.marked in
     let actuals = c.mark_at-actuals.ensures A os c.requires.marked in
-    let call = c.in_ok-is_lambda_call-in-Pair.ensures A l (ap (λ m. m.is_head) head ∙ ap (λ z. is_some (formal_count A z)) e) (ap (λ m. m.is_terms) actuals) in
+    let call = c.in_ok-is_lambda_call-in-Pair.ensures A l (c.is_head.ensures ∙ (ap (λ m. m.is_head) head ∙ ap (λ z. is_some (formal_count A z)) e)) (c.is_terms-in-Pair.ensures ∙ ap (λ m. m.is_terms) actuals) in
     let terms = c.are_more_terms-is_terms.ensures ∙ terms_of_pair A a r _ _ head actuals in
-    mark_of_lambda A l y r _ _ call (terms ∙ ap (λ z. is_some (term_count A (Pair z r))) e)
-    ∙ ap (λ z. mark_of_object A (Pair z r)) (sym e)
+    c.no_formula-in-Pair.ensures
+    ∙ (mark_of_lambda A l y r _ _ call (terms ∙ ap (λ z. is_some (term_count A (Pair z r))) e) ∙ ap (λ z. mark_of_object A (Pair z r)) (sym e))

@@ -11,10 +11,10 @@ loop-i-preserved c =
     let os = c.args.heap.now.objects in
     let A = c.args.arity.now in
     let ms = c.loop-i.cells.items in
-    let m = c.new.result in
+    let m = c.in_ok-mark.mark in
     let here : c.nth.result ≡ length ms = c.nth.ensures ∙ sym c.loop-i.invariant.reached in
     record {
-      marked = subst (AreMarks A os) (sym c.in_ok-push.ensures.items) (AreMarks-push A os ms m c.loop-i.invariant.marked (omega (arith, c.loop-i.invariant.reached, c.requires.to, c.loop-i-test.true)) (c.new.ensures ∙ (c.in_ok-mark.ensures ∙ ap (λ i. mark_of_object A (object_at os i)) here)));
+      marked = subst (AreMarks A os) (sym c.in_ok-push.ensures.items) (AreMarks-push A os ms m c.loop-i.invariant.marked (omega (arith, c.loop-i.invariant.reached, c.requires.to, c.loop-i-test.true)) (c.in_ok-mark.ensures ∙ ap (λ i. mark_of_object A (object_at os i)) here));
       reached = omega (arith, ap length c.in_ok-push.ensures.items, length-append ms (m ∷ []), c.loop-i.invariant.reached);
       kept =
           ap (take (length c.args.cells.now.items)) c.in_ok-push.ensures.items
