@@ -11,8 +11,7 @@ use Rattle.mw_heap.specs.Contents.{Contents}
 use Rattle.mw_heap.specs.Objects.{Grows}
 use Rattle.mw_heap.proofs.Objects.{length-Grows, IsIn-Grows, object_at-Grows}
 use Rattle.mw_term.proofs.CallerLemmas.{AreMarks-take, AreMarks-cut}
-use Rattle.mw_term.specs.Marking.{AreMarks}
-use Rattle.mw_term.specs.declared.cell_mark.CellMark.{CellMark}
+use Rattle.mw_term.specs.Marking.{ObjectMark, AreMarks}
 use Rattle.mw_book.specs.Answered.{Answered, IsProving, ProvedFor, ShowsWord, lines_of}
 use Rattle.mw_book.specs.Answering.{Answers, HasAnswered}
 use Rattle.mw_book.specs.Due.{AreAnswers}
@@ -29,7 +28,7 @@ pub proved_by : (old new : Proving) (given more : List Object) →
     Answers lines_of ProvedFor old given new more
 proved_by old new given more f g = answers_by {P = Unit {0}} (λ u. Taut) lines_of (λ p u xs. IsProving p × Answered p xs) old new given more (λ u h. f h.0 h.1) (λ u h. g h.0 h.1)
 
-pub proving_marked : (old : Proving) (k : Contents) (marks : List CellMark) → Grows old.heap.objects k.objects → AreMarks old.arity k.objects marks → IsProving old → IsProving (record old { heap = k; marks = marks })
+pub proving_marked : (old : Proving) (k : Contents) (marks : List ObjectMark) → Grows old.heap.objects k.objects → AreMarks old.arity k.objects marks → IsProving old → IsProving (record old { heap = k; marks = marks })
 proving_marked old k marks g m h = record {
   kept = (let l = length-Grows old.heap.objects k.objects g in let e : old.kept ≤ length k.objects = omega (arith, h.kept, l) in e);
   arity = h.arity;
@@ -38,7 +37,7 @@ proving_marked old k marks g m h = record {
 }
 
 -- more was made, and perhaps marked
-pub proved_grows : (old : Proving) (k : Contents) (marks : List CellMark) → Grows old.heap.objects k.objects → (IsProving old → AreMarks old.arity k.objects marks) → (given : List Object) → Answers lines_of ProvedFor old given (record old { heap = k; marks = marks }) given
+pub proved_grows : (old : Proving) (k : Contents) (marks : List ObjectMark) → Grows old.heap.objects k.objects → (IsProving old → AreMarks old.arity k.objects marks) → (given : List Object) → Answers lines_of ProvedFor old given (record old { heap = k; marks = marks }) given
 proved_grows old k marks g m given =
     proved_by old (record old { heap = k; marks = marks }) given given
     (λ h a. (proving_marked old k marks g (m h) h, record { counted = a.counted; unproved_counted = a.unproved_counted }))
@@ -50,7 +49,7 @@ shows_grows old new g (Some r) x h =
     let same = object_at-Grows old new g r h.0.0 in
     ((IsIn-Grows old new g r h.0.0, ap is_symbol same ∙ h.0.1), ap symbol_text same ∙ h.1)
 
-pub marks_cut : (A : ArityTable) (os : List Object) (ms : List CellMark) (n : ℕ) → n ≤ length os → AreMarks A os ms → AreMarks A (take n os) (take n ms)
+pub marks_cut : (A : ArityTable) (os : List Object) (ms : List ObjectMark) (n : ℕ) → n ≤ length os → AreMarks A os ms → AreMarks A (take n os) (take n ms)
 marks_cut A os ms n l h = elim (cases_lt n (length ms)) [
   | inl k ↦ AreMarks-cut A os (take n ms) n (let e : length (take n ms) ≤ n = omega (arith, length-take-le n ms (let i : n ≤ length ms = omega (arith, k) in i)) in e) l (AreMarks-take A os ms n h (let i : n ≤ length ms = omega (arith, k) in i))
   | inr k ↦ subst (AreMarks A (take n os)) (sym (take_all n ms k)) (AreMarks-cut A os ms n k l h)

@@ -12,8 +12,7 @@ use Rattle.mw_heap.specs.Objects.{object_at, IsIn, Grows}
 use Rattle.mw_heap.specs.Lists.{list_object}
 use Rattle.mw_heap.proofs.Objects.{Grows-refl, Grows-trans, object_at-Grows}
 use Rattle.mw_axioms.proofs.OnStack.{AreIn-push}
-use Rattle.mw_term.specs.declared.cell_mark.CellMark.{CellMark}
-use Rattle.mw_term.specs.Marking.{AreMarks}
+use Rattle.mw_term.specs.Marking.{ObjectMark, AreMarks}
 use Rattle.mw_theory.specs.declared.theory.Theory.{Theory as Kept}
 use Rattle.mw_theory.specs.Knowledge.{parts_of, meant, IsHeld}
 use Rattle.mw_theory.specs.Words.{verify_event}
@@ -34,7 +33,7 @@ module _ (turns : Turning) (os : List Object) (t : Kept) (list : ℕ) where
   abbrev theory : Theory
   theory = meant os (parts_of t)
 
-  pub record Rewrites (now : List Object) (marks : List CellMark) (rest : ℕ) (done : List ℕ) : Type 0 where
+  pub record Rewrites (now : List Object) (marks : List ObjectMark) (rest : ℕ) (done : List ℕ) : Type 0 where
     pub grows : Grows os now
     pub marked : AreMarks t.arity now marks
     pub rest_in : IsIn os rest
@@ -42,7 +41,7 @@ module _ (turns : Turning) (os : List Object) (t : Kept) (list : ℕ) where
     pub proper : is_list_object (object_at os rest) ≡ true
     pub turned : (qs : Object) → EachTurnsOrStays turns theory (object_at os rest) qs → EachTurnsOrStays turns theory (object_at os list) (put_before now done qs)
 
-  pub Rewrites-start : (marks : List CellMark) → AreMarks t.arity os marks → IsIn os list → is_list_object (object_at os list) ≡ true → Rewrites os marks list []
+  pub Rewrites-start : (marks : List ObjectMark) → AreMarks t.arity os marks → IsIn os list → is_list_object (object_at os list) ≡ true → Rewrites os marks list []
   Rewrites-start marks marked list_in proper = record {
     grows = Grows-refl os;
     marked = marked;
@@ -52,9 +51,9 @@ module _ (turns : Turning) (os : List Object) (t : Kept) (list : ℕ) where
     turned = λ qs each. each;
   }
 
-  module _ (now : List Object) (marks : List CellMark) (rest : ℕ) (done : List ℕ) (w : Rewrites now marks rest done) where
+  module _ (now : List Object) (marks : List ObjectMark) (rest : ℕ) (done : List ℕ) (w : Rewrites now marks rest done) where
     -- one proof more
-    pub Rewrites-next : IsHeld os t → (proof more : ℕ) → proof < rest → more < rest → object_at now rest ≡ Pair (object_at now proof) (object_at now more) → (new : List Object) (ms : List CellMark) → Grows now new → AreMarks t.arity new ms → (r : ℕ) → IsIn new r → TurnsOrStays turns (meant now (parts_of t)) (object_at now proof) (object_at new r) → (dones : List ℕ) → dones ≡ done ++ r ∷ [] → Rewrites new ms more dones
+    pub Rewrites-next : IsHeld os t → (proof more : ℕ) → proof < rest → more < rest → object_at now rest ≡ Pair (object_at now proof) (object_at now more) → (new : List Object) (ms : List ObjectMark) → Grows now new → AreMarks t.arity new ms → (r : ℕ) → IsIn new r → TurnsOrStays turns (meant now (parts_of t)) (object_at now proof) (object_at new r) → (dones : List ℕ) → dones ≡ done ++ r ∷ [] → Rewrites new ms more dones
     Rewrites-next h proof more proof_older more_older shows new ms grows marked r r_in turned dones pushed =
         let rest_is : object_at os rest ≡ Pair (object_at os proof) (object_at os more) = pair_before os now w.grows rest proof more w.rest_in proof_older more_older shows in
         let turned_before : TurnsOrStays turns theory (object_at os proof) (object_at new r) =

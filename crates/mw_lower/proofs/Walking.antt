@@ -9,8 +9,7 @@ use Rattle.mw_model.specs.Terms.Object.{Object, Natural, Symbol, Pair}
 use Rattle.mw_model.specs.Terms.Term.{ArityTable}
 use Rattle.mw_heap.specs.Objects.{object_at, IsIn, Grows, AreDistinct}
 use Rattle.mw_heap.proofs.Objects.{IsIn-Grows, object_at-Grows}
-use Rattle.mw_term.specs.Marking.{AreMarks, mark_of_object}
-use Rattle.mw_term.specs.declared.cell_mark.CellMark.{CellMark}
+use Rattle.mw_term.specs.Marking.{ObjectMark, AreMarks, mark_of_object}
 use Rattle.mw_proof.specs.Step.{subproofs_of}
 use Rattle.mw_proof.specs.Gathered.{IsAmong, AreIn, HasMembers}
 use Rattle.mw_proof.specs.Judging.{Basis}
@@ -24,7 +23,7 @@ abbrev pub AreTurned : Basis → List Object → List (ℕ × ℕ) → List ℕ 
 AreTurned b os turned keys = (p : ℕ) → IsAmong keys p → IsTurned b os (lookup (nat_eq p) turned) (object_at os p)
 
 -- marks that reach no further than the older heap are right in it
-pub AreMarks-older : (A : ArityTable) (os new : List Object) (ms : List CellMark) → Grows os new → length ms ≤ length os → AreMarks A new ms → AreMarks A os ms
+pub AreMarks-older : (A : ArityTable) (os new : List Object) (ms : List ObjectMark) → Grows os new → length ms ≤ length os → AreMarks A new ms → AreMarks A os ms
 AreMarks-older A os new ms g l h = record { within = l; each = λ i k. h.each i k ∙ ap (λ o. Some (mark_of_object A o)) (object_at-Grows os new g i (omega (arith, k, l))) }
 
 pub IsTurned-grows : (b : Basis) (old new : List Object) → Grows old new → (o : Option ℕ) (p : Object) → IsTurned b old o p → IsTurned b new o p

@@ -12,8 +12,7 @@ use Rattle.mw_model.specs.Laws.RulesInduction.{length_object}
 use Rattle.mw_model.proofs.Names.{same_object-eq}
 use Rattle.mw_heap.specs.Objects.{object_at, IsIn, Shows}
 use Rattle.mw_heap.specs.declared.view.View.{View}
-use Rattle.mw_term.specs.Marking.{AreMarks}
-use Rattle.mw_term.specs.declared.cell_mark.CellMark.{CellMark}
+use Rattle.mw_term.specs.Marking.{ObjectMark, AreMarks}
 use Rattle.mw_heap.specs.declared.view.View.TheVariants.{Nat, Symbol as Word, Pair as Parts}
 use Rattle.mw_proof.specs.Step.{conclusions_object}
 use Rattle.mw_heap.specs.Lists.{list_object}
@@ -50,7 +49,7 @@ pub over_from : (most : Option ℕ) (n k : ℕ) → option_eq eqb most (Some n) 
 over_from None n k h l = cc
 over_from (Some m) n k h l = let same = eqb-true m n h in omega (arith, same, l)
 
-pub record Collects (os : List Object) (marks : List CellMark) (most : Option ℕ) (list rest : ℕ) (rs : List ℕ) : Type 0 where
+pub record Collects (os : List Object) (marks : List ObjectMark) (most : Option ℕ) (list rest : ℕ) (rs : List ℕ) : Type 0 where
   pub within : IsIn os rest
   pub rest_before : rest ≤ list
   pub before : All (λ r. r < list) rs
@@ -58,7 +57,7 @@ pub record Collects (os : List Object) (marks : List CellMark) (most : Option �
   pub counted : length rs + length_object (object_at os rest) ≡ length_object (object_at os list)
   pub holds : (A : ArityTable) → AreMarks A os marks → IsRest A os (object_at os list) (object_at os rest) rs
 
-module _ (os : List Object) (marks : List CellMark) (most : Option ℕ) (list : ℕ) where
+module _ (os : List Object) (marks : List ObjectMark) (most : Option ℕ) (list : ℕ) where
   pub collect_starts : IsIn os list → Collects os marks most list list []
   collect_starts i = record { within = i; rest_before = omega arith; before = λ k d l. absurd (omega arith); few = within_none most; counted = omega arith; holds = λ A k. record { formulas = refl; conclusions = refl } }
 

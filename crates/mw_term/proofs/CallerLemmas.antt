@@ -7,8 +7,7 @@ use Rattle.mw_model.proofs.Names.{name_differ-from}
 use Rattle.mw_heap.specs.Objects.{object_at, IsIn, Grows, AreDistinct, ArePartsOlder}
 use Rattle.mw_heap.proofs.Lists.{slice_get-take}
 use Rattle.mw_heap.proofs.Objects.{length-Grows, object_at-Grows, object_at-take}
-use Rattle.mw_term.specs.declared.cell_mark.CellMark.{CellMark}
-use Rattle.mw_term.specs.Marking.{AreMarks, mark_of_object}
+use Rattle.mw_term.specs.Marking.{ObjectMark, AreMarks, mark_of_object}
 use Rattle.mw_term.proofs.SameArities.{HasSameArities, same_mark}
 
 module _ (A : ArityTable) where
@@ -16,14 +15,14 @@ module _ (A : ArityTable) where
   AreMarks-none os = record { within = omega arith; each = λ i below. absurd (omega arith) }
 
   -- marks stay right as the heap grows
-  pub AreMarks-grows : (old new : List Object) (ms : List CellMark) → Grows old new → AreMarks A old ms → AreMarks A new ms
+  pub AreMarks-grows : (old new : List Object) (ms : List ObjectMark) → Grows old new → AreMarks A old ms → AreMarks A new ms
   AreMarks-grows old new ms g h = record {
     within = omega (arith, h.within, length-Grows old new g);
     each = λ i below. h.each i below ∙ ap (λ x. Some (mark_of_object A x)) (sym (object_at-Grows old new g i (omega (arith, below, h.within))));
   }
 
   -- the marks up to a cut are those of the heap up to it, and of the heap
-  pub AreMarks-take : (os : List Object) (ms : List CellMark) (n : ℕ) → AreMarks A os ms → n ≤ length ms → AreMarks A os (take n ms)
+  pub AreMarks-take : (os : List Object) (ms : List ObjectMark) (n : ℕ) → AreMarks A os ms → n ≤ length ms → AreMarks A os (take n ms)
   AreMarks-take os ms n h below =
       let l : length (take n ms) ≡ n = length-take-le n ms below in
       record {
@@ -31,13 +30,13 @@ module _ (A : ArityTable) where
         each = λ i k. slice_get-take n ms i (omega (arith, l, k)) ∙ h.each i (omega (arith, l, k, below));
       }
 
-  pub AreMarks-cut : (os : List Object) (ms : List CellMark) (n : ℕ) → length ms ≤ n → n ≤ length os → AreMarks A os ms → AreMarks A (take n os) ms
+  pub AreMarks-cut : (os : List Object) (ms : List ObjectMark) (n : ℕ) → length ms ≤ n → n ≤ length os → AreMarks A os ms → AreMarks A (take n os) ms
   AreMarks-cut os ms n below k h = record {
     within = omega (arith, length-take-le n os k, below);
     each = λ i j. h.each i j ∙ ap (λ x. Some (mark_of_object A x)) (sym (object_at-take n os i (omega (arith, j, below))));
   }
 
-module _ (os : List Object) (ms : List CellMark) (older : ArePartsOlder os) where
+module _ (os : List Object) (ms : List ObjectMark) (older : ArePartsOlder os) where
   -- marks are right by another table too, where it gives the same arity to each symbol that has a mark
   pub AreMarks-table : (A B : ArityTable) → ((i : ℕ) (s : Name) → i < length ms → object_at os i ≡ Symbol s → arity_of A s ≡ arity_of B s) → AreMarks A os ms → AreMarks B os ms
   AreMarks-table A B same h = record { within = h.within; each = λ i below. h.each i below ∙ ap Some (same_mark A B (object_at os i) (arities (object_at os i) i below refl)) }

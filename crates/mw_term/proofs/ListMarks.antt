@@ -1,13 +1,11 @@
 -- What the code tests of a pair is what the pair is.
-use Rattle.std.proofs.Common.{rules, ◌≡◌, ℕ, ◌⊎◌, ◌+◌, ◌<◌, Bool, true, false, ◌&&◌, cond, List, [], ◌∷◌, ◌++◌, length, slice_get, get_or, length-append, inl, inr, arith, Option, Some, None, is_some, refl, sym, ap, ap₂, ◌∙◌}
-use Rattle.std.proofs.lemmas.Option.{get_or_from_slice_get}
+use Rattle.std.proofs.Common.{rules, ◌≡◌, ℕ, ◌⊎◌, ◌+◌, ◌<◌, Bool, true, false, ◌&&◌, cond, List, [], ◌∷◌, ◌++◌, length, slice_get, length-append, inl, inr, arith, Option, Some, None, is_some, refl, sym, ap, ap₂, ◌∙◌}
 use Rattle.mw_model.specs.Terms.Object.{Name, Object, Natural, Symbol, Pair, same_name, same_object, nil_name, NIL}
 use Rattle.mw_model.specs.Terms.Term.{ArityTable}
 use Rattle.mw_model.proofs.Names.{same_object-eq}
 use Rattle.mw_model.specs.Laws.Rules.{is_term_object, is_formula_object}
 use Rattle.mw_heap.specs.Objects.{object_at}
-use Rattle.mw_term.specs.declared.cell_mark.CellMark.{CellMark}
-use Rattle.mw_term.specs.Marking.{AreMarks, mark_of_object, term_count, formal_count, is_negation, is_binary}
+use Rattle.mw_term.specs.Marking.{ObjectMark, AreMarks, mark_of_object, term_count, formal_count, is_negation, is_binary}
 use Rattle.mw_heap.proofs.Lists.{slice_get-append, slice_get-seam}
 use Rattle.mw_term.proofs.Marked.{one_more, term_count-pair, term_count-symbol, is_formula-unary, is_formula-binary, is_negation-marks, is_binary-marks}
 
@@ -18,23 +16,12 @@ and_false : (a : Bool) → (a && false) ≡ false
 and_false true = refl
 and_false false = refl
 
--- the default of a read
-abbrev pub no_mark : CellMark
-no_mark = record { is_term = false; is_terms = false; is_formula = false; is_head = false }
-
--- the mark at an index
-pub mark_at : (A : ArityTable) (os : List Object) (ms : List CellMark) → AreMarks A os ms → (i a : ℕ) → i ≡ a → a < length ms → (d : CellMark) → get_or ms i d ≡ mark_of_object A (object_at os a)
-mark_at A os ms h i a e below d = ap (λ k. get_or ms k d) e ∙ get_or_from_slice_get ms a (mark_of_object A (object_at os a)) d (h.each a below)
-
-pub term_at : (A : ArityTable) (os : List Object) (ms : List CellMark) → AreMarks A os ms → (i a : ℕ) → i ≡ a → a < length ms → (d : CellMark) (b : Bool) → (get_or ms i d).is_term ≡ b → is_term_object A (object_at os a) ≡ b
-term_at A os ms h i a e below d b k = ap (λ m. m.is_term) (sym (mark_at A os ms h i a e below d)) ∙ k
-
 module _ (A : ArityTable) (head x : Object) where
-  pub is_formula-binary_list : (a b z : Object) (first second : CellMark) → x ≡ Pair a (Pair b z) → first ≡ mark_of_object A a → second ≡ mark_of_object A b → same_object z NIL ≡ true → is_formula_object A (Pair head x) ≡ is_binary head first second
+  pub is_formula-binary_list : (a b z : Object) (first second : ObjectMark) → x ≡ Pair a (Pair b z) → first ≡ mark_of_object A a → second ≡ mark_of_object A b → same_object z NIL ≡ true → is_formula_object A (Pair head x) ≡ is_binary head first second
   is_formula-binary_list a b z first second e h k ends =
       ap (λ y. is_formula_object A (Pair head y)) e ∙ (is_binary-marks A head a b z first second h k ∙ ap (λ t. t && is_binary head first second) ends)
 
-  pub is_formula-negation_list : (a z : Object) (part : CellMark) → x ≡ Pair a z → part ≡ mark_of_object A a → same_object z NIL ≡ true → is_formula_object A (Pair head x) ≡ is_negation head part
+  pub is_formula-negation_list : (a z : Object) (part : ObjectMark) → x ≡ Pair a z → part ≡ mark_of_object A a → same_object z NIL ≡ true → is_formula_object A (Pair head x) ≡ is_negation head part
   is_formula-negation_list a z part e h ends =
       ap (λ y. is_formula_object A (Pair head y)) (e ∙ ap (Pair a) (same_object-eq z NIL ends)) ∙ is_negation-marks A head a nil_name part h
 
@@ -55,12 +42,10 @@ terms-symbol A s = ap is_some (term_count-symbol A s) ∙ go (same_name s nil_na
     go true = refl
     go false = refl
 
-module _ (A : ArityTable) (os : List Object) (ms : List CellMark) (marked : AreMarks A os ms) (a r : ℕ) where
-  -- whether a pair is a list of terms
-  pub terms_of_pair : (i j : ℕ) (d : CellMark) → i ≡ a → j ≡ r → a < length ms → r < length ms → ((get_or ms i d).is_term && (get_or ms j d).is_terms) ≡ is_some (term_count A (Pair (object_at os a) (object_at os r)))
-  terms_of_pair i j d e f below_a below_r =
-      ap₂ (λ m n. m.is_term && n.is_terms) (mark_at A os ms marked i a e below_a d) (mark_at A os ms marked j r f below_r d)
-      ∙ (sym (some_more (is_term_object A (object_at os a)) (term_count A (object_at os r))) ∙ ap is_some (sym (term_count-pair A (object_at os a) (object_at os r))))
+-- whether a pair is a list of terms
+pub terms_of_pair : (A : ArityTable) (a r : Object) (first rest : ObjectMark) → first ≡ mark_of_object A a → rest ≡ mark_of_object A r → (first.is_term && rest.is_terms) ≡ is_some (term_count A (Pair a r))
+terms_of_pair A a r first rest e f =
+    ap₂ (λ m n. m.is_term && n.is_terms) e f ∙ (sym (some_more (is_term_object A a) (term_count A r)) ∙ ap is_some (sym (term_count-pair A a r)))
 
 -- a pair that begins with a pair is no formula and no head
 is_formula-pair_head : (A : ArityTable) (l y r : Object) → is_formula_object A (Pair (Pair l y) r) ≡ false
@@ -83,7 +68,7 @@ mark_of_lambda A l y r term terms e f =
     mark_is A (Pair (Pair l y) r) term terms false false e f (sym (is_formula-pair_head A l y r)) (sym (ap is_some (formal_count-pair_head A l y r)))
 
 -- one more mark
-pub AreMarks-push : (A : ArityTable) (os : List Object) (ms : List CellMark) (m : CellMark) → AreMarks A os ms → length ms < length os → m ≡ mark_of_object A (object_at os (length ms)) → AreMarks A os (ms ++ m ∷ [])
+pub AreMarks-push : (A : ArityTable) (os : List Object) (ms : List ObjectMark) (m : ObjectMark) → AreMarks A os ms → length ms < length os → m ≡ mark_of_object A (object_at os (length ms)) → AreMarks A os (ms ++ m ∷ [])
 AreMarks-push A os ms m h below e = record {
   within = omega (arith, length-append ms (m ∷ []));
   each = λ i j.

@@ -8,8 +8,7 @@ use Rattle.mw_model.specs.Values.Primitive.{is_pair}
 use Rattle.mw_model.specs.Laws.Rules.{is_term_object, is_formula_object}
 use Rattle.mw_model.proofs.Names.{same_name-eq}
 use Rattle.mw_term.specs.Parts.{is_single}
-use Rattle.mw_term.specs.Marking.{counted, term_count, head_count, formal_count, is_negation, is_binary, mark_of_object}
-use Rattle.mw_term.specs.declared.cell_mark.CellMark.{CellMark}
+use Rattle.mw_term.specs.Marking.{ObjectMark, counted, term_count, head_count, formal_count, is_negation, is_binary, mark_of_object}
 
 -- so many actuals are right for an arity, and for IF
 abbrev pub takes : Option ℕ → Option ℕ → Bool
@@ -200,10 +199,10 @@ is_formula-no_list A h x a z shape no_pair no_nil = ap (λ y. is_formula_object 
 
 -- by the marks of the parts
 module _ (A : ArityTable) where
-  pub is_negation-marks : (h a : Object) (s : Name) (part : CellMark) → part ≡ mark_of_object A a → is_formula_object A (Pair h (Pair a (Symbol s))) ≡ (same_name s nil_name && is_negation h part)
+  pub is_negation-marks : (h a : Object) (s : Name) (part : ObjectMark) → part ≡ mark_of_object A a → is_formula_object A (Pair h (Pair a (Symbol s))) ≡ (same_name s nil_name && is_negation h part)
   is_negation-marks h a s part e =
       is_formula-unary A h a s ∙ (and_assoc (same_name s nil_name) (same_object h (symbol "PNOT*")) (is_formula_object A a) ∙ ap (λ m. same_name s nil_name && is_negation h m) (sym e))
 
-  pub is_binary-marks : (h a b z : Object) (first second : CellMark) → first ≡ mark_of_object A a → second ≡ mark_of_object A b
+  pub is_binary-marks : (h a b z : Object) (first second : ObjectMark) → first ≡ mark_of_object A a → second ≡ mark_of_object A b
       → is_formula_object A (Pair h (Pair a (Pair b z))) ≡ (same_object z NIL && is_binary h first second)
   is_binary-marks h a b z first second e k = is_formula-binary A h a b z ∙ ap₂ (λ m n. same_object z NIL && is_binary h m n) (sym e) (sym k)

@@ -5,7 +5,7 @@ ghost use Rattle.mw_model.specs.Terms.Term.{ArityTable};
 ghost use Rattle.mw_heap.specs.Objects.{object_at, IsIn};
 ghost use Rattle.mw_term.specs.Marking.{AreMarks, formal_count};
 
-use crate::cell_mark::CellMark;
+use crate::cell_mark::{CellMark, mark_at};
 use crate::formals::formal_set;
 use crate::free::is_closed;
 use crate::work::Work;
@@ -36,7 +36,7 @@ pub(crate) fn is_lambda_head(
     if !heap.is_nil(Some(end)) {
         return Ok(false);
     }
-    if !marks[body.index()].is_term {
+    if !mark_at(marks, body).is_term() {
         return Ok(false);
     }
     match formal_set(heap, list, work)? {

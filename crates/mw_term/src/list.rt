@@ -9,15 +9,15 @@ ghost use Rattle.mw_term.specs.Marking.{AreMarks, term_count, formal_count, is_n
 ghost use Rattle.mw_term.specs.Parts.{is_single, wanted, length_of};
 
 use crate::Arity;
-use crate::cell_mark::CellMark;
+use crate::cell_mark::{CellMark, mark_at};
 use crate::work::Work;
 use mw_heap::{Heap, Memory, Ref, View, Word};
 
 // Whether a pair is a list of terms, by the marks of its parts.
-pub(crate) fn are_more_terms(first: CellMark, rest: CellMark) -> bool
-    ensures { result ≡ (first.is_term && rest.is_terms) }
+pub(crate) fn are_more_terms(first: &CellMark, rest: &CellMark) -> bool
+    ensures { result ≡ (first.now.is_term && rest.now.is_terms) }
 {
-    first.is_term && rest.is_terms
+    first.is_term() && rest.is_terms()
 }
 
 // Whether a list has so many members. It takes a look at each.
@@ -133,22 +133,22 @@ pub(crate) fn is_call(
 }
 
 // Whether a list of this head and one object is a formula.
-fn is_negation_of(heap: &Heap, head: Ref, part: CellMark) -> bool
+fn is_negation_of(heap: &Heap, head: Ref, part: &CellMark) -> bool
     requires { IsIn heap.now.objects head }
-    ensures { result ≡ is_negation (object_at heap.now.objects head) part }
+    ensures { result ≡ is_negation (object_at heap.now.objects head) part.now }
 {
-    heap.is_word(Some(head), Word::Pnot) && part.is_formula
+    heap.is_word(Some(head), Word::Pnot) && part.is_formula()
 }
 
 // Whether a list of this head and two objects is a formula.
-fn is_binary_of(heap: &Heap, head: Ref, first: CellMark, second: CellMark) -> bool
+fn is_binary_of(heap: &Heap, head: Ref, first: &CellMark, second: &CellMark) -> bool
     requires { IsIn heap.now.objects head }
-    ensures { result ≡ is_binary (object_at heap.now.objects head) first second }
+    ensures { result ≡ is_binary (object_at heap.now.objects head) first.now second.now }
 {
     if heap.is_word(Some(head), Word::Pequal) {
-        return first.is_term && second.is_term;
+        return first.is_term() && second.is_term();
     }
-    heap.is_word(Some(head), Word::Por) && first.is_formula && second.is_formula
+    heap.is_word(Some(head), Word::Por) && first.is_formula() && second.is_formula()
 }
 
 // Whether (head . rest) is a formula.
@@ -161,10 +161,10 @@ pub(crate) fn is_formula_list(heap: &Heap, marks: &[CellMark], head: Ref, rest: 
     let View::Pair(a, more) = heap.view(rest) else {
         return false;
     };
-    let first = marks[a.index()];
+    let first = mark_at(marks, a);
     match heap.view(more) {
         View::Pair(b, end) => {
-            heap.is_nil(Some(end)) && is_binary_of(heap, head, first, marks[b.index()])
+            heap.is_nil(Some(end)) && is_binary_of(heap, head, first, mark_at(marks, b))
         }
         _ => heap.is_nil(Some(more)) && is_negation_of(heap, head, first),
     }

@@ -8,7 +8,7 @@ ghost use Rattle.mw_heap.specs.Objects.{object_at, IsIn};
 ghost use Rattle.mw_term.specs.Marking.{AreMarks, mark_of_object};
 
 use crate::Arity;
-use crate::cell_mark::CellMark;
+use crate::cell_mark::{CellMark, mark_at};
 use crate::head::is_lambda_head;
 use crate::list::{are_more_terms, is_call, is_formula_list, is_lambda_call};
 use crate::names::is_variable_symbol;
@@ -23,12 +23,7 @@ fn mark_symbol(heap: &Heap, x: Ref) -> CellMark
     requires symbol { is_symbol (object_at heap.now.objects x) ≡ true }
     ensures { (A : ArityTable) → result ≡ mark_of_object A (object_at heap.now.objects x) }
 {
-    CellMark {
-        is_term: is_variable_symbol(heap, x),
-        is_terms: heap.is_nil(Some(x)),
-        is_formula: false,
-        is_head: false,
-    }
+    CellMark::no_formula(is_variable_symbol(heap, x), heap.is_nil(Some(x)))
 }
 
 // The mark of the pair of first and rest, whose marks stand.
@@ -45,28 +40,21 @@ fn mark_pair(
     requires rest { rest < length marks.now }
     ensures { IfOk result (λ m. m ≡ mark_of_object arity.now (Pair (object_at heap.now.objects first) (object_at heap.now.objects rest))) }
 {
-    let head = marks[first.index()];
-    let actuals = marks[rest.index()];
+    let head = mark_at(marks, first);
+    let actuals = mark_at(marks, rest);
     let is_terms = are_more_terms(head, actuals);
     match heap.view(first) {
-        View::Nat(_) => Ok(CellMark {
-            is_term: false,
+        View::Nat(_) => Ok(CellMark::no_formula(false, is_terms)),
+        View::Symbol => Ok(CellMark::new(
+            is_call(heap, arity, first, rest, actuals.is_terms(), work)?,
             is_terms,
-            is_formula: false,
-            is_head: false,
-        }),
-        View::Symbol => Ok(CellMark {
-            is_term: is_call(heap, arity, first, rest, actuals.is_terms, work)?,
+            is_formula_list(heap, marks, first, rest),
+            is_lambda_head(heap, marks, first, rest, work)?,
+        )),
+        View::Pair(_, tail) => Ok(CellMark::no_formula(
+            is_lambda_call(heap, head.is_head(), tail, actuals.is_terms(), rest, work)?,
             is_terms,
-            is_formula: is_formula_list(heap, marks, first, rest),
-            is_head: is_lambda_head(heap, marks, first, rest, work)?,
-        }),
-        View::Pair(_, tail) => Ok(CellMark {
-            is_term: is_lambda_call(heap, head.is_head, tail, actuals.is_terms, rest, work)?,
-            is_terms,
-            is_formula: false,
-            is_head: false,
-        }),
+        )),
     }
 }
 
@@ -84,12 +72,7 @@ fn mark_cell(
     ensures { IfOk result (λ m. m ≡ mark_of_object arity.now (object_at heap.now.objects x)) }
 {
     match heap.view(x) {
-        View::Nat(_) => Ok(CellMark {
-            is_term: false,
-            is_terms: false,
-            is_formula: false,
-            is_head: false,
-        }),
+        View::Nat(_) => Ok(CellMark::no_formula(false, false)),
         View::Symbol => Ok(mark_symbol(heap, x)),
         View::Pair(first, rest) => mark_pair(heap, arity, marks, first, rest, work),
     }
@@ -136,9 +119,12 @@ const ANEW_FOR_A_CELL: u64 = 256;
 
 impl Model for Marks {
     ghost use Rattle.std.specs.Prelude.{List};
-    ghost use Rattle.mw_term.specs.declared.cell_mark.CellMark.{CellMark};
+    ghost use Rattle.std.specs.Coded.{coded_list};
+    ghost use Rattle.mw_term.specs.Marking.{ObjectMark, coded_mark};
 
-    ghost Value = { List CellMark };
+    ghost Value = { List ObjectMark };
+
+    ghost coded = { coded_list coded_mark };
 
     ghost view = { λ m. m.cells.items };
 }
@@ -233,7 +219,7 @@ pub fn is_term(marks: &Marks, x: Ref) -> bool
     requires { x < length marks.now }
     ensures { (A : ArityTable) (os : List Object) → AreMarks A os marks.now → result ≡ is_term_object A (object_at os x) }
 {
-    marks.cells.as_slice()[x.index()].is_term
+    mark_at(marks.cells.as_slice(), x).is_term()
 }
 
 /// Whether an object is a formula.
@@ -241,5 +227,5 @@ pub fn is_formula(marks: &Marks, x: Ref) -> bool
     requires { x < length marks.now }
     ensures { (A : ArityTable) (os : List Object) → AreMarks A os marks.now → result ≡ is_formula_object A (object_at os x) }
 {
-    marks.cells.as_slice()[x.index()].is_formula
+    mark_at(marks.cells.as_slice(), x).is_formula()
 }

@@ -13,7 +13,7 @@ use Rattle.mw_heap.specs.declared.refusal.Refusal.{Refusal as Reason}
 use Rattle.mw_heap.specs.Variants.{refusal_of}
 use Rattle.mw_heap.specs.Objects.{object_at, IsIn, Grows}
 use Rattle.mw_heap.proofs.Objects.{Grows-refl}
-use Rattle.mw_term.specs.declared.cell_mark.CellMark.{CellMark}
+use Rattle.mw_term.specs.Marking.{ObjectMark}
 use Rattle.mw_define.specs.declared.admitted.Admitted.TheVariants as admitted
 use Rattle.mw_define.specs.declared.admitted.Owed.{Owed}
 use Rattle.mw_define.specs.Tests.{FailsWitness, PassesWitness}
@@ -129,7 +129,7 @@ pub accepted-sound : (J : Judge) (t : Theory) (given : Option (List Draft)) (pro
 accepted-sound J t given proofs d sound = (d.0, d.1, subst (λ r. IsSound r.1) d.1 sound)
 
 -- A world whose heap grew.
-module _ (os : List Object) (n : ℕ) (t : Kept) (marks : List CellMark) (h : IsKernel os n t marks) (new : List Object) (grows : Grows os new) where
+module _ (os : List Object) (n : ℕ) (t : Kept) (marks : List ObjectMark) (h : IsKernel os n t marks) (new : List Object) (grows : Grows os new) where
   abbrev now : Theory
   now = meant os (parts_of t)
 

@@ -4,8 +4,7 @@ use Rattle.mw_model.specs.Terms.Object.{Object}
 use Rattle.mw_model.specs.Terms.Term.{ArityTable}
 use Rattle.mw_model.specs.Values.Definition.{Function as Defined, Block, Functions, Choice, add_functions, add_block}
 use Rattle.mw_heap.specs.Objects.{AreDistinct, ArePartsOlder}
-use Rattle.mw_term.specs.declared.cell_mark.CellMark.{CellMark}
-use Rattle.mw_term.specs.Marking.{AreMarks}
+use Rattle.mw_term.specs.Marking.{ObjectMark, AreMarks}
 use Rattle.mw_term.proofs.CallerLemmas.{AreMarks-name}
 use Rattle.mw_preamble.specs.declared.definition.Definition.{Definition}
 use Rattle.mw_preamble.specs.declared.definition.Definition.TheVariants.{Function, Witness}
@@ -21,7 +20,7 @@ first_place-le : (n : ℕ) (ds : List Definition) → first_place n ds ≤ n
 first_place-le n [] = omega arith
 first_place-le n (d ∷ ds) = omega (arith, first_place-le (min n (spelling_of d).0) ds)
 
-module _ (os : List Object) (distinct : AreDistinct os) (older : ArePartsOlder os) (ms : List CellMark) where
+module _ (os : List Object) (distinct : AreDistinct os) (older : ArePartsOlder os) (ms : List ObjectMark) where
   function_marks : (n : ℕ) (ds : List Definition) (B : List Defined) (A : ArityTable) → AreFunctions os ds B → length ms ≤ first_place n ds → AreMarks A os ms → AreMarks (add_functions B A) os ms
   function_marks n [] [] A f l h = h
   function_marks n (Function name formals body ∷ ds) (k ∷ B) A f l h =

@@ -10,8 +10,7 @@ use Rattle.mw_model.specs.Events.Theory.{IsSound}
 use Rattle.mw_heap.specs.Objects.{object_at, IsIn, Grows}
 use Rattle.mw_heap.specs.Variants.{profile_of}
 use Rattle.mw_heap.proofs.Objects.{length-Grows, IsIn-Grows, object_at-Grows, take-Grows, Grows-refl, Grows-take}
-use Rattle.mw_term.specs.declared.cell_mark.CellMark.{CellMark}
-use Rattle.mw_term.specs.Marking.{AreMarks}
+use Rattle.mw_term.specs.Marking.{ObjectMark, AreMarks}
 use Rattle.mw_term.proofs.CallerLemmas.{AreMarks-grows, AreMarks-cut}
 use Rattle.mw_heap.specs.Lists.{list_object}
 use Rattle.mw_code.specs.Tables.{StandsFor}
@@ -99,14 +98,14 @@ kept_same : (n : ℕ) (old new : List Object) → Grows old new → n ≤ length
 kept_same n old new g l = ap (take n) g.1 ∙ take-append-le n old g.0 l
 
 -- a kernel that needs the whole heap
-pub needs-all : (os : List Object) (t : Kept) (ms : List CellMark) → IsHeld os t → AreMarks t.arity os ms → IsKernel os (length os) t ms
+pub needs-all : (os : List Object) (t : Kept) (ms : List ObjectMark) → IsHeld os t → AreMarks t.arity os ms → IsKernel os (length os) t ms
 needs-all os t ms h m = record {
   kept = omega arith;
   held = subst (λ o. IsHeld o t) (sym (take-Grows os os (Grows-refl os))) h;
   marked = m;
 }
 
-module _ (os : List Object) (n : ℕ) (t : Kept) (marks : List CellMark) (h : IsKernel os n t marks) where
+module _ (os : List Object) (n : ℕ) (t : Kept) (marks : List ObjectMark) (h : IsKernel os n t marks) where
   pub held : IsHeld os t
   held = held-grows (take n os) os (Grows-take n os) t h.held
 
@@ -115,7 +114,7 @@ module _ (os : List Object) (n : ℕ) (t : Kept) (marks : List CellMark) (h : Is
     grown_theory = meant-grows os new grows t held
 
     -- with other marks, and another code that stands for the same
-    pub grown-recoded : (other : Kept) (ms : List CellMark) → HasOtherCode t other → AreMarks other.arity new ms → IsKernel new n other ms
+    pub grown-recoded : (other : Kept) (ms : List ObjectMark) → HasOtherCode t other → AreMarks other.arity new ms → IsKernel new n other ms
     grown-recoded other ms c m = record {
       kept = omega (arith, h.kept, length-Grows os new grows);
       held = subst (λ o. IsHeld o other) (sym (kept_same n os new grows h.kept)) (held-recoded (take n os) t other h.held c);
@@ -126,7 +125,7 @@ module _ (os : List Object) (n : ℕ) (t : Kept) (marks : List CellMark) (h : Is
     grown-other other c = grown-recoded other marks c (subst (λ A. AreMarks A new marks) (sym (ap (λ u. u.arity) c.rest)) (AreMarks-grows t.arity os new marks grows h.marked))
 
     -- with other marks
-    pub grown-marked : (ms : List CellMark) → AreMarks t.arity new ms → IsKernel new n t ms
+    pub grown-marked : (ms : List ObjectMark) → AreMarks t.arity new ms → IsKernel new n t ms
     grown-marked ms m = record {
       kept = omega (arith, h.kept, length-Grows os new grows);
       held = subst (λ o. IsHeld o t) (sym (kept_same n os new grows h.kept)) h.held;
@@ -141,7 +140,7 @@ module _ (os : List Object) (n : ℕ) (t : Kept) (marks : List CellMark) (h : Is
     cut_same : take n (take m os) ≡ take n os
     cut_same = sym (kept_same n (take m os) os (Grows-take m os) (omega (arith, needed, length-take-le m os within)))
 
-    pub cut_back : (ms : List CellMark) → length ms ≤ m → AreMarks t.arity os ms → IsKernel (take m os) n t ms
+    pub cut_back : (ms : List ObjectMark) → length ms ≤ m → AreMarks t.arity os ms → IsKernel (take m os) n t ms
     cut_back ms few marked = record {
       kept = omega (arith, needed, length-take-le m os within);
       held = subst (λ o. IsHeld o t) (sym cut_same) h.held;

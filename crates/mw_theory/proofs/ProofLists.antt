@@ -11,8 +11,7 @@ use Rattle.mw_heap.specs.declared.refusal.Refusal.{Refusal as Reason}
 use Rattle.mw_heap.specs.Variants.{refusal_of}
 use Rattle.mw_heap.specs.Objects.{object_at, IsIn, Grows}
 use Rattle.mw_heap.proofs.Objects.{object_at-Grows, Grows-trans}
-use Rattle.mw_term.specs.declared.cell_mark.CellMark.{CellMark}
-use Rattle.mw_term.specs.Marking.{AreMarks}
+use Rattle.mw_term.specs.Marking.{ObjectMark, AreMarks}
 use Rattle.mw_theory.specs.declared.theory.Theory.{Theory as Kept}
 use Rattle.mw_theory.specs.Knowledge.{parts_of, meant, IsHeld}
 use Rattle.mw_theory.specs.Proofs.{Judge, judged_each, judged_all}
@@ -70,7 +69,7 @@ module _ (os : List Object) (t : Kept) (J : Judge) (obligations proofs : ℕ) wh
   abbrev theory : Theory
   theory = meant os (parts_of t)
 
-  pub record Walks (now : List Object) (marks : List CellMark) (formulas rest : ℕ) : Type 0 where
+  pub record Walks (now : List Object) (marks : List ObjectMark) (formulas rest : ℕ) : Type 0 where
     pub grows : Grows os now
     pub marked : AreMarks t.arity now marks
     pub formulas_in : IsIn os formulas
@@ -78,7 +77,7 @@ module _ (os : List Object) (t : Kept) (J : Judge) (obligations proofs : ℕ) wh
     pub many : has_members (length_object (object_at os formulas)) (object_at os rest) ≡ true
     pub judged : judged_each_for J theory (object_at os obligations) (object_at os proofs) ≡ judged_each_for J theory (object_at os formulas) (object_at os rest)
 
-  module _ (h : IsHeld os t) (now : List Object) (marks : List CellMark) (formulas rest : ℕ) (w : Walks now marks formulas rest) (formula more proof others : ℕ) (formula_older : formula < formulas) (more_older : more < formulas) (proof_older : proof < rest) (others_older : others < rest) (shows : object_at now formulas ≡ Pair (object_at now formula) (object_at now more)) (shows_proof : object_at now rest ≡ Pair (object_at now proof) (object_at now others)) where
+  module _ (h : IsHeld os t) (now : List Object) (marks : List ObjectMark) (formulas rest : ℕ) (w : Walks now marks formulas rest) (formula more proof others : ℕ) (formula_older : formula < formulas) (more_older : more < formulas) (proof_older : proof < rest) (others_older : others < rest) (shows : object_at now formulas ≡ Pair (object_at now formula) (object_at now more)) (shows_proof : object_at now rest ≡ Pair (object_at now proof) (object_at now others)) where
     formulas_are : object_at os formulas ≡ Pair (object_at os formula) (object_at os more)
     formulas_are = pair_before os now w.grows formulas formula more w.formulas_in formula_older more_older shows
 
@@ -100,7 +99,7 @@ module _ (os : List Object) (t : Kept) (J : Judge) (obligations proofs : ℕ) wh
         ∙ ap (λ o. or_else o (judged_each_for J theory (object_at os more) (object_at os others))) (sym judged_before))
 
     -- one more that is not refused
-    pub Walks-next : (r : Option Reason) → is_some r ≡ false → option_map refusal_of r ≡ judged_now → (new : List Object) (ms : List CellMark) → Grows now new → AreMarks t.arity new ms → Walks new ms more others
+    pub Walks-next : (r : Option Reason) → is_some r ≡ false → option_map refusal_of r ≡ judged_now → (new : List Object) (ms : List ObjectMark) → Grows now new → AreMarks t.arity new ms → Walks new ms more others
     Walks-next r none is new ms g m = record {
       grows = Grows-trans os now new w.grows g;
       marked = m;
@@ -118,14 +117,14 @@ module _ (os : List Object) (t : Kept) (J : Judge) (obligations proofs : ℕ) wh
         ∙ (ap (λ x. judged_each_for J theory x (object_at os proofs)) owed ∙ judged_each-for J theory Fs (object_at os proofs)))
 
   -- none is refused
-  pub none_refused : (now : List Object) (marks : List CellMark) (formulas rest : ℕ) → Walks now marks formulas rest → is_pair (object_at now formulas) ≡ false → (Fs : List Formula) → object_at os obligations ≡ formulas_object Fs → None ≡ judged_each J theory Fs (object_at os proofs)
+  pub none_refused : (now : List Object) (marks : List ObjectMark) (formulas rest : ℕ) → Walks now marks formulas rest → is_pair (object_at now formulas) ≡ false → (Fs : List Formula) → object_at os obligations ≡ formulas_object Fs → None ≡ judged_each J theory Fs (object_at os proofs)
   none_refused now marks formulas rest w end Fs owed =
       sym (judged_none_for J theory (object_at os formulas) (object_at os rest) (ap is_pair (sym (object_at-Grows os now w.grows formulas w.formulas_in)) ∙ end))
       ∙ (sym w.judged
       ∙ (ap (λ x. judged_each_for J theory x (object_at os proofs)) owed ∙ judged_each-for J theory Fs (object_at os proofs)))
 
   -- a formula has a proof
-  pub never_too_few : (now : List Object) (marks : List CellMark) (formulas rest formula more : ℕ) → Walks now marks formulas rest → formula < formulas → more < formulas → object_at now formulas ≡ Pair (object_at now formula) (object_at now more) → is_pair (object_at now rest) ≡ false → ⊥
+  pub never_too_few : (now : List Object) (marks : List ObjectMark) (formulas rest formula more : ℕ) → Walks now marks formulas rest → formula < formulas → more < formulas → object_at now formulas ≡ Pair (object_at now formula) (object_at now more) → is_pair (object_at now rest) ≡ false → ⊥
   never_too_few now marks formulas rest formula more w formula_older more_older shows no_proof =
       true≢false
       (sym w.many

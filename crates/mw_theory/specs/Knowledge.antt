@@ -9,8 +9,7 @@ use Rattle.mw_model.specs.Events.Theory.{Theory, IsSound}
 use Rattle.mw_model.specs.Events.Fate.{is_initial}
 use Rattle.mw_heap.specs.Objects.{object_at, IsIn}
 use Rattle.mw_heap.specs.Variants.{profile_of}
-use Rattle.mw_term.specs.declared.cell_mark.CellMark.{CellMark}
-use Rattle.mw_term.specs.Marking.{AreMarks}
+use Rattle.mw_term.specs.Marking.{ObjectMark, AreMarks}
 use Rattle.mw_heap.specs.Lists.{list_object}
 use Rattle.mw_code.specs.Tables.{StandsFor}
 use Rattle.mw_preamble.specs.declared.definition.Definition.{Definition}
@@ -88,7 +87,7 @@ pub record IsHeld (os : List Object) (t : Kept) : Type 0 where
   pub sound : IsSound (meant os (parts_of t))
 
 -- The objects that the theory needs come first, and all that is kept of it is right over them. The marks are under its arity table.
-pub record IsKernel (os : List Object) (needed : ℕ) (t : Kept) (marks : List CellMark) : Type 0 where
+pub record IsKernel (os : List Object) (needed : ℕ) (t : Kept) (marks : List ObjectMark) : Type 0 where
   pub kept : needed ≤ length os
   pub held : IsHeld (take needed os) t
   pub marked : AreMarks t.arity os marks

@@ -2,8 +2,7 @@
 ghost use Rattle.std.specs.Prelude.{◌≡◌, ◌≤◌, List, length, min};
 ghost use Rattle.mw_model.specs.Terms.Term.{ArityTable};
 ghost use Rattle.mw_model.specs.Values.Definition.{Block, add_block};
-ghost use Rattle.mw_term.specs.declared.cell_mark.CellMark.{CellMark};
-ghost use Rattle.mw_term.specs.Marking.{AreMarks};
+ghost use Rattle.mw_term.specs.Marking.{ObjectMark, AreMarks};
 ghost use Rattle.mw_preamble.specs.Entries.{IsBlock};
 ghost use Rattle.mw_theory.specs.FirstName.{first_place};
 
@@ -14,7 +13,7 @@ use mw_preamble::Definition;
 /// with the block in the arity table they are what they were: terms, formulas or neither.
 pub fn first_name(heap: &Heap, block: &[Definition]) -> Mark
     ensures place { result ≡ first_place (length heap.now.objects) block.now }
-    ensures marks { (A : ArityTable) (B : Block) (ms : List CellMark) → IsBlock heap.now.objects block.now B → length ms ≤ result → AreMarks A heap.now.objects ms → AreMarks (add_block B A) heap.now.objects ms }
+    ensures marks { (A : ArityTable) (B : Block) (ms : List ObjectMark) → IsBlock heap.now.objects block.now B → length ms ≤ result → AreMarks A heap.now.objects ms → AreMarks (add_block B A) heap.now.objects ms }
 {
     heap.order();
     let mut first = heap.mark();

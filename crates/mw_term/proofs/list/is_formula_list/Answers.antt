@@ -1,10 +1,10 @@
 -- A formula is tested by its shape and the marks of its parts.
-use Rattle.std.proofs.Common.{◌∙◌, ap, sym, arith}
+use Rattle.std.proofs.Common.{◌∙◌, ap, sym}
 use Rattle.mw_model.specs.Terms.Object.{Pair}
 use Rattle.mw_heap.specs.Objects.{object_at}
 use Rattle.mw_heap.proofs.NoPair.{shown_no_pair}
 use Rattle.mw_term.proofs.Marked.{is_formula-no_list}
-use Rattle.mw_term.proofs.ListMarks.{mark_at, is_formula-binary_list, is_formula-negation_list}
+use Rattle.mw_term.proofs.ListMarks.{is_formula-binary_list, is_formula-negation_list}
 use Rattle.mw_term.proofs.list.is_formula_list.Goals as goal
 
 pub returns-then-is_nil : goal.returns-then-is_nil
@@ -16,8 +16,8 @@ returns-then-is_nil c = λ A marked.
     c.is_binary_of.ensures
     ∙ sym
     (is_formula-binary_list A (object_at os c.args.head) (object_at os c.args.rest) (object_at os a) (object_at os b) (object_at os c.in-Pair-view.end) _ _ shape
-    (mark_at A os c.args.marks.now marked _ a c.index.ensures (omega (arith, c.in-Pair.ensures.below)) _)
-    (mark_at A os c.args.marks.now marked _ b c.index-then-is_nil.ensures (omega (arith, c.in-Pair.ensures.below, c.in-Pair-view.ensures.below)) _)
+    (c.mark_at-first.ensures A os marked)
+    (c.mark_at.ensures A os marked)
     (sym c.is_nil.ensures ∙ c.if-is_nil.true))
 
 pub returns-then-is_nil-2 : goal.returns-then-is_nil-2
@@ -27,7 +27,7 @@ returns-then-is_nil-2 c = λ A marked.
     c.is_negation_of.ensures
     ∙ sym
     (is_formula-negation_list A (object_at os c.args.head) (object_at os c.args.rest) (object_at os a) (object_at os c.in-Pair.more) _ c.in-Pair.ensures.shows.2
-    (mark_at A os c.args.marks.now marked _ a c.index.ensures (omega (arith, c.in-Pair.ensures.below)) _)
+    (c.mark_at-first.ensures A os marked)
     (sym c.is_nil-in_default-view.ensures ∙ c.if-is_nil-2.true))
 
 pub returns-else-is_nil-2 : goal.returns-else-is_nil-2

@@ -14,5 +14,6 @@ returns c = λ A.
     let x = object_at c.args.heap.now.objects c.args.x in
     let s = name_of x in
     let e = symbol_is x c.requires.symbol in
-    mark_is A (Symbol s) c.is_variable_symbol.result c.is_nil.result false false (c.is_variable_symbol.ensures ∙ sym (is_term-symbol A s)) (c.is_nil.ensures ∙ (ap (λ y. same_object y NIL) e ∙ sym (terms-symbol A s))) refl refl
-    ∙ ap (mark_of_object A) (sym e)
+    c.no_formula.ensures
+    ∙ (mark_is A (Symbol s) c.is_variable_symbol.result c.is_nil.result false false (c.is_variable_symbol.ensures ∙ sym (is_term-symbol A s)) (c.is_nil.ensures ∙ (ap (λ y. same_object y NIL) e ∙ sym (terms-symbol A s))) refl refl
+    ∙ ap (mark_of_object A) (sym e))
