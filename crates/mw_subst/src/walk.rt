@@ -29,7 +29,7 @@ pub(crate) fn image(heap: &Heap, sigma: &Sigma, x: Ref) -> Ref
     ensures within { IsIn heap.now.objects result }
     ensures image { object_at heap.now.objects result ≡ image_object (sigma_object heap.now.objects sigma.now) (object_at heap.now.objects x) }
 {
-    let _ = heap.same(x, x);
+    heap.order();
     match sigma.find(x) {
         Some(term) => term,
         None => x,

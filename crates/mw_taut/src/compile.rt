@@ -76,7 +76,7 @@ fn advance(
     ensures built { OnOk result ((A : ArityTable) → (F : Formula) → IsBuilt A heap.now.objects F parts.old.keys nodes.old.items equations.old.items (path.old.items ++ x ∷ []) → IsBuilt A heap.now.objects F parts.new.keys nodes.new.items equations.new.items path.new.items) }
     ensures falls { OnOk result ((f : ℕ) → (A : ArityTable) → (F : Formula) → object_at heap.now.objects f ≡ formula_object F → IsBuilt A heap.now.objects F parts.old.keys nodes.old.items equations.old.items (path.old.items ++ x ∷ []) → left_over heap.now.objects f parts.new.keys path.new.items < left_over heap.now.objects f parts.old.keys (path.old.items ++ x ∷ [])) }
 {
-    let _ = heap.same(x, x);
+    heap.order();
     match look(heap, parts, equations.len(), x) {
         Progress::Wants(part) => {
             path.push(x)?;

@@ -18,7 +18,7 @@ returns-in_ok-push-in-Wants-2-clause-falls c = λ f A F e h.
 pub returns-in_ok-put_part-in-Made-clause-built : goal.returns-in_ok-put_part-in-Made-clause-built
 returns-in_ok-put_part-in-Made-clause-built c = λ A F h.
     let count : c.len.result ≡ length c.args.equations.now.items = omega (arith, c.len.ensures, c.args.equations.now.ok.0) in
-    puts_built A c.args.heap.now.objects F c.args.parts.now.keys c.args.nodes.now.items c.args.equations.now.items c.args.path.now.items c.args.path.now.items c.args.x h c.in-Made.node c.len.result c.put_equation.new.equations.items c.same.ensures.distinct c.in-Made.ensures
+    puts_built A c.args.heap.now.objects F c.args.parts.now.keys c.args.nodes.now.items c.args.equations.now.items c.args.path.now.items c.args.path.now.items c.args.x h c.in-Made.node c.len.result c.put_equation.new.equations.items c.order.ensures.distinct c.in-Made.ensures
     c.put_part.new.parts.keys c.push-in-Made.new.self.items count c.in_ok-put_part-in-Made.ensures c.in_ok-push-in-Made.ensures.items c.in_ok-put_equation-in-Made.ensures
 
 pub returns-in_ok-put_part-in-Made-clause-falls : goal.returns-in_ok-put_part-in-Made-clause-falls
