@@ -51,7 +51,30 @@ fn enter(jobs: &mut Vec<Job>, x: Ref, first: Ref, second: Ref) -> Result<(), Mem
     Ok(())
 }
 
-// Copies a cell that is no pair, and enters a pair. A cell that has a copy is passed over.
+// Joins the copies of a pair's parts.
+fn join(
+    from: &Heap,
+    to: &mut Heap,
+    copies: &mut Copies,
+    x: Ref,
+    first: Ref,
+    second: Ref,
+) -> Result<(), Memory>
+    requires pair { object_at from.now.objects x ≡ Pair (object_at from.now.objects first) (object_at from.now.objects second) }
+    requires first_copied { IsCopied copies.old first }
+    requires second_copied { IsCopied copies.old second }
+    requires copies { AreCopies from.now.objects to.old.objects copies.old }
+    ensures grows { Grows to.old.objects to.new.objects }
+    ensures copies { OnOk result (AreCopies from.now.objects to.new.objects copies.new) }
+    ensures kept { OnOk result ((y : ℕ) → IsCopied copies.old y → IsCopied copies.new y) }
+    ensures copied { OnOk result (IsCopied copies.new x) }
+{
+    let made = to.cons(copy_of(copies, first), copy_of(copies, second))?;
+    note(from, to, copies, x, made)?;
+    Ok(())
+}
+
+// Copies a cell that is no pair, or whose parts have copies, and enters any other pair. A cell that has a copy is passed over.
 fn copy_cell(
     from: &Heap,
     to: &mut Heap,
@@ -77,31 +100,14 @@ fn copy_cell(
             let made = to.symbol(from.name_of(x))?;
             note(from, to, copies, x, made)?;
         }
-        View::Pair(first, second) => enter(jobs, x, first, second)?,
+        View::Pair(first, second) => {
+            if copies.get(first).is_some() && copies.get(second).is_some() {
+                join(from, to, copies, x, first, second)?;
+            } else {
+                enter(jobs, x, first, second)?;
+            }
+        }
     }
-    Ok(())
-}
-
-// Joins the copies of a pair's parts.
-fn join(
-    from: &Heap,
-    to: &mut Heap,
-    copies: &mut Copies,
-    x: Ref,
-    first: Ref,
-    second: Ref,
-) -> Result<(), Memory>
-    requires pair { object_at from.now.objects x ≡ Pair (object_at from.now.objects first) (object_at from.now.objects second) }
-    requires first_copied { IsCopied copies.old first }
-    requires second_copied { IsCopied copies.old second }
-    requires copies { AreCopies from.now.objects to.old.objects copies.old }
-    ensures grows { Grows to.old.objects to.new.objects }
-    ensures copies { OnOk result (AreCopies from.now.objects to.new.objects copies.new) }
-    ensures kept { OnOk result ((y : ℕ) → IsCopied copies.old y → IsCopied copies.new y) }
-    ensures copied { OnOk result (IsCopied copies.new x) }
-{
-    let made = to.cons(copy_of(copies, first), copy_of(copies, second))?;
-    note(from, to, copies, x, made)?;
     Ok(())
 }
 

@@ -23,6 +23,8 @@ pub struct Slicer {
     added: Vec<Added>,
     // what `add` notes while it copies an event
     copies: Copies,
+    // how many cells there may be before room for more is made
+    room: usize,
 }
 
 impl Model for Slicer {
@@ -35,6 +37,18 @@ impl Model for Slicer {
     ghost view = { λ s. record { objects = s.heap.objects; events = references s.added.items } };
 
     ghost invariant = { λ s. AreSlices s.heap.objects s.nil s.added.items };
+}
+
+// Where the room that was made last is used up, makes room for three times as many cells as there are, so that the heap's tables are
+// seldom made anew. Where that is refused the heap grows as it goes.
+fn make_room(heap: &mut Heap, room: &mut usize)
+    ensures { heap.new.objects ≡ heap.old.objects }
+{
+    let cells = heap.mark().cells();
+    if cells >= *room {
+        let _ = heap.reserve(cells.saturating_mul(3));
+        *room = cells.saturating_mul(4);
+    }
 }
 
 // Copies an event from another heap and adds it at the end. Where memory is refused the heap may have grown.
@@ -69,6 +83,7 @@ impl Slicer {
             nil,
             added: Vec::new(alloc),
             copies: Copies::new(alloc),
+            room: 0,
         })
     }
 
@@ -80,6 +95,7 @@ impl Slicer {
         ensures err { OnErr result (events_of self.new ≡ events_of self.old) }
         ensures heap { OnErr result (self.new.objects ≡ self.old.objects) }
     {
+        make_room(&mut self.heap, &mut self.room);
         let start = self.heap.mark();
         match add_copy(
             &mut self.heap,
