@@ -8,8 +8,8 @@ mod wrap;
 
 pub use never::{NEVER, OF_NEVER};
 pub use row::{
-    Answer, Row, answer_between, answer_to, answer_with_faults, answer_within, lines_from,
-    other_report, source_of, text_of, texts, wrong_answers,
+    Answer, Row, WRITTEN, answer_of_check, answer_of_command, answer_with_faults, lines_from,
+    other_report, wrong_answers,
 };
 pub use shared_proof::book_of_the_proof;
 pub use wrap::{WRAP, WRAPPED};

@@ -17,87 +17,71 @@ pub struct Answer {
     pub status: Status,
 }
 
-/// These words, as those of a command line.
-pub fn texts(alloc: Global, words: &[&str]) -> Result<Vec<Text>, AllocError> {
-    let mut texts = Vec::new(alloc);
-    for word in words {
-        texts.push(Text::new(String::from_str(alloc, word)?))?;
-    }
-    Ok(texts)
+/// The most bytes that one of the first hundred writes takes where `answer_with_faults` runs the program.
+pub const WRITTEN: usize = 3;
+
+/// What `check` writes on this book, and how it ends, where each read gives so many bytes at most.
+pub fn answer_of_check(alloc: Global, book: &str, size: usize) -> Result<Answer, AllocError> {
+    answer_of_command(alloc, &["check"], book, size)
 }
 
-/// A source that gives the book in pieces of so many bytes.
-pub fn source_of(alloc: Global, book: &str, size: usize) -> Result<MemSource, AllocError> {
-    let bytes = Vec::from_slice(alloc, book.as_bytes())?;
-    let cuts = vec![in alloc; size; book.len()]?;
-    Ok(MemSource::new(bytes, cuts, Vec::new(alloc)))
-}
-
-/// What the sink took, as text.
-pub fn text_of(alloc: Global, sink: &MemSink) -> Result<String, AllocError> {
-    String::from_utf8_lossy(alloc, sink.taken())
-}
-
-/// What the program answers to a book that it reads in pieces of so many bytes.
-pub fn answer_to(alloc: Global, book: &str, size: usize) -> Result<Answer, AllocError> {
-    answer_within(alloc, &["check"], book, size)
-}
-
-/// What the program that is called with these words answers to a book that it reads in pieces of so many bytes.
-pub fn answer_within(
+/// What the program, called with these words, writes on this book, and how it ends, where each read gives so many bytes at most. Each write
+/// takes all that it is handed.
+pub fn answer_of_command(
     alloc: Global,
     words: &[&str],
     book: &str,
     size: usize,
 ) -> Result<Answer, AllocError> {
-    let mut source = source_of(alloc, book, size)?;
+    let mut source = source_of(alloc, book, size, &[])?;
     let mut sink = MemSink::new(alloc, Vec::new(alloc));
-    answer_between(alloc, words, &mut source, &mut sink)
+    run_on(alloc, words, &mut source, &mut sink)
 }
 
-/// What the program that is called with these words answers between this source and this sink.
-pub fn answer_between(
-    alloc: Global,
-    words: &[&str],
-    source: &mut MemSource,
-    sink: &mut MemSink,
-) -> Result<Answer, AllocError> {
-    let words = texts(alloc, words)?;
-    let status = run(alloc, &words, source, sink);
-    let report = text_of(alloc, sink)?;
-    Ok(Answer { report, status })
-}
-
-/// The same where the source gives pieces of seven bytes and the sink takes three at a time, and where the reads and the writes of these numbers
-/// fail.
+/// What the program, called with these words, has written on this book when it ends, and how it ends, where each read gives so many bytes at
+/// most, each of the first hundred writes takes three at most, and the reads and the writes of these numbers, counted from 1, fail.
 pub fn answer_with_faults(
     alloc: Global,
     words: &[&str],
     book: &str,
+    size: usize,
     reads: &[u64],
     writes: &[u64],
 ) -> Result<Answer, AllocError> {
-    let bytes = Vec::from_slice(alloc, book.as_bytes())?;
-    let pieces = vec![in alloc; 7; book.len()]?;
-    let mut source = MemSource::new(bytes, pieces, Vec::from_slice(alloc, reads)?);
-    let taken = vec![in alloc; 3; 100]?;
+    let mut source = source_of(alloc, book, size, reads)?;
+    let taken = vec![in alloc; WRITTEN; 100]?;
     let mut sink = MemSink::with_cuts(alloc, taken, Vec::from_slice(alloc, writes)?);
-    answer_between(alloc, words, &mut source, &mut sink)
+    run_on(alloc, words, &mut source, &mut sink)
 }
 
-/// The report on a book within so many units, where it does not begin with what is due.
+/// The report of `check` on the book under this step limit, where it does not begin with what is due, and else no text.
 pub fn other_report(
     alloc: Global,
     steps: &str,
     book: &str,
     due: &str,
 ) -> Result<String, AllocError> {
-    let answer = answer_within(alloc, &["check", "--steps", steps], book, 4096)?;
+    let answer = answer_of_command(alloc, &["check", "--steps", steps], book, 4096)?;
     if answer.report.as_str().starts_with(due) {
         Ok(String::new(alloc))
     } else {
         Ok(answer.report)
     }
+}
+
+/// The books on which the program, called with these words, does not write and end as is due, each with what it wrote and how it ended,
+/// where each read gives so many bytes at most.
+pub fn wrong_answers(
+    alloc: Global,
+    words: &[&str],
+    rows: &[Row],
+    size: usize,
+) -> Result<String, AllocError> {
+    let mut wrong = String::new(alloc);
+    for row in rows {
+        add_wrong(&mut wrong, alloc, words, row, size)?;
+    }
+    Ok(wrong)
 }
 
 /// The lines of events that are accepted, from this number on: of each its word and its label.
@@ -111,7 +95,7 @@ pub fn lines_from(alloc: Global, first: u64, events: &[&str]) -> Result<String, 
     Ok(lines)
 }
 
-// Puts the book and the answer to it after the text, where the answer of the program called with these words is not the one that is due.
+// Puts the book and the answer to it after the text, where the answer of the program, called with these words, is not the one that is due.
 fn add_wrong(
     wrong: &mut String,
     alloc: Global,
@@ -119,7 +103,7 @@ fn add_wrong(
     row: &Row,
     size: usize,
 ) -> Result<(), AllocError> {
-    let answer = answer_within(alloc, words, row.book, size)?;
+    let answer = answer_of_command(alloc, words, row.book, size)?;
     if answer.report.as_str() == row.report && answer.status == row.status {
         return Ok(());
     }
@@ -130,17 +114,36 @@ fn add_wrong(
     writeln!(wrong, "status {number}")
 }
 
-/// The books to which the program called with these words, which reads pieces of so many bytes, does not give the answers that are due, with what it
-/// answered.
-pub fn wrong_answers(
+// Runs the program, called with these words, on this source and this sink. What it wrote is what the sink has taken then.
+fn run_on(
     alloc: Global,
     words: &[&str],
-    rows: &[Row],
+    source: &mut MemSource,
+    sink: &mut MemSink,
+) -> Result<Answer, AllocError> {
+    let line = command_line(alloc, words)?;
+    let status = run(alloc, &line, source, sink);
+    let report = String::from_utf8_lossy(alloc, sink.taken())?;
+    Ok(Answer { report, status })
+}
+
+// A source of the book, of which each read gives so many bytes at most, and the reads of these numbers fail.
+fn source_of(
+    alloc: Global,
+    book: &str,
     size: usize,
-) -> Result<String, AllocError> {
-    let mut wrong = String::new(alloc);
-    for row in rows {
-        add_wrong(&mut wrong, alloc, words, row, size)?;
+    failing: &[u64],
+) -> Result<MemSource, AllocError> {
+    let bytes = Vec::from_slice(alloc, book.as_bytes())?;
+    let pieces = vec![in alloc; size; book.len()]?;
+    Ok(MemSource::new(bytes, pieces, Vec::from_slice(alloc, failing)?))
+}
+
+// The words of a command line, as the program takes them.
+fn command_line(alloc: Global, words: &[&str]) -> Result<Vec<Text>, AllocError> {
+    let mut line = Vec::new(alloc);
+    for word in words {
+        line.push(Text::new(String::from_str(alloc, word)?))?;
     }
-    Ok(wrong)
+    Ok(line)
 }

@@ -1,7 +1,6 @@
 //! The words of the command line, and what the program does with them.
-use mw_answers::{source_of, text_of, texts};
-use mw_book::{Status, run};
-use mw_port::MemSink;
+use mw_answers::{Answer, answer_of_command};
+use mw_book::Status;
 use std::alloc::{AllocError, Global};
 use std::test::Fail;
 
@@ -89,13 +88,9 @@ const TRIALS: [(&[&str], &str); 7] = [
     ),
 ];
 
-// How the program ends with these words, and what the sink took.
-fn asked(alloc: Global, words: &[&str]) -> Result<(Status, String), AllocError> {
-    let words = texts(alloc, words)?;
-    let mut source = source_of(alloc, BOOK, 4096)?;
-    let mut sink = MemSink::new(alloc, Vec::new(alloc));
-    let status = run(alloc, &words, &mut source, &mut sink);
-    Ok((status, text_of(alloc, &sink)?))
+// What the program, called with these words, writes on the book, and how it ends.
+fn asked(alloc: Global, words: &[&str]) -> Result<Answer, AllocError> {
+    answer_of_command(alloc, words, BOOK, 4096)
 }
 
 // The rows of words with which the program doesn't end so, or writes another text.
@@ -108,11 +103,11 @@ fn wrong_rows(
     let mut wrong = String::new(alloc);
     for words in rows {
         let answer = asked(alloc, words)?;
-        if answer.0 != status || answer.1.as_str() != text {
+        if answer.status != status || answer.report.as_str() != text {
             for word in *words {
                 writeln!(wrong, "{word}")?;
             }
-            writeln!(wrong, "status {}", answer.0.number())?;
+            writeln!(wrong, "status {}", answer.status.number())?;
         }
     }
     Ok(wrong)
@@ -127,9 +122,9 @@ fn other_words_are_told_how_the_program_is_used(rt: HostRuntime) -> Result<(), F
 
 #[test]
 fn help_alone_is_answered(rt: HostRuntime) -> Result<(), Fail> {
-    let (status, text) = asked(rt.alloc(), &["--help"])?;
-    assert_eq!(rt; status, Status::Help);
-    assert_eq!(rt; text.as_str(), HELP);
+    let answer = asked(rt.alloc(), &["--help"])?;
+    assert_eq!(rt; answer.status, Status::Help);
+    assert_eq!(rt; answer.report.as_str(), HELP);
     Ok(())
 }
 

@@ -4,7 +4,10 @@ use mw_book::Status;
 use std::alloc::{AllocError, Global};
 use std::test::Fail;
 
-// A command with a book. The source gives seven bytes a time, and the sink takes three.
+// The bytes that one read gives. One write takes three.
+const READ: usize = 7;
+
+// A command with a book.
 struct Cut {
     words: &'static [&'static str],
     book: &'static str,
@@ -63,7 +66,7 @@ fn add_wrong(
     status: Status,
     due: &str,
 ) -> Result<(), AllocError> {
-    let answer = answer_with_faults(alloc, cut.words, cut.book, reads, writes)?;
+    let answer = answer_with_faults(alloc, cut.words, cut.book, READ, reads, writes)?;
     if answer.status == status && answer.report.as_str() == due {
         return Ok(());
     }

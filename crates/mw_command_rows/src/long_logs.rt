@@ -1,5 +1,5 @@
 //! Long logs: each is judged in time that is linear in what is written.
-use mw_answers::{Answer, answer_within};
+use mw_answers::{Answer, answer_of_command};
 use mw_book::Status;
 use std::alloc::{AllocError, Global};
 use std::test::Fail;
@@ -40,12 +40,12 @@ fn log_of_a_repeated_number(alloc: Global, times: usize) -> Result<String, Alloc
 
 fn answer_to_a_chain(alloc: Global) -> Result<Answer, AllocError> {
     let log = log_of_a_chain(alloc, 50_000)?;
-    answer_within(alloc, &["recheck"], log.as_str(), 4096)
+    answer_of_command(alloc, &["recheck"], log.as_str(), 4096)
 }
 
 fn answer_to_a_repeated_number(alloc: Global) -> Result<Answer, AllocError> {
     let log = log_of_a_repeated_number(alloc, 1_000_000)?;
-    answer_within(alloc, &["recheck"], log.as_str(), 4096)
+    answer_of_command(alloc, &["recheck"], log.as_str(), 4096)
 }
 
 #[test]

@@ -1,5 +1,5 @@
 //! Books of derivations, and what `lower` writes for them.
-use mw_answers::{Answer, Row, answer_to, answer_within, wrong_answers};
+use mw_answers::{Answer, Row, answer_of_check, answer_of_command, wrong_answers};
 use mw_book::Status;
 use mw_read::SyntaxKind;
 use std::alloc::{AllocError, Global};
@@ -71,7 +71,7 @@ const EXAMPLE: &str =
 
 // What `lower` answers to a book that it reads in pieces of so many bytes.
 fn lowered(alloc: Global, book: &str, size: usize) -> Result<Answer, AllocError> {
-    answer_within(alloc, &["lower"], book, size)
+    answer_of_command(alloc, &["lower"], book, size)
 }
 
 #[test]
@@ -91,7 +91,7 @@ fn what_is_read_byte_by_byte_is_written_in_the_same_way(rt: HostRuntime) -> Resu
 #[test]
 fn each_further_rule_is_refused_by_check(rt: HostRuntime) -> Result<(), Fail> {
     for book in &DERIVED {
-        let answer = answer_to(rt.alloc(), book, 4096)?;
+        let answer = answer_of_check(rt.alloc(), book, 4096)?;
         assert_eq!(rt; answer.status, Status::SomeRefused);
         assert!(rt; answer.report.as_str().contains("refused PROOF"));
     }
@@ -103,7 +103,7 @@ fn what_each_further_rule_turns_to_is_accepted(rt: HostRuntime) -> Result<(), Fa
     for book in &DERIVED {
         let answer = lowered(rt.alloc(), book, 4096)?;
         assert_eq!(rt; answer.status, Status::Done);
-        let again = answer_to(rt.alloc(), answer.report.as_str(), 4096)?;
+        let again = answer_of_check(rt.alloc(), answer.report.as_str(), 4096)?;
         assert_eq!(rt; again.status, Status::Done);
         assert!(rt;
             again

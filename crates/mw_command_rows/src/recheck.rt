@@ -1,5 +1,5 @@
 //! Logs, and what `recheck` answers to them.
-use mw_answers::{Answer, NEVER, Row, answer_within, book_of_the_proof, wrong_answers};
+use mw_answers::{Answer, NEVER, Row, answer_of_command, book_of_the_proof, wrong_answers};
 use mw_book::Status;
 use mw_read::SyntaxKind;
 use std::alloc::{AllocError, Global};
@@ -127,8 +127,8 @@ const LOGS: [Row; 21] = [
 
 // What `recheck` answers to the log that `flat` makes of the book.
 fn answer_to_the_log_of(alloc: Global, book: &str) -> Result<Answer, AllocError> {
-    let log = answer_within(alloc, &["flat"], book, 4096)?;
-    answer_within(alloc, &["recheck"], log.report.as_str(), 4096)
+    let log = answer_of_command(alloc, &["flat"], book, 4096)?;
+    answer_of_command(alloc, &["recheck"], log.report.as_str(), 4096)
 }
 
 #[test]

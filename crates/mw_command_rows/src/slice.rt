@@ -1,5 +1,5 @@
 //! Books, and what `slice` keeps of them.
-use mw_answers::{Row, WRAP, answer_to, answer_within, wrong_answers};
+use mw_answers::{Row, WRAP, answer_of_check, answer_of_command, wrong_answers};
 use mw_book::Status;
 use mw_read::SyntaxKind;
 use std::test::Fail;
@@ -87,7 +87,7 @@ fn a_book_that_is_read_byte_by_byte_has_the_same_slice(rt: HostRuntime) -> Resul
 
 #[test]
 fn no_event_is_kept_for_a_name_without_a_theorem(rt: HostRuntime) -> Result<(), Fail> {
-    let answer = answer_within(rt.alloc(), &["slice", "nope"], SLICED[0].book, 4096)?;
+    let answer = answer_of_command(rt.alloc(), &["slice", "nope"], SLICED[0].book, 4096)?;
     assert_eq!(rt; answer.status, Status::SomeRefused);
     assert_eq!(rt; answer.report.as_str(), "; none of 4\n");
     Ok(())
@@ -95,7 +95,7 @@ fn no_event_is_kept_for_a_name_without_a_theorem(rt: HostRuntime) -> Result<(), 
 
 #[test]
 fn a_slice_is_a_book_that_is_accepted(rt: HostRuntime) -> Result<(), Fail> {
-    let answer = answer_to(rt.alloc(), KEPT, 4096)?;
+    let answer = answer_of_check(rt.alloc(), KEPT, 4096)?;
     assert_eq!(rt; answer.status, Status::Done);
     assert!(rt; SLICED[0].report.starts_with(KEPT));
     Ok(())
@@ -105,10 +105,10 @@ fn a_slice_is_a_book_that_is_accepted(rt: HostRuntime) -> Result<(), Fail> {
 fn after_a_switch_all_that_changes_the_theory_is_kept(rt: HostRuntime) -> Result<(), Fail> {
     let mut book = String::from_str(rt.alloc(), WRAP)?;
     book.push_str(SWITCHED)?;
-    let answer = answer_within(rt.alloc(), &["slice", "refl"], book.as_str(), 4096)?;
+    let answer = answer_of_command(rt.alloc(), &["slice", "refl"], book.as_str(), 4096)?;
     assert_eq!(rt; answer.status, Status::Done);
     assert!(rt; answer.report.as_str().ends_with("\n; kept 10 of 11\n"));
-    let again = answer_to(rt.alloc(), answer.report.as_str(), 4096)?;
+    let again = answer_of_check(rt.alloc(), answer.report.as_str(), 4096)?;
     assert_eq!(rt; again.status, Status::Done);
     assert!(rt;
         again

@@ -1,5 +1,5 @@
 //! Books of formulas, and what `taut` writes for them.
-use mw_answers::{Answer, Row, answer_to, answer_within, wrong_answers};
+use mw_answers::{Answer, Row, answer_of_check, answer_of_command, wrong_answers};
 use mw_book::Status;
 use mw_read::SyntaxKind;
 use std::alloc::{AllocError, Global};
@@ -83,7 +83,7 @@ const UNPROVED: [Row; 14] = [
 
 // What `taut` answers to a book that it reads in pieces of so many bytes.
 fn proofs_of(alloc: Global, book: &str, size: usize) -> Result<Answer, AllocError> {
-    answer_within(alloc, &["taut"], book, size)
+    answer_of_command(alloc, &["taut"], book, size)
 }
 
 #[test]
@@ -116,7 +116,7 @@ fn a_tautology_is_proved(rt: HostRuntime) -> Result<(), Fail> {
 #[test]
 fn what_is_written_is_accepted(rt: HostRuntime) -> Result<(), Fail> {
     let answer = proofs_of(rt.alloc(), EXCLUDED_MIDDLE, 4096)?;
-    let again = answer_to(rt.alloc(), answer.report.as_str(), 4096)?;
+    let again = answer_of_check(rt.alloc(), answer.report.as_str(), 4096)?;
     let due = "1 VERIFY EM accepted\nevents 1 accepted 1 refused 0 level 1\n";
     assert_eq!(rt; again.report.as_str(), due);
     Ok(())

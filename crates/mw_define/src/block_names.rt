@@ -17,5 +17,6 @@ pub(crate) fn is_among_names(heap: &Heap, names: &IndexSet<Ref>, x: Ref) -> bool
     ensures among { result ≡ is_among (name_of (object_at heap.now.objects x)) (names_at heap.now.objects names.now.keys) }
     ensures held { result ≡ list_any (nat_eq x) names.now.keys }
 {
-    heap.same(x, x) && names.contains(&x)
+    heap.order();
+    names.contains(&x)
 }

@@ -50,9 +50,8 @@ fn add_formula(heap: &Heap, owed: &mut IndexSet<Ref>, formula: Ref) -> Result<()
     requires { IsIn heap.now.objects formula }
     ensures { OnOk result ((F : Formula) → object_at heap.now.objects formula ≡ formula_object F → IsReadBack F → Adds heap.now.objects heap.now.objects owed.old.keys owed.new.keys (F ∷ [])) }
 {
-    if heap.same(formula, formula) {
-        owed.insert(formula)?;
-    }
+    heap.order();
+    owed.insert(formula)?;
     Ok(())
 }
 
@@ -64,7 +63,7 @@ fn function_named(heap: &Heap, names: &IndexSet<Ref>, block: &[Draft], name: Ref
     requires among { is_among (name_of (object_at heap.now.objects name)) (names_at heap.now.objects names.now.keys) ≡ true }
     ensures { IsNamed heap.now.objects block.now name result }
 {
-    let _ = heap.same(name, name);
+    heap.order();
     let Some(index) = names.get_index_of(&name) else {
         unreachable!()
     };

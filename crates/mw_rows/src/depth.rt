@@ -1,7 +1,7 @@
 //! Data that are nested deep: no call recurses on the depth.
 ghost use Rattle.std.specs.Prelude.{◌<◌};
 
-use mw_answers::{Answer, answer_to};
+use mw_answers::{Answer, answer_of_check};
 use mw_book::Status;
 use std::alloc::{AllocError, Global};
 use std::test::Fail;
@@ -22,7 +22,7 @@ fn answer_on_lists(alloc: Global, depth: usize) -> Result<Answer, AllocError> {
     let opening = repeated(alloc, "(", depth)?;
     let closing = repeated(alloc, ")", depth)?;
     let book = format!(in alloc; "(print {opening}{closing})")?;
-    answer_to(alloc, book.as_str(), 4096)
+    answer_of_check(alloc, book.as_str(), 4096)
 }
 
 // The report where the text of the lists is short enough.
@@ -40,7 +40,7 @@ fn report_on_lists(alloc: Global, depth: usize) -> Result<String, AllocError>
 fn answer_on_quotes(alloc: Global, depth: usize) -> Result<Answer, AllocError> {
     let quotes = repeated(alloc, "'", depth)?;
     let book = format!(in alloc; "(print {quotes}x)")?;
-    answer_to(alloc, book.as_str(), 4096)
+    answer_of_check(alloc, book.as_str(), 4096)
 }
 
 // The answer to the print of a variable after so many labels.
@@ -50,7 +50,7 @@ fn answer_on_labels(alloc: Global, depth: usize) -> Result<Answer, AllocError> {
         write!(book, "#{k}=")?;
     }
     book.push_str("x)")?;
-    answer_to(alloc, book.as_str(), 4096)
+    answer_of_check(alloc, book.as_str(), 4096)
 }
 
 #[test]

@@ -1,5 +1,5 @@
 //! What is due for the beginning of a book, computed from where its data end.
-use mw_answers::{Answer, answer_to};
+use mw_answers::{Answer, answer_of_check};
 use mw_book::Status;
 use mw_read::SyntaxKind;
 use std::alloc::{AllocError, Global};
@@ -77,7 +77,7 @@ pub(crate) fn is_due(
     let Some(text) = book.get(..cut) else {
         return Ok(false);
     };
-    let answer = answer_to(alloc, text, size)?;
+    let answer = answer_of_check(alloc, text, size)?;
     let due = due_at(alloc, data, cut)?;
     Ok(answer.report == due.report && answer.status == due.status)
 }

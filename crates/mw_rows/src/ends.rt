@@ -1,8 +1,7 @@
 //! The ends that are not the book's own, and the numbers of all.
 use crate::due::{Datum, is_due, lines_within};
-use mw_answers::{Answer, NEVER, OF_NEVER, answer_between};
+use mw_answers::{NEVER, OF_NEVER, WRITTEN, answer_with_faults};
 use mw_book::Status;
-use mw_port::{MemSink, MemSource};
 use mw_read::SyntaxKind;
 use std::alloc::{AllocError, Global};
 use std::test::Fail;
@@ -43,10 +42,10 @@ const DATA: [Datum; 4] = [
     },
 ];
 
-// The bytes that one read gives, and that one write takes.
+// The bytes that one read gives.
 const READ: usize = 10;
 
-const WRITTEN: usize = 3;
+const CHECK: [&str; 1] = ["check"];
 
 const NUMBERS: [(Status, u8); 8] = [
     (Status::Done, 0),
@@ -59,27 +58,10 @@ const NUMBERS: [(Status, u8); 8] = [
     (Status::Memory, 6),
 ];
 
-// What the program answers to a book where each read gives so many bytes at most, each write takes three at most, and the reads and the
-// writes of these numbers fail.
-fn answer_with_faults(
-    alloc: Global,
-    book: &str,
-    size: usize,
-    reads: &[u64],
-    writes: &[u64],
-) -> Result<Answer, AllocError> {
-    let bytes = Vec::from_slice(alloc, book.as_bytes())?;
-    let pieces = vec![in alloc; size; book.len()]?;
-    let mut source = MemSource::new(bytes, pieces, Vec::from_slice(alloc, reads)?);
-    let taken = vec![in alloc; WRITTEN; 100]?;
-    let mut sink = MemSink::with_cuts(alloc, taken, Vec::from_slice(alloc, writes)?);
-    answer_between(alloc, &["check"], &mut source, &mut sink)
-}
-
 // How many reads may come before the one that fails, so that the run ends there with the lines of what was complete.
 fn failing_reads(alloc: Global) -> Result<usize, AllocError> {
     for done in 0..100 {
-        let answer = answer_with_faults(alloc, NEVER, READ, &[done as u64 + 1], &[])?;
+        let answer = answer_with_faults(alloc, &CHECK, NEVER, READ, &[done as u64 + 1], &[])?;
         let lines = lines_within(alloc, &DATA, READ * done)?;
         if answer.status != Status::ReadFault || answer.report != lines {
             return Ok(done);
@@ -91,7 +73,7 @@ fn failing_reads(alloc: Global) -> Result<usize, AllocError> {
 // How many writes may come before the one that fails, so that the run ends there with the beginning of the report which these took.
 fn failing_writes(alloc: Global) -> Result<usize, AllocError> {
     for done in 0..100 {
-        let answer = answer_with_faults(alloc, NEVER, READ, &[], &[done as u64 + 1])?;
+        let answer = answer_with_faults(alloc, &CHECK, NEVER, READ, &[], &[done as u64 + 1])?;
         let text = answer.report.as_str();
         if answer.status != Status::WriteFault
             || !OF_NEVER.starts_with(text)
@@ -105,7 +87,7 @@ fn failing_writes(alloc: Global) -> Result<usize, AllocError> {
 
 #[test]
 fn a_failed_read_leaves_the_lines_before_it(rt: HostRuntime) -> Result<(), Fail> {
-    let answer = answer_with_faults(rt.alloc(), BOOK, 4096, &[2], &[])?;
+    let answer = answer_with_faults(rt.alloc(), &CHECK, BOOK, 4096, &[2], &[])?;
     assert_eq!(rt; answer.status, Status::ReadFault);
     assert_eq!(rt; answer.report.as_str(), "1 VERIFY REFL accepted\n");
     Ok(())
@@ -113,7 +95,7 @@ fn a_failed_read_leaves_the_lines_before_it(rt: HostRuntime) -> Result<(), Fail>
 
 #[test]
 fn a_failed_write_leaves_nothing(rt: HostRuntime) -> Result<(), Fail> {
-    let answer = answer_with_faults(rt.alloc(), BOOK, 4096, &[], &[1])?;
+    let answer = answer_with_faults(rt.alloc(), &CHECK, BOOK, 4096, &[], &[1])?;
     assert_eq!(rt; answer.status, Status::WriteFault);
     assert_eq!(rt; answer.report.as_str(), "");
     Ok(())
@@ -121,7 +103,7 @@ fn a_failed_write_leaves_nothing(rt: HostRuntime) -> Result<(), Fail> {
 
 #[test]
 fn short_writes_take_the_whole_report(rt: HostRuntime) -> Result<(), Fail> {
-    let answer = answer_with_faults(rt.alloc(), BOOK, 4096, &[], &[])?;
+    let answer = answer_with_faults(rt.alloc(), &CHECK, BOOK, 4096, &[], &[])?;
     assert_eq!(rt; answer.status, Status::Done);
     assert_eq!(rt; answer.report.as_str(), REPORT);
     Ok(())
@@ -131,7 +113,7 @@ fn short_writes_take_the_whole_report(rt: HostRuntime) -> Result<(), Fail> {
 #[test]
 fn any_read_may_fail(rt: HostRuntime) -> Result<(), Fail> {
     assert_eq!(rt; failing_reads(rt.alloc())?, 40);
-    let answer = answer_with_faults(rt.alloc(), NEVER, READ, &[41], &[])?;
+    let answer = answer_with_faults(rt.alloc(), &CHECK, NEVER, READ, &[41], &[])?;
     assert_eq!(rt; answer.status, Status::SomeRefused);
     assert_eq!(rt; answer.report.as_str(), OF_NEVER);
     Ok(())
@@ -142,7 +124,7 @@ fn any_write_may_fail(rt: HostRuntime) -> Result<(), Fail> {
     let done = failing_writes(rt.alloc())?;
     assert!(rt; OF_NEVER.len().div_ceil(WRITTEN) <= done, "write {done}");
     let next = (done as u64).saturating_add(1);
-    let answer = answer_with_faults(rt.alloc(), NEVER, READ, &[], &[next])?;
+    let answer = answer_with_faults(rt.alloc(), &CHECK, NEVER, READ, &[], &[next])?;
     assert_eq!(rt; answer.status, Status::SomeRefused);
     assert_eq!(rt; answer.report.as_str(), OF_NEVER);
     Ok(())

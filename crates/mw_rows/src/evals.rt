@@ -1,5 +1,5 @@
 //! What EVAL shows, and within how many units.
-use mw_answers::{Answer, Row, answer_within, wrong_answers};
+use mw_answers::{Answer, Row, answer_of_command, wrong_answers};
 use mw_book::Status;
 use std::alloc::{AllocError, Global};
 use std::test::Fail;
@@ -77,7 +77,7 @@ const LIMITED: [(&str, &str, &str); 10] = [
 // The answer to an EVAL within so many units.
 fn answer_of(alloc: Global, steps: &str, term: &str) -> Result<Answer, AllocError> {
     let book = format!(in alloc; "(eval {term})")?;
-    answer_within(alloc, &["check", "--steps", steps], book.as_str(), 4096)
+    answer_of_command(alloc, &["check", "--steps", steps], book.as_str(), 4096)
 }
 
 // The EVALs whose lines are not those expected.

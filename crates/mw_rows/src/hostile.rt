@@ -1,6 +1,6 @@
 //! Books whose terms would be large if labels and abbreviations were written out: each ends in time that is linear in what is written and in
 //! the units that it uses, or out of memory at once.
-use mw_answers::{Answer, answer_to, answer_within};
+use mw_answers::{Answer, answer_of_check, answer_of_command};
 use mw_book::Status;
 use std::alloc::{AllocError, Global};
 use std::test::Fail;
@@ -26,7 +26,7 @@ fn answer_on_nested(
     let before = repeated(alloc, opening, depth)?;
     let after = repeated(alloc, closing, depth)?;
     let book = format!(in alloc; "(eval {before}{inner}{after})")?;
-    answer_within(alloc, words, book.as_str(), 4096)
+    answer_of_command(alloc, words, book.as_str(), 4096)
 }
 
 // The answer to an EVAL of a text with so many copies of another in its middle.
@@ -39,7 +39,7 @@ fn answer_on_many(
 ) -> Result<Answer, AllocError> {
     let members = repeated(alloc, member, count)?;
     let book = format!(in alloc; "(eval {before}{members}{after})")?;
-    answer_to(alloc, book.as_str(), 4096)
+    answer_of_check(alloc, book.as_str(), 4096)
 }
 
 // A term of sixty labels, each for a form of two copies of the one before it.
@@ -55,14 +55,14 @@ fn shared_term(alloc: Global, word: &str) -> Result<String, AllocError> {
 fn answer_on_shared(alloc: Global, word: &str) -> Result<Answer, AllocError> {
     let term = shared_term(alloc, word)?;
     let book = format!(in alloc; "(eval {term})")?;
-    answer_to(alloc, book.as_str(), 4096)
+    answer_of_check(alloc, book.as_str(), 4096)
 }
 
 // As a tree, the object has 2^60 pairs.
 fn answer_on_rank(alloc: Global) -> Result<Answer, AllocError> {
     let object = shared_term(alloc, "cons")?;
     let book = format!(in alloc; "(eval (rank '{object}))")?;
-    answer_to(alloc, book.as_str(), 4096)
+    answer_of_check(alloc, book.as_str(), 4096)
 }
 
 // The answer to an EVAL of a call with so many actuals, each for a formal of its own.
@@ -73,7 +73,7 @@ fn answer_on_actuals(alloc: Global, count: usize) -> Result<Answer, AllocError> 
     }
     let actuals = repeated(alloc, " 7", count)?;
     let book = format!(in alloc; "(eval ((lambda ({formals}) (cons x1 x0)) {actuals}))")?;
-    answer_to(alloc, book.as_str(), 4096)
+    answer_of_check(alloc, book.as_str(), 4096)
 }
 
 // The answer to a DEFINE after that of a function of two arguments, with a body in which sixty labels stand for 2^60 calls of the older one.
@@ -82,7 +82,7 @@ fn answer_on_shared_body(alloc: Global) -> Result<Answer, AllocError> {
     let book = format!(in alloc;
         "(define two (x y) (cons x y) nil ()) (define big (x) {body} nil ())"
     )?;
-    answer_to(alloc, book.as_str(), 4096)
+    answer_of_check(alloc, book.as_str(), 4096)
 }
 
 // The answer to a DEFINE of a function that calls itself on each of 2^60 ways through sixty tests.
@@ -93,7 +93,7 @@ fn answer_on_shared_obligations(alloc: Global) -> Result<Answer, AllocError> {
         body = format!(in alloc; "#{next}=(if (equal x {k}) {body} #{k}#)")?;
     }
     let book = format!(in alloc; "(define f (x) {body} x ())")?;
-    answer_to(alloc, book.as_str(), 4096)
+    answer_of_check(alloc, book.as_str(), 4096)
 }
 
 // The answer to a block of so many functions and an EVAL of the last but one.
@@ -103,7 +103,7 @@ fn answer_on_block(alloc: Global, count: usize) -> Result<Answer, AllocError> {
         write!(members, "(f{k} (x) x nil)")?;
     }
     let book = format!(in alloc; "(define-all ({members}) ()) (eval (f1998 7))")?;
-    answer_to(alloc, book.as_str(), 4096)
+    answer_of_check(alloc, book.as_str(), 4096)
 }
 
 // The answer to so many definitions, each of which calls the one before it, and an EVAL of one of them.
@@ -114,7 +114,7 @@ fn answer_on_definitions(alloc: Global, count: usize) -> Result<Answer, AllocErr
         write!(book, "(define f{k} (x) (f{before} x) nil ())")?;
     }
     book.push_str("(eval (f4998 7))")?;
-    answer_to(alloc, book.as_str(), 4096)
+    answer_of_check(alloc, book.as_str(), 4096)
 }
 
 const CHECK: [&str; 1] = ["check"];

@@ -1,5 +1,5 @@
 //! Books whose labels make a term or a proof of 2^60 parts out of sixty.
-use mw_answers::{Answer, answer_to, book_of_the_proof};
+use mw_answers::{Answer, answer_of_check, book_of_the_proof};
 use mw_book::Status;
 use std::alloc::{AllocError, Global};
 use std::test::Fail;
@@ -25,12 +25,12 @@ fn book_of_the_term(alloc: Global) -> Result<String, AllocError> {
 
 fn answer_on_the_term(alloc: Global) -> Result<Answer, AllocError> {
     let book = book_of_the_term(alloc)?;
-    answer_to(alloc, book.as_str(), 4096)
+    answer_of_check(alloc, book.as_str(), 4096)
 }
 
 fn answer_on_the_proof(alloc: Global) -> Result<Answer, AllocError> {
     let book = book_of_the_proof(alloc)?;
-    answer_to(alloc, book.as_str(), 4096)
+    answer_of_check(alloc, book.as_str(), 4096)
 }
 
 #[test]

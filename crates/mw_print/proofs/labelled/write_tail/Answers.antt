@@ -1,4 +1,4 @@
--- A pair that has a label, or gets one, stands behind a dot.
+-- A pair that has a label, or gets one, stands after a dot.
 use Rattle.std.proofs.Common.{is_some, inl, inr, sym, ap, ◌∙◌}
 use Rattle.mw_print.proofs.Writing.{OnOk-both}
 use Rattle.mw_print.proofs.Waiting.{plain_tail_advances, dotted_tail_advances}
