@@ -5,7 +5,7 @@ use Rattle.mw_model.specs.Texts.Lexemes.{all_are}
 use Rattle.mw_read.specs.Runs.{StartsWith}
 use Rattle.std.proofs.lemmas.List.{length-take-le, take-append-drop}
 use Rattle.mw_model.specs.Terms.Object.{is_name, is_name_byte, are_name_bytes}
-use Rattle.mw_read.proofs.Classes.{take_more}
+use Rattle.mw_read.proofs.Runs.{take_more}
 
 pub empty_is : {A : Type 0} (xs : List A) (n : ℕ) → n ≡ length xs → true ≡ (n == 0) → xs ≡ []
 empty_is [] n h e = refl

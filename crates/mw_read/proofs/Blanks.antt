@@ -13,7 +13,7 @@ use Rattle.mw_read.specs.declared.parser.Begun.TheVariants.{Nothing, AfterToken,
 use Rattle.mw_read.specs.declared.parser.Parser.{Parser}
 use Rattle.mw_read.specs.declared.step.Outcome.TheVariants as outcomes
 use Rattle.mw_read.proofs.Growth.{grows_refl}
-use Rattle.mw_read.proofs.Bytes.{between_at}
+use Rattle.mw_read.proofs.Lexemes.{piece_lexemes}
 use Rattle.mw_read.proofs.Classes.{other_class}
 use Rattle.mw_read.proofs.Hashes.{free_parser}
 use Rattle.mw_read.proofs.Beginning.{same_behind}
@@ -75,7 +75,7 @@ module _ (os : List Object) (old : Parser) (i : IsBetween old.begun) where
   white_passes : (t : State) (b : ℕ) → class b ≡ lex.White → (e : Ending) (z : List ℕ) → meaning_of e t old (b ∷ z) ≡ meaning_of e t passed z
   white_passes t b h e z =
       same_behind os t old (record old { begun = Nothing }) passed refl refl b (white_behind old.begun b i h) e z
-      ∙ between_at e z t old.start b lex.White h
+      ∙ ap (resume t) (piece_lexemes e old.start b z lex.White h)
       ∙ ap (λ o. resume t (lexemes_from e o 0 z)) (let o : suc old.start ≡ old.start + 1 = omega arith in o)
 
   white_moves : (rest : List ℕ) → IsFirst lex.White rest → Moved old rest 1 passed

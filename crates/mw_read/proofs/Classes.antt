@@ -1,11 +1,10 @@
--- The table of classes is the definition's, and runs of bytes of a kind.
-use Rattle.std.proofs.Common.{◌≡◌, ℕ, zero, suc, ◌+◌, ◌<◌, Bool, true, false, ◌&&◌, eqb, List, [], ◌∷◌, ◌++◌, length, take, get_or, refl, sym, ap, ◌∙◌, arith, if◌then◌else◌, add-one}
+-- The table of classes is the definition's.
+use Rattle.std.proofs.Common.{◌≡◌, ℕ, zero, suc, ◌+◌, ◌<◌, Bool, true, false, ◌&&◌, eqb, List, [], ◌∷◌, length, get_or, refl, sym, ap, ◌∙◌, arith, if◌then◌else◌}
 use Rattle.std.proofs.lemmas.Bool.{and_parts}
-use Rattle.mw_model.specs.Texts.Lexemes.{Class, White, Semicolon, Opening, Closing, Apostrophe, Bar, Hash, Constituent, Other, class, class_else, is_constituent, is_white, all_are}
+use Rattle.mw_model.specs.Texts.Lexemes.{Class, White, Semicolon, Opening, Closing, Apostrophe, Bar, Hash, Constituent, Other, class, class_else, is_constituent, is_white}
 use Rattle.mw_read.specs.Codes.{class_of}
 use Rattle.mw_read.specs.declared.class.Class as code
 use Rattle.mw_read.specs.declared.class.Class.TheVariants as classes
-use Rattle.mw_read.proofs.Bytes.{all_more}
 
 abbrev is_same : Class → Class → Bool
 is_same White White = true
@@ -93,12 +92,3 @@ is_constituent_code k b h e = constituent_class b (sym h ∙ ap class_of e)
 
 pub is_other_code : (k : code.Class) (b : ℕ) → class_of k ≡ class b → (k ≡ classes.Constituent → ⊥) → is_constituent b ≡ false
 is_other_code k b h n = other_class b (λ e. n (code_constituent k (h ∙ e)))
-
-pub take_more : (bytes : List ℕ) (i : ℕ) → i < length bytes → take (i + 1) bytes ≡ take i bytes ++ get_or bytes i 0 ∷ []
-take_more [] i h = absurd (omega arith)
-take_more (b ∷ bs) zero h = refl
-take_more (b ∷ bs) (suc i) h = ap (λ n. take n (b ∷ bs)) (add-one (suc i)) ∙ ap (λ u. b ∷ u) (sym (ap (λ n. take n bs) (add-one i)) ∙ take_more bs i (omega arith))
-
--- the run is one byte longer
-pub run_longer : (p : ℕ → Bool) (bytes : List ℕ) (i : ℕ) → i < length bytes → all_are p (take i bytes) ≡ true → p (get_or bytes i 0) ≡ true → all_are p (take (i + 1) bytes) ≡ true
-run_longer p bytes i h a b = ap (all_are p) (take_more bytes i h) ∙ all_more p (take i bytes) (get_or bytes i 0) a b

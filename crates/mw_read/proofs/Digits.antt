@@ -2,7 +2,7 @@
 use Rattle.std.proofs.Common.{◌≡◌, ℕ, zero, suc, ◌+◌, ◌-◌, ◌*◌, ◌<◌, ◌≤◌, Bool, true, List, [], ◌∷◌, ◌++◌, length, take, get_or, refl, ap, ◌∙◌, arith, le_refl, add-one, leb, leb-true}
 use Rattle.std.proofs.lemmas.Bool.{and_parts}
 use Rattle.mw_model.specs.Texts.Lexemes.{all_are, is_digit, decimal_from, decimal_value}
-use Rattle.mw_read.proofs.Classes.{take_more}
+use Rattle.mw_read.proofs.Runs.{take_more}
 
 pub all_at : (p : ℕ → Bool) (ds : List ℕ) (i : ℕ) → i < length ds → all_are p ds ≡ true → p (get_or ds i 0) ≡ true
 all_at p [] i h a = absurd (omega arith)

@@ -4,7 +4,7 @@ use Rattle.std.proofs.lemmas.Bool.{and_parts}
 use Rattle.mw_model.specs.Terms.Object.{Object, Symbol, name_of_bytes, is_name_byte}
 use Rattle.mw_model.specs.Texts.Lexemes.{Atom, Wrong, Fault, fault, END, LABEL, Ending, Ends, all_are, is_constituent, is_digit, TokenForm, Whole, Point, Bad, token_form, token, label, lexemes_from, End, unfinished, glued_bar}
 use Rattle.mw_model.specs.Texts.Grammar.{book}
-use Rattle.mw_read.specs.Machine.{State, Turn, on, is_full, IsSound, InToken, InBars, InHash}
+use Rattle.mw_read.specs.Machine.{State, Turn, on, is_full, IsSound}
 use Rattle.mw_read.specs.Resume.{resume, following}
 use Rattle.mw_read.specs.Lexing.{token_lexeme}
 use Rattle.mw_read.specs.Held.{Took}
@@ -16,7 +16,8 @@ use Rattle.mw_read.specs.declared.parser.Parser.{Parser}
 use Rattle.mw_read.specs.declared.step.Outcome.{Outcome}
 use Rattle.mw_read.specs.declared.step.Outcome.TheVariants as outcomes
 use Rattle.mw_read.proofs.Resuming.{on_step}
-use Rattle.mw_read.proofs.Bytes.{last_are}
+use Rattle.mw_read.proofs.Lexemes.{token_ends}
+use Rattle.mw_read.proofs.Lexemes as lexemes
 use Rattle.mw_read.proofs.Parsing.{constituent_class, token_solid, bars_whole, wrong_breaks}
 use Rattle.mw_read.proofs.Advancing.{token_pending, token_datum, bars_advance}
 use Rattle.mw_read.proofs.Beginning.{offset_is}
@@ -33,7 +34,7 @@ token_ends_fault s o (c ∷ t) f l a q =
     let k = and_parts (is_constituent c) (all_are is_constituent t) a in
     let v = token_form (c ∷ t) in
     let r = End (unfinished Ends (o + length (c ∷ t))) ∷ [] in
-    ap (resume s) (last_are Ends (InToken c t) o (constituent_class c k.0, k.1) ∙ ap (λ u. u ++ r) (token_one o (c ∷ t) v)) ∙ on_step s (token_lexeme o false v) (token_solid o false v) r ∙ q
+    ap (resume s) (token_ends Ends o c t (constituent_class c k.0) k.1 ∙ ap (λ u. u ++ r) (token_one o (c ∷ t) v)) ∙ on_step s (token_lexeme o false v) (token_solid o false v) r ∙ q
 
 module _ (os : List Object) (t : State) (old new : Parser) (f : is_full t ≡ false) (k : IsSound t) (l : 0 < length old.token.items) where
   module _ (i : old.begun ≡ Token) (a : all_are is_constituent old.token.items ≡ true) (m : new.begun ≡ AfterToken) (s : new.start ≡ old.start + length (old.token.items ++ [])) where
@@ -109,7 +110,7 @@ bars_end t old i a f k =
     let l = Wrong o (Some (fault END (o + 1 + length n))) in
     ap (λ u. resume t (ahead Ends u n o [])) i
     ∙ ap (λ u. resume t (lexemes_from Ends o 0 (124 ∷ u))) (append-nil n)
-    ∙ ap (resume t) (last_are Ends (InBars n) o a)
+    ∙ ap (resume t) (lexemes.bars_end Ends o n a)
     ∙ on_step t l tt r
     ∙ ap (λ (u : Turn). following u r) (wrong_breaks t o (fault END (o + 1 + length n)) f k)
     ∙ ap (λ j. book [] (Some (fault END j))) ((let e : o + 1 + length n ≡ o + length n + 1 = omega arith in e) ∙ sym (offset_is old Bars (length n) o i refl refl))
@@ -122,7 +123,7 @@ hash_end t old i a c f k =
     let l = Wrong o (Some (fault END (o + 1 + length n))) in
     ap (λ u. resume t (ahead Ends u n o [])) i
     ∙ ap (λ u. resume t (lexemes_from Ends o 0 (35 ∷ u))) (append-nil n)
-    ∙ ap (resume t) (last_are Ends (InHash n) o (a, c) ∙ ap (λ v. (if v then Wrong o (Some (fault LABEL o)) ∷ [] else label Ends o n []) ++ r) (le-ltb 9 (length n) c))
+    ∙ ap (resume t) (lexemes.hash_end Ends o n a ∙ ap (λ v. (if v then Wrong o (Some (fault LABEL o)) ∷ [] else label Ends o n []) ++ r) (le-ltb 9 (length n) c))
     ∙ on_step t l tt r
     ∙ ap (λ (u : Turn). following u r) (wrong_breaks t o (fault END (o + 1 + length n)) f k)
     ∙ ap (λ j. book [] (Some (fault END j))) ((let e : o + 1 + length n ≡ o + length n + 1 = omega arith in e) ∙ sym (offset_is old Hash (length n) o i refl refl))

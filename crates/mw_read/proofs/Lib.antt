@@ -1,6 +1,8 @@
 pub mod Fuel
 pub mod Resuming
 pub mod Bytes
+pub mod Runs
+pub mod Lexemes
 pub mod Clamp
 pub mod Classes
 pub mod Growth

@@ -4,13 +4,13 @@ use Rattle.std.proofs.lemmas.Bool.{and_parts}
 use Rattle.mw_model.specs.Terms.Object.{Object, Natural, Symbol, name_of_bytes, is_name_byte}
 use Rattle.mw_model.specs.Texts.Lexemes.{Lexeme, End, Atom, Dot, Wrong, Stray, Fault, fault, TOKEN, BYTE, Ending, Ends, Goes, all_are, is_constituent, TokenForm, Whole, Point, Bad, token_form, token, atom, glued, glued_bar, class, class_else, Constituent, lexemes_from, unfinished, is_digit, is_dot, like_number, decimal_value, raised}
 use Rattle.mw_model.specs.Texts.Grammar.{book, and_events}
-use Rattle.mw_read.specs.Machine.{State, Idle, Within, Full, Broken, Members, Tailed, Quoting, Marking, Turn, quiet, event, on, InToken, Barred, is_full, IsSound}
+use Rattle.mw_read.specs.Machine.{State, Idle, Within, Full, Broken, Members, Tailed, Quoting, Marking, Turn, quiet, event, on, is_full, IsSound}
 use Rattle.mw_read.specs.Resume.{resume, following}
 use Rattle.mw_read.specs.Lexing.{token_lexeme}
 use Rattle.mw_read.specs.Parsing.{behind, Fits}
 use Rattle.mw_read.specs.declared.parser.Begun.TheVariants.{AfterToken, AfterBar}
 use Rattle.mw_read.proofs.Resuming.{on_step, IsSolid}
-use Rattle.mw_read.proofs.Bytes.{token_lexemes, last_are, barred_lexemes, bar_lexemes, barred_fault}
+use Rattle.mw_read.proofs.Lexemes.{token_lexemes, token_ends, barred_lexemes, barred_end, bar_lexemes, barred_fault}
 
 pub constituent_class : (b : ℕ) → is_constituent b ≡ true → class b ≡ Constituent
 constituent_class b h = ap (λ v. if v then Constituent else class_else b) h
@@ -66,7 +66,7 @@ token_whole Goes o (c ∷ t) [] y l a w h = absurd h
 token_whole Ends o (c ∷ t) [] y l a w h =
     let k = and_parts (is_constituent c) (all_are is_constituent t) a in
     ap (λ u. lexemes_from Ends o 0 (c ∷ u)) (append-nil t)
-    ∙ last_are Ends (InToken c t) o (constituent_class c k.0, k.1)
+    ∙ token_ends Ends o c t (constituent_class c k.0) k.1
     ∙ ap (λ f. token Ends o (c ∷ t) f [] ++ lexemes_from Ends (o + length (c ∷ t)) 0 []) w
 token_whole e o (c ∷ t) (b ∷ x) y l a w h =
     let k = and_parts (is_constituent c) (all_are is_constituent t) a in
@@ -116,7 +116,7 @@ token_dot Goes s u o (c ∷ t) [] l a w f k q v h = absurd h
 token_dot Ends s u o (c ∷ t) [] l a w f k q v h =
     let m = and_parts (is_constituent c) (all_are is_constituent t) a in
     ap (λ u. resume s (lexemes_from Ends o 0 (c ∷ u))) (append-nil t)
-    ∙ ap (resume s) (last_are Ends (InToken c t) o (constituent_class c m.0, m.1) ∙ ap (λ f. token Ends o (c ∷ t) f [] ++ lexemes_from Ends (o + length (c ∷ t)) 0 []) w)
+    ∙ ap (resume s) (token_ends Ends o c t (constituent_class c m.0) m.1 ∙ ap (λ f. token Ends o (c ∷ t) f [] ++ lexemes_from Ends (o + length (c ∷ t)) 0 []) w)
     ∙ on_step s (Dot o) tt (lexemes_from Ends (o + length (c ∷ t)) 0 [])
     ∙ ap (λ (w : Turn). following w (lexemes_from Ends (o + length (c ∷ t)) 0 [])) q
 token_dot e s u o (c ∷ t) (b ∷ x) l a w f k q v h =
@@ -144,7 +144,7 @@ pub bars_whole : (e : Ending) (o : ℕ) (t z : List ℕ) → 0 < length t → al
 bars_whole e o [] z l a h = absurd (omega arith)
 bars_whole Goes o (c ∷ n) [] l a h = absurd h
 bars_whole Ends o (c ∷ n) [] l a h =
-    last_are Ends (Barred c n) o a ∙ ap (λ k. Atom o (Symbol (name_of_bytes (c ∷ n))) ∷ End (unfinished Ends k) ∷ []) (omega arith)
+    barred_end Ends o c n a
 bars_whole e o (c ∷ n) (b ∷ x) l a h =
     let t = c ∷ n in
     ap (λ y. lexemes_from e o 0 (124 ∷ y)) (sym (append_assoc t (124 ∷ []) (b ∷ x)))

@@ -15,17 +15,6 @@ use Rattle.mw_read.specs.declared.parser.Parser.{Parser}
 use Rattle.mw_read.specs.declared.step.Outcome.{Outcome}
 use Rattle.mw_read.specs.declared.step.Outcome.TheVariants as outcomes
 
--- the bytes of the text that has begun; of a comment its first byte is enough
-abbrev pub text_of : Begun → List ℕ → List ℕ
-text_of Nothing t = []
-text_of Comment t = 59 ∷ []
-text_of Token t = t
-text_of Bars t = 124 ∷ t
-text_of Barred t = 124 ∷ (t ++ 124 ∷ [])
-text_of Hash t = 35 ∷ t
-text_of AfterToken t = []
-text_of AfterBar t = []
-
 -- the lexemes of these bytes at o, directly after an atom
 abbrev pub behind : (ℕ → Bool) → Ending → ℕ → List ℕ → List Lexeme
 behind bad e o [] = lexemes_from e o 0 []
