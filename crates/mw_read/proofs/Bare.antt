@@ -67,10 +67,6 @@ pub are_names : (bytes : List ℕ) → all_are is_name_byte bytes ≡ true → a
 are_names [] h = refl
 are_names (b ∷ bytes) h = let m = and_parts (is_name_byte b) (all_are is_name_byte bytes) h in and_from (is_name_byte b) (are_name_bytes bytes) m.0 (are_names bytes m.1)
 
-pub is_name_of : (bytes : List ℕ) → 0 < length bytes → all_are is_name_byte bytes ≡ true → is_name bytes ≡ true
-is_name_of [] l h = absurd (omega arith)
-is_name_of (b ∷ bytes) l h = are_names (b ∷ bytes) h
-
 pub take_run : (xs : List ℕ) (n : ℕ) → n ≤ length xs → length (take n xs) ≡ n
 take_run xs n h = length-take-le n xs h
 

@@ -56,12 +56,6 @@ some_first : (k : lex.Class) (x : List ℕ) → IsFirst k x → 0 < length x
 some_first k [] h = absurd h
 some_first k (b ∷ x) h = omega arith
 
-weight_between : (m : Begun) → IsBetween m → weight m ≡ 0
-weight_between Nothing h = refl
-weight_between AfterToken h = refl
-weight_between AfterBar h = refl
-weight_between m h = absurd h
-
 offset_between : (m : Begun) (n o : ℕ) → IsBetween m → offset_at m n o ≡ o
 offset_between Nothing n o h = refl
 offset_between AfterToken n o h = refl
@@ -104,12 +98,3 @@ blank_scans first old piece os p at n new s (inr h) =
     (subst (λ q. Scans first old piece os q (at + 1)) (sym h.1)
     (scan_next first old piece os p at s os (record p { begun = Nothing; start = p.start + 1 }) (grows_refl os) (omega (arith, some, length-drop at piece)) 1 (omega (arith, some))
     (white_moves os p h.2 (drop at piece) h.3) (white_advances os p h.2 (drop at piece) h.3)))
-
--- the bytes that are left, and what has begun, are no more
-pub blank_less : (p new : Parser) (rest : List ℕ) (n : ℕ) → PassesWhite p rest n new → weight new.begun ≤ weight p.begun
-blank_less p new rest n (inl h) = let e : weight new.begun ≡ weight p.begun = ap (λ q. weight q.begun) h.1 in omega (arith, e)
-blank_less p new rest n (inr h) = let e : weight new.begun ≡ 0 = ap (λ q. weight q.begun) h.1 in omega (arith, e)
-
-pub blank_within : (p new : Parser) (rest : List ℕ) (n : ℕ) → PassesWhite p rest n new → n ≤ length rest
-blank_within p new rest n (inl h) = omega (arith, h.0)
-blank_within p new rest n (inr h) = omega (arith, h.0, some_first lex.White rest h.3)

@@ -111,20 +111,3 @@ pub ready_follows : (os : List Object) (r : Reader) → IsReady os r → (r.unre
 ready_follows os r (inl (s, inl f)) n = inl f
 ready_follows os r (inl (s, inr f)) n = absurd (true≢false (sym f.1 ∙ n f.0))
 ready_follows os r (inr h) n = inr h
-
--- A finished reader is as ready as it was.
-pub ready_finished : (os : List Object) (r : Reader) → IsReady os r → IsReady os (record r { finished = true })
-ready_finished os r (inl (s, inl f)) = inl (s, inl f)
-ready_finished os r (inl (s, inr f)) = inl (s, inr (f.0, refl))
-ready_finished os r (inr h) = inr h
-
--- What may follow may be longer.
-take_parts : (k : ℕ) (x y : List ℕ) → take k (x ++ y) ≡ take k x ++ take (k - length x) y
-take_parts zero x y = ap (λ n. take n y) (let e : 0 ≡ 0 - length x = omega arith in e)
-take_parts (suc k) [] y = ap (λ n. take n y) (let e : suc k ≡ suc k - 0 = omega arith in e)
-take_parts (suc k) (c ∷ x) y = ap (λ u. c ∷ u) (take_parts k x y ∙ ap (λ n. take k x ++ take n y) (let e : k - length x ≡ suc k - suc (length x) = omega arith in e))
-
-pub follows_more : (p : Parser) (x y : List ℕ) → Follows p x → Follows p (x ++ y)
-follows_more p x y h =
-    let room = limit - offset_of p in
-    subst (Fits p.begun Goes) (sym (take_parts room x y)) (fits_more p.begun Goes (take room x) (take (room - length x) y) h)

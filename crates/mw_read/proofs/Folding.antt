@@ -68,7 +68,3 @@ module _ (old : List Object) (before : List Layer) (last : ℕ) where
         k.0 ∙ ap Frames (sym (ap frames_round top) ∙ f.round),
         sym (k.1 (object_at os list)) ∙ sym (ap (λ u. members_of u (object_at os list)) top) ∙ f.made,
       )
-
-  pub fold_none : (os : List Object) (ls : List Layer) (list : ℕ) → Folds old before last os ls list → length ls ≡ 0 → ⊥
-  fold_none os [] list f z = f.open_list
-  fold_none os (l ∷ ls) list f z = omega arith

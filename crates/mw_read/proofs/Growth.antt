@@ -8,9 +8,6 @@ object_at-append [] more i h = absurd (omega arith)
 object_at-append (y ∷ os) more zero h = refl
 object_at-append (y ∷ os) more (suc i) h = object_at-append os more i (omega arith)
 
-pub object_at-grows : (os os2 : List Object) (i : ℕ) → Grows os os2 → IsIn os i → object_at os2 i ≡ object_at os i
-object_at-grows os os2 i g h = ap (λ u. object_at u i) g.1 ∙ object_at-append os g.0 i h
-
 pub grows_refl : (os : List Object) → Grows os os
 grows_refl os = ([], sym (append-nil os))
 
@@ -19,6 +16,3 @@ grows_grows a b c g h = (g.0 ++ h.0, h.1 ∙ ap (λ u. u ++ h.0) g.1 ∙ append_
 
 pub length_grows : (a b : List Object) → Grows a b → length a ≤ length b
 length_grows a b g = omega (arith, ap length g.1, length-append a g.0)
-
-pub is_in_grows : (a b : List Object) (i : ℕ) → Grows a b → IsIn a i → IsIn b i
-is_in_grows a b i g h = omega (arith, length_grows a b g)

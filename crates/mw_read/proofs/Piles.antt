@@ -223,17 +223,3 @@ module _ (old : List Object) (before : List Layer) (labels : List (ℕ × Option
       give_layer os ls new m x (layers.Item x) g (n ∙ ap (λ u. u ++ layers.Item x ∷ []) (sym e)) g.listed
       (subst (λ u. MayLie u (layers.Item x)) v k.0)
       (subst (λ (u : Pile). (js : Labels) → Agree os m js → ([] ≡ (give_to u (object_at os x) js).events) × Shows os (piled os u (layers.Item x)) m (give_to u (object_at os x) js).state) v k.1)
-
-  -- nothing is open: an event
-  pub give_event : (os : List Object) (ls new : List Layer) (m m2 : List (ℕ × Option ℕ)) (x : ℕ) → Gives old before labels first os ls m x → length ls ≡ 0 → new ≡ ls → m2 ≡ [] →
-      IsPile os new × (IsListed (length os) m2 × ((ks : Labels) → Agree old labels ks → Does os new m2 (outcomes.Datum x) (give_to (pile_of old before) (object_at old first) ks)))
-  give_event os (k ∷ ls) new m m2 x g l e z = absurd (omega arith)
-  give_event os [] new m m2 x g l e z =
-      let P : List Layer → Type 0 = λ u. IsPile os u in
-      let none : (n : ℕ) → lookup (nat_eq n) m2 ≡ None = λ n. ap (λ u. lookup (nat_eq n) u) z in (
-        subst P (sym e) g.pile,
-        (
-          λ n. subst (λ u. IfSome u (λ o. IfSome o (λ r. r < length os))) (sym (none n)) tt,
-          λ ks a. let t = g.turns ks a in (sym t.2, (ap (pile_of os) e, λ n. ap (seen os) (none n))),
-        ),
-      )

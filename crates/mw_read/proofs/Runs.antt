@@ -15,14 +15,6 @@ length_more (c ∷ t) b = ap suc (length_more t b)
 pub more_text : (t : List ℕ) (b : ℕ) (x : List ℕ) → (t ++ b ∷ []) ++ x ≡ t ++ b ∷ x
 more_text t b x = append_assoc t (b ∷ []) x
 
-pub all_more : (p : ℕ → Bool) (t : List ℕ) (b : ℕ) → all_are p t ≡ true → p b ≡ true → all_are p (t ++ b ∷ []) ≡ true
-all_more p [] b h f = and_from (p b) true f refl
-all_more p (c ∷ t) b h f = let a = and_parts (p c) (all_are p t) h in and_from (p c) (all_are p (t ++ b ∷ [])) a.0 (all_more p t b a.1 f)
-
--- the run is one byte longer
-pub run_longer : (p : ℕ → Bool) (bytes : List ℕ) (i : ℕ) → i < length bytes → all_are p (take i bytes) ≡ true → p (get_or bytes i 0) ≡ true → all_are p (take (i + 1) bytes) ≡ true
-run_longer p bytes i h a b = ap (all_are p) (take_more bytes i h) ∙ all_more p (take i bytes) (get_or bytes i 0) a b
-
 -- a run, and a byte that is not of the kind
 pub run_all : (p : ℕ → Bool) (t : List ℕ) (b : ℕ) (x : List ℕ) → all_are p t ≡ true → p b ≡ false → run_of p (t ++ b ∷ x) ≡ t
 run_all p [] b x h f = ap (λ v. if v then b ∷ run_of p x else []) f

@@ -23,14 +23,6 @@ pub record Scans (first : List Object) (old : Parser) (piece : List ℕ) (os : L
   pub reached : Reached old piece n p
   pub advances : (t : State) → Holds first old.stack t → Advances os t old piece outcomes.Pending n p
 
-pub scan_start : (os : List Object) (old : Parser) (piece : List ℕ) → Fits old.begun Goes piece → IsStarted old.begun old.token.items → IsParser os old → Scans os old piece os old 0
-scan_start os old piece f s k = record {
-  kept = grows_refl os;
-  within = omega arith;
-  reached = record { offset = (let e : offset_of old ≡ offset_of old + 0 = omega arith in e); left = f; started = s; fits = λ e x h. h; less = omega arith };
-  advances = λ t h. (t, h, k, λ e z fit. refl);
-}
-
 pub fits_more : (m : Begun) (e : Ending) (x y : List ℕ) → Fits m Goes x → Fits m e (x ++ y)
 fits_more Nothing e x y h = tt
 fits_more Comment e x y h = tt

@@ -144,21 +144,6 @@ stands_goes os p g given s h =
     ∙ onward_book given [] None
     ∙ ap (λ u. book u None) (append-nil given)
 
--- the heap may grow
-pub stands_grows : (os more : List Object) (p : Parser) (g : List ℕ) (given : List Object) → Grows os more → Stands os p g given → Stands more p g given
-stands_grows os more p g given h s =
-    let k = holds_grows os more p.stack s.state h s.holds in
-    record {
-      state = s.state;
-      holds = k;
-      parser = record { stack = k.stack; text = s.parser.text; ready = λ i. holds_full more p.stack s.state k ∙ sym (holds_full os p.stack s.state s.holds) ∙ s.parser.ready i };
-      started = s.started;
-      offset = s.offset;
-      short = s.short;
-      goes_on = s.goes_on;
-      means = s.means;
-    }
-
 -- a parser that has not ended
 abbrev pub unended : Parser → Parser
 unended p = record p { ended = None }
