@@ -8,7 +8,7 @@ use Rattle.mw_model.specs.Texts.Grammar.{book, and_events}
 use Rattle.mw_read.specs.Machine.{State, Idle, Within, Full, Broken, Turn, on, is_full, IsSound}
 use Rattle.mw_read.specs.Resume.{resume, onward, following}
 use Rattle.mw_read.specs.Held.{Took}
-use Rattle.mw_read.specs.Runs.{StartsWith}
+use Rattle.mw_lex.specs.Runs.{StartsWith}
 use Rattle.mw_read.specs.Parsing.{ahead, meaning_of, Fits, Advances, IsBehind, Begins, Moves, Moved, offset_of, offset_at, weight}
 use Rattle.mw_read.specs.declared.parser.Begun.{Begun}
 use Rattle.mw_read.specs.declared.parser.Begun.TheVariants.{Nothing, Comment, Token, Bars, Barred, Hash, AfterToken, AfterBar}
@@ -16,10 +16,10 @@ use Rattle.mw_read.specs.declared.parser.Parser.{Parser}
 use Rattle.mw_read.specs.declared.step.Outcome.{Outcome}
 use Rattle.mw_read.specs.declared.step.Outcome.TheVariants as outcomes
 use Rattle.mw_read.proofs.Resuming.{on_step, IsSolid}
-use Rattle.mw_read.proofs.Lexemes.{piece_lexemes}
+use Rattle.mw_lex.proofs.Lexemes.{piece_lexemes}
 use Rattle.mw_read.proofs.Bytes.{full_piece}
 use Rattle.mw_read.proofs.Bare.{take_cut}
-use Rattle.mw_read.proofs.Classes as classes
+use Rattle.mw_lex.proofs.Classes as classes
 use Rattle.mw_read.proofs.Hashes.{free_parser}
 use Rattle.mw_read.proofs.Parsing.{stray_breaks, following_event}
 

@@ -13,8 +13,8 @@ use Rattle.mw_read.specs.declared.parser.Begun.TheVariants.{Nothing, AfterToken,
 use Rattle.mw_read.specs.declared.parser.Parser.{Parser}
 use Rattle.mw_read.specs.declared.step.Outcome.TheVariants as outcomes
 use Rattle.mw_read.proofs.Growth.{grows_refl}
-use Rattle.mw_read.proofs.Lexemes.{piece_lexemes}
-use Rattle.mw_read.proofs.Classes.{other_class}
+use Rattle.mw_lex.proofs.Lexemes.{piece_lexemes}
+use Rattle.mw_lex.proofs.Classes.{other_class}
 use Rattle.mw_read.proofs.Hashes.{free_parser}
 use Rattle.mw_read.proofs.Beginning.{same_behind}
 use Rattle.mw_read.proofs.Scanning.{Scans, scan_next}

@@ -6,7 +6,7 @@ use Rattle.mw_model.specs.Texts.Grammar.{Labels, book, and_events}
 use Rattle.mw_read.specs.Machine.{Frame, Members, Tailed, Quoting, Marking, State, Idle, Within, Full, Broken, is_full, IsSound, end_fault}
 use Rattle.mw_read.specs.Resume.{resume, onward}
 use Rattle.mw_read.proofs.Resuming.{unwind_stop}
-use Rattle.mw_read.proofs.Lexemes.{piece_lexemes}
+use Rattle.mw_lex.proofs.Lexemes.{piece_lexemes}
 
 pub onward_book : (xs ys : List Object) (f : Option Fault) → onward xs (book ys f) ≡ book (xs ++ ys) f
 onward_book [] ys f = refl

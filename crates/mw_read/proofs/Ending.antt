@@ -16,8 +16,8 @@ use Rattle.mw_read.specs.declared.parser.Parser.{Parser}
 use Rattle.mw_read.specs.declared.step.Outcome.{Outcome}
 use Rattle.mw_read.specs.declared.step.Outcome.TheVariants as outcomes
 use Rattle.mw_read.proofs.Resuming.{on_step}
-use Rattle.mw_read.proofs.Lexemes.{token_ends}
-use Rattle.mw_read.proofs.Lexemes as lexemes
+use Rattle.mw_lex.proofs.Lexemes.{token_ends}
+use Rattle.mw_lex.proofs.Lexemes as lexemes
 use Rattle.mw_read.proofs.Parsing.{constituent_class, token_solid, bars_whole, wrong_breaks}
 use Rattle.mw_read.proofs.Advancing.{token_pending, token_datum, bars_advance}
 use Rattle.mw_read.proofs.Beginning.{offset_is}

@@ -5,7 +5,8 @@ use Rattle.mw_model.specs.Texts.Lexemes.{Lexeme, Atom, Fault}
 use Rattle.mw_model.specs.Events.Fate.{is_out_of_range}
 use Rattle.mw_heap.specs.Objects.{object_at, Grows}
 use Rattle.mw_read.specs.Machine.{State, Idle, Within, Full, Broken, Turn, on, labels_of, IsSound, is_full}
-use Rattle.mw_read.specs.Clamp.{clamp, clamp_all, clamp_state, clamp_turn, clamp_lexeme, state_big, lexeme_big, any_big}
+use Rattle.mw_lex.specs.Tokens.{clamp}
+use Rattle.mw_read.specs.Clamp.{clamp_all, clamp_state, clamp_turn, clamp_lexeme, state_big, lexeme_big, any_big}
 use Rattle.mw_read.specs.Piles.{Does, HoldsDatum, pile_of, fault_of, is_ready}
 use Rattle.mw_read.specs.Stacks.{IsStack, Means}
 use Rattle.mw_read.specs.Held.{Holds, Took}

@@ -1,10 +1,7 @@
 pub mod Fuel
 pub mod Resuming
 pub mod Bytes
-pub mod Runs
-pub mod Lexemes
 pub mod Clamp
-pub mod Classes
 pub mod Growth
 pub mod Named
 pub mod Piles
@@ -12,7 +9,6 @@ pub mod Folding
 pub mod Turns
 pub mod Holding
 pub mod Digits
-pub mod Constituents
 pub mod Parsing
 pub mod Bare
 pub mod Advancing
@@ -24,4 +20,3 @@ pub mod Ending
 pub mod Emptied
 pub mod Telling
 pub mod Feeding
-mod Raised

@@ -10,7 +10,7 @@ use Rattle.mw_read.specs.Lexing.{token_lexeme}
 use Rattle.mw_read.specs.Parsing.{behind, Fits}
 use Rattle.mw_read.specs.declared.parser.Begun.TheVariants.{AfterToken, AfterBar}
 use Rattle.mw_read.proofs.Resuming.{on_step, IsSolid}
-use Rattle.mw_read.proofs.Lexemes.{token_lexemes, token_ends, barred_lexemes, barred_end, bar_lexemes, barred_fault}
+use Rattle.mw_lex.proofs.Lexemes.{token_lexemes, token_ends, barred_lexemes, barred_end, bar_lexemes, barred_fault}
 
 pub constituent_class : (b : ℕ) → is_constituent b ≡ true → class b ≡ Constituent
 constituent_class b h = ap (λ v. if v then Constituent else class_else b) h

@@ -19,7 +19,7 @@ use Rattle.mw_read.specs.declared.step.Outcome.TheVariants as outcomes
 use Rattle.mw_read.specs.declared.step.Step.{Step}
 use Rattle.mw_read.specs.declared.step.Step.TheVariants as steps
 use Rattle.mw_read.proofs.Bytes.{onward_book, ended, ended_at, stopped}
-use Rattle.mw_read.proofs.Lexemes.{token_ends, token_open, bars_end, barred_end, hash_end}
+use Rattle.mw_lex.proofs.Lexemes.{token_ends, token_open, bars_end, barred_end, hash_end}
 use Rattle.mw_read.proofs.Resuming.{onward_append}
 use Rattle.mw_read.proofs.Holding.{holds_full, holds_grows, sound_clamp}
 use Rattle.mw_read.proofs.Bare.{take_cut}

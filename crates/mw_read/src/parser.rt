@@ -8,13 +8,12 @@ ghost use Rattle.mw_read.specs.Held.{Holds};
 ghost use Rattle.mw_read.specs.Parsing.{IsParser, Advances, offset_of, Moves, IsBehind, Begins, IsStarted, Fits, PassesWhite};
 ghost use Rattle.mw_read.specs.Standing.{Reaches, Stands, IsStanding, IsFree, Follows, Lasts, Tells, Says, Finishes, IsLast, HasEndedWith, HasEnded};
 
-use crate::class::{Class, classify, glued_to_bar, glued_to_token, white};
 use crate::members::shown;
-use crate::name::Names;
 use crate::stack::{Stack, fault};
 use crate::step::{Outcome, Step, SyntaxKind, lasting};
 use indexmap::IndexMap;
 use mw_heap::{Heap, Memory, Ref};
+use mw_lex::{Class, Names, classify, glued_to_bar, glued_to_token, white};
 use std::alloc::Global;
 
 /// The piece of text that has begun and not ended, or what stands directly before.

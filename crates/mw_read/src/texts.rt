@@ -1,41 +1,23 @@
 //! Texts of more than one byte: tokens, names between bars, labels and comments, and where they end.
-ghost use Rattle.std.specs.Prelude.{◌≡◌, ℕ, ◌+◌, ◌<◌, ◌≤◌, ◌^◌, ◌⊎◌, true, false, ◌||◌, List, ◌++◌, length, take, IfOk, OnOk};
-ghost use Rattle.mw_model.specs.Terms.Object.{is_name_byte, name_of_bytes, Natural, Symbol};
-ghost use Rattle.mw_model.specs.Texts.Lexemes.{all_are, decimal_value, is_constituent, is_digit, token_form, Atom, Ending};
-ghost use Rattle.mw_model.specs.Events.Fate.{is_out_of_range};
-ghost use Rattle.mw_heap.specs.Objects.{object_at, IsIn, Grows};
+ghost use Rattle.std.specs.Prelude.{◌≡◌, ℕ, ◌+◌, ◌<◌, ◌≤◌, ◌^◌, ◌⊎◌, true, false, List, ◌++◌, length, take, IfOk};
+ghost use Rattle.mw_model.specs.Terms.Object.{is_name_byte, name_of_bytes, Symbol};
+ghost use Rattle.mw_model.specs.Texts.Lexemes.{all_are, is_constituent, is_digit, token_form, Atom, Ending};
+ghost use Rattle.mw_heap.specs.Objects.{Grows};
 ghost use Rattle.mw_read.specs.Machine.{State, on, is_full};
 ghost use Rattle.mw_read.specs.Stacks.{IsStack};
-ghost use Rattle.mw_read.specs.Clamp.{clamp};
 ghost use Rattle.mw_read.specs.Held.{Holds, Took};
 ghost use Rattle.mw_read.specs.Parsing.{IsParser, Advances, EndsHash, meaning_of, Moves};
-ghost use Rattle.mw_read.specs.Runs.{StartsWith};
+ghost use Rattle.mw_lex.specs.Runs.{StartsWith};
 ghost use Rattle.mw_read.specs.Lexing.{token_lexeme, label_lexeme};
 
-use crate::class::{constituents, digits, glued_to_token, line_bytes, name_bytes};
 use crate::kept::{keep_behind, whole_text};
-use crate::name::Names;
 use crate::parser::{Begun, Parser};
 use crate::stack::{Stack, fault};
 use crate::step::{Outcome, SyntaxKind};
-use crate::token::{Form, decimal, few_digits, form_of};
-use mw_heap::{Heap, Memory, Ref};
-
-// The natural of these digits. In place of one of 2^128 or more it is 0, and `big` is set.
-fn natural_of(big: &mut bool, heap: &mut Heap, digits: &[u8]) -> Result<Ref, Memory>
-    requires { all_are is_digit digits.now ≡ true }
-    ensures grows { Grows heap.old.objects heap.new.objects }
-    ensures made { IfOk result (λ r. IsIn heap.new.objects r × (object_at heap.new.objects r ≡ clamp (Natural (decimal_value digits.now)))) }
-    ensures big { OnOk result (big.new ≡ (big.old || is_out_of_range (Natural (decimal_value digits.now)))) }
-{
-    match decimal(digits) {
-        Some(n) => heap.nat(n),
-        None => {
-            *big = true;
-            heap.nat(0)
-        }
-    }
-}
+use mw_heap::{Heap, Memory};
+use mw_lex::{
+    Names, Token, constituents, digits, few_digits, glued_to_token, line_bytes, name_bytes, token_of,
+};
 
 // A token without bars ends: `glued` says whether what stands after it may not stand there. `BEGINS` says whether it begins in this
 // piece, as most do: what they go through is compiled by itself, into the one loop that calls it.
@@ -54,22 +36,15 @@ fn end_token<const BEGINS: bool>(
     ensures took { IfOk result (λ r. (t : State) → Holds heap.old.objects stack.old t → is_full t ≡ false →
         Took heap.new.objects stack.new r (on t (token_lexeme start glued (token_form token.now)))) }
 {
-    match form_of(token) {
-        Form::Digits => {
-            let x = natural_of(&mut stack.big, heap, token)?;
-            stack.atom(heap, x, start)
-        }
-        Form::Name => {
-            let x = names.symbol_of(heap, token)?;
-            stack.atom(heap, x, start)
-        }
-        Form::Dot => {
+    match token_of::<BEGINS>(names, heap, &mut stack.big, token)? {
+        Token::Atom(x) => stack.atom(heap, x, start),
+        Token::Dot => {
             if glued {
                 return Ok(fault(SyntaxKind::Token, start + 1));
             }
             stack.dot(start)
         }
-        Form::Bad => Ok(fault(SyntaxKind::Token, start)),
+        Token::Bad => Ok(fault(SyntaxKind::Token, start)),
     }
 }
 
