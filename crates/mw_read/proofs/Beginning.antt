@@ -9,7 +9,7 @@ use Rattle.mw_read.specs.Machine.{State, Idle, Within, Full, Broken, Turn, on, i
 use Rattle.mw_read.specs.Resume.{resume, onward, following}
 use Rattle.mw_read.specs.Held.{Took}
 use Rattle.mw_lex.specs.Runs.{StartsWith}
-use Rattle.mw_read.specs.Parsing.{ahead, meaning_of, Fits, Advances, IsBehind, Begins, Moves, Moved, offset_of, offset_at, weight}
+use Rattle.mw_read.specs.Parsing.{ahead, meaning_of, Fits, Advances, IsAfter, Begins, Moves, Moved, offset_of, offset_at, weight}
 use Rattle.mw_read.specs.declared.parser.Begun.{Begun}
 use Rattle.mw_read.specs.declared.parser.Begun.TheVariants.{Nothing, Comment, Token, Bars, Barred, Hash, AfterToken, AfterBar}
 use Rattle.mw_read.specs.declared.parser.Parser.{Parser}
@@ -213,38 +213,38 @@ is_token Hash rest h f g = absurd (g refl)
 is_token m rest h f g = absurd h
 
 -- what stands directly after
-behind_is : (m : Begun) (g : Bool) (e : Ending) (t : List ℕ) (o b : ℕ) (y : List ℕ) → IsBehind m g b →
+after_is : (m : Begun) (g : Bool) (e : Ending) (t : List ℕ) (o b : ℕ) (y : List ℕ) → IsAfter m g b →
     ahead e m t o (b ∷ y) ≡ (if g then Stray (fault TOKEN o) ∷ lexemes_from e o 0 (b ∷ y) else lexemes_from e o 0 (b ∷ y))
-behind_is Nothing g e t o b y h = sym (ap (λ v. if v then Stray (fault TOKEN o) ∷ lexemes_from e o 0 (b ∷ y) else lexemes_from e o 0 (b ∷ y)) h)
-behind_is AfterToken g e t o b y h = sym (ap (λ v. if v then Stray (fault TOKEN o) ∷ lexemes_from e o 0 (b ∷ y) else lexemes_from e o 0 (b ∷ y)) h)
-behind_is AfterBar g e t o b y h = sym (ap (λ v. if v then Stray (fault TOKEN o) ∷ lexemes_from e o 0 (b ∷ y) else lexemes_from e o 0 (b ∷ y)) h)
-behind_is m g e t o b y h = absurd h
+after_is Nothing g e t o b y h = sym (ap (λ v. if v then Stray (fault TOKEN o) ∷ lexemes_from e o 0 (b ∷ y) else lexemes_from e o 0 (b ∷ y)) h)
+after_is AfterToken g e t o b y h = sym (ap (λ v. if v then Stray (fault TOKEN o) ∷ lexemes_from e o 0 (b ∷ y) else lexemes_from e o 0 (b ∷ y)) h)
+after_is AfterBar g e t o b y h = sym (ap (λ v. if v then Stray (fault TOKEN o) ∷ lexemes_from e o 0 (b ∷ y) else lexemes_from e o 0 (b ∷ y)) h)
+after_is m g e t o b y h = absurd h
 
-pub glued_faults : (e : Ending) (t : State) (old : Parser) (rest z : List ℕ) → 0 < length rest → IsBehind old.begun true (get_or rest 0 0) → IsSound t → meaning_of e t old (rest ++ z) ≡ book [] (Some (fault TOKEN old.start))
+pub glued_faults : (e : Ending) (t : State) (old : Parser) (rest z : List ℕ) → 0 < length rest → IsAfter old.begun true (get_or rest 0 0) → IsSound t → meaning_of e t old (rest ++ z) ≡ book [] (Some (fault TOKEN old.start))
 glued_faults e t old [] z some h k = absurd (omega arith)
 glued_faults e t old (b ∷ rest) z some h k =
     let r = lexemes_from e old.start 0 (b ∷ (rest ++ z)) in
-    ap (resume t) (behind_is old.begun true e old.token.items old.start b (rest ++ z) h)
+    ap (resume t) (after_is old.begun true e old.token.items old.start b (rest ++ z) h)
     ∙ on_step t (Stray (fault TOKEN old.start)) tt r
     ∙ ap (λ (u : Turn). following u r) (stray_breaks t (fault TOKEN old.start) k)
 
 -- nothing is glued
 module _ (os : List Object) (t : State) (old mid new : Parser) (i : mid.begun ≡ Nothing) (s : mid.start ≡ old.start) where
-  pub same_behind : (b : ℕ) → IsBehind old.begun false b → (e : Ending) (y : List ℕ) → meaning_of e t old (b ∷ y) ≡ meaning_of e t mid (b ∷ y)
-  same_behind b h e y =
-      ap (resume t) (behind_is old.begun false e old.token.items old.start b y h)
+  pub same_after : (b : ℕ) → IsAfter old.begun false b → (e : Ending) (y : List ℕ) → meaning_of e t old (b ∷ y) ≡ meaning_of e t mid (b ∷ y)
+  same_after b h e y =
+      ap (resume t) (after_is old.begun false e old.token.items old.start b y h)
       ∙ ap (λ o. resume t (lexemes_from e o 0 (b ∷ y))) (sym s)
       ∙ sym (at_nothing e t mid (b ∷ y) i)
 
   some_taken : (rest : List ℕ) (n : ℕ) → 0 < length rest → Moved mid rest n new → 0 < n
   some_taken rest n l m = let w : weight mid.begun ≡ 0 = ap weight i in omega (arith, m.less l, w)
 
-  same_take : (b : ℕ) (rest : List ℕ) (n : ℕ) → 0 < n → IsBehind old.begun false b → (e : Ending) (z : List ℕ) → meaning_of e t old (take n (b ∷ rest) ++ z) ≡ meaning_of e t mid (take n (b ∷ rest) ++ z)
+  same_take : (b : ℕ) (rest : List ℕ) (n : ℕ) → 0 < n → IsAfter old.begun false b → (e : Ending) (z : List ℕ) → meaning_of e t old (take n (b ∷ rest) ++ z) ≡ meaning_of e t mid (take n (b ∷ rest) ++ z)
   same_take b rest zero l h e z = absurd (omega arith)
-  same_take b rest (suc n) l h e z = same_behind b h e (take n rest ++ z)
+  same_take b rest (suc n) l h e z = same_after b h e (take n rest ++ z)
 
-  pub behind_advances : (rest : List ℕ) (r : Outcome) (n : ℕ) → 0 < length rest → IsBehind old.begun false (get_or rest 0 0) → Moves r mid rest n new → Advances os t mid rest r n new → Advances os t old rest r n new
-  behind_advances [] r n l h m q = absurd (omega arith)
-  behind_advances (b ∷ rest) outcomes.Pending n l h m q = (q.0, q.1, q.2, λ e z fit. same_take b rest n (some_taken (b ∷ rest) n l m) h e z ∙ q.3 e z fit)
-  behind_advances (b ∷ rest) (outcomes.Datum x) n l h m q = (q.0, q.1, q.2, λ e z fit. same_take b rest n (some_taken (b ∷ rest) n l m) h e z ∙ q.3 e z fit)
-  behind_advances (b ∷ rest) (outcomes.Fault f) n l h m q = λ e z. same_behind b h e (rest ++ z) ∙ q e z
+  pub after_advances : (rest : List ℕ) (r : Outcome) (n : ℕ) → 0 < length rest → IsAfter old.begun false (get_or rest 0 0) → Moves r mid rest n new → Advances os t mid rest r n new → Advances os t old rest r n new
+  after_advances [] r n l h m q = absurd (omega arith)
+  after_advances (b ∷ rest) outcomes.Pending n l h m q = (q.0, q.1, q.2, λ e z fit. same_take b rest n (some_taken (b ∷ rest) n l m) h e z ∙ q.3 e z fit)
+  after_advances (b ∷ rest) (outcomes.Datum x) n l h m q = (q.0, q.1, q.2, λ e z fit. same_take b rest n (some_taken (b ∷ rest) n l m) h e z ∙ q.3 e z fit)
+  after_advances (b ∷ rest) (outcomes.Fault f) n l h m q = λ e z. same_after b h e (rest ++ z) ∙ q e z

@@ -7,16 +7,16 @@ use Rattle.mw_model.specs.Texts.Lexemes as lex
 use Rattle.mw_read.specs.Machine.{State}
 use Rattle.mw_read.specs.Resume.{resume}
 use Rattle.mw_read.specs.Held.{Holds}
-use Rattle.mw_read.specs.Parsing.{meaning_of, IsBehind, IsBetween, IsFirst, Advances, Moved, PassesWhite, offset_of, offset_at, weight}
+use Rattle.mw_read.specs.Parsing.{meaning_of, IsAfter, IsBetween, IsFirst, Advances, Moved, PassesWhite, offset_of, offset_at, weight}
 use Rattle.mw_read.specs.declared.parser.Begun.{Begun}
 use Rattle.mw_read.specs.declared.parser.Begun.TheVariants.{Nothing, AfterToken, AfterBar}
 use Rattle.mw_read.specs.declared.parser.Parser.{Parser}
 use Rattle.mw_read.specs.declared.step.Outcome.TheVariants as outcomes
-use Rattle.mw_read.proofs.Growth.{grows_refl}
+use Rattle.mw_heap.proofs.Objects.{Grows-refl}
 use Rattle.mw_lex.proofs.Lexemes.{piece_lexemes}
 use Rattle.mw_lex.proofs.Classes.{other_class}
 use Rattle.mw_read.proofs.Hashes.{free_parser}
-use Rattle.mw_read.proofs.Beginning.{same_behind}
+use Rattle.mw_read.proofs.Beginning.{same_after}
 use Rattle.mw_read.proofs.Scanning.{Scans, scan_next}
 
 white_bar : (b : ℕ) → class b ≡ lex.White → eqb b 124 ≡ true → ⊥
@@ -46,11 +46,11 @@ white_glued_bar b h = no_or (glued b) (is_constituent b) (λ e. true≢false (sy
     no_constituent : lex.White ≡ lex.Constituent → ⊥
     no_constituent k = cc
 
-white_behind : (m : Begun) (b : ℕ) → IsBetween m → class b ≡ lex.White → IsBehind m false b
-white_behind Nothing b i h = refl
-white_behind AfterToken b i h = sym (white_glued b h)
-white_behind AfterBar b i h = sym (white_glued_bar b h)
-white_behind m b i h = absurd i
+white_after : (m : Begun) (b : ℕ) → IsBetween m → class b ≡ lex.White → IsAfter m false b
+white_after Nothing b i h = refl
+white_after AfterToken b i h = sym (white_glued b h)
+white_after AfterBar b i h = sym (white_glued_bar b h)
+white_after m b i h = absurd i
 
 some_first : (k : lex.Class) (x : List ℕ) → IsFirst k x → 0 < length x
 some_first k [] h = absurd h
@@ -68,7 +68,7 @@ module _ (os : List Object) (old : Parser) (i : IsBetween old.begun) where
 
   white_passes : (t : State) (b : ℕ) → class b ≡ lex.White → (e : Ending) (z : List ℕ) → meaning_of e t old (b ∷ z) ≡ meaning_of e t passed z
   white_passes t b h e z =
-      same_behind os t old (record old { begun = Nothing }) passed refl refl b (white_behind old.begun b i h) e z
+      same_after os t old (record old { begun = Nothing }) passed refl refl b (white_after old.begun b i h) e z
       ∙ ap (resume t) (piece_lexemes e old.start b z lex.White h)
       ∙ ap (λ o. resume t (lexemes_from e o 0 z)) (let o : suc old.start ≡ old.start + 1 = omega arith in o)
 
@@ -96,5 +96,5 @@ blank_scans first old piece os p at n new s (inr h) =
     let some = some_first lex.White (drop at piece) h.3 in
     subst (λ k. Scans first old piece os new (at + k)) (sym h.0)
     (subst (λ q. Scans first old piece os q (at + 1)) (sym h.1)
-    (scan_next first old piece os p at s os (record p { begun = Nothing; start = p.start + 1 }) (grows_refl os) (omega (arith, some, length-drop at piece)) 1 (omega (arith, some))
+    (scan_next first old piece os p at s os (record p { begun = Nothing; start = p.start + 1 }) (Grows-refl os) (omega (arith, some, length-drop at piece)) 1 (omega (arith, some))
     (white_moves os p h.2 (drop at piece) h.3) (white_advances os p h.2 (drop at piece) h.3)))

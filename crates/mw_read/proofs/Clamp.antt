@@ -1,4 +1,4 @@
--- The machine on clamped objects is the clamped machine.
+-- A lexeme makes of a clamped state what it makes of the state, clamped.
 use Rattle.std.proofs.Common.{◌≡◌, ℕ, Bool, true, false, ◌||◌, List, [], ◌∷◌, Option, Some, None, refl, sym, ap, ◌∙◌, if◌then◌else◌, eqb, true≢false}
 use Rattle.mw_model.specs.Terms.Object.{Object, Pair, NIL}
 use Rattle.mw_model.specs.Texts.Lexemes.{Lexeme, Atom, Open, Close, Dot, Quote, Mark, Ref, Wrong, Stray, End, LABEL}

@@ -9,7 +9,7 @@ use Rattle.mw_read.specs.Resume.{resume, following}
 use Rattle.mw_read.specs.Lexing.{token_lexeme}
 use Rattle.mw_read.specs.Held.{Took}
 use Rattle.mw_read.specs.Piles.{fault_of}
-use Rattle.mw_read.specs.Parsing.{ahead, meaning_of, is_inside, offset_of, IsStarted, Fits, behind, weight}
+use Rattle.mw_read.specs.Parsing.{ahead, meaning_of, is_inside, offset_of, IsStarted, Fits, after, weight}
 use Rattle.mw_read.specs.Standing.{Lasts}
 use Rattle.mw_read.specs.declared.parser.Begun.TheVariants.{Token, Bars, Barred, Hash, AfterToken, AfterBar}
 use Rattle.mw_read.specs.declared.parser.Parser.{Parser}
@@ -78,7 +78,7 @@ module _ (os : List Object) (t : State) (old new : Parser) (f : is_full t ≡ fa
     abbrev end : ℕ
     end = old.start + 2 + length old.token.items
 
-    bars_mean : (e : Ending) (z : List ℕ) → Fits AfterBar e z → meaning_of e t old z ≡ resume t (Atom old.start y ∷ behind glued_bar e end z)
+    bars_mean : (e : Ending) (z : List ℕ) → Fits AfterBar e z → meaning_of e t old z ≡ resume t (Atom old.start y ∷ after glued_bar e end z)
     bars_mean e z fit = ap (λ m. resume t (ahead e m old.token.items old.start z)) i ∙ ap (resume t) (bars_whole e old.start old.token.items z l a fit)
 
     ends_at : new.start ≡ end
@@ -98,8 +98,8 @@ module _ (os : List Object) (t : State) (old new : Parser) (f : is_full t ≡ fa
     )
     bars_lasts (outcomes.Fault x) q =
         bars_mean Ends [] tt
-        ∙ on_step t (Atom old.start y) tt (behind glued_bar Ends end [])
-        ∙ ap (λ (u : Turn). following u (behind glued_bar Ends end [])) (took_is (outcomes.Fault x) q)
+        ∙ on_step t (Atom old.start y) tt (after glued_bar Ends end [])
+        ∙ ap (λ (u : Turn). following u (after glued_bar Ends end [])) (took_is (outcomes.Fault x) q)
 
 -- a text that cannot end
 pub bars_end : (t : State) (old : Parser) → old.begun ≡ Bars → all_are is_name_byte old.token.items ≡ true → is_full t ≡ false → IsSound t → meaning_of Ends t old [] ≡ book [] (Some (fault END (offset_of old)))

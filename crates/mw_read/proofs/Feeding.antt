@@ -15,8 +15,8 @@ use Rattle.mw_read.proofs.Beginning.{weight_small}
 use Rattle.mw_read.proofs.Scanning.{fits_more}
 
 module _ (old : Reader) (g : List ℕ) (given : List Object) (os : List Object) (new : Reader) (same : new.finished ≡ old.finished) where
-  next_behind : (n : ℕ) (y : Object) → new.unread ≡ drop n old.unread → GivesBehind old.parser g given old.unread y n new.parser → GivesNext old g given y new
-  next_behind n y e h = record {
+  next_after : (n : ℕ) (y : Object) → new.unread ≡ drop n old.unread → GivesBehind old.parser g given old.unread y n new.parser → GivesNext old g given y new
+  next_after n y e h = record {
     taken = take n old.unread;
     unread = sym (ap (λ v. take n old.unread ++ v) e ∙ take-append-drop n old.unread);
     finished = same;
@@ -27,8 +27,8 @@ module _ (old : Reader) (g : List ℕ) (given : List Object) (os : List Object) 
 
   -- where bytes are unread, or more may come
   pub says_continues : (t : Step) (n : ℕ) → (t ≡ steps.More → old.finished ≡ false) → new.unread ≡ drop n old.unread → Says os old.parser g given old.unread t n new.parser → Continues os old g given t new
-  says_continues (steps.Datum r) n f e v = (v.0, v.1, next_behind n v.0 e v.2)
-  says_continues (steps.TooBig w l) n f e v = (v.0, v.1, next_behind n v.0 e v.2)
+  says_continues (steps.Datum r) n f e v = (v.0, v.1, next_after n v.0 e v.2)
+  says_continues (steps.TooBig w l) n f e v = (v.0, v.1, next_after n v.0 e v.2)
   says_continues steps.More n f e v = let none : new.unread ≡ [] = e ∙ drop_all n old.unread (omega (arith, v.0)) in (f refl, (none, same ∙ f refl), v.1, v.2, v.3)
   says_continues steps.End n f e v = absurd v
   says_continues (steps.Syntax k o) n f e v = λ rest h. v rest
@@ -61,8 +61,8 @@ module _ (old : Reader) (g : List ℕ) (given : List Object) (os : List Object) 
         (subst (λ h. Finishes os old.parser h given t new.parser) (sym (ap (λ r. g ++ r) n ∙ append-nil g)) v)
 
     -- the unread bytes held no further datum
-    pub finishes_behind : (mid : Parser) (t : Step) → 0 < length old.unread → Finishes os mid (g ++ old.unread) given t new.parser → Continues os old g given t new
-    finishes_behind mid t l v = finishes_continues mid t (omega (arith, weight_small mid.begun, l)) v
+    pub finishes_after : (mid : Parser) (t : Step) → 0 < length old.unread → Finishes os mid (g ++ old.unread) given t new.parser → Continues os old g given t new
+    finishes_after mid t l v = finishes_continues mid t (omega (arith, weight_small mid.begun, l)) v
 
 -- What comes after all bytes fed, where no more come.
 module _ (old : Reader) (g : List ℕ) (given : List Object) (e : old.unread ≡ []) where

@@ -2,7 +2,6 @@ pub mod Fuel
 pub mod Resuming
 pub mod Bytes
 pub mod Clamp
-pub mod Growth
 pub mod Named
 pub mod Piles
 pub mod Folding

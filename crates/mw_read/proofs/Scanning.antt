@@ -13,7 +13,7 @@ use Rattle.mw_read.specs.declared.parser.Begun.TheVariants.{Nothing, Comment, To
 use Rattle.mw_read.specs.declared.parser.Parser.{Parser}
 use Rattle.mw_read.specs.declared.step.Outcome.{Outcome}
 use Rattle.mw_read.specs.declared.step.Outcome.TheVariants as outcomes
-use Rattle.mw_read.proofs.Growth.{grows_refl, grows_grows}
+use Rattle.mw_heap.proofs.Objects.{Grows-trans}
 use Rattle.mw_read.proofs.Bare.{take_cut}
 
 -- what a loop over the piece keeps
@@ -105,7 +105,7 @@ module _ (first : List Object) (old : Parser) (piece : List ℕ) (os : List Obje
 
   pub scan_next : (n : ℕ) → n ≤ length rest → Moves outcomes.Pending mid rest n new → ((t : State) → Holds os mid.stack t → Advances os2 t mid rest outcomes.Pending n new) → Scans first old piece os2 new (at + n)
   scan_next n l m f = record {
-    kept = grows_grows first os os2 s.kept g;
+    kept = Grows-trans first os os2 s.kept g;
     within = omega (arith, l, length-drop at piece, some);
     reached = both n m;
     advances = scan_advances outcomes.Pending n m f;

@@ -249,9 +249,9 @@ module _ (os0 os : List Object) (old mid : Parser) (g : List ℕ) (given : List 
       ∙ same_take (k - n) (limit - offset_of mid) (drop n piece) (omega (arith, e, m.offset, length-drop n piece, l, part_length)))
       m.left
 
-  pub datum_behind : (x : ℕ) (n : ℕ) → n ≤ length part → Reaches (outcomes.Datum x) old part n mid → Advances os s.state old part (outcomes.Datum x) n mid →
+  pub datum_after : (x : ℕ) (n : ℕ) → n ≤ length part → Reaches (outcomes.Datum x) old part n mid → Advances os s.state old part (outcomes.Datum x) n mid →
       (y : Object) × Completes os mid.stack x y × GivesBehind old g given piece y n (uncut mid)
-  datum_behind x n l m q = (
+  datum_after x n l m q = (
     q.0,
     q.1,
     record {

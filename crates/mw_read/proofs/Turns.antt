@@ -4,7 +4,7 @@ use Rattle.mw_model.specs.Terms.Object.{Object, NIL}
 use Rattle.mw_model.specs.Texts.Lexemes.{Lexeme, Atom, Open, Close, Dot, Quote, Mark, Ref, DOT, CLOSE, LABEL}
 use Rattle.mw_model.specs.Texts.Grammar.{Labels, Unused, Label, is_begun, labelled}
 use Rattle.mw_heap.specs.Objects.{object_at, IsIn}
-use Rattle.mw_read.specs.Machine.{Frame, Members, Tailed, Quoting, Marking, State, Idle, Within, Full, Broken, Turn, quiet, broken, fill, given, refer, taken, on, labels_of, IsSound, is_full, is_behind_member}
+use Rattle.mw_read.specs.Machine.{Frame, Members, Tailed, Quoting, Marking, State, Idle, Within, Full, Broken, Turn, quiet, broken, fill, given, refer, taken, on, labels_of, IsSound, is_full, is_after_member}
 use Rattle.mw_read.specs.Named.{Agree, seen_at}
 use Rattle.mw_read.specs.Piles.{Pile, Frames, Ready, piled, MayLie, pile_of, IsPile, Shows, IsFrames, give_to, IsInList, closed_with, is_last, is_item, is_ready, has_member, EndsWith, IsUnder}
 use Rattle.mw_read.specs.declared.stack.Layer.{Layer}
@@ -39,7 +39,7 @@ full_is os p m (Within f s ls) h = ap is_ready h.0
 full_is os p m (Full xs x s ls) h = ap is_ready h.0
 full_is os p m (Broken f) h = absurd h
 
-pub member_is : (os : List Object) (p : Pile) (m : List (ℕ × Option ℕ)) (t : State) → Shows os p m t → has_member p ≡ is_behind_member t
+pub member_is : (os : List Object) (p : Pile) (m : List (ℕ × Option ℕ)) (t : State) → Shows os p m t → has_member p ≡ is_after_member t
 member_is os p m Idle h = ap has_member h.0
 member_is os p m (Within (Members []) s ls) h = ap has_member h.0
 member_is os p m (Within (Members (x ∷ xs)) s ls) h = ap has_member h.0
@@ -70,8 +70,8 @@ top_member os t l h = absurd h
 pub top_full : (os : List Object) (ls : List Layer) (l : Layer) → EndsWith ls l → IsPile os ls → is_last l ≡ is_ready (pile_of os ls)
 top_full os ls l e p = let k = split_lies os ls e.0 l e.1 p in sym (top_ready os (pile_of os e.0) l k.0) ∙ sym (ap is_ready k.1)
 
-pub top_behind : (os : List Object) (ls : List Layer) (l : Layer) → EndsWith ls l → IsPile os ls → is_item l ≡ has_member (pile_of os ls)
-top_behind os ls l e p = let k = split_lies os ls e.0 l e.1 p in sym (top_member os (pile_of os e.0) l k.0) ∙ sym (ap has_member k.1)
+pub top_after : (os : List Object) (ls : List Layer) (l : Layer) → EndsWith ls l → IsPile os ls → is_item l ≡ has_member (pile_of os ls)
+top_after os ls l e p = let k = split_lies os ls e.0 l e.1 p in sym (top_member os (pile_of os e.0) l k.0) ∙ sym (ap has_member k.1)
 
 pub ready_frames : (p : Pile) → is_ready p ≡ false → IsFrames p
 ready_frames (Frames s) h = tt
@@ -134,7 +134,7 @@ pub push_frame : (os : List Object) (ls new : List Layer) (m m2 : List (ℕ × O
 push_frame os ls new m m2 t l f js e h n g a =
     (ap (pile_of os) e ∙ pile_top os (Frames []) ls l ∙ ap (λ p. piled os p l) (shows_frames os (pile_of os ls) m t h n) ∙ g (frames_of t), a)
 
-pub push_dot : (os : List Object) (ls new : List Layer) (m : List (ℕ × Option ℕ)) (t : State) (o : ℕ) → new ≡ ls ++ layers.Dot ∷ [] → Shows os (pile_of os ls) m t → is_behind_member t ≡ true →
+pub push_dot : (os : List Object) (ls new : List Layer) (m : List (ℕ × Option ℕ)) (t : State) (o : ℕ) → new ≡ ls ++ layers.Dot ∷ [] → Shows os (pile_of os ls) m t → is_after_member t ≡ true →
     MayLie (pile_of os ls) layers.Dot × (([] ≡ (on t (Dot o)).events) × Shows os (pile_of os new) m (on t (Dot o)).state)
 push_dot os ls new m (Within (Members (x ∷ xs)) s ls') o e h b =
     (subst (λ p. MayLie p layers.Dot) (sym h.0) tt, (refl, (ap (pile_of os) e ∙ pile_top os (Frames []) ls layers.Dot ∙ ap (λ p. piled os p layers.Dot) h.0, h.1)))

@@ -1,4 +1,4 @@
--- What a stack holds: a state of the machine, with its naturals cut.
+-- What a stack holds: a state, with its naturals cut.
 use Rattle.std.specs.Prelude.{◌≡◌, ℕ, true, List, []}
 use Rattle.mw_model.specs.Terms.Object.{Object}
 use Rattle.mw_model.specs.Events.Fate.{is_out_of_range}

@@ -38,9 +38,9 @@ is_full (Full xs x s ls) = true
 is_full (Broken f) = false
 
 -- a dot may stand after a member of a list
-abbrev pub is_behind_member : State → Bool
-is_behind_member (Within (Members (x ∷ xs)) s ls) = true
-is_behind_member t = false
+abbrev pub is_after_member : State → Bool
+is_after_member (Within (Members (x ∷ xs)) s ls) = true
+is_after_member t = false
 
 pub record Turn : Type 0 where
   pub events : List Object
