@@ -1,6 +1,5 @@
 -- Constituents by their class.
-use Rattle.std.proofs.Common.{◌≡◌, ℕ, zero, suc, ◌+◌, ◌<◌, Bool, true, false, ◌&&◌, eqb, List, [], ◌∷◌, length, get_or, refl, sym, ap, ◌∙◌, arith, if◌then◌else◌}
-use Rattle.std.proofs.lemmas.Bool.{and_parts}
+use Rattle.std.proofs.Common.{◌≡◌, ℕ, Bool, true, false, eqb, refl, sym, ap, ◌∙◌, if◌then◌else◌}
 use Rattle.mw_model.specs.Texts.Lexemes.{Class, White, Semicolon, Opening, Closing, Apostrophe, Bar, Hash, Constituent, Other, class, class_else, is_constituent, is_white}
 
 if_not : (v : Bool) (j k l : Class) → (j ≡ l → ⊥) → (k ≡ l → ⊥) → (if v then j else k) ≡ l → ⊥

@@ -1,7 +1,7 @@
 -- The lexemes of a piece of text, and of the bytes after it.
-use Rattle.std.proofs.Common.{◌≡◌, ℕ, zero, suc, ◌+◌, ◌≤◌, Bool, true, false, List, [], ◌∷◌, ◌++◌, length, Option, Some, None, refl, sym, ap, ap₂, ◌∙◌, if◌then◌else◌, eqb, ltb, arith, le_refl}
-use Rattle.mw_model.specs.Terms.Object.{Object, Symbol, is_name_byte, name_of_bytes}
-use Rattle.mw_model.specs.Texts.Lexemes.{Lexeme, Wrong, End, fault, TOKEN, BYTE, LABEL, Ending, Ends, Goes, unfinished, all_are, run_of, after_run, is_constituent, is_digit, TokenForm, Whole, Point, Bad, token_form, token, barred, hashed, label, atom, glued_bar, Class, Constituent, class, piece, extent, lexemes_from}
+use Rattle.std.proofs.Common.{◌≡◌, ℕ, zero, suc, ◌+◌, ◌≤◌, true, false, List, [], ◌∷◌, ◌++◌, length, Some, None, refl, sym, ap, ap₂, ◌∙◌, if◌then◌else◌, eqb, ltb, arith, le_refl}
+use Rattle.mw_model.specs.Terms.Object.{Symbol, is_name_byte, name_of_bytes}
+use Rattle.mw_model.specs.Texts.Lexemes.{Wrong, End, fault, TOKEN, BYTE, LABEL, Ending, Goes, unfinished, all_are, is_constituent, is_digit, TokenForm, Whole, Point, Bad, token_form, token, barred, hashed, label, atom, glued_bar, Class, Constituent, class, piece, extent, lexemes_from}
 use Rattle.mw_lex.proofs.Runs.{length_more, more_text, run_all, after_all, run_end, after_end}
 
 -- a piece by the class of its first byte

@@ -1,5 +1,5 @@
 -- A token's bytes, raised, are a name's.
-use Rattle.std.proofs.Common.{◌≡◌, ℕ, zero, suc, ◌<◌, ◌≤◌, Bool, true, false, ◌&&◌, ◌||◌, not, eqb, leb, List, [], ◌∷◌, map, refl, sym, ap, ◌∙◌, arith, true≢false, eqb-true, leb-true}
+use Rattle.std.proofs.Common.{◌≡◌, ℕ, ◌≤◌, Bool, true, false, ◌&&◌, ◌||◌, not, eqb, leb, List, [], ◌∷◌, map, refl, sym, ap, ◌∙◌, arith, true≢false, eqb-true, leb-true}
 use Rattle.std.proofs.lemmas.Bool.{and_parts, and_from}
 use Rattle.mw_lex.proofs.Bytewise.{agree_below, agree_at}
 use Rattle.mw_model.specs.Terms.Object.{is_name, is_name_byte, are_name_bytes, Symbol, Name}

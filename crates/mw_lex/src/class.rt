@@ -30,19 +30,20 @@ static CONSTITUENTS: [u8; 256] = *b"\
     00000000000000000000000000000000\
     00000000000000000000000000000000";
 
-/// The class of a byte.
+/// The class of a byte. The most frequent come first.
 pub fn classify(b: u8) -> Class
     ensures { class_of result ≡ class b }
 {
     match b {
-        9..=10 | 12..=13 | 32 => Class::White,
-        59 => Class::Semicolon,
         40 => Class::Opening,
         41 => Class::Closing,
+        97..=123 | 45..=57 | 60..=91 | 33 | 36..=38 | 42..=43 | 93..=95 | 125..=126 =>
+            Class::Constituent,
         39 => Class::Apostrophe,
+        9..=10 | 12..=13 | 32 => Class::White,
+        59 => Class::Semicolon,
         124 => Class::Bar,
         35 => Class::Hash,
-        33 | 36..=38 | 42..=43 | 45..=57 | 60..=91 | 93..=95 | 97..=123 | 125..=126 => Class::Constituent,
         _ => Class::Other,
     }
 }
@@ -51,7 +52,7 @@ pub fn classify(b: u8) -> Class
 pub fn white(b: u8) -> bool
     ensures { MatchBool result (class b ≡ White) (class b ≢ White) }
 {
-    matches!(classify(b), Class::White)
+    matches!(b, 9..=10 | 12..=13 | 32)
 }
 
 /// May the byte not stand directly after a token?

@@ -17,7 +17,7 @@ pub enum Token {
     /// A datum: a natural or a symbol.
     Atom(Ref),
     Dot,
-    /// It is none.
+    /// Neither: it begins as a number does and is none, or it is of several dots.
     Bad,
 }
 

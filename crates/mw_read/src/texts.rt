@@ -16,7 +16,8 @@ use crate::stack::{Stack, fault};
 use crate::step::{Outcome, SyntaxKind};
 use mw_heap::{Heap, Memory};
 use mw_lex::{
-    Names, Token, constituents, digits, few_digits, glued_to_token, line_bytes, name_bytes, token_of,
+    Names, Token, constituents, digits, few_digits, glued_to_token, line_bytes, name_bytes,
+    token_of,
 };
 
 impl Parser {
