@@ -4,7 +4,7 @@ use Rattle.std.proofs.lemmas.Bool.{and_parts, and_from}
 use Rattle.mw_model.specs.Texts.Lexemes.{all_are}
 use Rattle.mw_lex.specs.Runs.{StartsWith}
 use Rattle.std.proofs.lemmas.List.{length-take-le, take-append-drop}
-use Rattle.mw_model.specs.Terms.Object.{is_name, is_name_byte, are_name_bytes}
+use Rattle.mw_model.specs.Terms.Object.{is_name_byte, are_name_bytes}
 use Rattle.mw_lex.proofs.Runs.{take_more}
 
 pub empty_is : {A : Type 0} (xs : List A) (n : ℕ) → n ≡ length xs → true ≡ (n == 0) → xs ≡ []

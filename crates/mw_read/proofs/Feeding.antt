@@ -1,10 +1,9 @@
 -- What a reader's answers say of the bytes fed, by what its parser's answers say.
-use Rattle.std.proofs.Common.{◌≡◌, ℕ, zero, suc, ◌-◌, ◌≤◌, ◌<◌, ◌⊎◌, true, false, true≢false, Option, List, [], ◌∷◌, ◌++◌, length, take, drop, refl, sym, ap, ◌∙◌, subst, arith, append-nil, inl, inr}
+use Rattle.std.proofs.Common.{◌≡◌, ℕ, ◌≤◌, ◌<◌, ◌⊎◌, true, false, true≢false, Option, List, [], ◌∷◌, ◌++◌, length, take, drop, refl, sym, ap, ◌∙◌, subst, arith, append-nil, inl, inr}
 use Rattle.std.proofs.lemmas.List.{take-append-drop, drop_all}
 use Rattle.mw_model.specs.Terms.Object.{Object}
-use Rattle.mw_model.specs.Texts.Grammar.{book, limit, trees}
-use Rattle.mw_model.specs.Texts.Lexemes.{Fault, Goes}
-use Rattle.mw_read.specs.Parsing.{Fits, offset_of}
+use Rattle.mw_model.specs.Texts.Grammar.{book, trees}
+use Rattle.mw_model.specs.Texts.Lexemes.{Fault}
 use Rattle.mw_read.specs.Standing.{Stands, IsStanding, Follows, IsLast, HasEndedWith, HasEnded, GivesBehind, GivesLast, Says, Finishes, work}
 use Rattle.mw_read.specs.Feeding.{GivesNext, MayCome, IsReady, Continues}
 use Rattle.mw_read.specs.declared.parser.Parser.{Parser}
@@ -12,7 +11,6 @@ use Rattle.mw_read.specs.declared.reader.Reader.{Reader}
 use Rattle.mw_read.specs.declared.step.Step.{Step}
 use Rattle.mw_read.specs.declared.step.Step.TheVariants as steps
 use Rattle.mw_read.proofs.Beginning.{weight_small}
-use Rattle.mw_read.proofs.Scanning.{fits_more}
 
 module _ (old : Reader) (g : List ℕ) (given : List Object) (os : List Object) (new : Reader) (same : new.finished ≡ old.finished) where
   next_after : (n : ℕ) (y : Object) → new.unread ≡ drop n old.unread → GivesBehind old.parser g given old.unread y n new.parser → GivesNext old g given y new

@@ -2,7 +2,7 @@
 use Rattle.std.proofs.Common.{◌≡◌, ℕ, suc, ◌+◌, ◌<◌, Bool, true, false, List, [], ◌∷◌, ◌++◌, length, map, eqb, ◌&&◌, Some, refl, sym, ap, ◌∙◌, arith, true≢false, if◌then◌else◌, append_assoc, append-nil}
 use Rattle.std.proofs.lemmas.Bool.{and_parts}
 use Rattle.mw_model.specs.Terms.Object.{Object, Natural, Symbol, name_of_bytes, is_name_byte}
-use Rattle.mw_model.specs.Texts.Lexemes.{Lexeme, End, Atom, Dot, Wrong, Stray, Fault, fault, TOKEN, BYTE, Ending, Ends, Goes, all_are, is_constituent, TokenForm, Whole, Point, Bad, token_form, token, atom, glued, glued_bar, class, class_else, Constituent, lexemes_from, unfinished, is_digit, is_dot, like_number, decimal_value, raised}
+use Rattle.mw_model.specs.Texts.Lexemes.{Lexeme, Atom, Dot, Wrong, Stray, Fault, fault, TOKEN, BYTE, Ending, Ends, Goes, all_are, is_constituent, TokenForm, Whole, Point, Bad, token_form, token, atom, glued, glued_bar, class, class_else, Constituent, lexemes_from, is_digit, is_dot, like_number, decimal_value, raised}
 use Rattle.mw_model.specs.Texts.Grammar.{book, and_events}
 use Rattle.mw_read.specs.Machine.{State, Idle, Within, Full, Broken, Members, Tailed, Quoting, Marking, Turn, quiet, event, on, is_full, IsSound}
 use Rattle.mw_read.specs.Resume.{resume, following}

@@ -6,7 +6,7 @@ use Rattle.mw_model.specs.Texts.Lexemes.{Ending, Goes}
 use Rattle.mw_heap.specs.Objects.{Grows}
 use Rattle.mw_read.specs.Machine.{State}
 use Rattle.mw_read.specs.Held.{Holds}
-use Rattle.mw_read.specs.Parsing.{meaning_of, Fits, IsParser, IsStarted, Advances, Moves, Moved, offset_of, weight}
+use Rattle.mw_read.specs.Parsing.{meaning_of, Fits, Advances, Moves, Moved, offset_of, weight}
 use Rattle.mw_read.specs.Standing.{Reached, Reaches}
 use Rattle.mw_read.specs.declared.parser.Begun.{Begun}
 use Rattle.mw_read.specs.declared.parser.Begun.TheVariants.{Nothing, Comment, Token, Bars, Barred, Hash, AfterToken, AfterBar}

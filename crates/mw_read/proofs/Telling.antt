@@ -6,7 +6,6 @@ use Rattle.std.proofs.Math.Nat.{min-le_left, min-le_right}
 use Rattle.mw_model.specs.Terms.Object.{Object}
 use Rattle.mw_model.specs.Texts.Lexemes.{Fault, fault, LENGTH, LABEL, Wrong, End, Ending, Ends, Goes, lexemes_from, all_are, is_constituent, token_form}
 use Rattle.mw_model.specs.Texts.Grammar.{book, and_events, reading, limit, cut_short, trees}
-use Rattle.mw_heap.specs.Objects.{Grows}
 use Rattle.mw_read.specs.Machine.{State, Idle, IsSound, is_full, end_fault}
 use Rattle.mw_read.specs.Resume.{resume, onward}
 use Rattle.mw_read.specs.Held.{Holds, Completes}
@@ -21,7 +20,7 @@ use Rattle.mw_read.specs.declared.step.Step.TheVariants as steps
 use Rattle.mw_read.proofs.Bytes.{onward_book, ended, ended_at, stopped}
 use Rattle.mw_lex.proofs.Lexemes.{token_ends, token_open, bars_end, barred_end, hash_end}
 use Rattle.mw_read.proofs.Resuming.{onward_append}
-use Rattle.mw_read.proofs.Holding.{holds_full, holds_grows, sound_clamp}
+use Rattle.mw_read.proofs.Holding.{holds_full, sound_clamp}
 use Rattle.mw_read.proofs.Bare.{take_cut}
 use Rattle.mw_read.proofs.Parsing.{constituent_class}
 use Rattle.mw_read.proofs.Scanning.{fits_more}

@@ -1,5 +1,5 @@
 -- Naturals past 128 bits in what is open: the code has 0 in their place and remembers that it did.
-use Rattle.std.specs.Prelude.{ℕ, Bool, false, ◌||◌, List, [], ◌∷◌, Option, Some, None}
+use Rattle.std.specs.Prelude.{Bool, false, ◌||◌, List, [], ◌∷◌, Option, Some, None}
 use Rattle.mw_model.specs.Terms.Object.{Object}
 use Rattle.mw_model.specs.Texts.Lexemes.{Lexeme, Atom}
 use Rattle.mw_model.specs.Events.Fate.{is_out_of_range}
