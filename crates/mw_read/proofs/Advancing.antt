@@ -9,7 +9,7 @@ use Rattle.mw_read.specs.Lexing.{token_lexeme}
 use Rattle.mw_read.specs.Piles.{fault_of}
 use Rattle.mw_read.specs.Stacks.{IsStack}
 use Rattle.mw_read.specs.Held.{Holds, Took}
-use Rattle.mw_read.specs.Parsing.{behind, ahead, meaning_of, Fits, IsText, is_inside, IsParser, Advances}
+use Rattle.mw_read.specs.Parsing.{after, ahead, meaning_of, Fits, IsText, is_inside, IsParser, Advances}
 use Rattle.mw_read.specs.declared.parser.Begun.TheVariants.{Token, AfterToken, AfterBar}
 use Rattle.mw_read.specs.declared.parser.Parser.{Parser}
 use Rattle.mw_read.specs.declared.step.Fault as code
@@ -55,9 +55,9 @@ module _ (os : List Object) (t : State) (old new : Parser) (rest : List ℕ) (n 
       ap (λ m. resume t (ahead e m old.token.items old.start (take n rest ++ z))) h
       ∙ ap (λ y. resume t (lexemes_from e old.start 0 y)) (sym (append_assoc old.token.items (take n rest) z))
 
-  at_new : (u : State) → new.begun ≡ AfterToken → new.start ≡ old.start + length whole → (e : Ending) (z : List ℕ) → resume u (behind glued e (old.start + length whole) z) ≡ meaning_of e u new z
+  at_new : (u : State) → new.begun ≡ AfterToken → new.start ≡ old.start + length whole → (e : Ending) (z : List ℕ) → resume u (after glued e (old.start + length whole) z) ≡ meaning_of e u new z
   at_new u h s e z =
-      ap (λ o. resume u (behind glued e o z)) (sym s) ∙ sym (ap (λ m. resume u (ahead e m new.token.items new.start z)) h)
+      ap (λ o. resume u (after glued e o z)) (sym s) ∙ sym (ap (λ m. resume u (ahead e m new.token.items new.start z)) h)
 
   fits_new : new.begun ≡ AfterToken → (e : Ending) (z : List ℕ) → Fits new.begun e z → Fits AfterToken e z
   fits_new h e z f = subst (λ m. Fits m e z) h f
@@ -85,8 +85,8 @@ module _ (os : List Object) (t : State) (old new : Parser) (rest : List ℕ) (n 
           λ e z fit.
               at_old i e z
               ∙ ap (resume t) (token_whole e old.start whole z y l a v (fits_new m e z fit))
-              ∙ on_step t (Atom old.start y) tt (behind glued e (old.start + length whole) z)
-              ∙ ap (λ (u : List Object). onward u (resume w.state (behind glued e (old.start + length whole) z))) q.0
+              ∙ on_step t (Atom old.start y) tt (after glued e (old.start + length whole) z)
+              ∙ ap (λ (u : List Object). onward u (resume w.state (after glued e (old.start + length whole) z))) q.0
               ∙ at_new w.state m s e z,
         )
 
@@ -98,8 +98,8 @@ module _ (os : List Object) (t : State) (old new : Parser) (rest : List ℕ) (n 
       λ e z fit.
           at_old i e z
           ∙ ap (resume t) (token_whole e old.start whole z y l a v (fits_new m e z fit))
-          ∙ on_step t (Atom old.start y) tt (behind glued e (old.start + length whole) z)
-          ∙ following_event (on t (Atom old.start y)) q.0 (behind glued e (old.start + length whole) z) q.1
+          ∙ on_step t (Atom old.start y) tt (after glued e (old.start + length whole) z)
+          ∙ following_event (on t (Atom old.start y)) q.0 (after glued e (old.start + length whole) z) q.1
           ∙ ap (and_events q.0) (at_new Idle m s e z),
     )
 
@@ -141,7 +141,7 @@ module _ (os : List Object) (t : State) (old new : Parser) (rest : List ℕ) (n 
 
 -- an atom between bars
 pub bars_advance : (os : List Object) (t : State) (old new : Parser) (rest : List ℕ) (n b end : ℕ) (x : List ℕ) (y : Object) (r : Outcome) → ((f : code.Fault) → r ≡ outcomes.Fault f → rest ≡ take n rest ++ b ∷ x) →
-    ((e : Ending) (z : List ℕ) → Fits AfterBar e z → meaning_of e t old (take n rest ++ z) ≡ resume t (Atom old.start y ∷ behind glued_bar e end z)) →
+    ((e : Ending) (z : List ℕ) → Fits AfterBar e z → meaning_of e t old (take n rest ++ z) ≡ resume t (Atom old.start y ∷ after glued_bar e end z)) →
     Took os new.stack r (on t (Atom old.start y)) → new.begun ≡ AfterBar → new.start ≡ end → Advances os t old rest r n new
 bars_advance os t old new rest n b end x y outcomes.Pending e m q i s =
     let w = on t (Atom old.start y) in (
@@ -150,9 +150,9 @@ bars_advance os t old new rest n b end x y outcomes.Pending e m q i s =
       after_bar_parser os new i q.1.stack,
       λ e' z fit.
           m e' z (subst (λ u. Fits u e' z) i fit)
-          ∙ on_step t (Atom old.start y) tt (behind glued_bar e' end z)
-          ∙ ap (λ (u : List Object). onward u (resume w.state (behind glued_bar e' end z))) q.0
-          ∙ ap (λ o. resume w.state (behind glued_bar e' o z)) (sym s)
+          ∙ on_step t (Atom old.start y) tt (after glued_bar e' end z)
+          ∙ ap (λ (u : List Object). onward u (resume w.state (after glued_bar e' end z))) q.0
+          ∙ ap (λ o. resume w.state (after glued_bar e' o z)) (sym s)
           ∙ sym (ap (λ u. resume w.state (ahead e' u new.token.items new.start z)) i),
     )
 bars_advance os t old new rest n b end x y (outcomes.Datum r) e m q i s = (
@@ -161,17 +161,17 @@ bars_advance os t old new rest n b end x y (outcomes.Datum r) e m q i s = (
   after_bar_parser os new i q.2.stack,
   λ e' z fit.
       m e' z (subst (λ u. Fits u e' z) i fit)
-      ∙ on_step t (Atom old.start y) tt (behind glued_bar e' end z)
-      ∙ following_event (on t (Atom old.start y)) q.0 (behind glued_bar e' end z) q.1
-      ∙ ap (λ o. and_events q.0 (resume Idle (behind glued_bar e' o z))) (sym s)
+      ∙ on_step t (Atom old.start y) tt (after glued_bar e' end z)
+      ∙ following_event (on t (Atom old.start y)) q.0 (after glued_bar e' end z) q.1
+      ∙ ap (λ o. and_events q.0 (resume Idle (after glued_bar e' o z))) (sym s)
       ∙ ap (and_events q.0) (sym (ap (λ u. resume Idle (ahead e' u new.token.items new.start z)) i)),
 )
 bars_advance os t old new rest n b end x y (outcomes.Fault f) e m q i s = λ e' z.
     ap (λ u. meaning_of e' t old (u ++ z)) (e f refl)
     ∙ ap (meaning_of e' t old) (append_assoc (take n rest) (b ∷ x) z)
     ∙ m e' (b ∷ (x ++ z)) tt
-    ∙ on_step t (Atom old.start y) tt (behind glued_bar e' end (b ∷ (x ++ z)))
-    ∙ ap (λ (u : Turn). following u (behind glued_bar e' end (b ∷ (x ++ z)))) q
+    ∙ on_step t (Atom old.start y) tt (after glued_bar e' end (b ∷ (x ++ z)))
+    ∙ ap (λ (u : Turn). following u (after glued_bar e' end (b ∷ (x ++ z)))) q
 
 -- a fault
 pub fault_advances : (os : List Object) (t : State) (old new : Parser) (rest : List ℕ) (r : Outcome) (n : ℕ) (f : code.Fault) → r ≡ outcomes.Fault f →

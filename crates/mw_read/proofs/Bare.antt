@@ -2,10 +2,10 @@
 use Rattle.std.proofs.Common.{◌≡◌, ℕ, zero, suc, ◌<◌, ◌+◌, Bool, true, false, List, [], ◌∷◌, ◌++◌, length, take, drop, get_or, refl, sym, ap, ◌∙◌, arith, ◌==◌, eqb-true, eqb, ◌≤◌, append_assoc, length-append, true≢false, ◌⊎◌, inl, inr}
 use Rattle.std.proofs.lemmas.Bool.{and_parts, and_from}
 use Rattle.mw_model.specs.Texts.Lexemes.{all_are}
-use Rattle.mw_read.specs.Runs.{StartsWith}
+use Rattle.mw_lex.specs.Runs.{StartsWith}
 use Rattle.std.proofs.lemmas.List.{length-take-le, take-append-drop}
-use Rattle.mw_model.specs.Terms.Object.{is_name, is_name_byte, are_name_bytes}
-use Rattle.mw_read.proofs.Classes.{take_more}
+use Rattle.mw_model.specs.Terms.Object.{is_name_byte, are_name_bytes}
+use Rattle.mw_lex.proofs.Runs.{take_more}
 
 pub empty_is : {A : Type 0} (xs : List A) (n : ℕ) → n ≡ length xs → true ≡ (n == 0) → xs ≡ []
 empty_is [] n h e = refl
@@ -66,10 +66,6 @@ not_eqb a b h = go (eqb a b) refl
 pub are_names : (bytes : List ℕ) → all_are is_name_byte bytes ≡ true → are_name_bytes bytes ≡ true
 are_names [] h = refl
 are_names (b ∷ bytes) h = let m = and_parts (is_name_byte b) (all_are is_name_byte bytes) h in and_from (is_name_byte b) (are_name_bytes bytes) m.0 (are_names bytes m.1)
-
-pub is_name_of : (bytes : List ℕ) → 0 < length bytes → all_are is_name_byte bytes ≡ true → is_name bytes ≡ true
-is_name_of [] l h = absurd (omega arith)
-is_name_of (b ∷ bytes) l h = are_names (b ∷ bytes) h
 
 pub take_run : (xs : List ℕ) (n : ℕ) → n ≤ length xs → length (take n xs) ≡ n
 take_run xs n h = length-take-le n xs h

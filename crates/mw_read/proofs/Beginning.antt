@@ -2,23 +2,24 @@
 use Rattle.std.proofs.Common.{◌≡◌, ℕ, zero, suc, ◌+◌, ◌-◌, ◌<◌, ◌≤◌, Bool, true, false, List, [], ◌∷◌, ◌++◌, length, take, drop, get_or, Some, Result, Ok, Err, IfOk, refl, sym, ap, ◌∙◌, subst, arith, true≢false, if◌then◌else◌}
 use Rattle.std.proofs.lemmas.List.{take_all, length-drop, drop_all}
 use Rattle.mw_model.specs.Terms.Object.{Object}
-use Rattle.mw_model.specs.Texts.Lexemes.{Lexeme, Stray, Fault, fault, DOT, TOKEN, BYTE, Ending, Goes, glued, glued_bar, is_constituent, Class, class, lexemes_from}
+use Rattle.mw_model.specs.Texts.Lexemes.{Lexeme, Stray, Fault, fault, DOT, TOKEN, BYTE, Ending, Goes, glued, glued_bar, is_constituent, Class, class, piece, extent, lexemes_from}
 use Rattle.mw_model.specs.Texts.Lexemes as lex
 use Rattle.mw_model.specs.Texts.Grammar.{book, and_events}
-use Rattle.mw_read.specs.Machine.{State, Idle, Within, Full, Broken, Turn, on, Between, Move, turned, fresh, is_full, IsSound}
+use Rattle.mw_read.specs.Machine.{State, Idle, Within, Full, Broken, Turn, on, is_full, IsSound}
 use Rattle.mw_read.specs.Resume.{resume, onward, following}
 use Rattle.mw_read.specs.Held.{Took}
-use Rattle.mw_read.specs.Runs.{StartsWith}
-use Rattle.mw_read.specs.Parsing.{ahead, meaning_of, Fits, Advances, IsBehind, Begins, Moves, Moved, offset_of, offset_at, weight}
+use Rattle.mw_lex.specs.Runs.{StartsWith}
+use Rattle.mw_read.specs.Parsing.{ahead, meaning_of, Fits, Advances, IsAfter, Begins, Moves, Moved, offset_of, offset_at, weight}
 use Rattle.mw_read.specs.declared.parser.Begun.{Begun}
 use Rattle.mw_read.specs.declared.parser.Begun.TheVariants.{Nothing, Comment, Token, Bars, Barred, Hash, AfterToken, AfterBar}
 use Rattle.mw_read.specs.declared.parser.Parser.{Parser}
 use Rattle.mw_read.specs.declared.step.Outcome.{Outcome}
 use Rattle.mw_read.specs.declared.step.Outcome.TheVariants as outcomes
-use Rattle.mw_read.proofs.Resuming.{on_step}
-use Rattle.mw_read.proofs.Bytes.{between_at, meaning}
+use Rattle.mw_read.proofs.Resuming.{on_step, IsSolid}
+use Rattle.mw_lex.proofs.Lexemes.{piece_lexemes}
+use Rattle.mw_read.proofs.Bytes.{full_piece}
 use Rattle.mw_read.proofs.Bare.{take_cut}
-use Rattle.mw_read.proofs.Classes as classes
+use Rattle.mw_lex.proofs.Classes as classes
 use Rattle.mw_read.proofs.Hashes.{free_parser}
 use Rattle.mw_read.proofs.Parsing.{stray_breaks, following_event}
 
@@ -75,14 +76,16 @@ at_nothing e t p x h = ap (λ m. resume t (ahead e m p.token.items p.start x)) h
 
 -- a lexeme of one byte
 pub lexeme_advances : (os : List Object) (t : State) (old new : Parser) (rest : List ℕ) (r : Outcome) (k : Class) (l : Lexeme) → 0 < length rest → old.begun ≡ Nothing → new.begun ≡ Nothing →
-    new.start ≡ old.start + 1 → class (get_or rest 0 0) ≡ k → ((b : ℕ) → fresh k t old.start b ≡ turned (on t l) Between (suc old.start)) → Took os new.stack r (on t l) → Advances os t old rest r 1 new
-lexeme_advances os t old new [] r k l some h i s c f q = absurd (omega arith)
-lexeme_advances os t old new (b ∷ rest) r k l some h i s c f q =
+    new.start ≡ old.start + 1 → class (get_or rest 0 0) ≡ k → IsSolid l →
+    ((e : Ending) (b : ℕ) (x : List ℕ) → piece k e old.start b x ++ lexemes_from e (suc old.start) (extent k x) x ≡ l ∷ lexemes_from e (suc old.start) 0 x) →
+    Took os new.stack r (on t l) → Advances os t old rest r 1 new
+lexeme_advances os t old new [] r k l some h i s c w f q = absurd (omega arith)
+lexeme_advances os t old new (b ∷ rest) r k l some h i s c w f q =
     ends_free os t old new (b ∷ rest) 1 l r i
     (λ e z.
     at_nothing e t old (b ∷ z) h
-    ∙ between_at e z t old.start b k c
-    ∙ ap (λ (m : Move). onward m.events (meaning e m.reader z)) (f b)
+    ∙ ap (resume t) (piece_lexemes e old.start b z k c ∙ f e b z)
+    ∙ on_step t l w (lexemes_from e (suc old.start) 0 z)
     ∙ ap (λ o. following (on t l) (lexemes_from e o 0 z)) (let o : suc old.start ≡ new.start = omega (arith, s) in o))
     q
 
@@ -91,31 +94,21 @@ pub byte_faults : (e : Ending) (t : State) (old : Parser) (rest z : List ℕ) �
     meaning_of e t old (rest ++ z) ≡ book [] (Some (fault BYTE old.start))
 byte_faults e t old [] z some h c k = absurd (omega arith)
 byte_faults e t old (b ∷ rest) z some h c k =
+    let r = lexemes_from e (suc old.start) 0 (rest ++ z) in
     at_nothing e t old (b ∷ (rest ++ z)) h
-    ∙ between_at e (rest ++ z) t old.start b lex.Other c
-    ∙ ap (λ (u : Turn). following u (lexemes_from e (suc old.start) 0 (rest ++ z))) (stray_breaks t (fault BYTE old.start) k)
+    ∙ ap (resume t) (piece_lexemes e old.start b (rest ++ z) lex.Other c)
+    ∙ on_step t (Stray (fault BYTE old.start)) tt r
+    ∙ ap (λ (u : Turn). following u r) (stray_breaks t (fault BYTE old.start) k)
 
 -- after a dot's datum no text may begin
 pub begun_full : (m : Begun) (e : Ending) (t : State) (o : ℕ) (rest z : List ℕ) → Begins m rest → is_full t ≡ true → resume t (lexemes_from e o 0 (rest ++ z)) ≡ book [] (Some (fault DOT o))
-begun_full Bars e (Full xs y s ls) o (b ∷ rest) z h f = between_at e (rest ++ z) (Full xs y s ls) o b lex.Bar h
-begun_full Hash e (Full xs y s ls) o (b ∷ rest) z h f = between_at e (rest ++ z) (Full xs y s ls) o b lex.Hash h
-begun_full Token e (Full xs y s ls) o (b ∷ rest) z h f = between_at e (rest ++ z) (Full xs y s ls) o b lex.Constituent h
+begun_full Bars e (Full xs y s ls) o (b ∷ rest) z h f = full_piece e xs y s ls o b (rest ++ z) lex.Bar h tt
+begun_full Hash e (Full xs y s ls) o (b ∷ rest) z h f = full_piece e xs y s ls o b (rest ++ z) lex.Hash h tt
+begun_full Token e (Full xs y s ls) o (b ∷ rest) z h f = full_piece e xs y s ls o b (rest ++ z) lex.Constituent h tt
 begun_full m e Idle o rest z h f = absurd (true≢false (sym f))
 begun_full m e (Within g s ls) o rest z h f = absurd (true≢false (sym f))
 begun_full m e (Broken g) o rest z h f = absurd (true≢false (sym f))
 begun_full m e (Full xs y s ls) o rest z h f = absurd h
-
-begun_bars : (e : Ending) (t : State) (o b : ℕ) (x : List ℕ) → class b ≡ lex.Bar → is_full t ≡ false → IsSound t → resume t (lexemes_from e o 0 (b ∷ x)) ≡ resume t (lexemes_from e o 0 (124 ∷ x))
-begun_bars e Idle o b x h f k = between_at e x Idle o b lex.Bar h
-begun_bars e (Within g s ls) o b x h f k = between_at e x (Within g s ls) o b lex.Bar h
-begun_bars e (Full xs y s ls) o b x h f k = absurd (true≢false f)
-begun_bars e (Broken g) o b x h f k = absurd k
-
-begun_hash : (e : Ending) (t : State) (o b : ℕ) (x : List ℕ) → class b ≡ lex.Hash → is_full t ≡ false → IsSound t → resume t (lexemes_from e o 0 (b ∷ x)) ≡ resume t (lexemes_from e o 0 (35 ∷ x))
-begun_hash e Idle o b x h f k = between_at e x Idle o b lex.Hash h
-begun_hash e (Within g s ls) o b x h f k = between_at e x (Within g s ls) o b lex.Hash h
-begun_hash e (Full xs y s ls) o b x h f k = absurd (true≢false f)
-begun_hash e (Broken g) o b x h f k = absurd k
 
 take_next : (b : ℕ) (rest : List ℕ) (n : ℕ) → take (n + 1) (b ∷ rest) ≡ b ∷ take n rest
 take_next b rest n = ap (λ k. take k (b ∷ rest)) (let o : n + 1 ≡ suc n = omega arith in o)
@@ -126,28 +119,28 @@ drop_next (b ∷ rest) n = ap (λ k. drop k (b ∷ rest)) (let o : suc n ≡ n +
 
 -- a name between bars or a label begins
 pub bars_begin : (os : List Object) (t : State) (old mid new : Parser) (rest : List ℕ) (r : Outcome) (n : ℕ) → old.begun ≡ Nothing → mid.begun ≡ Bars → mid.token.items ≡ [] → mid.start ≡ old.start → Begins Bars rest →
-    is_full t ≡ false → IsSound t → Advances os t mid (drop 1 rest) r n new → Advances os t old rest r (n + 1) new
-bars_begin os t old mid new [] r n h i j s c f k q = absurd c
-bars_begin os t old mid new (b ∷ rest) r n h i j s c f k q =
+    Advances os t mid (drop 1 rest) r n new → Advances os t old rest r (n + 1) new
+bars_begin os t old mid new [] r n h i j s c q = absurd c
+bars_begin os t old mid new (b ∷ rest) r n h i j s c q =
     carry os t old mid new rest (b ∷ rest) r n (n + 1) (λ e z. ap (λ u. meaning_of e t old (u ++ z)) (take_next b rest n) ∙ same e (take n rest ++ z)) (λ e z. same e (rest ++ z)) q
   where
     same : (e : Ending) (y : List ℕ) → meaning_of e t old (b ∷ y) ≡ meaning_of e t mid y
     same e y =
         at_nothing e t old (b ∷ y) h
-        ∙ begun_bars e t old.start b y c f k
+        ∙ ap (resume t) (piece_lexemes e old.start b y lex.Bar c)
         ∙ ap (λ o. resume t (lexemes_from e o 0 (124 ∷ y))) (sym s)
         ∙ sym (ap (λ m. resume t (ahead e m mid.token.items mid.start y)) i ∙ ap (λ u. resume t (lexemes_from e mid.start 0 (124 ∷ (u ++ y)))) j)
 
 pub hash_begin : (os : List Object) (t : State) (old mid new : Parser) (rest : List ℕ) (r : Outcome) (n : ℕ) → old.begun ≡ Nothing → mid.begun ≡ Hash → mid.token.items ≡ [] → mid.start ≡ old.start → Begins Hash rest →
-    is_full t ≡ false → IsSound t → Advances os t mid (drop 1 rest) r n new → Advances os t old rest r (n + 1) new
-hash_begin os t old mid new [] r n h i j s c f k q = absurd c
-hash_begin os t old mid new (b ∷ rest) r n h i j s c f k q =
+    Advances os t mid (drop 1 rest) r n new → Advances os t old rest r (n + 1) new
+hash_begin os t old mid new [] r n h i j s c q = absurd c
+hash_begin os t old mid new (b ∷ rest) r n h i j s c q =
     carry os t old mid new rest (b ∷ rest) r n (n + 1) (λ e z. ap (λ u. meaning_of e t old (u ++ z)) (take_next b rest n) ∙ same e (take n rest ++ z)) (λ e z. same e (rest ++ z)) q
   where
     same : (e : Ending) (y : List ℕ) → meaning_of e t old (b ∷ y) ≡ meaning_of e t mid y
     same e y =
         at_nothing e t old (b ∷ y) h
-        ∙ begun_hash e t old.start b y c f k
+        ∙ ap (resume t) (piece_lexemes e old.start b y lex.Hash c)
         ∙ ap (λ o. resume t (lexemes_from e o 0 (35 ∷ y))) (sym s)
         ∙ sym (ap (λ m. resume t (ahead e m mid.token.items mid.start y)) i ∙ ap (λ u. resume t (lexemes_from e mid.start 0 (35 ∷ (u ++ y)))) j)
 
@@ -220,38 +213,38 @@ is_token Hash rest h f g = absurd (g refl)
 is_token m rest h f g = absurd h
 
 -- what stands directly after
-behind_is : (m : Begun) (g : Bool) (e : Ending) (t : List ℕ) (o b : ℕ) (y : List ℕ) → IsBehind m g b →
+after_is : (m : Begun) (g : Bool) (e : Ending) (t : List ℕ) (o b : ℕ) (y : List ℕ) → IsAfter m g b →
     ahead e m t o (b ∷ y) ≡ (if g then Stray (fault TOKEN o) ∷ lexemes_from e o 0 (b ∷ y) else lexemes_from e o 0 (b ∷ y))
-behind_is Nothing g e t o b y h = sym (ap (λ v. if v then Stray (fault TOKEN o) ∷ lexemes_from e o 0 (b ∷ y) else lexemes_from e o 0 (b ∷ y)) h)
-behind_is AfterToken g e t o b y h = sym (ap (λ v. if v then Stray (fault TOKEN o) ∷ lexemes_from e o 0 (b ∷ y) else lexemes_from e o 0 (b ∷ y)) h)
-behind_is AfterBar g e t o b y h = sym (ap (λ v. if v then Stray (fault TOKEN o) ∷ lexemes_from e o 0 (b ∷ y) else lexemes_from e o 0 (b ∷ y)) h)
-behind_is m g e t o b y h = absurd h
+after_is Nothing g e t o b y h = sym (ap (λ v. if v then Stray (fault TOKEN o) ∷ lexemes_from e o 0 (b ∷ y) else lexemes_from e o 0 (b ∷ y)) h)
+after_is AfterToken g e t o b y h = sym (ap (λ v. if v then Stray (fault TOKEN o) ∷ lexemes_from e o 0 (b ∷ y) else lexemes_from e o 0 (b ∷ y)) h)
+after_is AfterBar g e t o b y h = sym (ap (λ v. if v then Stray (fault TOKEN o) ∷ lexemes_from e o 0 (b ∷ y) else lexemes_from e o 0 (b ∷ y)) h)
+after_is m g e t o b y h = absurd h
 
-pub glued_faults : (e : Ending) (t : State) (old : Parser) (rest z : List ℕ) → 0 < length rest → IsBehind old.begun true (get_or rest 0 0) → IsSound t → meaning_of e t old (rest ++ z) ≡ book [] (Some (fault TOKEN old.start))
+pub glued_faults : (e : Ending) (t : State) (old : Parser) (rest z : List ℕ) → 0 < length rest → IsAfter old.begun true (get_or rest 0 0) → IsSound t → meaning_of e t old (rest ++ z) ≡ book [] (Some (fault TOKEN old.start))
 glued_faults e t old [] z some h k = absurd (omega arith)
 glued_faults e t old (b ∷ rest) z some h k =
     let r = lexemes_from e old.start 0 (b ∷ (rest ++ z)) in
-    ap (resume t) (behind_is old.begun true e old.token.items old.start b (rest ++ z) h)
+    ap (resume t) (after_is old.begun true e old.token.items old.start b (rest ++ z) h)
     ∙ on_step t (Stray (fault TOKEN old.start)) tt r
     ∙ ap (λ (u : Turn). following u r) (stray_breaks t (fault TOKEN old.start) k)
 
 -- nothing is glued
 module _ (os : List Object) (t : State) (old mid new : Parser) (i : mid.begun ≡ Nothing) (s : mid.start ≡ old.start) where
-  pub same_behind : (b : ℕ) → IsBehind old.begun false b → (e : Ending) (y : List ℕ) → meaning_of e t old (b ∷ y) ≡ meaning_of e t mid (b ∷ y)
-  same_behind b h e y =
-      ap (resume t) (behind_is old.begun false e old.token.items old.start b y h)
+  pub same_after : (b : ℕ) → IsAfter old.begun false b → (e : Ending) (y : List ℕ) → meaning_of e t old (b ∷ y) ≡ meaning_of e t mid (b ∷ y)
+  same_after b h e y =
+      ap (resume t) (after_is old.begun false e old.token.items old.start b y h)
       ∙ ap (λ o. resume t (lexemes_from e o 0 (b ∷ y))) (sym s)
       ∙ sym (at_nothing e t mid (b ∷ y) i)
 
   some_taken : (rest : List ℕ) (n : ℕ) → 0 < length rest → Moved mid rest n new → 0 < n
   some_taken rest n l m = let w : weight mid.begun ≡ 0 = ap weight i in omega (arith, m.less l, w)
 
-  same_take : (b : ℕ) (rest : List ℕ) (n : ℕ) → 0 < n → IsBehind old.begun false b → (e : Ending) (z : List ℕ) → meaning_of e t old (take n (b ∷ rest) ++ z) ≡ meaning_of e t mid (take n (b ∷ rest) ++ z)
+  same_take : (b : ℕ) (rest : List ℕ) (n : ℕ) → 0 < n → IsAfter old.begun false b → (e : Ending) (z : List ℕ) → meaning_of e t old (take n (b ∷ rest) ++ z) ≡ meaning_of e t mid (take n (b ∷ rest) ++ z)
   same_take b rest zero l h e z = absurd (omega arith)
-  same_take b rest (suc n) l h e z = same_behind b h e (take n rest ++ z)
+  same_take b rest (suc n) l h e z = same_after b h e (take n rest ++ z)
 
-  pub behind_advances : (rest : List ℕ) (r : Outcome) (n : ℕ) → 0 < length rest → IsBehind old.begun false (get_or rest 0 0) → Moves r mid rest n new → Advances os t mid rest r n new → Advances os t old rest r n new
-  behind_advances [] r n l h m q = absurd (omega arith)
-  behind_advances (b ∷ rest) outcomes.Pending n l h m q = (q.0, q.1, q.2, λ e z fit. same_take b rest n (some_taken (b ∷ rest) n l m) h e z ∙ q.3 e z fit)
-  behind_advances (b ∷ rest) (outcomes.Datum x) n l h m q = (q.0, q.1, q.2, λ e z fit. same_take b rest n (some_taken (b ∷ rest) n l m) h e z ∙ q.3 e z fit)
-  behind_advances (b ∷ rest) (outcomes.Fault f) n l h m q = λ e z. same_behind b h e (rest ++ z) ∙ q e z
+  pub after_advances : (rest : List ℕ) (r : Outcome) (n : ℕ) → 0 < length rest → IsAfter old.begun false (get_or rest 0 0) → Moves r mid rest n new → Advances os t mid rest r n new → Advances os t old rest r n new
+  after_advances [] r n l h m q = absurd (omega arith)
+  after_advances (b ∷ rest) outcomes.Pending n l h m q = (q.0, q.1, q.2, λ e z fit. same_take b rest n (some_taken (b ∷ rest) n l m) h e z ∙ q.3 e z fit)
+  after_advances (b ∷ rest) (outcomes.Datum x) n l h m q = (q.0, q.1, q.2, λ e z fit. same_take b rest n (some_taken (b ∷ rest) n l m) h e z ∙ q.3 e z fit)
+  after_advances (b ∷ rest) (outcomes.Fault f) n l h m q = λ e z. same_after b h e (rest ++ z) ∙ q e z

@@ -1,5 +1,5 @@
 -- White space directly after what was read.
-use Rattle.std.proofs.Common.{◌≡◌, ℕ, suc, eqb-true, true≢false, ◌+◌, ◌*◌, ◌<◌, ◌≤◌, Bool, true, false, ◌||◌, eqb, List, [], ◌∷◌, length, drop, inl, inr, refl, sym, ap, ◌∙◌, subst, arith}
+use Rattle.std.proofs.Common.{◌≡◌, ℕ, suc, eqb-true, true≢false, ◌+◌, ◌*◌, ◌<◌, Bool, true, false, ◌||◌, eqb, List, [], ◌∷◌, length, drop, inl, inr, refl, sym, ap, ◌∙◌, subst, arith}
 use Rattle.std.proofs.lemmas.List.{length-drop}
 use Rattle.mw_model.specs.Terms.Object.{Object}
 use Rattle.mw_model.specs.Texts.Lexemes.{Ending, Goes, glued, glued_bar, is_constituent, class, lexemes_from}
@@ -7,16 +7,16 @@ use Rattle.mw_model.specs.Texts.Lexemes as lex
 use Rattle.mw_read.specs.Machine.{State}
 use Rattle.mw_read.specs.Resume.{resume}
 use Rattle.mw_read.specs.Held.{Holds}
-use Rattle.mw_read.specs.Parsing.{meaning_of, IsBehind, IsBetween, IsFirst, Advances, Moved, PassesWhite, offset_of, offset_at, weight}
+use Rattle.mw_read.specs.Parsing.{meaning_of, IsAfter, IsBetween, IsFirst, Advances, Moved, PassesWhite, offset_of, offset_at, weight}
 use Rattle.mw_read.specs.declared.parser.Begun.{Begun}
 use Rattle.mw_read.specs.declared.parser.Begun.TheVariants.{Nothing, AfterToken, AfterBar}
 use Rattle.mw_read.specs.declared.parser.Parser.{Parser}
 use Rattle.mw_read.specs.declared.step.Outcome.TheVariants as outcomes
-use Rattle.mw_read.proofs.Growth.{grows_refl}
-use Rattle.mw_read.proofs.Bytes.{between_at}
-use Rattle.mw_read.proofs.Classes.{other_class}
+use Rattle.mw_heap.proofs.Objects.{Grows-refl}
+use Rattle.mw_lex.proofs.Lexemes.{piece_lexemes}
+use Rattle.mw_lex.proofs.Classes.{other_class}
 use Rattle.mw_read.proofs.Hashes.{free_parser}
-use Rattle.mw_read.proofs.Beginning.{same_behind}
+use Rattle.mw_read.proofs.Beginning.{same_after}
 use Rattle.mw_read.proofs.Scanning.{Scans, scan_next}
 
 white_bar : (b : ℕ) → class b ≡ lex.White → eqb b 124 ≡ true → ⊥
@@ -46,21 +46,15 @@ white_glued_bar b h = no_or (glued b) (is_constituent b) (λ e. true≢false (sy
     no_constituent : lex.White ≡ lex.Constituent → ⊥
     no_constituent k = cc
 
-white_behind : (m : Begun) (b : ℕ) → IsBetween m → class b ≡ lex.White → IsBehind m false b
-white_behind Nothing b i h = refl
-white_behind AfterToken b i h = sym (white_glued b h)
-white_behind AfterBar b i h = sym (white_glued_bar b h)
-white_behind m b i h = absurd i
+white_after : (m : Begun) (b : ℕ) → IsBetween m → class b ≡ lex.White → IsAfter m false b
+white_after Nothing b i h = refl
+white_after AfterToken b i h = sym (white_glued b h)
+white_after AfterBar b i h = sym (white_glued_bar b h)
+white_after m b i h = absurd i
 
 some_first : (k : lex.Class) (x : List ℕ) → IsFirst k x → 0 < length x
 some_first k [] h = absurd h
 some_first k (b ∷ x) h = omega arith
-
-weight_between : (m : Begun) → IsBetween m → weight m ≡ 0
-weight_between Nothing h = refl
-weight_between AfterToken h = refl
-weight_between AfterBar h = refl
-weight_between m h = absurd h
 
 offset_between : (m : Begun) (n o : ℕ) → IsBetween m → offset_at m n o ≡ o
 offset_between Nothing n o h = refl
@@ -74,8 +68,8 @@ module _ (os : List Object) (old : Parser) (i : IsBetween old.begun) where
 
   white_passes : (t : State) (b : ℕ) → class b ≡ lex.White → (e : Ending) (z : List ℕ) → meaning_of e t old (b ∷ z) ≡ meaning_of e t passed z
   white_passes t b h e z =
-      same_behind os t old (record old { begun = Nothing }) passed refl refl b (white_behind old.begun b i h) e z
-      ∙ between_at e z t old.start b lex.White h
+      same_after os t old (record old { begun = Nothing }) passed refl refl b (white_after old.begun b i h) e z
+      ∙ ap (resume t) (piece_lexemes e old.start b z lex.White h)
       ∙ ap (λ o. resume t (lexemes_from e o 0 z)) (let o : suc old.start ≡ old.start + 1 = omega arith in o)
 
   white_moves : (rest : List ℕ) → IsFirst lex.White rest → Moved old rest 1 passed
@@ -102,14 +96,5 @@ blank_scans first old piece os p at n new s (inr h) =
     let some = some_first lex.White (drop at piece) h.3 in
     subst (λ k. Scans first old piece os new (at + k)) (sym h.0)
     (subst (λ q. Scans first old piece os q (at + 1)) (sym h.1)
-    (scan_next first old piece os p at s os (record p { begun = Nothing; start = p.start + 1 }) (grows_refl os) (omega (arith, some, length-drop at piece)) 1 (omega (arith, some))
+    (scan_next first old piece os p at s os (record p { begun = Nothing; start = p.start + 1 }) (Grows-refl os) (omega (arith, some, length-drop at piece)) 1 (omega (arith, some))
     (white_moves os p h.2 (drop at piece) h.3) (white_advances os p h.2 (drop at piece) h.3)))
-
--- the bytes that are left, and what has begun, are no more
-pub blank_less : (p new : Parser) (rest : List ℕ) (n : ℕ) → PassesWhite p rest n new → weight new.begun ≤ weight p.begun
-blank_less p new rest n (inl h) = let e : weight new.begun ≡ weight p.begun = ap (λ q. weight q.begun) h.1 in omega (arith, e)
-blank_less p new rest n (inr h) = let e : weight new.begun ≡ 0 = ap (λ q. weight q.begun) h.1 in omega (arith, e)
-
-pub blank_within : (p new : Parser) (rest : List ℕ) (n : ℕ) → PassesWhite p rest n new → n ≤ length rest
-blank_within p new rest n (inl h) = omega (arith, h.0)
-blank_within p new rest n (inr h) = omega (arith, h.0, some_first lex.White rest h.3)

@@ -1,11 +1,12 @@
--- The machine on clamped objects is the clamped machine.
+-- A lexeme makes of a clamped state what it makes of the state, clamped.
 use Rattle.std.proofs.Common.{◌≡◌, ℕ, Bool, true, false, ◌||◌, List, [], ◌∷◌, Option, Some, None, refl, sym, ap, ◌∙◌, if◌then◌else◌, eqb, true≢false}
 use Rattle.mw_model.specs.Terms.Object.{Object, Pair, NIL}
 use Rattle.mw_model.specs.Texts.Lexemes.{Lexeme, Atom, Open, Close, Dot, Quote, Mark, Ref, Wrong, Stray, End, LABEL}
 use Rattle.mw_model.specs.Texts.Grammar.{Labels, Unused, Label, is_begun, labelled, complete, quoted}
 use Rattle.mw_read.specs.Machine.{Frame, Members, Tailed, Quoting, Marking, State, Idle, Within, Full, Broken, quiet, broken, fill, given, refer, taken, within, filled, on, Turn, labels_of, IsSound}
 use Rattle.mw_model.specs.Events.Fate.{is_out_of_range}
-use Rattle.mw_read.specs.Clamp.{clamp, some_big, labels_big, lexeme_big, state_big, clamp_all, clamp_some, clamp_labels, clamp_frame, clamp_frames, clamp_state, clamp_turn, clamp_lexeme, any_big, frames_big, turn_big}
+use Rattle.mw_lex.specs.Tokens.{clamp}
+use Rattle.mw_read.specs.Clamp.{some_big, labels_big, lexeme_big, state_big, clamp_all, clamp_some, clamp_labels, clamp_frame, clamp_frames, clamp_state, clamp_turn, clamp_lexeme, any_big, frames_big, turn_big}
 
 fill_clamp : (xs : List Object) (y : Object) → fill (clamp_all xs) (clamp y) ≡ clamp (fill xs y)
 fill_clamp [] y = refl

@@ -10,7 +10,7 @@ use Rattle.mw_model.specs.Texts.Grammar.{Unused}
 use Rattle.mw_model.specs.Reports.Report.{word_text, label_text, symbol_text, labelled_words, dash}
 use Rattle.mw_heap.specs.Objects.{object_at, IsIn}
 use Rattle.mw_read.specs.Machine.{Members, State, Idle, Within, Full, Broken, end_fault}
-use Rattle.mw_read.specs.Clamp.{clamp}
+use Rattle.mw_lex.specs.Tokens.{clamp}
 use Rattle.mw_read.specs.Shown.{first_symbol}
 use Rattle.mw_read.specs.Named.{Agree, seen, IsListed}
 use Rattle.mw_read.specs.Piles.{Pile, Frames, Ready, piled, MayLie, pile_on, LieOn, pile_of, IsPile, AreUnder}

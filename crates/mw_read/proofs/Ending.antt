@@ -4,19 +4,20 @@ use Rattle.std.proofs.lemmas.Bool.{and_parts}
 use Rattle.mw_model.specs.Terms.Object.{Object, Symbol, name_of_bytes, is_name_byte}
 use Rattle.mw_model.specs.Texts.Lexemes.{Atom, Wrong, Fault, fault, END, LABEL, Ending, Ends, all_are, is_constituent, is_digit, TokenForm, Whole, Point, Bad, token_form, token, label, lexemes_from, End, unfinished, glued_bar}
 use Rattle.mw_model.specs.Texts.Grammar.{book}
-use Rattle.mw_read.specs.Machine.{State, Turn, on, is_full, IsSound, InToken, InBars, InHash}
+use Rattle.mw_read.specs.Machine.{State, Turn, on, is_full, IsSound}
 use Rattle.mw_read.specs.Resume.{resume, following}
 use Rattle.mw_read.specs.Lexing.{token_lexeme}
 use Rattle.mw_read.specs.Held.{Took}
 use Rattle.mw_read.specs.Piles.{fault_of}
-use Rattle.mw_read.specs.Parsing.{ahead, meaning_of, is_inside, offset_of, IsStarted, Fits, behind, weight}
+use Rattle.mw_read.specs.Parsing.{ahead, meaning_of, is_inside, offset_of, IsStarted, Fits, after, weight}
 use Rattle.mw_read.specs.Standing.{Lasts}
 use Rattle.mw_read.specs.declared.parser.Begun.TheVariants.{Token, Bars, Barred, Hash, AfterToken, AfterBar}
 use Rattle.mw_read.specs.declared.parser.Parser.{Parser}
 use Rattle.mw_read.specs.declared.step.Outcome.{Outcome}
 use Rattle.mw_read.specs.declared.step.Outcome.TheVariants as outcomes
 use Rattle.mw_read.proofs.Resuming.{on_step}
-use Rattle.mw_read.proofs.Bytes.{last_are}
+use Rattle.mw_lex.proofs.Lexemes.{token_ends}
+use Rattle.mw_lex.proofs.Lexemes as lexemes
 use Rattle.mw_read.proofs.Parsing.{constituent_class, token_solid, bars_whole, wrong_breaks}
 use Rattle.mw_read.proofs.Advancing.{token_pending, token_datum, bars_advance}
 use Rattle.mw_read.proofs.Beginning.{offset_is}
@@ -33,7 +34,7 @@ token_ends_fault s o (c ∷ t) f l a q =
     let k = and_parts (is_constituent c) (all_are is_constituent t) a in
     let v = token_form (c ∷ t) in
     let r = End (unfinished Ends (o + length (c ∷ t))) ∷ [] in
-    ap (resume s) (last_are Ends (InToken c t) o (constituent_class c k.0, k.1) ∙ ap (λ u. u ++ r) (token_one o (c ∷ t) v)) ∙ on_step s (token_lexeme o false v) (token_solid o false v) r ∙ q
+    ap (resume s) (token_ends Ends o c t (constituent_class c k.0) k.1 ∙ ap (λ u. u ++ r) (token_one o (c ∷ t) v)) ∙ on_step s (token_lexeme o false v) (token_solid o false v) r ∙ q
 
 module _ (os : List Object) (t : State) (old new : Parser) (f : is_full t ≡ false) (k : IsSound t) (l : 0 < length old.token.items) where
   module _ (i : old.begun ≡ Token) (a : all_are is_constituent old.token.items ≡ true) (m : new.begun ≡ AfterToken) (s : new.start ≡ old.start + length (old.token.items ++ [])) where
@@ -77,7 +78,7 @@ module _ (os : List Object) (t : State) (old new : Parser) (f : is_full t ≡ fa
     abbrev end : ℕ
     end = old.start + 2 + length old.token.items
 
-    bars_mean : (e : Ending) (z : List ℕ) → Fits AfterBar e z → meaning_of e t old z ≡ resume t (Atom old.start y ∷ behind glued_bar e end z)
+    bars_mean : (e : Ending) (z : List ℕ) → Fits AfterBar e z → meaning_of e t old z ≡ resume t (Atom old.start y ∷ after glued_bar e end z)
     bars_mean e z fit = ap (λ m. resume t (ahead e m old.token.items old.start z)) i ∙ ap (resume t) (bars_whole e old.start old.token.items z l a fit)
 
     ends_at : new.start ≡ end
@@ -97,8 +98,8 @@ module _ (os : List Object) (t : State) (old new : Parser) (f : is_full t ≡ fa
     )
     bars_lasts (outcomes.Fault x) q =
         bars_mean Ends [] tt
-        ∙ on_step t (Atom old.start y) tt (behind glued_bar Ends end [])
-        ∙ ap (λ (u : Turn). following u (behind glued_bar Ends end [])) (took_is (outcomes.Fault x) q)
+        ∙ on_step t (Atom old.start y) tt (after glued_bar Ends end [])
+        ∙ ap (λ (u : Turn). following u (after glued_bar Ends end [])) (took_is (outcomes.Fault x) q)
 
 -- a text that cannot end
 pub bars_end : (t : State) (old : Parser) → old.begun ≡ Bars → all_are is_name_byte old.token.items ≡ true → is_full t ≡ false → IsSound t → meaning_of Ends t old [] ≡ book [] (Some (fault END (offset_of old)))
@@ -109,7 +110,7 @@ bars_end t old i a f k =
     let l = Wrong o (Some (fault END (o + 1 + length n))) in
     ap (λ u. resume t (ahead Ends u n o [])) i
     ∙ ap (λ u. resume t (lexemes_from Ends o 0 (124 ∷ u))) (append-nil n)
-    ∙ ap (resume t) (last_are Ends (InBars n) o a)
+    ∙ ap (resume t) (lexemes.bars_end Ends o n a)
     ∙ on_step t l tt r
     ∙ ap (λ (u : Turn). following u r) (wrong_breaks t o (fault END (o + 1 + length n)) f k)
     ∙ ap (λ j. book [] (Some (fault END j))) ((let e : o + 1 + length n ≡ o + length n + 1 = omega arith in e) ∙ sym (offset_is old Bars (length n) o i refl refl))
@@ -122,7 +123,7 @@ hash_end t old i a c f k =
     let l = Wrong o (Some (fault END (o + 1 + length n))) in
     ap (λ u. resume t (ahead Ends u n o [])) i
     ∙ ap (λ u. resume t (lexemes_from Ends o 0 (35 ∷ u))) (append-nil n)
-    ∙ ap (resume t) (last_are Ends (InHash n) o (a, c) ∙ ap (λ v. (if v then Wrong o (Some (fault LABEL o)) ∷ [] else label Ends o n []) ++ r) (le-ltb 9 (length n) c))
+    ∙ ap (resume t) (lexemes.hash_end Ends o n a ∙ ap (λ v. (if v then Wrong o (Some (fault LABEL o)) ∷ [] else label Ends o n []) ++ r) (le-ltb 9 (length n) c))
     ∙ on_step t l tt r
     ∙ ap (λ (u : Turn). following u r) (wrong_breaks t o (fault END (o + 1 + length n)) f k)
     ∙ ap (λ j. book [] (Some (fault END j))) ((let e : o + 1 + length n ≡ o + length n + 1 = omega arith in e) ∙ sym (offset_is old Hash (length n) o i refl refl))

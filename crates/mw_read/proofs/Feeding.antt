@@ -1,10 +1,9 @@
 -- What a reader's answers say of the bytes fed, by what its parser's answers say.
-use Rattle.std.proofs.Common.{◌≡◌, ℕ, zero, suc, ◌-◌, ◌≤◌, ◌<◌, ◌⊎◌, true, false, true≢false, Option, List, [], ◌∷◌, ◌++◌, length, take, drop, refl, sym, ap, ◌∙◌, subst, arith, append-nil, inl, inr}
+use Rattle.std.proofs.Common.{◌≡◌, ℕ, ◌≤◌, ◌<◌, ◌⊎◌, true, false, true≢false, Option, List, [], ◌∷◌, ◌++◌, length, take, drop, refl, sym, ap, ◌∙◌, subst, arith, append-nil, inl, inr}
 use Rattle.std.proofs.lemmas.List.{take-append-drop, drop_all}
 use Rattle.mw_model.specs.Terms.Object.{Object}
-use Rattle.mw_model.specs.Texts.Grammar.{book, limit, trees}
-use Rattle.mw_model.specs.Texts.Lexemes.{Fault, Goes}
-use Rattle.mw_read.specs.Parsing.{Fits, offset_of}
+use Rattle.mw_model.specs.Texts.Grammar.{book, trees}
+use Rattle.mw_model.specs.Texts.Lexemes.{Fault}
 use Rattle.mw_read.specs.Standing.{Stands, IsStanding, Follows, IsLast, HasEndedWith, HasEnded, GivesBehind, GivesLast, Says, Finishes, work}
 use Rattle.mw_read.specs.Feeding.{GivesNext, MayCome, IsReady, Continues}
 use Rattle.mw_read.specs.declared.parser.Parser.{Parser}
@@ -12,11 +11,10 @@ use Rattle.mw_read.specs.declared.reader.Reader.{Reader}
 use Rattle.mw_read.specs.declared.step.Step.{Step}
 use Rattle.mw_read.specs.declared.step.Step.TheVariants as steps
 use Rattle.mw_read.proofs.Beginning.{weight_small}
-use Rattle.mw_read.proofs.Scanning.{fits_more}
 
 module _ (old : Reader) (g : List ℕ) (given : List Object) (os : List Object) (new : Reader) (same : new.finished ≡ old.finished) where
-  next_behind : (n : ℕ) (y : Object) → new.unread ≡ drop n old.unread → GivesBehind old.parser g given old.unread y n new.parser → GivesNext old g given y new
-  next_behind n y e h = record {
+  next_after : (n : ℕ) (y : Object) → new.unread ≡ drop n old.unread → GivesBehind old.parser g given old.unread y n new.parser → GivesNext old g given y new
+  next_after n y e h = record {
     taken = take n old.unread;
     unread = sym (ap (λ v. take n old.unread ++ v) e ∙ take-append-drop n old.unread);
     finished = same;
@@ -27,8 +25,8 @@ module _ (old : Reader) (g : List ℕ) (given : List Object) (os : List Object) 
 
   -- where bytes are unread, or more may come
   pub says_continues : (t : Step) (n : ℕ) → (t ≡ steps.More → old.finished ≡ false) → new.unread ≡ drop n old.unread → Says os old.parser g given old.unread t n new.parser → Continues os old g given t new
-  says_continues (steps.Datum r) n f e v = (v.0, v.1, next_behind n v.0 e v.2)
-  says_continues (steps.TooBig w l) n f e v = (v.0, v.1, next_behind n v.0 e v.2)
+  says_continues (steps.Datum r) n f e v = (v.0, v.1, next_after n v.0 e v.2)
+  says_continues (steps.TooBig w l) n f e v = (v.0, v.1, next_after n v.0 e v.2)
   says_continues steps.More n f e v = let none : new.unread ≡ [] = e ∙ drop_all n old.unread (omega (arith, v.0)) in (f refl, (none, same ∙ f refl), v.1, v.2, v.3)
   says_continues steps.End n f e v = absurd v
   says_continues (steps.Syntax k o) n f e v = λ rest h. v rest
@@ -61,8 +59,8 @@ module _ (old : Reader) (g : List ℕ) (given : List Object) (os : List Object) 
         (subst (λ h. Finishes os old.parser h given t new.parser) (sym (ap (λ r. g ++ r) n ∙ append-nil g)) v)
 
     -- the unread bytes held no further datum
-    pub finishes_behind : (mid : Parser) (t : Step) → 0 < length old.unread → Finishes os mid (g ++ old.unread) given t new.parser → Continues os old g given t new
-    finishes_behind mid t l v = finishes_continues mid t (omega (arith, weight_small mid.begun, l)) v
+    pub finishes_after : (mid : Parser) (t : Step) → 0 < length old.unread → Finishes os mid (g ++ old.unread) given t new.parser → Continues os old g given t new
+    finishes_after mid t l v = finishes_continues mid t (omega (arith, weight_small mid.begun, l)) v
 
 -- What comes after all bytes fed, where no more come.
 module _ (old : Reader) (g : List ℕ) (given : List Object) (e : old.unread ≡ []) where
@@ -111,20 +109,3 @@ pub ready_follows : (os : List Object) (r : Reader) → IsReady os r → (r.unre
 ready_follows os r (inl (s, inl f)) n = inl f
 ready_follows os r (inl (s, inr f)) n = absurd (true≢false (sym f.1 ∙ n f.0))
 ready_follows os r (inr h) n = inr h
-
--- A finished reader is as ready as it was.
-pub ready_finished : (os : List Object) (r : Reader) → IsReady os r → IsReady os (record r { finished = true })
-ready_finished os r (inl (s, inl f)) = inl (s, inl f)
-ready_finished os r (inl (s, inr f)) = inl (s, inr (f.0, refl))
-ready_finished os r (inr h) = inr h
-
--- What may follow may be longer.
-take_parts : (k : ℕ) (x y : List ℕ) → take k (x ++ y) ≡ take k x ++ take (k - length x) y
-take_parts zero x y = ap (λ n. take n y) (let e : 0 ≡ 0 - length x = omega arith in e)
-take_parts (suc k) [] y = ap (λ n. take n y) (let e : suc k ≡ suc k - 0 = omega arith in e)
-take_parts (suc k) (c ∷ x) y = ap (λ u. c ∷ u) (take_parts k x y ∙ ap (λ n. take k x ++ take n y) (let e : k - length x ≡ suc k - suc (length x) = omega arith in e))
-
-pub follows_more : (p : Parser) (x y : List ℕ) → Follows p x → Follows p (x ++ y)
-follows_more p x y h =
-    let room = limit - offset_of p in
-    subst (Fits p.begun Goes) (sym (take_parts room x y)) (fits_more p.begun Goes (take room x) (take (room - length x) y) h)

@@ -1,12 +1,12 @@
 -- A list is folded from its last member on.
-use Rattle.std.proofs.Common.{◌≡◌, ℕ, List, [], ◌∷◌, ◌++◌, length, refl, sym, ap, ap₂, ◌∙◌, subst, arith}
+use Rattle.std.proofs.Common.{◌≡◌, ℕ, List, [], ◌∷◌, ◌++◌, refl, sym, ap, ap₂, ◌∙◌, subst}
 use Rattle.mw_model.specs.Terms.Object.{Object, Pair}
 use Rattle.mw_heap.specs.Objects.{object_at, IsIn, Grows}
 use Rattle.mw_read.specs.Machine.{Members, Tailed, Quoting, Marking}
 use Rattle.mw_read.specs.Piles.{Pile, Frames, Ready, piled, MayLie, pile_of, IsPile, IsInList, members_of, frames_round}
 use Rattle.mw_read.specs.declared.stack.Layer.{Layer}
 use Rattle.mw_read.specs.declared.stack.Layer.TheVariants as layers
-use Rattle.mw_read.proofs.Growth.{grows_refl, grows_grows}
+use Rattle.mw_heap.proofs.Objects.{Grows-refl, Grows-trans}
 use Rattle.mw_read.proofs.Piles.{pile_top, less_layer, layer_lies, pile_grows, is_pile_grows}
 
 -- what a list that is being folded keeps
@@ -19,7 +19,7 @@ pub record Folds (old : List Object) (before : List Layer) (last : ℕ) (os : Li
   pub made : members_of (pile_of os ls) (object_at os list) ≡ members_of (pile_of old before) (object_at old last)
 
 pub fold_start : (os : List Object) (ls : List Layer) (last : ℕ) → IsIn os last → IsPile os ls → IsInList (pile_of os ls) → Folds os ls last os ls last
-fold_start os ls last h p l = record { pile = p; open_list = l; listed = h; kept = grows_refl os; round = refl; made = refl }
+fold_start os ls last h p l = record { pile = p; open_list = l; listed = h; kept = Grows-refl os; round = refl; made = refl }
 
 item_lies : (os : List Object) (t : Pile) (r : ℕ) → MayLie t (layers.Item r) →
     IsInList t × (frames_round (piled os t (layers.Item r)) ≡ frames_round t) × ((y : Object) → members_of (piled os t (layers.Item r)) y ≡ members_of t (Pair (object_at os r) y))
@@ -53,7 +53,7 @@ module _ (old : List Object) (before : List Layer) (last : ℕ) where
         pile = is_pile_grows os new rest g r;
         open_list = subst (λ u. IsInList u) (sym v) k.0;
         listed = h;
-        kept = grows_grows old os new f.kept g;
+        kept = Grows-trans old os new f.kept g;
         round = ap frames_round v ∙ sym k.1 ∙ sym (ap frames_round top) ∙ f.round;
         made = ap₂ members_of v q ∙ sym (k.2 (object_at os list)) ∙ sym (ap (λ u. members_of u (object_at os list)) top) ∙ f.made;
       }
@@ -68,7 +68,3 @@ module _ (old : List Object) (before : List Layer) (last : ℕ) where
         k.0 ∙ ap Frames (sym (ap frames_round top) ∙ f.round),
         sym (k.1 (object_at os list)) ∙ sym (ap (λ u. members_of u (object_at os list)) top) ∙ f.made,
       )
-
-  pub fold_none : (os : List Object) (ls : List Layer) (list : ℕ) → Folds old before last os ls list → length ls ≡ 0 → ⊥
-  fold_none os [] list f z = f.open_list
-  fold_none os (l ∷ ls) list f z = omega arith

@@ -15,8 +15,8 @@ use Rattle.mw_read.specs.declared.parser.Parser.{Parser}
 use Rattle.mw_read.specs.declared.step.Outcome.{Outcome}
 use Rattle.mw_read.specs.declared.step.Outcome.TheVariants as outcomes
 use Rattle.mw_read.proofs.Resuming.{on_step, IsSolid}
-use Rattle.mw_read.proofs.Bytes.{run_more, hash_lexemes}
-use Rattle.mw_read.proofs.Classes.{take_more}
+use Rattle.mw_lex.proofs.Lexemes.{hash_lexemes}
+use Rattle.mw_lex.proofs.Runs.{run_more, take_more}
 use Rattle.mw_read.proofs.Bare.{take_run}
 use Rattle.mw_read.proofs.Parsing.{wrong_breaks, following_event}
 

@@ -5,14 +5,15 @@ use Rattle.mw_model.specs.Texts.Lexemes.{Lexeme, Atom, Fault}
 use Rattle.mw_model.specs.Events.Fate.{is_out_of_range}
 use Rattle.mw_heap.specs.Objects.{object_at, Grows}
 use Rattle.mw_read.specs.Machine.{State, Idle, Within, Full, Broken, Turn, on, labels_of, IsSound, is_full}
-use Rattle.mw_read.specs.Clamp.{clamp, clamp_all, clamp_state, clamp_turn, clamp_lexeme, state_big, lexeme_big, any_big}
+use Rattle.mw_lex.specs.Tokens.{clamp}
+use Rattle.mw_read.specs.Clamp.{clamp_all, clamp_state, clamp_turn, clamp_lexeme, state_big, lexeme_big, any_big}
 use Rattle.mw_read.specs.Piles.{Does, HoldsDatum, pile_of, fault_of, is_ready}
 use Rattle.mw_read.specs.Stacks.{IsStack, Means}
 use Rattle.mw_read.specs.Held.{Holds, Took}
 use Rattle.mw_read.specs.declared.stack.Stack.{Stack}
 use Rattle.mw_read.specs.declared.step.Outcome.{Outcome}
 use Rattle.mw_read.specs.declared.step.Outcome.TheVariants as outcomes
-use Rattle.mw_read.proofs.Growth.{length_grows}
+use Rattle.mw_heap.proofs.Objects.{length-Grows}
 use Rattle.mw_read.proofs.Piles.{pile_grows, is_pile_grows, agree_grows, listed_grows}
 use Rattle.mw_read.proofs.Turns.{full_is}
 use Rattle.mw_read.proofs.Clamp.{on_clamp, on_flags, IsWhole, Flags}
@@ -90,13 +91,13 @@ took os old s r t l os0 h w k d f e =
 
 -- the heap grows
 pub stack_grows : (os os2 : List Object) (s : Stack) → Grows os os2 → IsStack os s → IsStack os2 s
-stack_grows os os2 s g k = record { pile = is_pile_grows os os2 s.layers.items g k.pile; listed = listed_grows (length os) (length os2) s.labels.entries (length_grows os os2 g) k.listed }
+stack_grows os os2 s g k = record { pile = is_pile_grows os os2 s.layers.items g k.pile; listed = listed_grows (length os) (length os2) s.labels.entries (length-Grows os os2 g) k.listed }
 
 pub holds_grows : (os os2 : List Object) (s : Stack) (t : State) → Grows os os2 → Holds os s t → Holds os2 s t
 holds_grows os os2 s t g h = record {
   stack = record {
     pile = is_pile_grows os os2 s.layers.items g h.stack.pile;
-    listed = listed_grows (length os) (length os2) s.labels.entries (length_grows os os2 g) h.stack.listed;
+    listed = listed_grows (length os) (length os2) s.labels.entries (length-Grows os os2 g) h.stack.listed;
   };
   means = means_grows (clamp_state t) h.means;
   big = h.big;

@@ -2,15 +2,12 @@ pub mod Fuel
 pub mod Resuming
 pub mod Bytes
 pub mod Clamp
-pub mod Classes
-pub mod Growth
 pub mod Named
 pub mod Piles
 pub mod Folding
 pub mod Turns
 pub mod Holding
 pub mod Digits
-pub mod Constituents
 pub mod Parsing
 pub mod Bare
 pub mod Advancing
@@ -22,4 +19,3 @@ pub mod Ending
 pub mod Emptied
 pub mod Telling
 pub mod Feeding
-mod Raised

@@ -2,15 +2,15 @@
 use Rattle.std.proofs.Common.{◌≡◌, ℕ, suc, ◌+◌, ◌<◌, Bool, true, false, List, [], ◌∷◌, ◌++◌, length, map, eqb, ◌&&◌, Some, refl, sym, ap, ◌∙◌, arith, true≢false, if◌then◌else◌, append_assoc, append-nil}
 use Rattle.std.proofs.lemmas.Bool.{and_parts}
 use Rattle.mw_model.specs.Terms.Object.{Object, Natural, Symbol, name_of_bytes, is_name_byte}
-use Rattle.mw_model.specs.Texts.Lexemes.{Lexeme, End, Atom, Dot, Wrong, Stray, Fault, fault, TOKEN, BYTE, Ending, Ends, Goes, all_are, is_constituent, TokenForm, Whole, Point, Bad, token_form, token, atom, glued, glued_bar, class, class_else, Constituent, lexemes_from, unfinished, is_digit, is_dot, like_number, decimal_value, raised}
+use Rattle.mw_model.specs.Texts.Lexemes.{Lexeme, Atom, Dot, Wrong, Stray, Fault, fault, TOKEN, BYTE, Ending, Ends, Goes, all_are, is_constituent, TokenForm, Whole, Point, Bad, token_form, token, atom, glued, glued_bar, class, class_else, Constituent, lexemes_from, is_digit, is_dot, like_number, decimal_value, raised}
 use Rattle.mw_model.specs.Texts.Grammar.{book, and_events}
-use Rattle.mw_read.specs.Machine.{State, Idle, Within, Full, Broken, Members, Tailed, Quoting, Marking, Turn, quiet, event, on, InToken, Barred, is_full, IsSound}
+use Rattle.mw_read.specs.Machine.{State, Idle, Within, Full, Broken, Members, Tailed, Quoting, Marking, Turn, quiet, event, on, is_full, IsSound}
 use Rattle.mw_read.specs.Resume.{resume, following}
 use Rattle.mw_read.specs.Lexing.{token_lexeme}
-use Rattle.mw_read.specs.Parsing.{behind, Fits}
+use Rattle.mw_read.specs.Parsing.{after, Fits}
 use Rattle.mw_read.specs.declared.parser.Begun.TheVariants.{AfterToken, AfterBar}
 use Rattle.mw_read.proofs.Resuming.{on_step, IsSolid}
-use Rattle.mw_read.proofs.Bytes.{token_lexemes, last_are, barred_lexemes, bar_lexemes, barred_fault}
+use Rattle.mw_lex.proofs.Lexemes.{token_lexemes, token_ends, barred_lexemes, barred_end, bar_lexemes, barred_fault}
 
 pub constituent_class : (b : ℕ) → is_constituent b ≡ true → class b ≡ Constituent
 constituent_class b h = ap (λ v. if v then Constituent else class_else b) h
@@ -24,9 +24,9 @@ if_front true l a b = refl
 if_front false l a b = refl
 
 -- an atom and what stands after it
-pub atom_behind : (e : Ending) (bad : ℕ → Bool) (o : ℕ) (y : Object) (end b : ℕ) (x : List ℕ) →
-    atom Goes bad o y end (b ∷ []) ++ lexemes_from e end 0 (b ∷ x) ≡ Atom o y ∷ behind bad e end (b ∷ x)
-atom_behind e bad o y end b x =
+pub atom_after : (e : Ending) (bad : ℕ → Bool) (o : ℕ) (y : Object) (end b : ℕ) (x : List ℕ) →
+    atom Goes bad o y end (b ∷ []) ++ lexemes_from e end 0 (b ∷ x) ≡ Atom o y ∷ after bad e end (b ∷ x)
+atom_after e bad o y end b x =
     let r = lexemes_from e end 0 (b ∷ x) in
     if_append (bad b) (Atom o y ∷ Stray (fault TOKEN end) ∷ []) (Atom o y ∷ []) r ∙ if_front (bad b) (Atom o y) (Stray (fault TOKEN end) ∷ r) r
 
@@ -60,20 +60,20 @@ token_faults e s o b g (c ∷ t) x f l a n h q =
 
 -- a token whose datum is whole, and whatever may follow it
 pub token_whole : (e : Ending) (o : ℕ) (t z : List ℕ) (y : Object) → 0 < length t → all_are is_constituent t ≡ true → token_form t ≡ Whole y → Fits AfterToken e z →
-    lexemes_from e o 0 (t ++ z) ≡ Atom o y ∷ behind glued e (o + length t) z
+    lexemes_from e o 0 (t ++ z) ≡ Atom o y ∷ after glued e (o + length t) z
 token_whole e o [] z y l a w h = absurd (omega arith)
 token_whole Goes o (c ∷ t) [] y l a w h = absurd h
 token_whole Ends o (c ∷ t) [] y l a w h =
     let k = and_parts (is_constituent c) (all_are is_constituent t) a in
     ap (λ u. lexemes_from Ends o 0 (c ∷ u)) (append-nil t)
-    ∙ last_are Ends (InToken c t) o (constituent_class c k.0, k.1)
+    ∙ token_ends Ends o c t (constituent_class c k.0) k.1
     ∙ ap (λ f. token Ends o (c ∷ t) f [] ++ lexemes_from Ends (o + length (c ∷ t)) 0 []) w
 token_whole e o (c ∷ t) (b ∷ x) y l a w h =
     let k = and_parts (is_constituent c) (all_are is_constituent t) a in
     let end = o + length (c ∷ t) in
     token_lexemes e x o b c t (constituent_class c k.0) k.1 h
     ∙ ap (λ f. token Goes o (c ∷ t) f (b ∷ []) ++ lexemes_from e end 0 (b ∷ x)) w
-    ∙ atom_behind e glued o y end b x
+    ∙ atom_after e glued o y end b x
 
 pub wrong_breaks : (s : State) (o : ℕ) (f : Fault) → is_full s ≡ false → IsSound s → on s (Wrong o (Some f)) ≡ quiet (Broken f)
 wrong_breaks Idle o f h k = refl
@@ -110,13 +110,13 @@ point_one (b ∷ c ∷ t) h = absurd (go (all_are is_digit (b ∷ c ∷ t)) (lik
 
 -- a dot that is taken, and whatever may follow it
 pub token_dot : (e : Ending) (s u : State) (o : ℕ) (t z : List ℕ) → 0 < length t → all_are is_constituent t ≡ true → token_form t ≡ Point → is_full s ≡ false → IsSound s → on s (Dot o) ≡ quiet u → IsSound u →
-    Fits AfterToken e z → resume s (lexemes_from e o 0 (t ++ z)) ≡ resume u (behind glued e (o + length t) z)
+    Fits AfterToken e z → resume s (lexemes_from e o 0 (t ++ z)) ≡ resume u (after glued e (o + length t) z)
 token_dot e s u o [] z l a w f k q v h = absurd (omega arith)
 token_dot Goes s u o (c ∷ t) [] l a w f k q v h = absurd h
 token_dot Ends s u o (c ∷ t) [] l a w f k q v h =
     let m = and_parts (is_constituent c) (all_are is_constituent t) a in
     ap (λ u. resume s (lexemes_from Ends o 0 (c ∷ u))) (append-nil t)
-    ∙ ap (resume s) (last_are Ends (InToken c t) o (constituent_class c m.0, m.1) ∙ ap (λ f. token Ends o (c ∷ t) f [] ++ lexemes_from Ends (o + length (c ∷ t)) 0 []) w)
+    ∙ ap (resume s) (token_ends Ends o c t (constituent_class c m.0) m.1 ∙ ap (λ f. token Ends o (c ∷ t) f [] ++ lexemes_from Ends (o + length (c ∷ t)) 0 []) w)
     ∙ on_step s (Dot o) tt (lexemes_from Ends (o + length (c ∷ t)) 0 [])
     ∙ ap (λ (w : Turn). following w (lexemes_from Ends (o + length (c ∷ t)) 0 [])) q
 token_dot e s u o (c ∷ t) (b ∷ x) l a w f k q v h =
@@ -140,16 +140,16 @@ following_event w x r q = ap (λ (u : Turn). following u r) q
 
 -- a name between bars, and whatever may follow it
 pub bars_whole : (e : Ending) (o : ℕ) (t z : List ℕ) → 0 < length t → all_are is_name_byte t ≡ true → Fits AfterBar e z →
-    lexemes_from e o 0 (124 ∷ (t ++ 124 ∷ z)) ≡ Atom o (Symbol (name_of_bytes t)) ∷ behind glued_bar e (o + 2 + length t) z
+    lexemes_from e o 0 (124 ∷ (t ++ 124 ∷ z)) ≡ Atom o (Symbol (name_of_bytes t)) ∷ after glued_bar e (o + 2 + length t) z
 bars_whole e o [] z l a h = absurd (omega arith)
 bars_whole Goes o (c ∷ n) [] l a h = absurd h
 bars_whole Ends o (c ∷ n) [] l a h =
-    last_are Ends (Barred c n) o a ∙ ap (λ k. Atom o (Symbol (name_of_bytes (c ∷ n))) ∷ End (unfinished Ends k) ∷ []) (omega arith)
+    barred_end Ends o c n a
 bars_whole e o (c ∷ n) (b ∷ x) l a h =
     let t = c ∷ n in
     ap (λ y. lexemes_from e o 0 (124 ∷ y)) (sym (append_assoc t (124 ∷ []) (b ∷ x)))
     ∙ barred_lexemes e x o b c n a
-    ∙ atom_behind e glued_bar o (Symbol (name_of_bytes t)) (o + 2 + length t) b x
+    ∙ atom_after e glued_bar o (Symbol (name_of_bytes t)) (o + 2 + length t) b x
 
 -- a byte that no name may hold
 pub bars_faults : (e : Ending) (s : State) (o b : ℕ) (t x : List ℕ) → all_are is_name_byte t ≡ true → is_name_byte b ≡ false → eqb b 124 ≡ false → is_full s ≡ false → IsSound s →

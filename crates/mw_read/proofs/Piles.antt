@@ -10,7 +10,7 @@ use Rattle.mw_read.specs.declared.step.Outcome.TheVariants as outcomes
 use Rattle.std.specs.Map.{lookup}
 use Rattle.mw_read.specs.declared.stack.Layer.{Layer}
 use Rattle.mw_read.specs.declared.stack.Layer.TheVariants as layers
-use Rattle.mw_read.proofs.Growth.{object_at-append}
+use Rattle.mw_heap.proofs.Objects.{object_at-Grows}
 
 pub pile_top : (os : List Object) (t : Pile) (ls : List Layer) (l : Layer) → pile_on os t (ls ++ l ∷ []) ≡ piled os (pile_on os t ls) l
 pile_top os t [] l = refl
@@ -45,9 +45,9 @@ layer_lies os ls l p = ((lie_less os (Frames []) ls l p.lie).1, (under_less (len
 piled_grows : (os more : List Object) (t : Pile) (l : Layer) → IsUnder (length os) l → piled (os ++ more) t l ≡ piled os t l
 piled_grows os more (Frames s) layers.Opening h = refl
 piled_grows os more (Frames s) layers.Quote h = refl
-piled_grows os more (Frames (Members xs ∷ s)) (layers.Item r) h = ap (λ x. Frames (Members (x ∷ xs) ∷ s)) (object_at-append os more r h)
+piled_grows os more (Frames (Members xs ∷ s)) (layers.Item r) h = ap (λ x. Frames (Members (x ∷ xs) ∷ s)) (object_at-Grows os (os ++ more) (more, refl) r h)
 piled_grows os more (Frames (Members xs ∷ s)) layers.Dot h = refl
-piled_grows os more (Frames (Members xs ∷ s)) (layers.Last r) h = ap (λ x. Ready xs x s) (object_at-append os more r h)
+piled_grows os more (Frames (Members xs ∷ s)) (layers.Last r) h = ap (λ x. Ready xs x s) (object_at-Grows os (os ++ more) (more, refl) r h)
 piled_grows os more t l h = refl
 
 pile_grows_on : (os more : List Object) (t : Pile) (ls : List Layer) → AreUnder (length os) ls → pile_on (os ++ more) t ls ≡ pile_on os t ls
@@ -84,7 +84,7 @@ is_pile_grows old new ls g p =
 seen_grows : (os more : List Object) (g : Option (Option ℕ)) → IfSome g (λ o. IfSome o (λ r. r < length os)) → seen (os ++ more) g ≡ seen os g
 seen_grows os more None h = refl
 seen_grows os more (Some None) h = refl
-seen_grows os more (Some (Some r)) h = ap (λ x. Some (Some x)) (object_at-append os more r h)
+seen_grows os more (Some (Some r)) h = ap (λ x. Some (Some x)) (object_at-Grows os (os ++ more) (more, refl) r h)
 
 pub agree_grows : (os os2 : List Object) (m : List (ℕ × Option ℕ)) (ls : Labels) → Grows os os2 → IsListed (length os) m → Agree os m ls → Agree os2 m ls
 agree_grows os os2 m ls g l h n = ap (λ u. seen u (lookup (nat_eq n) m)) g.1 ∙ seen_grows os g.0 (lookup (nat_eq n) m) (l n) ∙ h n
@@ -223,17 +223,3 @@ module _ (old : List Object) (before : List Layer) (labels : List (ℕ × Option
       give_layer os ls new m x (layers.Item x) g (n ∙ ap (λ u. u ++ layers.Item x ∷ []) (sym e)) g.listed
       (subst (λ u. MayLie u (layers.Item x)) v k.0)
       (subst (λ (u : Pile). (js : Labels) → Agree os m js → ([] ≡ (give_to u (object_at os x) js).events) × Shows os (piled os u (layers.Item x)) m (give_to u (object_at os x) js).state) v k.1)
-
-  -- nothing is open: an event
-  pub give_event : (os : List Object) (ls new : List Layer) (m m2 : List (ℕ × Option ℕ)) (x : ℕ) → Gives old before labels first os ls m x → length ls ≡ 0 → new ≡ ls → m2 ≡ [] →
-      IsPile os new × (IsListed (length os) m2 × ((ks : Labels) → Agree old labels ks → Does os new m2 (outcomes.Datum x) (give_to (pile_of old before) (object_at old first) ks)))
-  give_event os (k ∷ ls) new m m2 x g l e z = absurd (omega arith)
-  give_event os [] new m m2 x g l e z =
-      let P : List Layer → Type 0 = λ u. IsPile os u in
-      let none : (n : ℕ) → lookup (nat_eq n) m2 ≡ None = λ n. ap (λ u. lookup (nat_eq n) u) z in (
-        subst P (sym e) g.pile,
-        (
-          λ n. subst (λ u. IfSome u (λ o. IfSome o (λ r. r < length os))) (sym (none n)) tt,
-          λ ks a. let t = g.turns ks a in (sym t.2, (ap (pile_of os) e, λ n. ap (seen os) (none n))),
-        ),
-      )

@@ -1,9 +1,9 @@
--- What the machine's stack means: the rest of the grammar's reading.
-use Rattle.std.proofs.Common.{◌≡◌, ℕ, suc, Bool, true, false, List, [], ◌∷◌, ◌++◌, Option, Some, None, refl, sym, ap, ◌∙◌, if◌then◌else◌}
+-- A lexeme moves a state as the grammar wants.
+use Rattle.std.proofs.Common.{◌≡◌, ℕ, suc, Bool, true, false, List, [], ◌∷◌, ◌++◌, Option, Some, None, refl, ap, ◌∙◌, if◌then◌else◌}
 use Rattle.mw_model.specs.Terms.Object.{Object, NIL}
 use Rattle.mw_model.specs.Texts.Lexemes.{Lexeme, Atom, Open, Close, Dot, Quote, Mark, Ref, Wrong, Stray, End, Fault, fault, DOT, CLOSE, LABEL}
 use Rattle.mw_model.specs.Texts.Grammar.{Labels, Label, Unused, Read, Got, Stop, and_then, quoted, pairing, and_tail, halt, closing, labelling, reference, Datum, Tail, read, labelled, is_begun, complete, enough, Book, book, and_events}
-use Rattle.mw_read.specs.Machine.{Frame, Members, Tailed, Quoting, Marking, State, Idle, Within, Full, Broken, quiet, broken, fill, given, refer, taken, within, filled, on, on_all}
+use Rattle.mw_read.specs.Machine.{Frame, Members, Tailed, Quoting, Marking, State, Idle, Within, Full, Broken, quiet, broken, fill, given, refer, taken, within, filled, on}
 use Rattle.mw_read.specs.Resume.{reads, rest, filling, waits, hand, unwind, resume, onward, following}
 use Rattle.mw_read.proofs.Fuel.{reads_quote, reads_open, reads_mark, reads_dot, reads_pair, reads_last, rest_step}
 
@@ -112,24 +112,12 @@ idle_step (End f) h r = absurd h
 idle_step (Atom o x) h r = rest_step (Atom o x) r ∙ take_step (Atom o x) h [] Unused r
 idle_step l h r = rest_step l r ∙ take_step l h [] Unused r
 
--- a lexeme moves the machine as the grammar wants
 pub on_step : (t : State) (l : Lexeme) → IsSolid l → (r : List Lexeme) → resume t (l ∷ r) ≡ following (on t l) r
 on_step Idle l h r = idle_step l h r
 on_step (Within f s ls) l h r = within_step f s ls l h r
 on_step (Full xs x s ls) l h r = full_step xs x s ls l h r
 on_step (Broken f) l h r = refl
 
-abbrev pub AllSolid : List Lexeme → Type 0
-AllSolid [] = Unit {0}
-AllSolid (l ∷ ls) = IsSolid l × AllSolid ls
-
 pub onward_append : (xs ys : List Object) (b : Book) → onward (xs ++ ys) b ≡ onward xs (onward ys b)
 onward_append [] ys b = refl
 onward_append (x ∷ xs) ys b = ap (and_events x) (onward_append xs ys b)
-
-pub on_all_step : (t : State) (ls : List Lexeme) → AllSolid ls → (r : List Lexeme) → resume t (ls ++ r) ≡ following (on_all t ls) r
-on_all_step t [] h r = refl
-on_all_step t (l ∷ ls) h r =
-    on_step t l h.0 (ls ++ r)
-    ∙ ap (onward (on t l).events) (on_all_step (on t l).state ls h.1 r)
-    ∙ sym (onward_append (on t l).events (on_all (on t l).state ls).events (resume (on_all (on t l).state ls).state r))

@@ -6,14 +6,14 @@ use Rattle.mw_model.specs.Texts.Lexemes.{Ending, Goes}
 use Rattle.mw_heap.specs.Objects.{Grows}
 use Rattle.mw_read.specs.Machine.{State}
 use Rattle.mw_read.specs.Held.{Holds}
-use Rattle.mw_read.specs.Parsing.{meaning_of, Fits, IsParser, IsStarted, Advances, Moves, Moved, offset_of, weight}
+use Rattle.mw_read.specs.Parsing.{meaning_of, Fits, Advances, Moves, Moved, offset_of, weight}
 use Rattle.mw_read.specs.Standing.{Reached, Reaches}
 use Rattle.mw_read.specs.declared.parser.Begun.{Begun}
 use Rattle.mw_read.specs.declared.parser.Begun.TheVariants.{Nothing, Comment, Token, Bars, Barred, Hash, AfterToken, AfterBar}
 use Rattle.mw_read.specs.declared.parser.Parser.{Parser}
 use Rattle.mw_read.specs.declared.step.Outcome.{Outcome}
 use Rattle.mw_read.specs.declared.step.Outcome.TheVariants as outcomes
-use Rattle.mw_read.proofs.Growth.{grows_refl, grows_grows}
+use Rattle.mw_heap.proofs.Objects.{Grows-trans}
 use Rattle.mw_read.proofs.Bare.{take_cut}
 
 -- what a loop over the piece keeps
@@ -22,14 +22,6 @@ pub record Scans (first : List Object) (old : Parser) (piece : List ℕ) (os : L
   pub within : n ≤ length piece
   pub reached : Reached old piece n p
   pub advances : (t : State) → Holds first old.stack t → Advances os t old piece outcomes.Pending n p
-
-pub scan_start : (os : List Object) (old : Parser) (piece : List ℕ) → Fits old.begun Goes piece → IsStarted old.begun old.token.items → IsParser os old → Scans os old piece os old 0
-scan_start os old piece f s k = record {
-  kept = grows_refl os;
-  within = omega arith;
-  reached = record { offset = (let e : offset_of old ≡ offset_of old + 0 = omega arith in e); left = f; started = s; fits = λ e x h. h; less = omega arith };
-  advances = λ t h. (t, h, k, λ e z fit. refl);
-}
 
 pub fits_more : (m : Begun) (e : Ending) (x y : List ℕ) → Fits m Goes x → Fits m e (x ++ y)
 fits_more Nothing e x y h = tt
@@ -113,7 +105,7 @@ module _ (first : List Object) (old : Parser) (piece : List ℕ) (os : List Obje
 
   pub scan_next : (n : ℕ) → n ≤ length rest → Moves outcomes.Pending mid rest n new → ((t : State) → Holds os mid.stack t → Advances os2 t mid rest outcomes.Pending n new) → Scans first old piece os2 new (at + n)
   scan_next n l m f = record {
-    kept = grows_grows first os os2 s.kept g;
+    kept = Grows-trans first os os2 s.kept g;
     within = omega (arith, l, length-drop at piece, some);
     reached = both n m;
     advances = scan_advances outcomes.Pending n m f;

@@ -1,14 +1,12 @@
 -- What a parser's answers say of the whole book.
-use Rattle.std.proofs.Common.{◌≡◌, ℕ, zero, suc, ◌+◌, ◌-◌, ◌<◌, ◌≤◌, Bool, true, false, leb, min, List, [], ◌∷◌, ◌++◌, length, take, drop, Option, Some, None, refl, sym, ap, ◌∙◌, subst, arith, true≢false, leb-true, append_assoc, append-nil, length-append, if◌then◌else◌}
+use Rattle.std.proofs.Common.{◌≡◌, ℕ, zero, suc, ◌+◌, ◌-◌, ◌<◌, ◌≤◌, Bool, true, false, leb, min, List, [], ◌∷◌, ◌++◌, length, take, drop, Option, Some, None, refl, sym, ap, ◌∙◌, subst, arith, true≢false, leb-true, append_assoc, append-nil, length-append, le-ltb, if◌then◌else◌}
 use Rattle.std.proofs.lemmas.Bool.{le-leb, and_parts}
 use Rattle.std.proofs.lemmas.List.{take_all, drop_all, take_min, take-take, drop-take, length-take-le, length-drop, take-append-le}
 use Rattle.std.proofs.Math.Nat.{min-le_left, min-le_right}
 use Rattle.mw_model.specs.Terms.Object.{Object}
-use Rattle.mw_model.specs.Texts.Lexemes.{Fault, fault, LENGTH, Ending, Ends, Goes, lexemes_from, all_are, is_constituent}
+use Rattle.mw_model.specs.Texts.Lexemes.{Fault, fault, LENGTH, LABEL, Wrong, End, Ending, Ends, Goes, lexemes_from, all_are, is_constituent, token_form}
 use Rattle.mw_model.specs.Texts.Grammar.{book, and_events, reading, limit, cut_short, trees}
-use Rattle.mw_heap.specs.Objects.{Grows}
-use Rattle.mw_read.specs.Machine.{State, Idle, Within, Full, Broken, IsSound, is_full, end_fault, InToken, InBars, Barred as BarredMode, InHash, Mode, Machine}
-use Rattle.mw_read.specs.Machine as machine
+use Rattle.mw_read.specs.Machine.{State, Idle, IsSound, is_full, end_fault}
 use Rattle.mw_read.specs.Resume.{resume, onward}
 use Rattle.mw_read.specs.Held.{Holds, Completes}
 use Rattle.mw_read.specs.Parsing.{ahead, meaning_of, Fits, IsText, IsParser, IsStarted, Advances, is_inside, offset_of, offset_at}
@@ -19,9 +17,10 @@ use Rattle.mw_read.specs.declared.parser.Parser.{Parser}
 use Rattle.mw_read.specs.declared.step.Outcome.TheVariants as outcomes
 use Rattle.mw_read.specs.declared.step.Step.{Step}
 use Rattle.mw_read.specs.declared.step.Step.TheVariants as steps
-use Rattle.mw_read.proofs.Bytes.{onward_book, ended, ended_at, more_is, IsReady}
+use Rattle.mw_read.proofs.Bytes.{onward_book, ended, ended_at, stopped}
+use Rattle.mw_lex.proofs.Lexemes.{token_ends, token_open, bars_end, barred_end, hash_end}
 use Rattle.mw_read.proofs.Resuming.{onward_append}
-use Rattle.mw_read.proofs.Holding.{holds_full, holds_grows, sound_clamp}
+use Rattle.mw_read.proofs.Holding.{holds_full, sound_clamp}
 use Rattle.mw_read.proofs.Bare.{take_cut}
 use Rattle.mw_read.proofs.Parsing.{constituent_class}
 use Rattle.mw_read.proofs.Scanning.{fits_more}
@@ -78,33 +77,23 @@ over_meaning u Bars t o h = absurd (true≢false h)
 over_meaning u Barred t o h = absurd (true≢false h)
 over_meaning u Hash t o h = absurd (true≢false h)
 
-sound_fault : (u : State) → IsSound u → machine.fault_of u ≡ None
-sound_fault Idle h = refl
-sound_fault (Within f s ls) h = refl
-sound_fault (Full xs x s ls) h = refl
-sound_fault (Broken f) h = absurd h
-
-inside_ready : (u : State) (m : Mode) → is_full u ≡ false → IsReady u m
-inside_ready Idle m h = tt
-inside_ready (Within f s ls) m h = tt
-inside_ready (Full xs x s ls) m h = absurd (true≢false h)
-inside_ready (Broken f) m h = tt
-
 -- more may follow: no further datum is complete
 pub more_meaning : (u : State) (m : Begun) (t : List ℕ) (o : ℕ) → Fits m Goes [] → IsText m t → (is_inside m ≡ true → is_full u ≡ false) → IsSound u → resume u (ahead Goes m t o []) ≡ book [] None
-more_meaning u Nothing t o h x f k = ended u [] ∙ ap (book []) (sound_fault u k)
-more_meaning u Comment t o h x f k = ended u [] ∙ ap (book []) (sound_fault u k)
-more_meaning u Token [] o h x f k = ended u [] ∙ ap (book []) (sound_fault u k)
+more_meaning u Nothing t o h x f k = ended u [] k
+more_meaning u Comment t o h x f k = ended u [] k
+more_meaning u Token [] o h x f k = ended u [] k
 more_meaning u Token (c ∷ t) o h x f k =
     let a = and_parts (is_constituent c) (all_are is_constituent t) x in
-    more_is (record { state = u; mode = InToken c t; start = o }) ((constituent_class c a.0, a.1), inside_ready u (InToken c t) (f refl)) ∙ ap (book []) (sound_fault u k)
-more_meaning u Bars t o h x f k = more_is (record { state = u; mode = InBars t; start = o }) (x, inside_ready u (InBars t) (f refl)) ∙ ap (book []) (sound_fault u k)
+    ap (λ y. resume u (lexemes_from Goes o 0 (c ∷ y))) (append-nil t)
+    ∙ ap (resume u) (token_ends Goes o c t (constituent_class c a.0) a.1 ∙ ap (λ l. l ++ End None ∷ []) (token_open o (c ∷ t) (token_form (c ∷ t))))
+    ∙ stopped u o (End None ∷ []) (f refl) k
+more_meaning u Bars t o h x f k = ap (λ y. resume u (lexemes_from Goes o 0 (124 ∷ y))) (append-nil t) ∙ ap (resume u) (bars_end Goes o t x) ∙ stopped u o (End None ∷ []) (f refl) k
 more_meaning u Barred [] o h x f k = absurd (omega (arith, x.1))
-more_meaning u Barred (c ∷ t) o h x f k =
-    ap (λ y. resume u (lexemes_from Goes o 0 (124 ∷ y))) (sym (append-nil ((c ∷ t) ++ 124 ∷ [])))
-    ∙ more_is (record { state = u; mode = BarredMode c t; start = o }) (x.0, inside_ready u (BarredMode c t) (f refl))
-    ∙ ap (book []) (sound_fault u k)
-more_meaning u Hash t o h x f k = more_is (record { state = u; mode = InHash t; start = o }) (x, inside_ready u (InHash t) (f refl)) ∙ ap (book []) (sound_fault u k)
+more_meaning u Barred (c ∷ t) o h x f k = ap (resume u) (barred_end Goes o c t x.0) ∙ stopped u o (End None ∷ []) (f refl) k
+more_meaning u Hash t o h x f k =
+    ap (λ y. resume u (lexemes_from Goes o 0 (35 ∷ y))) (append-nil t)
+    ∙ ap (resume u) (hash_end Goes o t x.0 ∙ ap (λ v. (if v then Wrong o (Some (fault LABEL o)) ∷ [] else Wrong o None ∷ []) ++ End None ∷ []) (le-ltb 9 (length t) x.1))
+    ∙ stopped u o (End None ∷ []) (f refl) k
 more_meaning u AfterToken t o h x f k = absurd h
 more_meaning u AfterBar t o h x f k = absurd h
 
@@ -153,21 +142,6 @@ stands_goes os p g given s h =
     ∙ ap (onward given) (more_meaning s.state p.begun p.token.items p.start h s.parser.text (λ i. sym (holds_full os p.stack s.state s.holds) ∙ s.parser.ready i) (sound_clamp os p.stack s.state s.holds.means))
     ∙ onward_book given [] None
     ∙ ap (λ u. book u None) (append-nil given)
-
--- the heap may grow
-pub stands_grows : (os more : List Object) (p : Parser) (g : List ℕ) (given : List Object) → Grows os more → Stands os p g given → Stands more p g given
-stands_grows os more p g given h s =
-    let k = holds_grows os more p.stack s.state h s.holds in
-    record {
-      state = s.state;
-      holds = k;
-      parser = record { stack = k.stack; text = s.parser.text; ready = λ i. holds_full more p.stack s.state k ∙ sym (holds_full os p.stack s.state s.holds) ∙ s.parser.ready i };
-      started = s.started;
-      offset = s.offset;
-      short = s.short;
-      goes_on = s.goes_on;
-      means = s.means;
-    }
 
 -- a parser that has not ended
 abbrev pub unended : Parser → Parser
@@ -274,9 +248,9 @@ module _ (os0 os : List Object) (old mid : Parser) (g : List ℕ) (given : List 
       ∙ same_take (k - n) (limit - offset_of mid) (drop n piece) (omega (arith, e, m.offset, length-drop n piece, l, part_length)))
       m.left
 
-  pub datum_behind : (x : ℕ) (n : ℕ) → n ≤ length part → Reaches (outcomes.Datum x) old part n mid → Advances os s.state old part (outcomes.Datum x) n mid →
+  pub datum_after : (x : ℕ) (n : ℕ) → n ≤ length part → Reaches (outcomes.Datum x) old part n mid → Advances os s.state old part (outcomes.Datum x) n mid →
       (y : Object) × Completes os mid.stack x y × GivesBehind old g given piece y n (uncut mid)
-  datum_behind x n l m q = (
+  datum_after x n l m q = (
     q.0,
     q.1,
     record {

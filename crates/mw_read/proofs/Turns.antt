@@ -4,7 +4,7 @@ use Rattle.mw_model.specs.Terms.Object.{Object, NIL}
 use Rattle.mw_model.specs.Texts.Lexemes.{Lexeme, Atom, Open, Close, Dot, Quote, Mark, Ref, DOT, CLOSE, LABEL}
 use Rattle.mw_model.specs.Texts.Grammar.{Labels, Unused, Label, is_begun, labelled}
 use Rattle.mw_heap.specs.Objects.{object_at, IsIn}
-use Rattle.mw_read.specs.Machine.{Frame, Members, Tailed, Quoting, Marking, State, Idle, Within, Full, Broken, Turn, quiet, broken, fill, given, refer, taken, on, labels_of, IsSound, is_full, is_behind_member}
+use Rattle.mw_read.specs.Machine.{Frame, Members, Tailed, Quoting, Marking, State, Idle, Within, Full, Broken, Turn, quiet, broken, fill, given, refer, taken, on, labels_of, IsSound, is_full, is_after_member}
 use Rattle.mw_read.specs.Named.{Agree, seen_at}
 use Rattle.mw_read.specs.Piles.{Pile, Frames, Ready, piled, MayLie, pile_of, IsPile, Shows, IsFrames, give_to, IsInList, closed_with, is_last, is_item, is_ready, has_member, EndsWith, IsUnder}
 use Rattle.mw_read.specs.declared.stack.Layer.{Layer}
@@ -39,7 +39,7 @@ full_is os p m (Within f s ls) h = ap is_ready h.0
 full_is os p m (Full xs x s ls) h = ap is_ready h.0
 full_is os p m (Broken f) h = absurd h
 
-pub member_is : (os : List Object) (p : Pile) (m : List (ℕ × Option ℕ)) (t : State) → Shows os p m t → has_member p ≡ is_behind_member t
+pub member_is : (os : List Object) (p : Pile) (m : List (ℕ × Option ℕ)) (t : State) → Shows os p m t → has_member p ≡ is_after_member t
 member_is os p m Idle h = ap has_member h.0
 member_is os p m (Within (Members []) s ls) h = ap has_member h.0
 member_is os p m (Within (Members (x ∷ xs)) s ls) h = ap has_member h.0
@@ -70,14 +70,8 @@ top_member os t l h = absurd h
 pub top_full : (os : List Object) (ls : List Layer) (l : Layer) → EndsWith ls l → IsPile os ls → is_last l ≡ is_ready (pile_of os ls)
 top_full os ls l e p = let k = split_lies os ls e.0 l e.1 p in sym (top_ready os (pile_of os e.0) l k.0) ∙ sym (ap is_ready k.1)
 
-pub none_full : (os : List Object) (ls : List Layer) → ls ≡ [] → false ≡ is_ready (pile_of os ls)
-none_full os ls e = sym (ap (λ u. is_ready (pile_of os u)) e)
-
-pub top_behind : (os : List Object) (ls : List Layer) (l : Layer) → EndsWith ls l → IsPile os ls → is_item l ≡ has_member (pile_of os ls)
-top_behind os ls l e p = let k = split_lies os ls e.0 l e.1 p in sym (top_member os (pile_of os e.0) l k.0) ∙ sym (ap has_member k.1)
-
-pub none_behind : (os : List Object) (ls : List Layer) → ls ≡ [] → false ≡ has_member (pile_of os ls)
-none_behind os ls e = sym (ap (λ u. has_member (pile_of os u)) e)
+pub top_after : (os : List Object) (ls : List Layer) (l : Layer) → EndsWith ls l → IsPile os ls → is_item l ≡ has_member (pile_of os ls)
+top_after os ls l e p = let k = split_lies os ls e.0 l e.1 p in sym (top_member os (pile_of os e.0) l k.0) ∙ sym (ap has_member k.1)
 
 pub ready_frames : (p : Pile) → is_ready p ≡ false → IsFrames p
 ready_frames (Frames s) h = tt
@@ -92,33 +86,11 @@ IsBeginning (Mark p n) o = p ≡ o
 IsBeginning (Ref p n) o = p ≡ o
 IsBeginning l o = ⊥
 
--- the faults
-pub full_fault : (t : State) (l : Lexeme) (o : ℕ) → is_full t ≡ true → IsBeginning l o → on t l ≡ broken DOT o
-full_fault Idle l o h b = absurd (true≢false (sym h))
-full_fault (Within f s ls) l o h b = absurd (true≢false (sym h))
-full_fault (Broken f) l o h b = absurd (true≢false (sym h))
-full_fault (Full xs y s ls) (Atom p x) o h b = ap (broken DOT) b
-full_fault (Full xs y s ls) (Open p) o h b = ap (broken DOT) b
-full_fault (Full xs y s ls) (Quote p) o h b = ap (broken DOT) b
-full_fault (Full xs y s ls) (Mark p n) o h b = ap (broken DOT) b
-full_fault (Full xs y s ls) (Ref p n) o h b = ap (broken DOT) b
-full_fault (Full xs y s ls) l o h b = absurd b
-
 pub shows_sound : (os : List Object) (p : Pile) (m : List (ℕ × Option ℕ)) (t : State) → Shows os p m t → IsSound t
 shows_sound os p m Idle h = tt
 shows_sound os p m (Within f s ls) h = tt
 shows_sound os p m (Full xs x s ls) h = tt
 shows_sound os p m (Broken f) h = absurd h
-
-pub dot_fault : (t : State) (o : ℕ) → is_behind_member t ≡ false → IsSound t → on t (Dot o) ≡ broken DOT o
-dot_fault Idle o h k = refl
-dot_fault (Within (Members []) s ls) o h k = refl
-dot_fault (Within (Members (x ∷ xs)) s ls) o h k = absurd (true≢false h)
-dot_fault (Within (Tailed xs) s ls) o h k = refl
-dot_fault (Within Quoting s ls) o h k = refl
-dot_fault (Within (Marking n) s ls) o h k = refl
-dot_fault (Full xs x s ls) o h k = refl
-dot_fault (Broken f) o h k = absurd k
 
 -- where nothing hinders, a lexeme that begins a datum is taken
 pub on_take : (t : State) (l : Lexeme) (o : ℕ) → is_full t ≡ false → IsSound t → IsBeginning l o → on t l ≡ taken (frames_of t) (labels_of t) l
@@ -162,7 +134,7 @@ pub push_frame : (os : List Object) (ls new : List Layer) (m m2 : List (ℕ × O
 push_frame os ls new m m2 t l f js e h n g a =
     (ap (pile_of os) e ∙ pile_top os (Frames []) ls l ∙ ap (λ p. piled os p l) (shows_frames os (pile_of os ls) m t h n) ∙ g (frames_of t), a)
 
-pub push_dot : (os : List Object) (ls new : List Layer) (m : List (ℕ × Option ℕ)) (t : State) (o : ℕ) → new ≡ ls ++ layers.Dot ∷ [] → Shows os (pile_of os ls) m t → is_behind_member t ≡ true →
+pub push_dot : (os : List Object) (ls new : List Layer) (m : List (ℕ × Option ℕ)) (t : State) (o : ℕ) → new ≡ ls ++ layers.Dot ∷ [] → Shows os (pile_of os ls) m t → is_after_member t ≡ true →
     MayLie (pile_of os ls) layers.Dot × (([] ≡ (on t (Dot o)).events) × Shows os (pile_of os new) m (on t (Dot o)).state)
 push_dot os ls new m (Within (Members (x ∷ xs)) s ls') o e h b =
     (subst (λ p. MayLie p layers.Dot) (sym h.0) tt, (refl, (ap (pile_of os) e ∙ pile_top os (Frames []) ls layers.Dot ∙ ap (λ p. piled os p layers.Dot) h.0, h.1)))
@@ -308,9 +280,6 @@ opens_list os ls l e p (inl q) =
     let k = split_lies os ls e.0 layers.Opening (e.1 ∙ ap (λ u. e.0 ++ u ∷ []) q) p in subst (λ u. IsInList u) (sym k.1) (opening_list os (pile_of os e.0) k.0)
 opens_list os ls l e p (inr q) =
     let k = split_lies os ls e.0 (layers.Item q.0) (e.1 ∙ ap (λ u. e.0 ++ u ∷ []) q.1) p in subst (λ u. IsInList u) (sym k.1) (item_list os (pile_of os e.0) q.0 k.0)
-
-pub ends_none : (os : List Object) (ls : List Layer) (m : List (ℕ × Option ℕ)) (t : State) (o : ℕ) → ls ≡ [] → Shows os (pile_of os ls) m t → on t (Close o) ≡ broken CLOSE o
-ends_none os ls m t o e h = on_close os (pile_of os ls) m t o h ∙ ap (λ u. close_pile o (pile_of os u) (labels_of t)) e
 
 pub ends_dot : (os : List Object) (ls : List Layer) (m : List (ℕ × Option ℕ)) (t : State) (o : ℕ) (l : Layer) → EndsWith ls l → IsPile os ls → l ≡ layers.Dot → Shows os (pile_of os ls) m t → on t (Close o) ≡ broken DOT o
 ends_dot os ls m t o l e p q h =

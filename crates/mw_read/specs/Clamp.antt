@@ -1,22 +1,11 @@
--- Naturals past 128 bits: the code puts 0 in their place and remembers that it did.
-use Rattle.std.specs.Prelude.{ℕ, Bool, false, ◌||◌, ltb, List, [], ◌∷◌, Option, Some, None, if◌then◌else◌}
-use Rattle.mw_model.specs.Terms.Object.{Object, Natural, Symbol, Pair}
+-- Naturals past 128 bits in what is open: the code has 0 in their place and remembers that it did.
+use Rattle.std.specs.Prelude.{Bool, false, ◌||◌, List, [], ◌∷◌, Option, Some, None}
+use Rattle.mw_model.specs.Terms.Object.{Object}
 use Rattle.mw_model.specs.Texts.Lexemes.{Lexeme, Atom}
 use Rattle.mw_model.specs.Events.Fate.{is_out_of_range}
-use Rattle.mw_model.specs.Events.Evaluation.{range}
+use Rattle.mw_lex.specs.Tokens.{clamp}
 use Rattle.mw_model.specs.Texts.Grammar.{Labels, Unused, Label}
 use Rattle.mw_read.specs.Machine.{Frame, Members, Tailed, Quoting, Marking, State, Idle, Within, Full, Broken, Turn}
-
-abbrev pub fits : ℕ → Bool
-fits n = ltb n range
-
-abbrev pub cut : ℕ → ℕ
-cut n = if fits n then n else 0
-
-abbrev pub clamp : Object → Object
-clamp (Natural n) = Natural (cut n)
-clamp (Symbol s) = Symbol s
-clamp (Pair a d) = Pair (clamp a) (clamp d)
 
 abbrev pub clamp_all : List Object → List Object
 clamp_all [] = []

@@ -1,10 +1,11 @@
--- What a stack holds: a state of the machine, with its naturals cut.
+-- What a stack holds: a state, with its naturals cut.
 use Rattle.std.specs.Prelude.{◌≡◌, ℕ, true, List, []}
 use Rattle.mw_model.specs.Terms.Object.{Object}
 use Rattle.mw_model.specs.Events.Fate.{is_out_of_range}
 use Rattle.mw_heap.specs.Objects.{object_at, IsIn}
 use Rattle.mw_read.specs.Machine.{State, Idle, Broken, Turn, quiet, event, labels_of}
-use Rattle.mw_read.specs.Clamp.{clamp, clamp_state, state_big, labels_big}
+use Rattle.mw_lex.specs.Tokens.{clamp}
+use Rattle.mw_read.specs.Clamp.{clamp_state, state_big, labels_big}
 use Rattle.mw_read.specs.Piles.{fault_of}
 use Rattle.mw_read.specs.Stacks.{IsStack, Means}
 use Rattle.mw_read.specs.declared.stack.Stack.{Stack}

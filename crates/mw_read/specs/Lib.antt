@@ -1,14 +1,11 @@
 pub mod Machine
 pub mod Resume
 pub mod Clamp
-pub mod Codes
-pub mod Runs
 pub mod Named
 pub mod Kinds
 pub mod Piles
 pub mod Stacks
 pub mod Held
-pub mod Forms
 pub mod Lexing
 pub mod Parsing
 pub mod Shown

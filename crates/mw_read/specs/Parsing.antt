@@ -15,26 +15,15 @@ use Rattle.mw_read.specs.declared.parser.Parser.{Parser}
 use Rattle.mw_read.specs.declared.step.Outcome.{Outcome}
 use Rattle.mw_read.specs.declared.step.Outcome.TheVariants as outcomes
 
--- the bytes of the text that has begun; of a comment its first byte is enough
-abbrev pub text_of : Begun → List ℕ → List ℕ
-text_of Nothing t = []
-text_of Comment t = 59 ∷ []
-text_of Token t = t
-text_of Bars t = 124 ∷ t
-text_of Barred t = 124 ∷ (t ++ 124 ∷ [])
-text_of Hash t = 35 ∷ t
-text_of AfterToken t = []
-text_of AfterBar t = []
-
 -- the lexemes of these bytes at o, directly after an atom
-abbrev pub behind : (ℕ → Bool) → Ending → ℕ → List ℕ → List Lexeme
-behind bad e o [] = lexemes_from e o 0 []
-behind bad e o (b ∷ x) = if bad b then Stray (fault TOKEN o) ∷ lexemes_from e o 0 (b ∷ x) else lexemes_from e o 0 (b ∷ x)
+abbrev pub after : (ℕ → Bool) → Ending → ℕ → List ℕ → List Lexeme
+after bad e o [] = lexemes_from e o 0 []
+after bad e o (b ∷ x) = if bad b then Stray (fault TOKEN o) ∷ lexemes_from e o 0 (b ∷ x) else lexemes_from e o 0 (b ∷ x)
 
 -- the lexemes of the text that has begun and the bytes after it
 abbrev pub ahead : Ending → Begun → List ℕ → ℕ → List ℕ → List Lexeme
-ahead e AfterToken t o x = behind glued e o x
-ahead e AfterBar t o x = behind glued_bar e o x
+ahead e AfterToken t o x = after glued e o x
+ahead e AfterBar t o x = after glued_bar e o x
 ahead e Nothing t o x = lexemes_from e o 0 x
 ahead e Comment t o x = lexemes_from e o 0 (59 ∷ x)
 ahead e Token t o x = lexemes_from e o 0 (t ++ x)
@@ -128,11 +117,11 @@ Moves (outcomes.Fault f) old rest n new = Unit {0}
 Moves r old rest n new = Moved old rest n new
 
 -- Does g say whether byte b may not stand after what was read?
-abbrev pub IsBehind : Begun → Bool → ℕ → Type 0
-IsBehind Nothing g b = g ≡ false
-IsBehind AfterToken g b = g ≡ glued b
-IsBehind AfterBar g b = g ≡ glued_bar b
-IsBehind m g b = ⊥
+abbrev pub IsAfter : Begun → Bool → ℕ → Type 0
+IsAfter Nothing g b = g ≡ false
+IsAfter AfterToken g b = g ≡ glued b
+IsAfter AfterBar g b = g ≡ glued_bar b
+IsAfter m g b = ⊥
 
 -- no text goes on here
 abbrev pub IsBetween : Begun → Type 0

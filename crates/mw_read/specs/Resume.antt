@@ -1,9 +1,9 @@
--- What a machine's state means: the rest of the grammar's reading.
-use Rattle.std.specs.Prelude.{ℕ, List, [], ◌∷◌, ◌++◌, Some}
+-- What a state means: the rest of the grammar's reading.
+use Rattle.std.specs.Prelude.{List, [], ◌∷◌, Some}
 use Rattle.mw_model.specs.Terms.Object.{Object}
 use Rattle.mw_model.specs.Texts.Lexemes.{Lexeme}
 use Rattle.mw_model.specs.Texts.Grammar.{Labels, Read, Got, and_then, quoting, closing, labelling, Part, Datum, First, Tail, Last, read, enough, Book, book, and_events, and_data, data_of}
-use Rattle.mw_read.specs.Machine.{Frame, Members, Tailed, Quoting, Marking, State, Idle, Within, Full, Broken, Turn, fill, Mode, Between, Comment, InToken, InBars, Barred, InHash}
+use Rattle.mw_read.specs.Machine.{Frame, Members, Tailed, Quoting, Marking, State, Idle, Within, Full, Broken, Turn, fill}
 
 abbrev pub reads : Part → Labels → List Lexeme → Read
 reads p ls r = read (enough r) p ls r
@@ -45,15 +45,6 @@ abbrev pub onward : List Object → Book → Book
 onward [] b = b
 onward (x ∷ xs) b = and_events x (onward xs b)
 
--- the rest of the book after_run a turn
+-- the rest of the book after a turn
 abbrev pub following : Turn → List Lexeme → Book
 following t r = onward t.events (resume t.state r)
-
--- the bytes of a piece that has begun; of a comment its first byte is enough
-abbrev pub text : Mode → List ℕ
-text Between = []
-text Comment = 59 ∷ []
-text (InToken c t) = c ∷ t
-text (InBars n) = 124 ∷ n
-text (Barred c n) = 124 ∷ ((c ∷ n) ++ (124 ∷ []))
-text (InHash d) = 35 ∷ d

@@ -1,4 +1,4 @@
--- A stack as a state of the machine.
+-- A stack as a state.
 use Rattle.std.specs.Prelude.{List, length}
 use Rattle.mw_model.specs.Terms.Object.{Object}
 use Rattle.mw_read.specs.Machine.{State}

@@ -4,7 +4,7 @@ ghost use Rattle.std.specs.Prelude.{◌≡◌, ◌<◌, ◌++◌, length, OnOk};
 use mw_heap::Memory;
 
 // These bytes come after what was kept, where that has bytes.
-pub(crate) fn keep_behind(kept: &mut Vec<u8>, bytes: &[u8]) -> Result<(), Memory>
+pub(crate) fn keep_after(kept: &mut Vec<u8>, bytes: &[u8]) -> Result<(), Memory>
     ensures some { OnOk result (0 < length kept.old.items → kept.new.items ≡ kept.old.items ++ bytes.now) }
     ensures none { OnOk result (length kept.old.items ≡ 0 → kept.new.items ≡ kept.old.items) }
 {

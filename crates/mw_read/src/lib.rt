@@ -1,17 +1,14 @@
 //! The reader of books.
 #![tactic(auto)]
 
-mod class;
 mod kept;
 mod labels;
 mod members;
-mod name;
 mod parser;
 mod reader;
 mod stack;
 mod step;
 mod texts;
-mod token;
 mod unread;
 
 pub use members::shown;

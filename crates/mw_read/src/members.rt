@@ -9,15 +9,26 @@ ghost use Rattle.mw_read.specs.Shown.{shown_text, symbol_itself, IsShown, ShowsE
 
 use mw_heap::{Heap, Ref, View, Word};
 
-// The object, where it is a symbol.
-fn symbol(heap: &Heap, x: Ref) -> Option<Ref>
-    requires { IsIn heap.now.objects x }
-    ensures within { IsShown heap.now.objects result }
-    ensures shown { shown_text heap.now.objects result ≡ symbol_text (object_at heap.now.objects x) }
-    ensures itself { option_map (object_at heap.now.objects) result ≡ symbol_itself (object_at heap.now.objects x) }
+/// The word and the label of an event, each where the line shows it.
+pub fn shown(heap: &Heap, event: Ref) -> (Option<Ref>, Option<Ref>)
+    requires { IsIn heap.now.objects event }
+    ensures { ShowsEvent heap.now.objects result.0 result.1 (object_at heap.now.objects event) }
 {
-    match heap.view(x) {
-        View::Symbol => Some(x),
+    let View::Pair(word, rest) = heap.view(event) else {
+        return (None, None);
+    };
+    (symbol(heap, word), label(heap, word, rest))
+}
+
+// The second member of an event that begins with a word, where the line shows it.
+fn label(heap: &Heap, word: Ref, rest: Ref) -> Option<Ref>
+    requires word { IsIn heap.now.objects word }
+    requires rest { IsIn heap.now.objects rest }
+    ensures within { IsShown heap.now.objects result }
+    ensures shown { shown_text heap.now.objects result ≡ label_text (Pair (object_at heap.now.objects word) (object_at heap.now.objects rest)) }
+{
+    match (heap.view(word), heap.view(rest)) {
+        (View::Symbol, View::Pair(x, _)) if is_labelled(heap, word) => symbol(heap, x),
         _ => None,
     }
 }
@@ -34,26 +45,15 @@ fn is_labelled(heap: &Heap, word: Ref) -> bool
         || heap.is_word(Some(word), Word::Switch)
 }
 
-// The second member of an event that begins with a word, where the line shows it.
-fn label(heap: &Heap, word: Ref, rest: Ref) -> Option<Ref>
-    requires word { IsIn heap.now.objects word }
-    requires rest { IsIn heap.now.objects rest }
+// The object, where it is a symbol.
+fn symbol(heap: &Heap, x: Ref) -> Option<Ref>
+    requires { IsIn heap.now.objects x }
     ensures within { IsShown heap.now.objects result }
-    ensures shown { shown_text heap.now.objects result ≡ label_text (Pair (object_at heap.now.objects word) (object_at heap.now.objects rest)) }
+    ensures shown { shown_text heap.now.objects result ≡ symbol_text (object_at heap.now.objects x) }
+    ensures itself { option_map (object_at heap.now.objects) result ≡ symbol_itself (object_at heap.now.objects x) }
 {
-    match (heap.view(word), heap.view(rest)) {
-        (View::Symbol, View::Pair(x, _)) if is_labelled(heap, word) => symbol(heap, x),
+    match heap.view(x) {
+        View::Symbol => Some(x),
         _ => None,
     }
-}
-
-/// The word and the label of an event, each where the line shows it.
-pub fn shown(heap: &Heap, event: Ref) -> (Option<Ref>, Option<Ref>)
-    requires { IsIn heap.now.objects event }
-    ensures { ShowsEvent heap.now.objects result.0 result.1 (object_at heap.now.objects event) }
-{
-    let View::Pair(word, rest) = heap.view(event) else {
-        return (None, None);
-    };
-    (symbol(heap, word), label(heap, word, rest))
 }

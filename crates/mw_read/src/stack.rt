@@ -31,20 +31,6 @@ pub(crate) enum Layer {
     Mark(u32),
 }
 
-impl Layer {
-    fn is_last(self) -> bool
-        ensures { result ≡ is_last self }
-    {
-        matches!(self, Layer::Last(_))
-    }
-
-    fn is_item(self) -> bool
-        ensures { result ≡ is_item self }
-    {
-        matches!(self, Layer::Item(_))
-    }
-}
-
 /// What is open, the innermost last, and the labels begun in it.
 #[derive(Drop)]
 pub(crate) struct Stack {
@@ -56,38 +42,176 @@ pub(crate) struct Stack {
     pub(crate) word: Option<Ref>,
 }
 
-// The innermost layer.
-fn top(layers: &[Layer]) -> Option<Layer>
-    ensures { MatchOption result (layers.now ≡ []) (λ l. EndsWith layers.now l) }
-{
-    layers.last().copied()
-}
-
-// The symbol QUOTE, where it may stand looked at first. That place is noted anew where it is another.
-fn quote_word(noted: &mut Option<Ref>, heap: &mut Heap) -> Result<Ref, Memory>
-    ensures grows { Grows heap.old.objects heap.new.objects }
-    ensures made { IfOk result (λ r. IsIn heap.new.objects r × (object_at heap.new.objects r ≡ symbol "QUOTE")) }
-{
-    if let Some(place) = *noted {
-        if place.index() < heap.mark().cells() && heap.is_word(Some(place), Word::Quote) {
-            return Ok(place);
+impl Stack {
+    // Has the innermost list the datum after its dot, so that nothing may begin?
+    pub(crate) fn is_full(&self) -> bool
+        ensures { (os : List Object) → IsStack os self.now → result ≡ is_ready (pile_of os self.now.layers.items) }
+    {
+        match self.top() {
+            Some(layer) => layer.is_last(),
+            None => false,
         }
     }
-    let word = heap.word(Word::Quote)?;
-    *noted = Some(word);
-    Ok(word)
+
+    // A list begins.
+    pub(crate) fn open(&mut self, offset: u64) -> Result<Outcome, Memory>
+        ensures turn { IfOk result (λ r. (os : List Object) → IsStack os self.old →
+            IsStack os self.new × HoldsDatum os r × ((t : State) → Means os self.old t → Does os self.new.layers.items self.new.labels.entries r (on t (Open offset)))) }
+        ensures big { IfOk result (λ r. self.new.big ≡ self.old.big) }
+    {
+        if self.is_full() {
+            return Ok(fault(SyntaxKind::Dot, offset));
+        }
+        self.layers.push(Layer::Opening)?;
+        Ok(Outcome::Pending)
+    }
+
+    // A closing parenthesis.
+    pub(crate) fn close(&mut self, heap: &mut Heap, offset: u64) -> Result<Outcome, Memory>
+        requires stack { IsStack heap.old.objects self.old }
+        ensures grows { Grows heap.old.objects heap.new.objects }
+        ensures stack { IfOk result (λ r. IsStack heap.new.objects self.new) }
+        ensures datum { IfOk result (λ r. HoldsDatum heap.new.objects r) }
+        ensures turn { IfOk result (λ r. (t : State) → Means heap.old.objects self.old t → Does heap.new.objects self.new.layers.items self.new.labels.entries r (on t (Close offset))) }
+        ensures big { IfOk result (λ r. self.new.big ≡ self.old.big) }
+    {
+        let Some(top) = self.top() else {
+            return Ok(fault(SyntaxKind::Close, offset));
+        };
+        match top {
+            Layer::Opening | Layer::Item(_) => {
+                let nil = heap.nil()?;
+                self.close_with(heap, nil)
+            }
+            Layer::Last(x) => {
+                self.layers.pop();
+                self.close_with(heap, x)
+            }
+            Layer::Dot => Ok(fault(SyntaxKind::Dot, offset)),
+            Layer::Quote | Layer::Mark(_) => Ok(fault(SyntaxKind::Close, offset)),
+        }
+    }
+
+    // A dot.
+    pub(crate) fn dot(&mut self, offset: u64) -> Result<Outcome, Memory>
+        ensures turn { IfOk result (λ r. (os : List Object) → IsStack os self.old →
+            IsStack os self.new × HoldsDatum os r × ((t : State) → Means os self.old t → Does os self.new.layers.items self.new.labels.entries r (on t (Dot offset)))) }
+        ensures big { IfOk result (λ r. self.new.big ≡ self.old.big) }
+    {
+        if !self.is_after_member() {
+            return Ok(fault(SyntaxKind::Dot, offset));
+        }
+        self.layers.push(Layer::Dot)?;
+        Ok(Outcome::Pending)
+    }
+
+    // A quote.
+    pub(crate) fn quote(&mut self, offset: u64) -> Result<Outcome, Memory>
+        ensures turn { IfOk result (λ r. (os : List Object) → IsStack os self.old →
+            IsStack os self.new × HoldsDatum os r × ((t : State) → Means os self.old t → Does os self.new.layers.items self.new.labels.entries r (on t (Quote offset)))) }
+        ensures big { IfOk result (λ r. self.new.big ≡ self.old.big) }
+    {
+        if self.is_full() {
+            return Ok(fault(SyntaxKind::Dot, offset));
+        }
+        self.layers.push(Layer::Quote)?;
+        Ok(Outcome::Pending)
+    }
+
+    // A datum without parts.
+    pub(crate) fn atom(&mut self, heap: &mut Heap, x: Ref, offset: u64) -> Result<Outcome, Memory>
+        requires object { IsIn heap.old.objects x }
+        requires stack { IsStack heap.old.objects self.old }
+        ensures grows { Grows heap.old.objects heap.new.objects }
+        ensures stack { IfOk result (λ r. IsStack heap.new.objects self.new) }
+        ensures datum { IfOk result (λ r. HoldsDatum heap.new.objects r) }
+        ensures turn { IfOk result (λ r. (t : State) → Means heap.old.objects self.old t → Does heap.new.objects self.new.layers.items self.new.labels.entries r (on t (Atom offset (object_at heap.old.objects x)))) }
+        ensures big { IfOk result (λ r. self.new.big ≡ self.old.big) }
+    {
+        if self.is_full() {
+            return Ok(fault(SyntaxKind::Dot, offset));
+        }
+        give(&mut self.layers, &mut self.labels, &mut self.word, heap, x)
+    }
+
+    // A label.
+    pub(crate) fn mark(&mut self, n: u32, offset: u64) -> Result<Outcome, Memory>
+        ensures turn { IfOk result (λ r. (os : List Object) → IsStack os self.old →
+            IsStack os self.new × HoldsDatum os r × ((t : State) → Means os self.old t → Does os self.new.layers.items self.new.labels.entries r (on t (Mark offset n)))) }
+        ensures big { IfOk result (λ r. self.new.big ≡ self.old.big) }
+    {
+        if self.is_full() {
+            return Ok(fault(SyntaxKind::Dot, offset));
+        }
+        if !begin(&mut self.labels, n)? {
+            return Ok(fault(SyntaxKind::Label, offset));
+        }
+        self.layers.push(Layer::Mark(n))?;
+        Ok(Outcome::Pending)
+    }
+
+    // A reference to a label.
+    pub(crate) fn refer(&mut self, heap: &mut Heap, n: u32, offset: u64) -> Result<Outcome, Memory>
+        requires stack { IsStack heap.old.objects self.old }
+        ensures grows { Grows heap.old.objects heap.new.objects }
+        ensures stack { IfOk result (λ r. IsStack heap.new.objects self.new) }
+        ensures datum { IfOk result (λ r. HoldsDatum heap.new.objects r) }
+        ensures turn { IfOk result (λ r. (t : State) → Means heap.old.objects self.old t → Does heap.new.objects self.new.layers.items self.new.labels.entries r (on t (Refers offset n))) }
+        ensures big { IfOk result (λ r. self.new.big ≡ self.old.big) }
+    {
+        if self.is_full() {
+            return Ok(fault(SyntaxKind::Dot, offset));
+        }
+        match look(&self.labels, n) {
+            Some(x) => give(&mut self.layers, &mut self.labels, &mut self.word, heap, x),
+            None => Ok(fault(SyntaxKind::Label, offset)),
+        }
+    }
+
+    // The innermost list ends in this object.
+    fn close_with(&mut self, heap: &mut Heap, last: Ref) -> Result<Outcome, Memory>
+        requires object { IsIn heap.old.objects last }
+        requires stack { IsStack heap.old.objects self.old }
+        requires list { IsInList (pile_of heap.old.objects self.old.layers.items) }
+        ensures grows { Grows heap.old.objects heap.new.objects }
+        ensures stack { IfOk result (λ r. IsStack heap.new.objects self.new) }
+        ensures datum { IfOk result (λ r. HoldsDatum heap.new.objects r) }
+        ensures turn { IfOk result (λ r. (ks : Labels) → Agree heap.old.objects self.old.labels.entries ks → Does heap.new.objects self.new.layers.items self.new.labels.entries r
+            (closed_with (pile_of heap.old.objects self.old.layers.items) (object_at heap.old.objects last) ks)) }
+        ensures big { IfOk result (λ r. self.new.big ≡ self.old.big) }
+    {
+        let list = fold(&mut self.layers, heap, last)?;
+        give(
+            &mut self.layers,
+            &mut self.labels,
+            &mut self.word,
+            heap,
+            list,
+        )
+    }
+
+    // Does a member of a list stand directly before?
+    fn is_after_member(&self) -> bool
+        ensures { (os : List Object) → IsStack os self.now → result ≡ has_member (pile_of os self.now.layers.items) }
+    {
+        match self.top() {
+            Some(layer) => layer.is_item(),
+            None => false,
+        }
+    }
+
+    // The innermost layer.
+    fn top(&self) -> Option<Layer>
+        ensures { MatchOption result (self.now.layers.items ≡ []) (λ l. EndsWith self.now.layers.items l) }
+    {
+        top(&self.layers)
+    }
 }
 
-// `(quote x)`.
-fn quote(noted: &mut Option<Ref>, heap: &mut Heap, x: Ref) -> Result<Ref, Memory>
-    requires { IsIn heap.old.objects x }
-    ensures grows { Grows heap.old.objects heap.new.objects }
-    ensures made { IfOk result (λ r. IsIn heap.new.objects r × (object_at heap.new.objects r ≡ quoted (object_at heap.old.objects x))) }
+pub(crate) fn fault(kind: SyntaxKind, offset: u64) -> Outcome
+    ensures { result ≡ Outcome.Fault (record { kind = kind; offset = offset }) }
 {
-    let word = quote_word(noted, heap)?;
-    let nil = heap.nil()?;
-    let tail = heap.cons(x, nil)?;
-    heap.cons(word, tail)
+    Outcome::Fault(Fault { kind, offset })
 }
 
 // A datum is complete: quotes and labels that wait for it take it, and then it is a member of what is open, or an event.
@@ -135,6 +259,33 @@ fn give(
     Ok(Outcome::Datum(x))
 }
 
+// `(quote x)`.
+fn quote(noted: &mut Option<Ref>, heap: &mut Heap, x: Ref) -> Result<Ref, Memory>
+    requires { IsIn heap.old.objects x }
+    ensures grows { Grows heap.old.objects heap.new.objects }
+    ensures made { IfOk result (λ r. IsIn heap.new.objects r × (object_at heap.new.objects r ≡ quoted (object_at heap.old.objects x))) }
+{
+    let word = quote_word(noted, heap)?;
+    let nil = heap.nil()?;
+    let tail = heap.cons(x, nil)?;
+    heap.cons(word, tail)
+}
+
+// The symbol QUOTE, where it may stand looked at first. That place is noted anew where it is another.
+fn quote_word(noted: &mut Option<Ref>, heap: &mut Heap) -> Result<Ref, Memory>
+    ensures grows { Grows heap.old.objects heap.new.objects }
+    ensures made { IfOk result (λ r. IsIn heap.new.objects r × (object_at heap.new.objects r ≡ symbol "QUOTE")) }
+{
+    if let Some(place) = *noted {
+        if place.index() < heap.mark().cells() && heap.is_word(Some(place), Word::Quote) {
+            return Ok(place);
+        }
+    }
+    let word = heap.word(Word::Quote)?;
+    *noted = Some(word);
+    Ok(word)
+}
+
 // The innermost list ends: its members become pairs, the last first.
 fn fold(layers: &mut Vec<Layer>, heap: &mut Heap, last: Ref) -> Result<Ref, Memory>
     requires object { IsIn heap.old.objects last }
@@ -155,174 +306,23 @@ fn fold(layers: &mut Vec<Layer>, heap: &mut Heap, last: Ref) -> Result<Ref, Memo
     Ok(list)
 }
 
-pub(crate) fn fault(kind: SyntaxKind, offset: u64) -> Outcome
-    ensures { result ≡ Outcome.Fault (record { kind = kind; offset = offset }) }
+// The innermost layer.
+fn top(layers: &[Layer]) -> Option<Layer>
+    ensures { MatchOption result (layers.now ≡ []) (λ l. EndsWith layers.now l) }
 {
-    Outcome::Fault(Fault { kind, offset })
+    layers.last().copied()
 }
 
-impl Stack {
-    // The innermost layer.
-    fn top(&self) -> Option<Layer>
-        ensures { MatchOption result (self.now.layers.items ≡ []) (λ l. EndsWith self.now.layers.items l) }
+impl Layer {
+    fn is_last(self) -> bool
+        ensures { result ≡ is_last self }
     {
-        top(&self.layers)
+        matches!(self, Layer::Last(_))
     }
 
-    // Has the innermost list the datum after its dot, so that nothing may begin?
-    pub(crate) fn is_full(&self) -> bool
-        ensures { (os : List Object) → IsStack os self.now → result ≡ is_ready (pile_of os self.now.layers.items) }
+    fn is_item(self) -> bool
+        ensures { result ≡ is_item self }
     {
-        match self.top() {
-            Some(layer) => layer.is_last(),
-            None => false,
-        }
-    }
-
-    // A datum without parts.
-    pub(crate) fn atom(&mut self, heap: &mut Heap, x: Ref, offset: u64) -> Result<Outcome, Memory>
-        requires object { IsIn heap.old.objects x }
-        requires stack { IsStack heap.old.objects self.old }
-        ensures grows { Grows heap.old.objects heap.new.objects }
-        ensures stack { IfOk result (λ r. IsStack heap.new.objects self.new) }
-        ensures datum { IfOk result (λ r. HoldsDatum heap.new.objects r) }
-        ensures turn { IfOk result (λ r. (t : State) → Means heap.old.objects self.old t → Does heap.new.objects self.new.layers.items self.new.labels.entries r (on t (Atom offset (object_at heap.old.objects x)))) }
-        ensures big { IfOk result (λ r. self.new.big ≡ self.old.big) }
-    {
-        if self.is_full() {
-            return Ok(fault(SyntaxKind::Dot, offset));
-        }
-        give(&mut self.layers, &mut self.labels, &mut self.word, heap, x)
-    }
-
-    // A list begins.
-    pub(crate) fn open(&mut self, offset: u64) -> Result<Outcome, Memory>
-        ensures turn { IfOk result (λ r. (os : List Object) → IsStack os self.old →
-            IsStack os self.new × HoldsDatum os r × ((t : State) → Means os self.old t → Does os self.new.layers.items self.new.labels.entries r (on t (Open offset)))) }
-        ensures big { IfOk result (λ r. self.new.big ≡ self.old.big) }
-    {
-        if self.is_full() {
-            return Ok(fault(SyntaxKind::Dot, offset));
-        }
-        self.layers.push(Layer::Opening)?;
-        Ok(Outcome::Pending)
-    }
-
-    // A quote.
-    pub(crate) fn quote(&mut self, offset: u64) -> Result<Outcome, Memory>
-        ensures turn { IfOk result (λ r. (os : List Object) → IsStack os self.old →
-            IsStack os self.new × HoldsDatum os r × ((t : State) → Means os self.old t → Does os self.new.layers.items self.new.labels.entries r (on t (Quote offset)))) }
-        ensures big { IfOk result (λ r. self.new.big ≡ self.old.big) }
-    {
-        if self.is_full() {
-            return Ok(fault(SyntaxKind::Dot, offset));
-        }
-        self.layers.push(Layer::Quote)?;
-        Ok(Outcome::Pending)
-    }
-
-    // Does a member of a list stand directly before?
-    fn is_behind_member(&self) -> bool
-        ensures { (os : List Object) → IsStack os self.now → result ≡ has_member (pile_of os self.now.layers.items) }
-    {
-        match self.top() {
-            Some(layer) => layer.is_item(),
-            None => false,
-        }
-    }
-
-    // A dot.
-    pub(crate) fn dot(&mut self, offset: u64) -> Result<Outcome, Memory>
-        ensures turn { IfOk result (λ r. (os : List Object) → IsStack os self.old →
-            IsStack os self.new × HoldsDatum os r × ((t : State) → Means os self.old t → Does os self.new.layers.items self.new.labels.entries r (on t (Dot offset)))) }
-        ensures big { IfOk result (λ r. self.new.big ≡ self.old.big) }
-    {
-        if !self.is_behind_member() {
-            return Ok(fault(SyntaxKind::Dot, offset));
-        }
-        self.layers.push(Layer::Dot)?;
-        Ok(Outcome::Pending)
-    }
-
-    // A label.
-    pub(crate) fn mark(&mut self, n: u32, offset: u64) -> Result<Outcome, Memory>
-        ensures turn { IfOk result (λ r. (os : List Object) → IsStack os self.old →
-            IsStack os self.new × HoldsDatum os r × ((t : State) → Means os self.old t → Does os self.new.layers.items self.new.labels.entries r (on t (Mark offset n)))) }
-        ensures big { IfOk result (λ r. self.new.big ≡ self.old.big) }
-    {
-        if self.is_full() {
-            return Ok(fault(SyntaxKind::Dot, offset));
-        }
-        if !begin(&mut self.labels, n)? {
-            return Ok(fault(SyntaxKind::Label, offset));
-        }
-        self.layers.push(Layer::Mark(n))?;
-        Ok(Outcome::Pending)
-    }
-
-    // A reference to a label.
-    pub(crate) fn refer(&mut self, heap: &mut Heap, n: u32, offset: u64) -> Result<Outcome, Memory>
-        requires stack { IsStack heap.old.objects self.old }
-        ensures grows { Grows heap.old.objects heap.new.objects }
-        ensures stack { IfOk result (λ r. IsStack heap.new.objects self.new) }
-        ensures datum { IfOk result (λ r. HoldsDatum heap.new.objects r) }
-        ensures turn { IfOk result (λ r. (t : State) → Means heap.old.objects self.old t → Does heap.new.objects self.new.layers.items self.new.labels.entries r (on t (Refers offset n))) }
-        ensures big { IfOk result (λ r. self.new.big ≡ self.old.big) }
-    {
-        if self.is_full() {
-            return Ok(fault(SyntaxKind::Dot, offset));
-        }
-        match look(&self.labels, n) {
-            Some(x) => give(&mut self.layers, &mut self.labels, &mut self.word, heap, x),
-            None => Ok(fault(SyntaxKind::Label, offset)),
-        }
-    }
-
-    // A closing parenthesis.
-    pub(crate) fn close(&mut self, heap: &mut Heap, offset: u64) -> Result<Outcome, Memory>
-        requires stack { IsStack heap.old.objects self.old }
-        ensures grows { Grows heap.old.objects heap.new.objects }
-        ensures stack { IfOk result (λ r. IsStack heap.new.objects self.new) }
-        ensures datum { IfOk result (λ r. HoldsDatum heap.new.objects r) }
-        ensures turn { IfOk result (λ r. (t : State) → Means heap.old.objects self.old t → Does heap.new.objects self.new.layers.items self.new.labels.entries r (on t (Close offset))) }
-        ensures big { IfOk result (λ r. self.new.big ≡ self.old.big) }
-    {
-        let Some(top) = self.top() else {
-            return Ok(fault(SyntaxKind::Close, offset));
-        };
-        match top {
-            Layer::Opening | Layer::Item(_) => {
-                let nil = heap.nil()?;
-                self.close_with(heap, nil)
-            }
-            Layer::Last(x) => {
-                self.layers.pop();
-                self.close_with(heap, x)
-            }
-            Layer::Dot => Ok(fault(SyntaxKind::Dot, offset)),
-            Layer::Quote | Layer::Mark(_) => Ok(fault(SyntaxKind::Close, offset)),
-        }
-    }
-
-    // The innermost list ends in this object.
-    fn close_with(&mut self, heap: &mut Heap, last: Ref) -> Result<Outcome, Memory>
-        requires object { IsIn heap.old.objects last }
-        requires stack { IsStack heap.old.objects self.old }
-        requires list { IsInList (pile_of heap.old.objects self.old.layers.items) }
-        ensures grows { Grows heap.old.objects heap.new.objects }
-        ensures stack { IfOk result (λ r. IsStack heap.new.objects self.new) }
-        ensures datum { IfOk result (λ r. HoldsDatum heap.new.objects r) }
-        ensures turn { IfOk result (λ r. (ks : Labels) → Agree heap.old.objects self.old.labels.entries ks → Does heap.new.objects self.new.layers.items self.new.labels.entries r
-            (closed_with (pile_of heap.old.objects self.old.layers.items) (object_at heap.old.objects last) ks)) }
-        ensures big { IfOk result (λ r. self.new.big ≡ self.old.big) }
-    {
-        let list = fold(&mut self.layers, heap, last)?;
-        give(
-            &mut self.layers,
-            &mut self.labels,
-            &mut self.word,
-            heap,
-            list,
-        )
+        matches!(self, Layer::Item(_))
     }
 }

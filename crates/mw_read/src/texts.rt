@@ -1,89 +1,26 @@
 //! Texts of more than one byte: tokens, names between bars, labels and comments, and where they end.
-ghost use Rattle.std.specs.Prelude.{◌≡◌, ℕ, ◌+◌, ◌<◌, ◌≤◌, ◌^◌, ◌⊎◌, true, false, ◌||◌, List, ◌++◌, length, take, IfOk, OnOk};
-ghost use Rattle.mw_model.specs.Terms.Object.{is_name_byte, name_of_bytes, Natural, Symbol};
-ghost use Rattle.mw_model.specs.Texts.Lexemes.{all_are, decimal_value, is_constituent, is_digit, token_form, Atom, Ending};
-ghost use Rattle.mw_model.specs.Events.Fate.{is_out_of_range};
-ghost use Rattle.mw_heap.specs.Objects.{object_at, IsIn, Grows};
+ghost use Rattle.std.specs.Prelude.{◌≡◌, ℕ, ◌+◌, ◌<◌, ◌≤◌, ◌^◌, ◌⊎◌, true, false, List, ◌++◌, length, take, IfOk};
+ghost use Rattle.mw_model.specs.Terms.Object.{is_name_byte, name_of_bytes, Symbol};
+ghost use Rattle.mw_model.specs.Texts.Lexemes.{all_are, is_constituent, is_digit, token_form, Atom, Ending};
+ghost use Rattle.mw_heap.specs.Objects.{Grows};
 ghost use Rattle.mw_read.specs.Machine.{State, on, is_full};
 ghost use Rattle.mw_read.specs.Stacks.{IsStack};
-ghost use Rattle.mw_read.specs.Clamp.{clamp};
 ghost use Rattle.mw_read.specs.Held.{Holds, Took};
 ghost use Rattle.mw_read.specs.Parsing.{IsParser, Advances, EndsHash, meaning_of, Moves};
-ghost use Rattle.mw_read.specs.Runs.{StartsWith};
+ghost use Rattle.mw_lex.specs.Runs.{StartsWith};
 ghost use Rattle.mw_read.specs.Lexing.{token_lexeme, label_lexeme};
 
-use crate::class::{constituents, digits, glued_to_token, line_bytes, name_bytes};
-use crate::kept::{keep_behind, whole_text};
-use crate::name::Names;
+use crate::kept::{keep_after, whole_text};
 use crate::parser::{Begun, Parser};
 use crate::stack::{Stack, fault};
 use crate::step::{Outcome, SyntaxKind};
-use crate::token::{Form, decimal, few_digits, form_of};
-use mw_heap::{Heap, Memory, Ref};
-
-// The natural of these digits. In place of one of 2^128 or more it is 0, and `big` is set.
-fn natural_of(big: &mut bool, heap: &mut Heap, digits: &[u8]) -> Result<Ref, Memory>
-    requires { all_are is_digit digits.now ≡ true }
-    ensures grows { Grows heap.old.objects heap.new.objects }
-    ensures made { IfOk result (λ r. IsIn heap.new.objects r × (object_at heap.new.objects r ≡ clamp (Natural (decimal_value digits.now)))) }
-    ensures big { OnOk result (big.new ≡ (big.old || is_out_of_range (Natural (decimal_value digits.now)))) }
-{
-    match decimal(digits) {
-        Some(n) => heap.nat(n),
-        None => {
-            *big = true;
-            heap.nat(0)
-        }
-    }
-}
-
-// A token without bars ends: `glued` says whether what stands after it may not stand there. `BEGINS` says whether it begins in this
-// piece, as most do: what they go through is compiled by itself, into the one loop that calls it.
-fn end_token<const BEGINS: bool>(
-    stack: &mut Stack,
-    heap: &mut Heap,
-    names: &mut Names,
-    token: &[u8],
-    start: u64,
-    glued: bool,
-) -> Result<Outcome, Memory>
-    requires stack { IsStack heap.old.objects stack.old }
-    requires token { all_are is_constituent token.now ≡ true }
-    requires room { start < 2 ^ 50 }
-    ensures grows { Grows heap.old.objects heap.new.objects }
-    ensures took { IfOk result (λ r. (t : State) → Holds heap.old.objects stack.old t → is_full t ≡ false →
-        Took heap.new.objects stack.new r (on t (token_lexeme start glued (token_form token.now)))) }
-{
-    match form_of(token) {
-        Form::Digits => {
-            let x = natural_of(&mut stack.big, heap, token)?;
-            stack.atom(heap, x, start)
-        }
-        Form::Name => {
-            let x = names.symbol_of(heap, token)?;
-            stack.atom(heap, x, start)
-        }
-        Form::Dot => {
-            if glued {
-                return Ok(fault(SyntaxKind::Token, start + 1));
-            }
-            stack.dot(start)
-        }
-        Form::Bad => Ok(fault(SyntaxKind::Token, start)),
-    }
-}
+use mw_heap::{Heap, Memory};
+use mw_lex::{
+    Names, Token, constituents, digits, few_digits, glued_to_token, line_bytes, name_bytes,
+    token_of,
+};
 
 impl Parser {
-    // The text that has begun goes on in the next piece.
-    fn pause(&mut self, bytes: &[u8]) -> Result<(Outcome, usize), Memory>
-        ensures paused { IfOk result (λ r. (r.0 ≡ Outcome.Pending) × (r.1 ≡ length bytes.now)) }
-        ensures token { IfOk result (λ r. self.new.token.items ≡ self.old.token.items ++ bytes.now) }
-        ensures same { (self.new.stack ≡ self.old.stack) × ((self.new.begun ≡ self.old.begun) × (self.new.start ≡ self.old.start)) }
-    {
-        self.token.extend_from_slice(bytes)?;
-        Ok((Outcome::Pending, bytes.len()))
-    }
-
     // A token goes on, and ends where a byte follows it.
     pub(crate) fn in_token<const BEGINS: bool>(
         &mut self,
@@ -106,30 +43,6 @@ impl Parser {
         }
         let outcome = self.end_token::<BEGINS>(heap, &rest[..n], glued_to_token(rest[n]))?;
         Ok((outcome, n))
-    }
-
-    // A token ends after these bytes.
-    pub(crate) fn end_token<const BEGINS: bool>(
-        &mut self,
-        heap: &mut Heap,
-        bytes: &[u8],
-        glued: bool,
-    ) -> Result<Outcome, Memory>
-        requires parser { IsParser heap.old.objects self.old }
-        requires token { all_are is_constituent (self.old.token.items ++ bytes.now) ≡ true }
-        requires room { self.old.start + (length self.old.token.items + length bytes.now) < 2 ^ 50 }
-        ensures grows { Grows heap.old.objects heap.new.objects }
-        ensures took { IfOk result (λ r. (t : State) → Holds heap.old.objects self.old.stack t → is_full t ≡ false →
-            Took heap.new.objects self.new.stack r (on t (token_lexeme self.old.start glued (token_form (self.old.token.items ++ bytes.now))))) }
-        ensures begun { self.new.begun ≡ Begun.AfterToken }
-        ensures start { self.new.start ≡ self.old.start + length (self.old.token.items ++ bytes.now) }
-    {
-        let start = self.start;
-        self.begun = Begun::AfterToken;
-        self.start += (self.token.len() + bytes.len()) as u64;
-        keep_behind(&mut self.token, bytes)?;
-        let token = whole_text(&self.token, bytes);
-        end_token::<BEGINS>(&mut self.stack, heap, &mut self.names, token, start, glued)
     }
 
     // A name between bars goes on, up to the closing bar.
@@ -166,30 +79,6 @@ impl Parser {
         Ok((outcome, n + 1))
     }
 
-    // A name between bars ends after these bytes.
-    pub(crate) fn end_bars(&mut self, heap: &mut Heap, bytes: &[u8]) -> Result<Outcome, Memory>
-        requires parser { IsParser heap.old.objects self.old }
-        requires name { all_are is_name_byte (self.old.token.items ++ bytes.now) ≡ true }
-        requires some { 0 < length (self.old.token.items ++ bytes.now) }
-        requires room { self.old.start + (length self.old.token.items + length bytes.now) < 2 ^ 50 }
-        ensures grows { Grows heap.old.objects heap.new.objects }
-        ensures took { IfOk result (λ r. (t : State) → Holds heap.old.objects self.old.stack t →
-            Took heap.new.objects self.new.stack r (on t (Atom self.old.start (Symbol (name_of_bytes (self.old.token.items ++ bytes.now)))))) }
-        ensures begun { self.new.begun ≡ Begun.AfterBar }
-        ensures start { self.new.start ≡ self.old.start + 2 + length (self.old.token.items ++ bytes.now) }
-    {
-        let start = self.start;
-        self.begun = Begun::AfterBar;
-        self.start += (self.token.len() + bytes.len()) as u64 + 2;
-        if self.token.is_empty() {
-            let x = heap.symbol(bytes)?;
-            return self.stack.atom(heap, x, start);
-        }
-        self.token.extend_from_slice(bytes)?;
-        let x = heap.symbol(&self.token)?;
-        self.stack.atom(heap, x, start)
-    }
-
     // The digits after a `#` go on, up to what ends them.
     pub(crate) fn in_hash(
         &mut self,
@@ -215,6 +104,75 @@ impl Parser {
         }
         let outcome = self.end_hash(heap, rest[n])?;
         Ok((outcome, n + 1))
+    }
+
+    // A comment goes on, up to the end of the line.
+    pub(crate) fn in_comment(&mut self, rest: &[u8]) -> (Outcome, usize)
+        requires begun { self.old.begun ≡ Begun.Comment }
+        requires room { self.old.start + length rest.now < 2 ^ 50 }
+        ensures pending { result.0 ≡ Outcome.Pending }
+        ensures taken { result.1 ≤ length rest.now }
+        ensures stack { self.new.stack ≡ self.old.stack }
+        ensures begun { (self.new.begun ≡ Begun.Nothing) ⊎ (self.new.begun ≡ Begun.Comment) }
+        ensures moves { Moves result.0 self.old rest.now result.1 self.new }
+        ensures passes { (e : Ending) (t : State) (z : List ℕ) → meaning_of e t self.old (take result.1 rest.now ++ z) ≡ meaning_of e t self.new z }
+    {
+        let n = line_bytes(rest);
+        self.start += n as u64;
+        if n == rest.len() {
+            return (Outcome::Pending, n);
+        }
+        self.start += 2;
+        self.begun = Begun::Nothing;
+        (Outcome::Pending, n + 1)
+    }
+
+    // A token ends after these bytes.
+    pub(crate) fn end_token<const BEGINS: bool>(
+        &mut self,
+        heap: &mut Heap,
+        bytes: &[u8],
+        glued: bool,
+    ) -> Result<Outcome, Memory>
+        requires parser { IsParser heap.old.objects self.old }
+        requires token { all_are is_constituent (self.old.token.items ++ bytes.now) ≡ true }
+        requires room { self.old.start + (length self.old.token.items + length bytes.now) < 2 ^ 50 }
+        ensures grows { Grows heap.old.objects heap.new.objects }
+        ensures took { IfOk result (λ r. (t : State) → Holds heap.old.objects self.old.stack t → is_full t ≡ false →
+            Took heap.new.objects self.new.stack r (on t (token_lexeme self.old.start glued (token_form (self.old.token.items ++ bytes.now))))) }
+        ensures begun { self.new.begun ≡ Begun.AfterToken }
+        ensures start { self.new.start ≡ self.old.start + length (self.old.token.items ++ bytes.now) }
+    {
+        let start = self.start;
+        self.begun = Begun::AfterToken;
+        self.start += (self.token.len() + bytes.len()) as u64;
+        keep_after(&mut self.token, bytes)?;
+        let token = whole_text(&self.token, bytes);
+        end_token::<BEGINS>(&mut self.stack, heap, &mut self.names, token, start, glued)
+    }
+
+    // A name between bars ends after these bytes.
+    pub(crate) fn end_bars(&mut self, heap: &mut Heap, bytes: &[u8]) -> Result<Outcome, Memory>
+        requires parser { IsParser heap.old.objects self.old }
+        requires name { all_are is_name_byte (self.old.token.items ++ bytes.now) ≡ true }
+        requires some { 0 < length (self.old.token.items ++ bytes.now) }
+        requires room { self.old.start + (length self.old.token.items + length bytes.now) < 2 ^ 50 }
+        ensures grows { Grows heap.old.objects heap.new.objects }
+        ensures took { IfOk result (λ r. (t : State) → Holds heap.old.objects self.old.stack t →
+            Took heap.new.objects self.new.stack r (on t (Atom self.old.start (Symbol (name_of_bytes (self.old.token.items ++ bytes.now)))))) }
+        ensures begun { self.new.begun ≡ Begun.AfterBar }
+        ensures start { self.new.start ≡ self.old.start + 2 + length (self.old.token.items ++ bytes.now) }
+    {
+        let start = self.start;
+        self.begun = Begun::AfterBar;
+        self.start += (self.token.len() + bytes.len()) as u64 + 2;
+        if self.token.is_empty() {
+            let x = heap.symbol(bytes)?;
+            return self.stack.atom(heap, x, start);
+        }
+        self.token.extend_from_slice(bytes)?;
+        let x = heap.symbol(&self.token)?;
+        self.stack.atom(heap, x, start)
     }
 
     // A label or a reference ends with this byte.
@@ -252,24 +210,42 @@ impl Parser {
         self.start += self.token.len() as u64 + 2;
     }
 
-    // A comment goes on, up to the end of the line.
-    pub(crate) fn in_comment(&mut self, rest: &[u8]) -> (Outcome, usize)
-        requires begun { self.old.begun ≡ Begun.Comment }
-        requires room { self.old.start + length rest.now < 2 ^ 50 }
-        ensures pending { result.0 ≡ Outcome.Pending }
-        ensures taken { result.1 ≤ length rest.now }
-        ensures stack { self.new.stack ≡ self.old.stack }
-        ensures begun { (self.new.begun ≡ Begun.Nothing) ⊎ (self.new.begun ≡ Begun.Comment) }
-        ensures moves { Moves result.0 self.old rest.now result.1 self.new }
-        ensures passes { (e : Ending) (t : State) (z : List ℕ) → meaning_of e t self.old (take result.1 rest.now ++ z) ≡ meaning_of e t self.new z }
+    // The text that has begun goes on in the next piece.
+    fn pause(&mut self, bytes: &[u8]) -> Result<(Outcome, usize), Memory>
+        ensures paused { IfOk result (λ r. (r.0 ≡ Outcome.Pending) × (r.1 ≡ length bytes.now)) }
+        ensures token { IfOk result (λ r. self.new.token.items ≡ self.old.token.items ++ bytes.now) }
+        ensures same { (self.new.stack ≡ self.old.stack) × ((self.new.begun ≡ self.old.begun) × (self.new.start ≡ self.old.start)) }
     {
-        let n = line_bytes(rest);
-        self.start += n as u64;
-        if n == rest.len() {
-            return (Outcome::Pending, n);
+        self.token.extend_from_slice(bytes)?;
+        Ok((Outcome::Pending, bytes.len()))
+    }
+}
+
+// A token without bars ends: `glued` says whether what stands after it may not stand there. `BEGINS` says whether it begins in this
+// piece, as most do: what they go through is compiled by itself, into the one loop that calls it.
+fn end_token<const BEGINS: bool>(
+    stack: &mut Stack,
+    heap: &mut Heap,
+    names: &mut Names,
+    token: &[u8],
+    start: u64,
+    glued: bool,
+) -> Result<Outcome, Memory>
+    requires stack { IsStack heap.old.objects stack.old }
+    requires token { all_are is_constituent token.now ≡ true }
+    requires room { start < 2 ^ 50 }
+    ensures grows { Grows heap.old.objects heap.new.objects }
+    ensures took { IfOk result (λ r. (t : State) → Holds heap.old.objects stack.old t → is_full t ≡ false →
+        Took heap.new.objects stack.new r (on t (token_lexeme start glued (token_form token.now)))) }
+{
+    match token_of::<BEGINS>(names, heap, &mut stack.big, token)? {
+        Token::Atom(x) => stack.atom(heap, x, start),
+        Token::Dot => {
+            if glued {
+                return Ok(fault(SyntaxKind::Token, start + 1));
+            }
+            stack.dot(start)
         }
-        self.start += 2;
-        self.begun = Begun::Nothing;
-        (Outcome::Pending, n + 1)
+        Token::Bad => Ok(fault(SyntaxKind::Token, start)),
     }
 }

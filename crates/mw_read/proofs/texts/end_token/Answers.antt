@@ -1,40 +1,40 @@
-use Rattle.std.proofs.Common.{◌∙◌, sym, refl, subst, false, map}
-use Rattle.mw_model.specs.Terms.Object.{Natural, Symbol, name_of_bytes}
-use Rattle.mw_model.specs.Texts.Lexemes.{raised, decimal_value}
+use Rattle.std.proofs.Common.{◌∙◌, ◌||◌, sym, ap, subst}
+use Rattle.mw_model.specs.Texts.Lexemes.{Dot, Point, token_form}
+use Rattle.mw_lex.specs.Tokens.{IsToken, form_big}
 use Rattle.mw_read.specs.Machine.{on}
+use Rattle.mw_read.specs.Clamp.{clamp_state}
 use Rattle.mw_read.specs.Held.{Took}
 use Rattle.mw_read.specs.Lexing.{token_lexeme}
-use Rattle.mw_read.proofs.Holding.{stack_grows, atom_took, or_small, if_ok_all}
-use Rattle.mw_read.proofs.Constituents.{is_name_raised}
+use Rattle.mw_read.proofs.Beginning.{if_ok_both}
+use Rattle.mw_read.proofs.Holding.{atom_took, holds_grows, if_ok_all, stack_grows, took}
 use Rattle.mw_read.proofs.texts.end_token.Goals as goal
 
 pub atom-requires-clause-stack : goal.atom-requires-clause-stack
 atom-requires-clause-stack g c =
-    let k = stack_grows c.args.heap.now.objects c.natural_of.new.heap.objects c.args.stack.now c.natural_of.ensures.grows c.requires.stack in record { pile = k.pile; listed = k.listed }
+    let k = stack_grows c.args.heap.now.objects c.token_of.new.heap.objects c.args.stack.now c.token_of.ensures.grows c.requires.stack in record { pile = k.pile; listed = k.listed }
 
-pub symbol_of-requires : goal.symbol_of-requires
-symbol_of-requires g c = is_name_raised c.args.token.now (name_of_bytes (map raised c.args.token.now)) c.requires.token c.in-Name.ensures
-
-pub atom-requires-in-Name-clause-stack : goal.atom-requires-in-Name-clause-stack
-atom-requires-in-Name-clause-stack g c = stack_grows c.args.heap.now.objects c.symbol_of.new.heap.objects c.args.stack.now c.symbol_of.ensures.grows c.requires.stack
-
-pub returns-in_ok-x-in-Digits-clause-took : goal.returns-in_ok-x-in-Digits-clause-took
-returns-in_ok-x-in-Digits-clause-took g c =
-    let y = Natural (decimal_value c.args.token.now) in
+pub returns-in-Atom-clause-took : goal.returns-in-Atom-clause-took
+returns-in-Atom-clause-took g c =
+    let f = token_form c.args.token.now in
+    let m = subst (λ k. IsToken c.token_of.new.heap.objects k f) c.in-Atom.is c.in_ok-x.ensures.made in
     if_ok_all _ _ _ _ c.atom.result
-    (λ r a b d e t h f.
-    subst (λ u. Took c.atom.new.heap.objects c.atom.new.self r (on t (token_lexeme c.args.start c.args.glued u))) (sym c.in-Digits.ensures.1)
-    (atom_took c.args.heap.now.objects c.natural_of.new.heap.objects c.atom.new.heap.objects c.args.stack.now c.atom.new.self r t y c.in_ok-x-in-Digits.x c.args.start h c.natural_of.ensures.grows
-    c.in_ok-x-in-Digits.ensures.made.1 a b d (e ∙ c.in_ok-x-in-Digits.ensures.big)))
+    (λ r a b d e t h n.
+    subst (λ u. Took c.atom.new.heap.objects c.atom.new.self r (on t (token_lexeme c.args.start c.args.glued u))) (sym m.1)
+    (atom_took c.args.heap.now.objects c.token_of.new.heap.objects c.atom.new.heap.objects c.args.stack.now c.atom.new.self r t m.0 c.in-Atom.x c.args.start h c.token_of.ensures.grows m.3 a b d
+    (e ∙ c.in_ok-x.ensures.big ∙ ap (λ u. c.args.stack.now.big || form_big u) m.1)))
     c.atom.ensures.stack c.atom.ensures.datum c.atom.ensures.turn c.atom.ensures.big
 
-pub returns-in_ok-x-in-Name-clause-took : goal.returns-in_ok-x-in-Name-clause-took
-returns-in_ok-x-in-Name-clause-took g c =
-    let y = Symbol (name_of_bytes (map raised c.args.token.now)) in
-    if_ok_all _ _ _ _ c.atom-in-Name.result
-    (λ r a b d e t h f.
-    subst (λ u. Took c.atom-in-Name.new.heap.objects c.atom-in-Name.new.self r (on t (token_lexeme c.args.start c.args.glued u))) (sym c.in-Name.ensures)
-    (atom_took c.args.heap.now.objects c.symbol_of.new.heap.objects c.atom-in-Name.new.heap.objects c.args.stack.now c.atom-in-Name.new.self r t y c.in_ok-x-in-Name.x c.args.start h c.symbol_of.ensures.grows
-    c.in_ok-x-in-Name.ensures.made.1
-    a b d (or_small c.atom-in-Name.new.self.big c.args.stack.now.big false refl e)))
-    c.atom-in-Name.ensures.stack c.atom-in-Name.ensures.datum c.atom-in-Name.ensures.turn c.atom-in-Name.ensures.big
+pub returns-else-glued-clause-took : goal.returns-else-glued-clause-took
+returns-else-glued-clause-took g c =
+    let f = token_form c.args.token.now in
+    let os = c.token_of.new.heap.objects in
+    let m = subst (λ k. IsToken os k f) c.in-Dot.is c.in_ok-x.ensures.made in
+    let k = stack_grows c.args.heap.now.objects os c.args.stack.now c.token_of.ensures.grows c.requires.stack in
+    if_ok_both _ _ _ c.dot.result
+    (λ r v e t h n.
+    let w = v os (record { pile = k.pile; listed = k.listed }) in
+    subst (λ u. Took os c.dot.new.self r (on t (token_lexeme c.args.start c.args.glued u))) (sym m)
+    (subst (λ u. Took os c.dot.new.self r (on t (token_lexeme c.args.start u Point))) (sym c.if-glued.false)
+    (took os c.args.stack.now c.dot.new.self r t (Dot c.args.start) c.args.heap.now.objects h tt w.0 w.1 (w.2 (clamp_state t) (holds_grows c.args.heap.now.objects os c.args.stack.now t c.token_of.ensures.grows h).means)
+    (e ∙ c.in_ok-x.ensures.big ∙ ap (λ u. c.args.stack.now.big || form_big u) m))))
+    c.dot.ensures.turn c.dot.ensures.big

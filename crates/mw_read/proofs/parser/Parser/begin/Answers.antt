@@ -3,7 +3,7 @@ use Rattle.mw_read.specs.Resume.{resume}
 use Rattle.mw_read.specs.Parsing.{ahead, Begins, Moves, Advances}
 use Rattle.mw_read.specs.declared.parser.Parser.{Parser}
 use Rattle.mw_read.specs.declared.step.SyntaxKind.TheVariants as kinds
-use Rattle.mw_read.proofs.Holding.{holds_full, sound_clamp}
+use Rattle.mw_read.proofs.Holding.{holds_full}
 use Rattle.mw_read.proofs.Advancing.{fault_advances}
 use Rattle.mw_read.proofs.Beginning.{rest_is, begun_full, bars_begin, hash_begin, token_begin, bars_offset, hash_offset, token_offset, moves_past, moves_on, is_token, if_ok_more, if_ok_both}
 use Rattle.mw_read.proofs.parser.Parser.begin.Goals as goal
@@ -27,11 +27,9 @@ returns-in_ok-outcome-in-Bars-clause-moves c =
 pub returns-in_ok-outcome-in-Bars-clause-advances : goal.returns-in_ok-outcome-in-Bars-clause-advances
 returns-in_ok-outcome-in-Bars-clause-advances c t h =
     let a = c.args.self.now in
-    let os = c.args.heap.now.objects in
     let mid : Parser = record a { begun = c.args.begun; token = c.clear.new.self } in
-    let full = sym (holds_full os a.stack t h) ∙ sym (c.is_full.ensures os c.requires.parser.stack) ∙ c.if-is_full.false in
     bars_begin c.in_bars.new.heap.objects t a mid c.in_bars.new.self c.args.rest.now c.in_ok-outcome-in-Bars.outcome c.in_ok-outcome-in-Bars.n c.requires.begun c.in-Bars.is c.clear.ensures.items refl
-    (subst (λ m. Begins m c.args.rest.now) c.in-Bars.is c.requires.begins) full (sound_clamp os a.stack t h.means)
+    (subst (λ m. Begins m c.args.rest.now) c.in-Bars.is c.requires.begins)
     (subst (λ u. Advances c.in_bars.new.heap.objects t mid u c.in_ok-outcome-in-Bars.outcome c.in_ok-outcome-in-Bars.n c.in_bars.new.self) (rest_is 1 c.args.rest.now) (c.in_ok-outcome-in-Bars.ensures.advances t h))
 
 pub returns-in_ok-outcome-in-Hash-clause-moves : goal.returns-in_ok-outcome-in-Hash-clause-moves
@@ -45,11 +43,9 @@ returns-in_ok-outcome-in-Hash-clause-moves c =
 pub returns-in_ok-outcome-in-Hash-clause-advances : goal.returns-in_ok-outcome-in-Hash-clause-advances
 returns-in_ok-outcome-in-Hash-clause-advances c t h =
     let a = c.args.self.now in
-    let os = c.args.heap.now.objects in
     let mid : Parser = record a { begun = c.args.begun; token = c.clear.new.self } in
-    let full = sym (holds_full os a.stack t h) ∙ sym (c.is_full.ensures os c.requires.parser.stack) ∙ c.if-is_full.false in
     hash_begin c.in_hash.new.heap.objects t a mid c.in_hash.new.self c.args.rest.now c.in_ok-outcome-in-Hash.outcome c.in_ok-outcome-in-Hash.n c.requires.begun c.in-Hash.is c.clear.ensures.items refl
-    (subst (λ m. Begins m c.args.rest.now) c.in-Hash.is c.requires.begins) full (sound_clamp os a.stack t h.means)
+    (subst (λ m. Begins m c.args.rest.now) c.in-Hash.is c.requires.begins)
     (subst (λ u. Advances c.in_hash.new.heap.objects t mid u c.in_ok-outcome-in-Hash.outcome c.in_ok-outcome-in-Hash.n c.in_hash.new.self) (rest_is 1 c.args.rest.now) (c.in_ok-outcome-in-Hash.ensures.advances t h))
 
 pub returns-in_default : goal.returns-in_default

@@ -10,7 +10,7 @@ pub returns-clause-took : goal.returns-clause-took
 returns-clause-took g c =
     let a = c.args.self.now in
     let whole : c.whole_text-token.result.now ≡ a.token.items ++ c.args.bytes.now =
-    kept_is a.token.items c.keep_behind.new.kept.items c.deref.result.now c.args.bytes.now c.whole_text-token.result.now
-    c.in_ok-keep_behind.ensures.some c.in_ok-keep_behind.ensures.none c.deref.ensures.value c.whole_text-token.ensures.kept c.whole_text-token.ensures.none in
+    kept_is a.token.items c.keep_after.new.kept.items c.deref.result.now c.args.bytes.now c.whole_text-token.result.now
+    c.in_ok-keep_after.ensures.some c.in_ok-keep_after.ensures.none c.deref.ensures.value c.whole_text-token.ensures.kept c.whole_text-token.ensures.none in
     subst (λ u. IfOk c.end_token.result (λ r. (t : State) → Holds c.args.heap.now.objects a.stack t → is_full t ≡ false → Took c.end_token.new.heap.objects c.end_token.new.stack r (on t (token_lexeme a.start c.args.glued (token_form u)))))
     whole c.end_token.ensures.took

@@ -16,7 +16,7 @@ returns-in_ok-open-in-Opening-clause-advances c t h =
     let p : Parser = record a { stack = c.open.new.self; start = a.start + 1 } in
     let r = c.in_ok-open-in-Opening.field-0 in
     let v = c.in_ok-open-in-Opening.ensures.turn os c.requires.parser.stack in
-    lexeme_advances os t a p c.args.rest.now r lex.Opening (Open a.start) c.requires.some c.requires.begun c.requires.begun refl (sym c.in-Opening.ensures) (λ b. refl)
+    lexeme_advances os t a p c.args.rest.now r lex.Opening (Open a.start) c.requires.some c.requires.begun c.requires.begun refl (sym c.in-Opening.ensures) tt (λ e b x. refl)
     (took os a.stack p.stack r t (Open a.start) os h tt v.0 v.1 (v.2 (clamp_state t) h.means) (or_small p.stack.big a.stack.big false refl c.in_ok-open-in-Opening.ensures.big))
 
 pub returns-in_ok-close-in-Closing-clause-advances : goal.returns-in_ok-close-in-Closing-clause-advances
@@ -25,7 +25,7 @@ returns-in_ok-close-in-Closing-clause-advances c t h =
     let p : Parser = record a { stack = c.close.new.self; start = a.start + 1 } in
     let r = c.in_ok-close-in-Closing.field-0 in
     let v = c.in_ok-close-in-Closing.ensures in
-    lexeme_advances c.close.new.heap.objects t a p c.args.rest.now r lex.Closing (Close a.start) c.requires.some c.requires.begun c.requires.begun refl (sym c.in-Closing.ensures) (λ b. refl)
+    lexeme_advances c.close.new.heap.objects t a p c.args.rest.now r lex.Closing (Close a.start) c.requires.some c.requires.begun c.requires.begun refl (sym c.in-Closing.ensures) tt (λ e b x. refl)
     (took c.close.new.heap.objects a.stack p.stack r t (Close a.start) c.args.heap.now.objects h tt v.stack v.datum (v.turn (clamp_state t) h.means) (or_small p.stack.big a.stack.big false refl v.big))
 
 pub returns-in_ok-quote-in-Apostrophe-clause-advances : goal.returns-in_ok-quote-in-Apostrophe-clause-advances
@@ -35,7 +35,7 @@ returns-in_ok-quote-in-Apostrophe-clause-advances c t h =
     let p : Parser = record a { stack = c.quote.new.self; start = a.start + 1 } in
     let r = c.in_ok-quote-in-Apostrophe.field-0 in
     let v = c.in_ok-quote-in-Apostrophe.ensures.turn os c.requires.parser.stack in
-    lexeme_advances os t a p c.args.rest.now r lex.Apostrophe (Quote a.start) c.requires.some c.requires.begun c.requires.begun refl (sym c.in-Apostrophe.ensures) (λ b. refl)
+    lexeme_advances os t a p c.args.rest.now r lex.Apostrophe (Quote a.start) c.requires.some c.requires.begun c.requires.begun refl (sym c.in-Apostrophe.ensures) tt (λ e b x. refl)
     (took os a.stack p.stack r t (Quote a.start) os h tt v.0 v.1 (v.2 (clamp_state t) h.means) (or_small p.stack.big a.stack.big false refl c.in_ok-quote-in-Apostrophe.ensures.big))
 
 pub returns-in-Other-clause-advances : goal.returns-in-Other-clause-advances

@@ -4,7 +4,7 @@ use Rattle.mw_read.specs.Piles.{fault_of}
 use Rattle.mw_read.specs.Parsing.{Advances}
 use Rattle.mw_read.specs.Standing.{Reaches, Says}
 use Rattle.mw_read.proofs.Emptied.{gives}
-use Rattle.mw_read.proofs.Telling.{part_follows, datum_behind, all_says, long_says, fault_says, says_of, unended, uncut}
+use Rattle.mw_read.proofs.Telling.{part_follows, datum_after, all_says, long_says, fault_says, says_of, unended, uncut}
 use Rattle.mw_read.proofs.parser.Parser.read.Goals as goal
 
 pub scan-requires-clause-follows : goal.scan-requires-clause-follows
@@ -29,7 +29,7 @@ returns-in-Datum-clause-says c g given s =
     let x = c.in-Datum.x in
     let m = subst (λ r. Reaches r a (take k piece) n mid) c.in-Datum.is v.reaches in
     let q = subst (λ r. Advances os s.state a (take k piece) r n mid) c.in-Datum.is (v.advances s.state s.holds) in
-    let d = datum_behind c.args.heap.now.objects os a mid g given s piece k e x n v.taken m q in
+    let d = datum_after c.args.heap.now.objects os a mid g given s piece k e x n v.taken m q in
     subst (λ p. Says os a g given piece c.datum.result n (unended p)) (sym c.datum.ensures.new)
     (says_of os a g given piece n (uncut mid) d.0 c.datum.result (gives os mid.stack x d.0 c.datum.result d.1 c.datum.ensures.tells) d.2)
 

@@ -3,7 +3,7 @@ use Rattle.std.proofs.lemmas.List.{length-drop}
 use Rattle.mw_read.specs.Machine.{State}
 use Rattle.mw_read.specs.Held.{Holds}
 use Rattle.mw_read.specs.Parsing.{Moves, Advances, PassesWhite}
-use Rattle.mw_read.proofs.Growth.{grows_grows}
+use Rattle.mw_heap.proofs.Objects.{Grows-trans}
 use Rattle.mw_read.proofs.Beginning.{rest_is}
 use Rattle.mw_read.proofs.Scanning.{Scans, scan_next, scan_reaches, scan_advances}
 use Rattle.mw_read.proofs.Blanks.{blank_scans}
@@ -50,7 +50,7 @@ returns-in_default c =
     let f : (t : State) → Holds os mid.stack t → Advances os2 t mid (drop at piece) r n new = λ t h. subst (λ u. Advances os2 t mid u r n new) (rest_is at piece) (v.advances t h) in
     let l : n ≤ length (drop at piece) = subst (λ u. n ≤ length u) (rest_is at piece) v.taken in
     record {
-      grows = grows_grows c.args.heap.now.objects os os2 s.kept v.grows;
+      grows = Grows-trans c.args.heap.now.objects os os2 s.kept v.grows;
       taken = (let e : at + n ≤ length piece = omega (arith, l, length-drop at piece, s.within, c.loop-at-test.true) in e);
       whole = λ e. absurd (c.in_default.not-Pending e);
       reaches = scan_reaches c.args.heap.now.objects c.args.self.now piece os mid at s os2 new v.grows c.loop-at-test.true r n m;

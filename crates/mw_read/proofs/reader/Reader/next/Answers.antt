@@ -5,7 +5,7 @@ use Rattle.mw_read.specs.Standing.{Stands, Says, IsLast, HasEndedWith}
 use Rattle.mw_read.specs.Feeding.{Continues}
 use Rattle.mw_model.specs.Terms.Object.{Object}
 use Rattle.mw_read.proofs.Bare.{empty_is, not_empty}
-use Rattle.mw_read.proofs.Feeding.{says_continues, finishes_here, finishes_behind, ready_from, ready_stands, ready_follows}
+use Rattle.mw_read.proofs.Feeding.{says_continues, finishes_here, finishes_after, ready_from, ready_stands, ready_follows}
 use Rattle.mw_read.proofs.reader.Reader.next.Goals as goal
 
 pub next_unread-requires : goal.next_unread-requires
@@ -67,7 +67,7 @@ returns-in-More-clause-continues c g given s =
     let v = c.next_unread-2.ensures.says g given s in
     let w = subst (λ t. Says c.next_unread-2.new.heap.objects old.parser g given old.unread t v.0 mid.parser) c.in-More.is v.2 in
     let some : 0 < length old.unread = subst (λ u. 0 < length u) c.as_slice.ensures (not_empty c.as_slice.result.now (length c.as_slice.result.now) refl c.if-is_empty.ensures) in
-    finishes_behind old g given c.finish-in-More.new.heap.objects (record mid { parser = c.finish-in-More.new.self }) c.next_unread-2.ensures.finished f (v.1 ∙ drop_all v.0 old.unread (omega (arith, w.0)))
+    finishes_after old g given c.finish-in-More.new.heap.objects (record mid { parser = c.finish-in-More.new.self }) c.next_unread-2.ensures.finished f (v.1 ∙ drop_all v.0 old.unread (omega (arith, w.0)))
     mid.parser c.finish-in-More.result some (c.finish-in-More.ensures.finishes (g ++ old.unread) given w.1)
 
 pub returns-in-More-clause-ready : goal.returns-in-More-clause-ready

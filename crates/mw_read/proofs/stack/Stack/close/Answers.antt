@@ -2,7 +2,7 @@ use Rattle.std.proofs.Common.{◌∙◌, ap₂, subst, sym, length, vec_len}
 use Rattle.mw_model.specs.Texts.Lexemes.{Close}
 use Rattle.mw_read.specs.Machine.{Turn, on, labels_of}
 use Rattle.mw_read.specs.Piles.{pile_of, Does, IsInList, closed_with}
-use Rattle.mw_read.proofs.Growth.{length_grows}
+use Rattle.mw_heap.proofs.Objects.{length-Grows}
 use Rattle.mw_read.proofs.Piles.{pile_grows, is_pile_grows, agree_grows, listed_grows}
 use Rattle.mw_read.proofs.Turns.{opens_list, ends_dot, ends_waiting, ends_last, under_last, close_list, on_close, shows_agree, if_ok_map}
 use Rattle.mw_read.proofs.stack.Stack.close.Goals as goal
@@ -12,7 +12,7 @@ close_with-requires-clause-stack c =
     let a = c.args.self.now in
     record {
       pile = is_pile_grows c.args.heap.now.objects c.nil.new.self.objects a.layers.items c.nil.ensures.grows c.requires.stack.pile;
-      listed = listed_grows (length c.args.heap.now.objects) (length c.nil.new.self.objects) a.labels.entries (length_grows c.args.heap.now.objects c.nil.new.self.objects c.nil.ensures.grows) c.requires.stack.listed;
+      listed = listed_grows (length c.args.heap.now.objects) (length c.nil.new.self.objects) a.labels.entries (length-Grows c.args.heap.now.objects c.nil.new.self.objects c.nil.ensures.grows) c.requires.stack.listed;
     }
 
 pub close_with-requires-clause-list : goal.close_with-requires-clause-list

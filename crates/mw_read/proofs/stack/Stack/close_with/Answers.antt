@@ -1,7 +1,7 @@
 use Rattle.std.proofs.Common.{sym, ap₂, subst, length}
 use Rattle.mw_read.specs.Machine.{Turn}
 use Rattle.mw_read.specs.Piles.{Does, IsFrames, give_to}
-use Rattle.mw_read.proofs.Growth.{length_grows}
+use Rattle.mw_heap.proofs.Objects.{length-Grows}
 use Rattle.mw_read.proofs.Piles.{agree_grows, listed_grows}
 use Rattle.mw_read.proofs.Turns.{if_ok_map}
 use Rattle.mw_read.proofs.stack.Stack.close_with.Goals as goal
@@ -10,7 +10,7 @@ pub give-requires-clause-waits : goal.give-requires-clause-waits
 give-requires-clause-waits c = subst (λ u. IsFrames u) (sym c.in_ok-list.ensures.rest) tt
 
 pub give-requires-clause-listed : goal.give-requires-clause-listed
-give-requires-clause-listed c = listed_grows (length c.args.heap.now.objects) (length c.fold.new.heap.objects) c.args.self.now.labels.entries (length_grows c.args.heap.now.objects c.fold.new.heap.objects c.fold.ensures.grows) c.requires.stack.listed
+give-requires-clause-listed c = listed_grows (length c.args.heap.now.objects) (length c.fold.new.heap.objects) c.args.self.now.labels.entries (length-Grows c.args.heap.now.objects c.fold.new.heap.objects c.fold.ensures.grows) c.requires.stack.listed
 
 pub returns-clause-turn : goal.returns-clause-turn
 returns-clause-turn c =

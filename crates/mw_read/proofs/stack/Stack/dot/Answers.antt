@@ -7,7 +7,7 @@ use Rattle.mw_read.proofs.stack.Stack.dot.Goals as goal
 pub returns-clause-turn : goal.returns-clause-turn
 returns-clause-turn c os s =
     let a = c.args.self.now in
-    let n = sym (c.is_behind_member.ensures os s) ∙ c.if-not-is_behind_member.false in (
+    let n = sym (c.is_after_member.ensures os s) ∙ c.if-not-is_after_member.false in (
       record {
         pile = stack_more os a.layers.items c.push.new.self.items layers.Dot c.in_ok-push.ensures.items s.pile (member_may (pile_of os a.layers.items) n) tt;
         listed = s.listed;

@@ -1,0 +1,4 @@
+pub mod Codes
+pub mod Runs
+pub mod Forms
+pub mod Tokens

@@ -1,0 +1,128 @@
+//! Names without bars: their letters are raised.
+ghost use Rattle.std.specs.Prelude.{◌≡◌, true, map, IfOk, IfSome, OnOk};
+ghost use Rattle.mw_model.specs.Terms.Object.{Symbol, is_name, name_of_bytes, same_bytes};
+ghost use Rattle.mw_model.specs.Texts.Lexemes.{raised};
+ghost use Rattle.mw_heap.specs.Objects.{object_at, IsIn, Grows};
+
+use crate::class::raise;
+use mw_heap::{Heap, Memory, Ref, View};
+use std::alloc::Global;
+
+// How many slots there are for names met lately.
+const SLOTS: usize = 1024;
+
+/// The names met lately, so that a token that comes again costs one comparison.
+#[derive(Drop)]
+pub struct Names {
+    // in a token's slot where its symbol may stand, which is looked at before it is trusted
+    slots: Vec<Option<Ref>>,
+    // a name with its letters raised
+    raised: Vec<u8>,
+}
+
+impl Names {
+    /// No names.
+    pub fn new(alloc: Global) -> Names {
+        Names {
+            slots: Vec::new(alloc),
+            raised: Vec::new(alloc),
+        }
+    }
+
+    /// The symbol whose name is the token with its letters raised.
+    pub(crate) fn symbol_of(&mut self, heap: &mut Heap, token: &[u8]) -> Result<Ref, Memory>
+        requires { is_name (map raised token.now) ≡ true }
+        ensures grows { Grows heap.old.objects heap.new.objects }
+        ensures made { IfOk result (λ r. IsIn heap.new.objects r × (object_at heap.new.objects r ≡ Symbol (name_of_bytes (map raised token.now)))) }
+    {
+        let slot = slot_of(token);
+        if let Some(known) = self.known(heap, token, slot) {
+            return Ok(known);
+        }
+        let x = self.find(heap, token)?;
+        self.note(slot, x);
+        Ok(x)
+    }
+
+    // The symbol of the token, where it stands in this slot.
+    fn known(&self, heap: &Heap, token: &[u8], slot: usize) -> Option<Ref>
+        requires { is_name (map raised token.now) ≡ true }
+        ensures { IfSome result (λ r. IsIn heap.now.objects r × (object_at heap.now.objects r ≡ Symbol (name_of_bytes (map raised token.now)))) }
+    {
+        let place = (*self.slots.get(slot)?)?;
+        if place.index() >= heap.mark().cells() {
+            return None;
+        }
+        match heap.view(place) {
+            View::Symbol if is_raised(token, heap.name_of(place)) => Some(place),
+            _ => None,
+        }
+    }
+
+    // The symbol of the token, by the heap's own set of names. The token is copied only where it has a letter to be raised.
+    fn find(&mut self, heap: &mut Heap, token: &[u8]) -> Result<Ref, Memory>
+        requires { is_name (map raised token.now) ≡ true }
+        ensures grows { Grows heap.old.objects heap.new.objects }
+        ensures made { IfOk result (λ r. IsIn heap.new.objects r × (object_at heap.new.objects r ≡ Symbol (name_of_bytes (map raised token.now)))) }
+    {
+        if is_raised(token, token) {
+            return heap.symbol(token);
+        }
+        raise_all(&mut self.raised, token)?;
+        heap.symbol(&self.raised)
+    }
+
+    // Notes where the symbol of a token stands. Where memory is refused it is not noted, which costs time alone.
+    fn note(&mut self, slot: usize, x: Ref) {
+        if self.slots.is_empty() {
+            let _ = self.slots.resize(SLOTS, None);
+        }
+        if slot < self.slots.len() {
+            self.slots[slot] = Some(x);
+        }
+    }
+}
+
+// A byte of a token mixed in, where there is one.
+fn mixed_with(mixed: u32, token: &[u8], place: usize) -> u32 {
+    match token.get(place) {
+        Some(b) => mixed.wrapping_mul(31).wrapping_add(*b as u32),
+        None => mixed,
+    }
+}
+
+// The slot of a token, by its length and at most four of its bytes, so that a long one costs no more.
+fn slot_of(token: &[u8]) -> usize {
+    let length = token.len();
+    let mixed = mixed_with((length % SLOTS) as u32, token, 0);
+    let mixed = mixed_with(mixed, token, length / 2);
+    let mixed = mixed_with(mixed, token, length.saturating_sub(2));
+    let mixed = mixed_with(mixed, token, length.saturating_sub(1));
+    mixed as usize % SLOTS
+}
+
+// Is this the name of the token, with its letters raised?
+fn is_raised(token: &[u8], name: &[u8]) -> bool
+    ensures { result ≡ same_bytes (map raised token.now) name.now }
+{
+    if token.len() != name.len() {
+        return false;
+    }
+    for (i, b) in token.iter().enumerate() {
+        if raise(*b) != name[i] {
+            return false;
+        }
+    }
+    true
+}
+
+// The bytes, with letters raised, in place of what the vector had.
+fn raise_all(name: &mut Vec<u8>, token: &[u8]) -> Result<(), Memory>
+    ensures { OnOk result (name.new.items ≡ map raised token.now) }
+{
+    name.clear();
+    for b in token {
+        name.push(raise(*b))?;
+    }
+    Ok(())
+}
