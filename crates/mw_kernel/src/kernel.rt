@@ -368,8 +368,8 @@ impl Kernel {
         ensures steps { self.new.steps ≡ self.old.steps }
     {
         let world = &mut self.world;
-        let behind = world.heap.mark_after(name);
-        world.cut_to(later(behind, world.needed));
+        let end = world.heap.mark_after(name);
+        world.cut_to(later(end, world.needed));
         world.theory.checker = Some(name);
         world.theory.level = level;
         world.theory.is_initial = false;

@@ -41,11 +41,11 @@ module _ (os : List Object) where
   new-at (p ∷ ps) zero d A h l = h.0
   new-at (p ∷ ps) (suc i) d A h l = new-at ps i d ((name_of (object_at os p.0), p.1) ∷ A) h.1 (omega arith)
 
-  pub pairs-behind : (ps : List (ℕ × ℕ)) (A : ArityTable) → EndsWith (with_pairs os ps A) A
-  pairs-behind [] A = ([], refl)
-  pairs-behind (p ∷ ps) A =
+  pub with_pairs-EndsWith : (ps : List (ℕ × ℕ)) (A : ArityTable) → EndsWith (with_pairs os ps A) A
+  with_pairs-EndsWith [] A = ([], refl)
+  with_pairs-EndsWith (p ∷ ps) A =
       let q : Name × ℕ = (name_of (object_at os p.0), p.1) in
-      let r = pairs-behind ps (q ∷ A) in
+      let r = with_pairs-EndsWith ps (q ∷ A) in
       (r.0 ++ q ∷ [], r.1 ∙ sym (append_assoc r.0 (q ∷ []) A))
 
 -- the pair of a function or a witness

@@ -15,5 +15,5 @@ module _ (os old : List Object) (m : ℕ) (cut_is : os ≡ take m old) (within :
   same-cut = ap (λ o. object_at o x) cut_is ∙ object_at-take m old x before
 
 -- a mark after what is there, and after what is needed, stands within the heap
-pub mark-within : (w : World) → IsWorld w → (behind later : ℕ) → later ≡ max behind w.needed → behind ≤ length w.heap.objects → later ≤ length w.heap.objects
-mark-within w h behind later later_is within = omega (arith, later_is, within, h.kept)
+pub mark-within : (w : World) → IsWorld w → (end later : ℕ) → later ≡ max end w.needed → end ≤ length w.heap.objects → later ≤ length w.heap.objects
+mark-within w h end later later_is within = omega (arith, later_is, within, h.kept)

@@ -132,8 +132,8 @@ impl World {
         ensures theory { theory_in self.new ≡ theory_in self.old }
         ensures needed { self.new.needed ≡ self.old.needed }
     {
-        let behind = mark_after(&self.heap, drafts);
-        self.cut_to(later(behind, self.needed));
+        let end = mark_after(&self.heap, drafts);
+        self.cut_to(later(end, self.needed));
     }
 
     // Adds functions whose proofs were accepted, which are tested again.

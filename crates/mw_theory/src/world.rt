@@ -70,8 +70,8 @@ impl World {
         ensures theory { OnOk result (theory_in self.new ≡ with_theorem (theory_in self.old) (object_at self.old.heap.objects formula)) }
         ensures err { OnErr result (theory_in self.new ≡ theory_in self.old) }
     {
-        let behind = self.heap.mark_after(formula);
-        self.cut_to(later(behind, self.needed));
+        let end = self.heap.mark_after(formula);
+        self.cut_to(later(end, self.needed));
         self.theory.add_theorem(&mut self.heap, formula)?;
         self.needed = self.heap.mark();
         Ok(())

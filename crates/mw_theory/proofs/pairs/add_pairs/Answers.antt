@@ -9,7 +9,7 @@ use Rattle.mw_heap.specs.Objects.{object_at, IsIn}
 use Rattle.mw_translate.specs.Expands.{with_pairs}
 use Rattle.mw_translate.proofs.Pairs.{pairs-push, pair-at}
 use Rattle.mw_theory.specs.Adding.{EndsWith}
-use Rattle.mw_theory.proofs.BlockPairs.{new-at, pairs-behind}
+use Rattle.mw_theory.proofs.BlockPairs.{new-at, with_pairs-EndsWith}
 use Rattle.mw_theory.proofs.pairs.add_pairs.Goals as goal
 
 pub name_of-requires-clause-within : goal.name_of-requires-clause-within
@@ -44,9 +44,9 @@ loop-pair-preserved c =
 pub returns-in_err-add-clause-kept : goal.returns-in_err-add-clause-kept
 returns-in_err-add-clause-kept c =
     let A = c.args.arity.now in
-    subst (λ new. EndsWith new A) (sym (c.in_err-add.ensures.err ∙ c.loop-pair.invariant)) (pairs-behind c.args.heap.now.objects (take c.loop-pair.pair-index c.args.pairs.now) A)
+    subst (λ new. EndsWith new A) (sym (c.in_err-add.ensures.err ∙ c.loop-pair.invariant)) (with_pairs-EndsWith c.args.heap.now.objects (take c.loop-pair.pair-index c.args.pairs.now) A)
 
 pub returns-clause-kept : goal.returns-clause-kept
 returns-clause-kept c =
     let A = c.args.arity.now in
-    subst (λ new. EndsWith new A) (sym c.loop-pair.invariant) (pairs-behind c.args.heap.now.objects (take c.loop-pair.pair-index c.args.pairs.now) A)
+    subst (λ new. EndsWith new A) (sym c.loop-pair.invariant) (with_pairs-EndsWith c.args.heap.now.objects (take c.loop-pair.pair-index c.args.pairs.now) A)

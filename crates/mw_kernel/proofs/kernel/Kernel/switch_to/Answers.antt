@@ -16,9 +16,9 @@ invariant_of-self c =
     let w = c.cut_to.new.self in
     let x = c.args.name in
     let x_in : IsIn before.heap.objects x = subst (λ v. IsIn v.objects x) (sym c.self.view_is) c.requires.name in
-    let whole = mark-within before c.self.invariant c.mark_after-behind.result c.later.result c.later.ensures (omega (arith, c.mark_after-behind.ensures, x_in)) in
-    let within = in-cut _ before.heap.objects c.later.result c.cut_to.ensures.objects whole x (omega (arith, c.later.ensures, c.mark_after-behind.ensures)) in
-    let name = same-cut _ before.heap.objects c.later.result c.cut_to.ensures.objects whole x (omega (arith, c.later.ensures, c.mark_after-behind.ensures)) ∙ ap (λ v. object_at v.objects x) c.self.view_is in
+    let whole = mark-within before c.self.invariant c.mark_after-end.result c.later.result c.later.ensures (omega (arith, c.mark_after-end.ensures, x_in)) in
+    let within = in-cut _ before.heap.objects c.later.result c.cut_to.ensures.objects whole x (omega (arith, c.later.ensures, c.mark_after-end.ensures)) in
+    let name = same-cut _ before.heap.objects c.later.result c.cut_to.ensures.objects whole x (omega (arith, c.later.ensures, c.mark_after-end.ensures)) ∙ ap (λ v. object_at v.objects x) c.self.view_is in
     let theory = c.cut_to.ensures.theory ∙ ap theory_of c.self.view_is in
     let t = record (w.theory) { checker = Some x; level = c.args.level; is_initial = false } in
     let checked = checker-held w.heap.objects w.theory (held _ _ _ _ c.cut_to.ensures.world) x c.args.level (within, ap is_symbol name ∙ c.requires.symbol) (c.requires.level ∙ ap (λ t. t.level + 1) (sym theory)) (subst IsSound (sym (ap₂ with_checker theory (ap name_of name))) c.requires.sound) in
@@ -30,8 +30,8 @@ returns-clause-theory c =
     let w = c.cut_to.new.self in
     let x = c.args.name in
     let x_in : IsIn before.heap.objects x = subst (λ v. IsIn v.objects x) (sym c.self.view_is) c.requires.name in
-    let whole = mark-within before c.self.invariant c.mark_after-behind.result c.later.result c.later.ensures (omega (arith, c.mark_after-behind.ensures, x_in)) in
-    let within = in-cut _ before.heap.objects c.later.result c.cut_to.ensures.objects whole x (omega (arith, c.later.ensures, c.mark_after-behind.ensures)) in
-    let name = same-cut _ before.heap.objects c.later.result c.cut_to.ensures.objects whole x (omega (arith, c.later.ensures, c.mark_after-behind.ensures)) ∙ ap (λ v. object_at v.objects x) c.self.view_is in
+    let whole = mark-within before c.self.invariant c.mark_after-end.result c.later.result c.later.ensures (omega (arith, c.mark_after-end.ensures, x_in)) in
+    let within = in-cut _ before.heap.objects c.later.result c.cut_to.ensures.objects whole x (omega (arith, c.later.ensures, c.mark_after-end.ensures)) in
+    let name = same-cut _ before.heap.objects c.later.result c.cut_to.ensures.objects whole x (omega (arith, c.later.ensures, c.mark_after-end.ensures)) ∙ ap (λ v. object_at v.objects x) c.self.view_is in
     let theory = c.cut_to.ensures.theory ∙ ap theory_of c.self.view_is in
     checker-meant w.heap.objects w.theory (held _ _ _ _ c.cut_to.ensures.world) x c.args.level (within, ap is_symbol name ∙ c.requires.symbol) (c.requires.level ∙ ap (λ t. t.level + 1) (sym theory)) ∙ ap₂ with_checker theory (ap name_of name)

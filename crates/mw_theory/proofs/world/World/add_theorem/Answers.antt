@@ -14,13 +14,13 @@ add_theorem-requires-clause-held c = held _ _ _ _ c.cut_to.ensures.world
 
 pub add_theorem-requires-clause-within : goal.add_theorem-requires-clause-within
 add_theorem-requires-clause-within c =
-    let whole = mark-within c.args.self.now c.requires.world c.mark_after-behind.result c.later.result c.later.ensures (omega (arith, c.mark_after-behind.ensures, c.requires.within)) in
-    in-cut _ c.args.self.now.heap.objects c.later.result c.cut_to.ensures.objects whole c.args.formula (omega (arith, c.later.ensures, c.mark_after-behind.ensures))
+    let whole = mark-within c.args.self.now c.requires.world c.mark_after-end.result c.later.result c.later.ensures (omega (arith, c.mark_after-end.ensures, c.requires.within)) in
+    in-cut _ c.args.self.now.heap.objects c.later.result c.cut_to.ensures.objects whole c.args.formula (omega (arith, c.later.ensures, c.mark_after-end.ensures))
 
 pub add_theorem-requires-clause-sound : goal.add_theorem-requires-clause-sound
 add_theorem-requires-clause-sound c =
-    let whole = mark-within c.args.self.now c.requires.world c.mark_after-behind.result c.later.result c.later.ensures (omega (arith, c.mark_after-behind.ensures, c.requires.within)) in
-    let formula = same-cut _ c.args.self.now.heap.objects c.later.result c.cut_to.ensures.objects whole c.args.formula (omega (arith, c.later.ensures, c.mark_after-behind.ensures)) in
+    let whole = mark-within c.args.self.now c.requires.world c.mark_after-end.result c.later.result c.later.ensures (omega (arith, c.mark_after-end.ensures, c.requires.within)) in
+    let formula = same-cut _ c.args.self.now.heap.objects c.later.result c.cut_to.ensures.objects whole c.args.formula (omega (arith, c.later.ensures, c.mark_after-end.ensures)) in
     subst IsSound (sym (ap₂ with_theorem c.cut_to.ensures.theory formula)) c.requires.sound
 
 pub returns-in_err-add_theorem-clause-world : goal.returns-in_err-add_theorem-clause-world
@@ -45,6 +45,6 @@ returns-clause-world c =
 
 pub returns-clause-theory : goal.returns-clause-theory
 returns-clause-theory c =
-    let whole = mark-within c.args.self.now c.requires.world c.mark_after-behind.result c.later.result c.later.ensures (omega (arith, c.mark_after-behind.ensures, c.requires.within)) in
-    let formula = same-cut _ c.args.self.now.heap.objects c.later.result c.cut_to.ensures.objects whole c.args.formula (omega (arith, c.later.ensures, c.mark_after-behind.ensures)) in
+    let whole = mark-within c.args.self.now c.requires.world c.mark_after-end.result c.later.result c.later.ensures (omega (arith, c.mark_after-end.ensures, c.requires.within)) in
+    let formula = same-cut _ c.args.self.now.heap.objects c.later.result c.cut_to.ensures.objects whole c.args.formula (omega (arith, c.later.ensures, c.mark_after-end.ensures)) in
     c.in_ok-add_theorem.ensures.theory ∙ ap₂ with_theorem c.cut_to.ensures.theory formula

@@ -10,9 +10,9 @@ returns-clause-drafts c =
     let old = c.args.self.now in
     let os = old.heap.objects in
     let d = c.args.drafts.now in
-    let m = c.mark_after-behind.result in
-    let before = c.mark_after-behind.ensures.before in
-    let whole = mark-within old c.requires.world m c.later.result c.later.ensures c.mark_after-behind.ensures.within in
+    let m = c.mark_after-end.result in
+    let before = c.mark_after-end.ensures.before in
+    let whole = mark-within old c.requires.world m c.later.result c.later.ensures c.mark_after-end.ensures.within in
     let later : m ≤ c.later.result = omega (arith, c.later.ensures) in
     let heap_is = c.cut_to.ensures.objects in (
       subst (λ o. AreWithin o d) (sym heap_is) (within-cut os c.later.result m later whole d before),
