@@ -6,7 +6,7 @@ use Rattle.mw_model.specs.Terms.Object.{Object}
 use Rattle.mw_model.specs.Texts.Lexemes.{Goes}
 use Rattle.mw_model.specs.Texts.Grammar.{book, reading, trees}
 use Rattle.mw_model.specs.Reports.Request.{Request}
-use Rattle.mw_read.specs.Standing.{Stands, IsStanding, IsFree, Follows, Gives, GivesBehind, Says, work}
+use Rattle.mw_read.specs.Standing.{Stands, IsStanding, IsFree, Follows, Gives, GivesAfter, Says, work}
 use Rattle.mw_read.specs.Feeding.{GivesNext, Continues}
 use Rattle.mw_read.specs.declared.parser.Parser.{Parser}
 use Rattle.mw_read.specs.declared.reader.Reader.{Reader}
@@ -67,7 +67,7 @@ module _ {A : Type 0} {objects : A → List Object} {lines : A → List ℕ} {co
 
       -- a datum, which is answered
       pub taking_more : IsStanding (objects o) r → (new : A) →
-          ((g : List ℕ) (given : List Object) → Stands (objects j) p g given → (y : Object) × Gives (objects k) y t × GivesBehind p g given (drop at piece) y n q) →
+          ((g : List ℕ) (given : List Object) → Stands (objects j) p g given → (y : Object) × Gives (objects k) y t × GivesAfter p g given (drop at piece) y n q) →
           ((y : Object) → Gives (objects k) y t → (given : List Object) → Answers lines answered k given new (given ++ y ∷ [])) →
           count new ≡ count k + 1 → Taking objects lines count answered o r piece new q (at + n)
       taking_more s new says answers counted =
@@ -91,7 +91,7 @@ module _ {A : Type 0} {objects : A → List Object} {lines : A → List ℕ} {co
 
       -- the datum is within the piece, and less is left to do
       pub taking_next : IsStanding (objects o) r →
-          ((g : List ℕ) (given : List Object) → Stands (objects j) p g given → (y : Object) × Gives (objects k) y t × GivesBehind p g given (drop at piece) y n q) →
+          ((g : List ℕ) (given : List Object) → Stands (objects j) p g given → (y : Object) × Gives (objects k) y t × GivesAfter p g given (drop at piece) y n q) →
           (at + n ≤ length piece) × (work q (drop (at + n) piece) < work p (drop at piece))
       taking_next s says =
           let here = standing s in

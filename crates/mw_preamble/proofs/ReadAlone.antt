@@ -8,7 +8,7 @@ use Rattle.mw_model.specs.Texts.Printing.{text_of}
 use Rattle.mw_model.proofs.TextReadBack.{trees-text_of}
 use Rattle.mw_heap.specs.Objects.{object_at, IsIn}
 use Rattle.mw_read.specs.Parsing.{Fits, offset_of, meaning_of}
-use Rattle.mw_read.specs.Standing.{Says, GivesBehind}
+use Rattle.mw_read.specs.Standing.{Says, GivesAfter}
 use Rattle.mw_read.specs.declared.parser.Parser.{Parser}
 use Rattle.mw_read.specs.declared.step.Step.{Step}
 use Rattle.mw_read.specs.declared.step.Step.TheVariants as steps
@@ -21,7 +21,7 @@ reading-text_of : (x : Object) → length (text_of x) ≤ limit → reading Ends
 reading-text_of x l =
     sym (ap (λ v. if v then reading Ends (text_of x) else cut_short (reading Goes (take limit (text_of x)))) (le-leb (length (text_of x)) limit l)) ∙ trees-text_of x l
 
-module _ (old new : Parser) (x y : Object) (n : ℕ) (short : length (text_of x) ≤ limit) (gives : GivesBehind old [] [] (text_of x) y n new) where
+module _ (old new : Parser) (x y : Object) (n : ℕ) (short : length (text_of x) ≤ limit) (gives : GivesAfter old [] [] (text_of x) y n new) where
   fits : Fits new.begun Ends (drop n (text_of x))
   fits =
       let room = limit - offset_of new in

@@ -4,7 +4,7 @@ use Rattle.std.proofs.lemmas.List.{take-append-drop, drop_all}
 use Rattle.mw_model.specs.Terms.Object.{Object}
 use Rattle.mw_model.specs.Texts.Grammar.{book, trees}
 use Rattle.mw_model.specs.Texts.Lexemes.{Fault}
-use Rattle.mw_read.specs.Standing.{Stands, IsStanding, Follows, IsLast, HasEndedWith, HasEnded, GivesBehind, GivesLast, Says, Finishes, work}
+use Rattle.mw_read.specs.Standing.{Stands, IsStanding, Follows, IsLast, HasEndedWith, HasEnded, GivesAfter, GivesLast, Says, Finishes, work}
 use Rattle.mw_read.specs.Feeding.{GivesNext, MayCome, IsReady, Continues}
 use Rattle.mw_read.specs.declared.parser.Parser.{Parser}
 use Rattle.mw_read.specs.declared.reader.Reader.{Reader}
@@ -13,7 +13,7 @@ use Rattle.mw_read.specs.declared.step.Step.TheVariants as steps
 use Rattle.mw_read.proofs.Beginning.{weight_small}
 
 module _ (old : Reader) (g : List ℕ) (given : List Object) (os : List Object) (new : Reader) (same : new.finished ≡ old.finished) where
-  next_after : (n : ℕ) (y : Object) → new.unread ≡ drop n old.unread → GivesBehind old.parser g given old.unread y n new.parser → GivesNext old g given y new
+  next_after : (n : ℕ) (y : Object) → new.unread ≡ drop n old.unread → GivesAfter old.parser g given old.unread y n new.parser → GivesNext old g given y new
   next_after n y e h = record {
     taken = take n old.unread;
     unread = sym (ap (λ v. take n old.unread ++ v) e ∙ take-append-drop n old.unread);

@@ -10,7 +10,7 @@ use Rattle.mw_read.specs.Machine.{State, Idle, IsSound, is_full, end_fault}
 use Rattle.mw_read.specs.Resume.{resume, onward}
 use Rattle.mw_read.specs.Held.{Holds, Completes}
 use Rattle.mw_read.specs.Parsing.{ahead, meaning_of, Fits, IsText, IsParser, IsStarted, Advances, is_inside, offset_of, offset_at}
-use Rattle.mw_read.specs.Standing.{Reached, Reaches, Stands, Follows, Gives, GivesBehind, GivesLast, Says, Finishes, Lasts}
+use Rattle.mw_read.specs.Standing.{Reached, Reaches, Stands, Follows, Gives, GivesAfter, GivesLast, Says, Finishes, Lasts}
 use Rattle.mw_read.specs.declared.parser.Begun.{Begun}
 use Rattle.mw_read.specs.declared.parser.Begun.TheVariants.{Nothing, Comment, Token, Bars, Barred, Hash, AfterToken, AfterBar}
 use Rattle.mw_read.specs.declared.parser.Parser.{Parser}
@@ -204,7 +204,7 @@ finishes_of os old g given p y steps.End h s = absurd h
 finishes_of os old g given p y (steps.Syntax k o) h s = absurd h
 finishes_of os old g given p y steps.Memory h s = absurd h
 
-pub says_of : (os : List Object) (old : Parser) (g : List ℕ) (given : List Object) (piece : List ℕ) (n : ℕ) (p : Parser) (y : Object) (t : Step) → Gives os y t → GivesBehind old g given piece y n p → Says os old g given piece t n p
+pub says_of : (os : List Object) (old : Parser) (g : List ℕ) (given : List Object) (piece : List ℕ) (n : ℕ) (p : Parser) (y : Object) (t : Step) → Gives os y t → GivesAfter old g given piece y n p → Says os old g given piece t n p
 says_of os old g given piece n p y (steps.Datum r) h s = (y, h, s)
 says_of os old g given piece n p y (steps.TooBig w l) h s = (y, h, s)
 says_of os old g given piece n p y steps.More h s = absurd h
@@ -249,7 +249,7 @@ module _ (os0 os : List Object) (old mid : Parser) (g : List ℕ) (given : List 
       m.left
 
   pub datum_after : (x : ℕ) (n : ℕ) → n ≤ length part → Reaches (outcomes.Datum x) old part n mid → Advances os s.state old part (outcomes.Datum x) n mid →
-      (y : Object) × Completes os mid.stack x y × GivesBehind old g given piece y n (uncut mid)
+      (y : Object) × Completes os mid.stack x y × GivesAfter old g given piece y n (uncut mid)
   datum_after x n l m q = (
     q.0,
     q.1,

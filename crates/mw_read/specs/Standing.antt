@@ -97,7 +97,7 @@ abbrev pub work : Parser → List ℕ → ℕ
 work p x = weight p.begun + 2 * length x
 
 -- After g and the first n bytes of the piece datum y was given. What stands then stands in any heap.
-pub record GivesBehind (old : Parser) (g : List ℕ) (given : List Object) (piece : List ℕ) (y : Object) (n : ℕ) (p : Parser) : Type 0 where
+pub record GivesAfter (old : Parser) (g : List ℕ) (given : List Object) (piece : List ℕ) (y : Object) (n : ℕ) (p : Parser) : Type 0 where
   pub taken : n ≤ length piece
   pub stands : (os : List Object) → Stands os p (g ++ take n piece) (given ++ y ∷ [])
   pub left : Follows p (drop n piece)
@@ -105,8 +105,8 @@ pub record GivesBehind (old : Parser) (g : List ℕ) (given : List Object) (piec
 
 -- what a step says of g, the data given of it, and a piece after it
 abbrev pub Says : List Object → Parser → List ℕ → List Object → List ℕ → Step → ℕ → Parser → Type 0
-Says os old g given piece (steps.Datum r) n p = (y : Object) × Gives os y (steps.Datum r) × GivesBehind old g given piece y n p
-Says os old g given piece (steps.TooBig w l) n p = (y : Object) × Gives os y (steps.TooBig w l) × GivesBehind old g given piece y n p
+Says os old g given piece (steps.Datum r) n p = (y : Object) × Gives os y (steps.Datum r) × GivesAfter old g given piece y n p
+Says os old g given piece (steps.TooBig w l) n p = (y : Object) × Gives os y (steps.TooBig w l) × GivesAfter old g given piece y n p
 Says os old g given piece steps.More n p = (n ≡ length piece) × Stands os p (g ++ piece) given × IsFree p × (reading Goes (g ++ piece) ≡ book given None)
 Says os old g given piece steps.End n p = ⊥
 Says os old g given piece (steps.Syntax k o) n p = (rest : List ℕ) → trees (g ++ (piece ++ rest)) ≡ book given (Some (fault (kind_of k) o))

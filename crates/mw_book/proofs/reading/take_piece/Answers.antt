@@ -2,7 +2,7 @@
 use Rattle.std.proofs.Common.{◌≡◌, ◌∙◌, ◌+◌, ℕ, List, [], ◌∷◌, ◌++◌, sym, ap, subst, drop, rules}
 use Rattle.mw_model.specs.Terms.Object.{Object}
 use Rattle.mw_model.specs.Events.Fate.{is_out_of_range}
-use Rattle.mw_read.specs.Standing.{Stands, Gives, GivesBehind, Says}
+use Rattle.mw_read.specs.Standing.{Stands, Gives, GivesAfter, Says}
 use Rattle.mw_read.specs.declared.step.Step.{Step}
 use Rattle.mw_read.proofs.Beginning.{rest_is}
 use Rattle.mw_book.specs.Answering.{Answers}
@@ -54,15 +54,15 @@ unreachable-requires g c =
     subst (λ t. Says os c.loop-x.reader.parser s.0 s.1 (drop c.loop-x.at c.args.piece.now) t c.step-step.result.1 c.step-step.new.reader.parser) c.in-End.is v
 
 -- the datum that the step gives
-behind : (g : given.Over) (c : goal.Joined-step g) (h : List ℕ) (given : List Object) → Stands (g.A.Answering.objects c.loop-x.answering) c.loop-x.reader.parser h given → (y : Object) × Gives (g.A.Answering.objects c.step-step.new.self) y c.step-step.result.0 × GivesBehind c.loop-x.reader.parser h given (drop c.loop-x.at c.args.piece.now) y c.step-step.result.1 c.step-step.new.reader.parser
-behind g c h given s =
+after : (g : given.Over) (c : goal.Joined-step g) (h : List ℕ) (given : List Object) → Stands (g.A.Answering.objects c.loop-x.answering) c.loop-x.reader.parser h given → (y : Object) × Gives (g.A.Answering.objects c.step-step.new.self) y c.step-step.result.0 × GivesAfter c.loop-x.reader.parser h given (drop c.loop-x.at c.args.piece.now) y c.step-step.result.1 c.step-step.new.reader.parser
+after g c h given s =
     let rest = drop c.loop-x.at c.args.piece.now in
     let os = g.A.Answering.objects c.step-step.new.self in
     let p = c.loop-x.reader.parser in
     let n = c.step-step.result.1 in
     let q = c.step-step.new.reader.parser in
     let v = subst (λ u. Says os p h given u c.step-step.result.0 n q) (rest_is c.loop-x.at c.args.piece.now) (c.step-step.ensures.says h given s) in
-    let Found : Step → Type 0 = λ t. (y : Object) × Gives os y t × GivesBehind p h given rest y n q in
+    let Found : Step → Type 0 = λ t. (y : Object) × Gives os y t × GivesAfter p h given rest y n q in
     elim c.match-step.branch as (λ b. Found c.step-step.result.0) [
       | in-Datum+in_ok-answer-in-Datum w ↦ subst Found (sym w.in-Datum.is) (subst (λ t. Says os p h given rest t n q) w.in-Datum.is v)
       | in-TooBig+in_ok-answer_large-in-TooBig w ↦ subst Found (sym w.in-TooBig.is) (subst (λ t. Says os p h given rest t n q) w.in-TooBig.is v)
@@ -91,20 +91,20 @@ counted g c = elim c.match-step.branch as (λ b. g.A.Answering.count c.match-ste
 pub overflow_add-at : goal.overflow_add-at
 overflow_add-at g c =
     let k = c.step-step.ensures in
-    let e = (taking_next c.loop-x.invariant.taking c.step-step.new.self k.kept k.count c.step-step.result.0 c.step-step.result.1 c.step-step.new.reader.parser c.requires.stands (behind g c)).0 in
+    let e = (taking_next c.loop-x.invariant.taking c.step-step.new.self k.kept k.count c.step-step.result.0 c.step-step.result.1 c.step-step.new.reader.parser c.requires.stands (after g c)).0 in
     search rules
 
 pub loop-x-smaller : goal.loop-x-smaller
 loop-x-smaller g c =
     let k = c.step-step.ensures in
-    (taking_next c.loop-x.invariant.taking c.step-step.new.self k.kept k.count c.step-step.result.0 c.step-step.result.1 c.step-step.new.reader.parser c.requires.stands (behind g c)).1
+    (taking_next c.loop-x.invariant.taking c.step-step.new.self k.kept k.count c.step-step.result.0 c.step-step.result.1 c.step-step.new.reader.parser c.requires.stands (after g c)).1
 
 pub loop-x-preserved : goal.loop-x-preserved
 loop-x-preserved g c =
     let k = c.step-step.ensures in
     let awaits = c.loop-x.invariant.awaits in
     record {
-      taking = taking_more c.loop-x.invariant.taking c.step-step.new.self k.kept k.count c.step-step.result.0 c.step-step.result.1 c.step-step.new.reader.parser c.requires.stands c.match-step.answering (behind g c) (answered g c) (counted g c);
+      taking = taking_more c.loop-x.invariant.taking c.step-step.new.self k.kept k.count c.step-step.result.0 c.step-step.result.1 c.step-step.new.reader.parser c.requires.stands c.match-step.answering (after g c) (answered g c) (counted g c);
       awaits = (ap (λ r. r.unread) k.reader_rest ∙ awaits.0, ap (λ r. r.finished) k.reader_rest ∙ awaits.1);
     }
 
