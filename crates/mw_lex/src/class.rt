@@ -37,10 +37,11 @@ pub fn classify(b: u8) -> Class
     match b {
         40 => Class::Opening,
         41 => Class::Closing,
+        32 => Class::White,
+        39 => Class::Apostrophe,
         97..=123 | 45..=57 | 60..=91 | 33 | 36..=38 | 42..=43 | 93..=95 | 125..=126 =>
             Class::Constituent,
-        39 => Class::Apostrophe,
-        9..=10 | 12..=13 | 32 => Class::White,
+        9..=10 | 12..=13 => Class::White,
         59 => Class::Semicolon,
         124 => Class::Bar,
         35 => Class::Hash,
