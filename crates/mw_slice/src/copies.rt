@@ -1,5 +1,5 @@
 //! Which cells of another heap have copies.
-ghost use Rattle.std.specs.Prelude.{◌≡◌, ◌<◌, ℕ, length, cond, nat_eq, None, Some, OnOk};
+ghost use Rattle.std.specs.Prelude.{◌≡◌, ◌<◌, ℕ, [], length, cond, nat_eq, None, Some, OnOk};
 ghost use Rattle.mw_slice.specs.Copies.{copy_of};
 
 use mw_heap::{Memory, Ref};
@@ -35,7 +35,9 @@ impl Model for Copies {
 
 impl Copies {
     /// No copies.
-    pub fn new(alloc: Global) -> Copies {
+    pub fn new(alloc: Global) -> Copies
+        ensures { result ≡ [] }
+    {
         Copies {
             notes: Vec::new(alloc),
             round: 1,
