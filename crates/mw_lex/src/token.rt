@@ -8,7 +8,7 @@ ghost use Rattle.mw_lex.specs.Forms.{IsForm, begins_name};
 ghost use Rattle.mw_lex.specs.Tokens.{IsToken, clamp, form_big};
 
 use crate::class::{digit, sign};
-use crate::name::Names;
+use crate::Atoms;
 use mw_heap::{Heap, Memory, Ref};
 
 /// What a token comes to.
@@ -24,7 +24,7 @@ pub enum Token {
 /// What a token comes to in the heap, by its form. In place of a natural of 2^128 or more it is 0, and `big` is set. `BEGINS` makes no
 /// difference to what it does: a caller most of whose tokens come from one loop has a copy compiled for them, into that loop.
 pub fn token_of<const BEGINS: bool>(
-    names: &mut Names,
+    atoms: &mut Atoms,
     heap: &mut Heap,
     big: &mut bool,
     token: &[u8],
@@ -35,8 +35,8 @@ pub fn token_of<const BEGINS: bool>(
     ensures big { OnOk result (big.new ≡ (big.old || form_big (token_form token.now))) }
 {
     match form_of(token) {
-        Form::Digits => Ok(Token::Atom(natural_of(big, heap, token)?)),
-        Form::Name => Ok(Token::Atom(names.symbol_of(heap, token)?)),
+        Form::Digits => Ok(Token::Atom(natural_of(atoms, big, heap, token)?)),
+        Form::Name => Ok(Token::Atom(atoms.symbol(heap, token)?)),
         Form::Dot => Ok(Token::Dot),
         Form::Bad => Ok(Token::Bad),
     }
@@ -133,17 +133,22 @@ fn all_dots(token: &[u8]) -> bool
 }
 
 // The natural of these digits. In place of one of 2^128 or more it is 0, and `big` is set.
-fn natural_of(big: &mut bool, heap: &mut Heap, digits: &[u8]) -> Result<Ref, Memory>
+fn natural_of(
+    atoms: &mut Atoms,
+    big: &mut bool,
+    heap: &mut Heap,
+    digits: &[u8],
+) -> Result<Ref, Memory>
     requires { all_are is_digit digits.now ≡ true }
     ensures grows { Grows heap.old.objects heap.new.objects }
     ensures made { IfOk result (λ r. IsIn heap.new.objects r × (object_at heap.new.objects r ≡ clamp (Natural (decimal_value digits.now)))) }
     ensures big { OnOk result (big.new ≡ (big.old || is_out_of_range (Natural (decimal_value digits.now)))) }
 {
     match decimal(digits) {
-        Some(n) => heap.nat(n),
+        Some(n) => atoms.natural(heap, n),
         None => {
             *big = true;
-            heap.nat(0)
+            atoms.natural(heap, 0)
         }
     }
 }

@@ -4,6 +4,7 @@
 mod kept;
 mod labels;
 mod members;
+mod pairs;
 mod parser;
 mod reader;
 mod stack;

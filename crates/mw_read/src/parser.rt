@@ -13,7 +13,7 @@ use crate::stack::{Stack, fault};
 use crate::step::{Outcome, Step, SyntaxKind, lasting};
 use indexmap::IndexMap;
 use mw_heap::{Heap, Memory, Ref};
-use mw_lex::{Class, Names, classify, glued_to_bar, glued_to_token, white};
+use mw_lex::{Atoms, Class, Slots, classify, glued_to_bar, glued_to_token, white};
 use std::alloc::Global;
 
 /// The piece of text that has begun and not ended, or what stands directly before.
@@ -46,7 +46,7 @@ pub(crate) struct Parser {
     pub(crate) token: Vec<u8>,
     // the offset where that text begins
     pub(crate) start: u64,
-    pub(crate) names: Names,
+    pub(crate) atoms: Atoms,
     // the fault, or the refusal of memory, that was answered
     pub(crate) ended: Option<Step>,
 }
@@ -62,12 +62,12 @@ impl Parser {
                 layers: Vec::new(alloc),
                 labels: IndexMap::new(alloc),
                 big: false,
-                word: None,
+                pairs: Slots::new(alloc),
             },
             begun: Begun::Nothing,
             token: Vec::new(alloc),
             start: 0,
-            names: Names::new(alloc),
+            atoms: Atoms::new(alloc),
             ended: None,
         }
     }

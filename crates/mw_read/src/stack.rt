@@ -10,9 +10,11 @@ ghost use Rattle.mw_read.specs.Piles.{IsPile, pile_of, give_to, Does, IsFrames, 
 ghost use Rattle.mw_read.specs.Stacks.{IsStack, Means};
 
 use crate::labels::{begin, end, look};
+use crate::pairs::pair;
 use crate::step::{Fault, Outcome, SyntaxKind};
 use indexmap::IndexMap;
 use mw_heap::{Heap, Memory, Ref, Word};
+use mw_lex::Slots;
 
 /// A part of what is open.
 #[derive(Clone, Copy, Debug, PartialEq, Eq)]
@@ -38,8 +40,8 @@ pub(crate) struct Stack {
     pub(crate) labels: IndexMap<u32, Option<Ref>>,
     // whether a part is a natural of 2^128 or more, which is kept as 0
     pub(crate) big: bool,
-    // where QUOTE may stand, which is looked at before it is trusted
-    pub(crate) word: Option<Ref>,
+    // the pairs met lately
+    pub(crate) pairs: Slots,
 }
 
 impl Stack {
@@ -131,7 +133,7 @@ impl Stack {
         if self.is_full() {
             return Ok(fault(SyntaxKind::Dot, offset));
         }
-        give(&mut self.layers, &mut self.labels, &mut self.word, heap, x)
+        give(&mut self.layers, &mut self.labels, &mut self.pairs, heap, x)
     }
 
     // A label.
@@ -163,7 +165,7 @@ impl Stack {
             return Ok(fault(SyntaxKind::Dot, offset));
         }
         match look(&self.labels, n) {
-            Some(x) => give(&mut self.layers, &mut self.labels, &mut self.word, heap, x),
+            Some(x) => give(&mut self.layers, &mut self.labels, &mut self.pairs, heap, x),
             None => Ok(fault(SyntaxKind::Label, offset)),
         }
     }
@@ -180,11 +182,11 @@ impl Stack {
             (closed_with (pile_of heap.old.objects self.old.layers.items) (object_at heap.old.objects last) ks)) }
         ensures big { IfOk result (λ r. self.new.big ≡ self.old.big) }
     {
-        let list = fold(&mut self.layers, heap, last)?;
+        let list = fold(&mut self.layers, &mut self.pairs, heap, last)?;
         give(
             &mut self.layers,
             &mut self.labels,
-            &mut self.word,
+            &mut self.pairs,
             heap,
             list,
         )
@@ -218,7 +220,7 @@ pub(crate) fn fault(kind: SyntaxKind, offset: u64) -> Outcome
 fn give(
     layers: &mut Vec<Layer>,
     labels: &mut IndexMap<u32, Option<Ref>>,
-    word: &mut Option<Ref>,
+    pairs: &mut Slots,
     heap: &mut Heap,
     x: Ref,
 ) -> Result<Outcome, Memory>
@@ -238,7 +240,7 @@ fn give(
         match layer {
             Layer::Quote => {
                 layers.pop();
-                x = quote(word, heap, x)?;
+                x = quote(pairs, heap, x)?;
             }
             Layer::Mark(n) => {
                 layers.pop();
@@ -260,34 +262,24 @@ fn give(
 }
 
 // `(quote x)`.
-fn quote(noted: &mut Option<Ref>, heap: &mut Heap, x: Ref) -> Result<Ref, Memory>
+fn quote(pairs: &mut Slots, heap: &mut Heap, x: Ref) -> Result<Ref, Memory>
     requires { IsIn heap.old.objects x }
     ensures grows { Grows heap.old.objects heap.new.objects }
     ensures made { IfOk result (λ r. IsIn heap.new.objects r × (object_at heap.new.objects r ≡ quoted (object_at heap.old.objects x))) }
 {
-    let word = quote_word(noted, heap)?;
-    let nil = heap.nil()?;
-    let tail = heap.cons(x, nil)?;
-    heap.cons(word, tail)
-}
-
-// The symbol QUOTE, where it may stand looked at first. That place is noted anew where it is another.
-fn quote_word(noted: &mut Option<Ref>, heap: &mut Heap) -> Result<Ref, Memory>
-    ensures grows { Grows heap.old.objects heap.new.objects }
-    ensures made { IfOk result (λ r. IsIn heap.new.objects r × (object_at heap.new.objects r ≡ symbol "QUOTE")) }
-{
-    if let Some(place) = *noted {
-        if place.index() < heap.mark().cells() && heap.is_word(Some(place), Word::Quote) {
-            return Ok(place);
-        }
-    }
     let word = heap.word(Word::Quote)?;
-    *noted = Some(word);
-    Ok(word)
+    let nil = heap.nil()?;
+    let tail = pair(pairs, heap, x, nil)?;
+    pair(pairs, heap, word, tail)
 }
 
 // The innermost list ends: its members become pairs, the last first.
-fn fold(layers: &mut Vec<Layer>, heap: &mut Heap, last: Ref) -> Result<Ref, Memory>
+fn fold(
+    layers: &mut Vec<Layer>,
+    pairs: &mut Slots,
+    heap: &mut Heap,
+    last: Ref,
+) -> Result<Ref, Memory>
     requires object { IsIn heap.old.objects last }
     requires pile { IsPile heap.old.objects layers.old.items }
     requires list { IsInList (pile_of heap.old.objects layers.old.items) }
@@ -299,7 +291,7 @@ fn fold(layers: &mut Vec<Layer>, heap: &mut Heap, last: Ref) -> Result<Ref, Memo
     let mut list = last;
     while let Some(layer) = layers.pop() {
         match layer {
-            Layer::Item(x) => list = heap.cons(x, list)?,
+            Layer::Item(x) => list = pair(pairs, heap, x, list)?,
             _ => return Ok(list),
         }
     }

@@ -16,7 +16,7 @@ use crate::stack::{Stack, fault};
 use crate::step::{Outcome, SyntaxKind};
 use mw_heap::{Heap, Memory};
 use mw_lex::{
-    Names, Token, constituents, digits, few_digits, glued_to_token, line_bytes, name_bytes,
+    Atoms, Token, constituents, digits, few_digits, glued_to_token, line_bytes, name_bytes,
     token_of,
 };
 
@@ -148,7 +148,7 @@ impl Parser {
         self.start += (self.token.len() + bytes.len()) as u64;
         keep_after(&mut self.token, bytes)?;
         let token = whole_text(&self.token, bytes);
-        end_token::<BEGINS>(&mut self.stack, heap, &mut self.names, token, start, glued)
+        end_token::<BEGINS>(&mut self.stack, heap, &mut self.atoms, token, start, glued)
     }
 
     // A name between bars ends after these bytes.
@@ -226,7 +226,7 @@ impl Parser {
 fn end_token<const BEGINS: bool>(
     stack: &mut Stack,
     heap: &mut Heap,
-    names: &mut Names,
+    atoms: &mut Atoms,
     token: &[u8],
     start: u64,
     glued: bool,
@@ -238,7 +238,7 @@ fn end_token<const BEGINS: bool>(
     ensures took { IfOk result (λ r. (t : State) → Holds heap.old.objects stack.old t → is_full t ≡ false →
         Took heap.new.objects stack.new r (on t (token_lexeme start glued (token_form token.now)))) }
 {
-    match token_of::<BEGINS>(names, heap, &mut stack.big, token)? {
+    match token_of::<BEGINS>(atoms, heap, &mut stack.big, token)? {
         Token::Atom(x) => stack.atom(heap, x, start),
         Token::Dot => {
             if glued {

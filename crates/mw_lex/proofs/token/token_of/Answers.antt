@@ -4,5 +4,5 @@ use Rattle.mw_model.specs.Texts.Lexemes.{raised}
 use Rattle.mw_lex.proofs.RaisedNames.{is_name_raised}
 use Rattle.mw_lex.proofs.token.token_of.Goals as goal
 
-pub symbol_of-requires : goal.symbol_of-requires
-symbol_of-requires g c = is_name_raised c.args.token.now (name_of_bytes (map raised c.args.token.now)) c.requires c.in-Name.ensures
+pub symbol-requires : goal.symbol-requires
+symbol-requires g c = is_name_raised c.args.token.now (name_of_bytes (map raised c.args.token.now)) c.requires c.in-Name.ensures

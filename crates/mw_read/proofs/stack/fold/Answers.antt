@@ -8,16 +8,16 @@ use Rattle.mw_read.proofs.stack.fold.Goals as goal
 pub loop-layer-init : goal.loop-layer-init
 loop-layer-init c = fold_start c.args.heap.now.objects c.args.layers.now.items c.args.last c.requires.object c.requires.pile c.requires.list
 
-pub cons-requires-clause-first_in : goal.cons-requires-clause-first_in
-cons-requires-clause-first_in c =
+pub pair-requires-clause-first_in : goal.pair-requires-clause-first_in
+pair-requires-clause-first_in c =
     (layer_lies c.loop-layer.heap.objects c.pop.new.self.items (layers.Item c.in-Item.x)
     (subst (λ u. IsPile c.loop-layer.heap.objects u) (c.in-Some.ensures.items ∙ ap (λ u. c.pop.new.self.items ++ u ∷ []) c.in-Item.is) c.loop-layer.invariant.pile)).1
 
 pub loop-layer-preserved : goal.loop-layer-preserved
 loop-layer-preserved c =
-    fold_item c.args.heap.now.objects c.args.layers.now.items c.args.last c.loop-layer.heap.objects c.cons.new.self.objects c.loop-layer.layers.items c.pop.new.self.items c.loop-layer.list c.in-Item.x c.in_ok-list-in-Item.list
+    fold_item c.args.heap.now.objects c.args.layers.now.items c.args.last c.loop-layer.heap.objects c.pair.new.heap.objects c.loop-layer.layers.items c.pop.new.self.items c.loop-layer.list c.in-Item.x c.in_ok-list-in-Item.list
     c.loop-layer.invariant (c.in-Some.ensures.items ∙ ap (λ u. c.pop.new.self.items ++ u ∷ []) c.in-Item.is)
-    c.cons.ensures.grows c.in_ok-list-in-Item.ensures.made.0 c.in_ok-list-in-Item.ensures.made.1
+    c.pair.ensures.grows c.in_ok-list-in-Item.ensures.made.0 c.in_ok-list-in-Item.ensures.made.1
 
 pub returns-in_default-layer : goal.returns-in_default-layer
 returns-in_default-layer c =

@@ -1,58 +1,72 @@
-//! Names without bars: their letters are raised.
+//! Atoms in a heap: naturals, and symbols by names without bars, whose letters are raised.
 ghost use Rattle.std.specs.Prelude.{◌≡◌, true, map, IfOk, IfSome, OnOk};
-ghost use Rattle.mw_model.specs.Terms.Object.{Symbol, is_name, name_of_bytes, same_bytes};
+ghost use Rattle.mw_model.specs.Terms.Object.{Natural, Symbol, is_name, name_of_bytes, same_bytes};
 ghost use Rattle.mw_model.specs.Texts.Lexemes.{raised};
 ghost use Rattle.mw_heap.specs.Objects.{object_at, IsIn, Grows};
 
+use crate::Slots;
 use crate::class::raise;
 use mw_heap::{Heap, Memory, Ref, View};
 use std::alloc::Global;
 
-// How many slots there are for names met lately.
-const SLOTS: usize = 1024;
-
-/// The names met lately, so that a token that comes again costs one comparison.
+/// The atoms met lately, so that a token that comes again costs one comparison.
 #[derive(Drop)]
-pub struct Names {
-    // in a token's slot where its symbol may stand, which is looked at before it is trusted
-    slots: Vec<Option<Ref>>,
+pub struct Atoms {
+    naturals: Slots,
+    symbols: Slots,
     // a name with its letters raised
     raised: Vec<u8>,
 }
 
-impl Names {
-    /// No names.
-    pub fn new(alloc: Global) -> Names {
-        Names {
-            slots: Vec::new(alloc),
+impl Atoms {
+    /// No atoms.
+    pub fn new(alloc: Global) -> Atoms {
+        Atoms {
+            naturals: Slots::new(alloc),
+            symbols: Slots::new(alloc),
             raised: Vec::new(alloc),
         }
     }
 
+    /// The natural `n`.
+    pub(crate) fn natural(&mut self, heap: &mut Heap, n: u128) -> Result<Ref, Memory>
+        ensures grows { Grows heap.old.objects heap.new.objects }
+        ensures made { IfOk result (λ r. IsIn heap.new.objects r × (object_at heap.new.objects r ≡ Natural n)) }
+    {
+        let slot = (n % 1024) as usize;
+        if let Some(place) = self.naturals.get(heap, slot) {
+            if let View::Nat(m) = heap.view(place) {
+                if m == n {
+                    return Ok(place);
+                }
+            }
+        }
+        let x = heap.nat(n)?;
+        self.naturals.note(slot, x);
+        Ok(x)
+    }
+
     /// The symbol whose name is the token with its letters raised.
-    pub(crate) fn symbol_of(&mut self, heap: &mut Heap, token: &[u8]) -> Result<Ref, Memory>
+    pub(crate) fn symbol(&mut self, heap: &mut Heap, token: &[u8]) -> Result<Ref, Memory>
         requires { is_name (map raised token.now) ≡ true }
         ensures grows { Grows heap.old.objects heap.new.objects }
         ensures made { IfOk result (λ r. IsIn heap.new.objects r × (object_at heap.new.objects r ≡ Symbol (name_of_bytes (map raised token.now)))) }
     {
         let slot = slot_of(token);
-        if let Some(known) = self.known(heap, token, slot) {
+        if let Some(known) = self.known_symbol(heap, token, slot) {
             return Ok(known);
         }
-        let x = self.find(heap, token)?;
-        self.note(slot, x);
+        let x = self.find_symbol(heap, token)?;
+        self.symbols.note(slot, x);
         Ok(x)
     }
 
     // The symbol of the token, where it stands in this slot.
-    fn known(&self, heap: &Heap, token: &[u8], slot: usize) -> Option<Ref>
+    fn known_symbol(&self, heap: &Heap, token: &[u8], slot: usize) -> Option<Ref>
         requires { is_name (map raised token.now) ≡ true }
         ensures { IfSome result (λ r. IsIn heap.now.objects r × (object_at heap.now.objects r ≡ Symbol (name_of_bytes (map raised token.now)))) }
     {
-        let place = (*self.slots.get(slot)?)?;
-        if place.index() >= heap.mark().cells() {
-            return None;
-        }
+        let place = self.symbols.get(heap, slot)?;
         match heap.view(place) {
             View::Symbol if is_raised(token, heap.name_of(place)) => Some(place),
             _ => None,
@@ -60,7 +74,7 @@ impl Names {
     }
 
     // The symbol of the token, by the heap's own set of names. The token is copied only where it has a letter to be raised.
-    fn find(&mut self, heap: &mut Heap, token: &[u8]) -> Result<Ref, Memory>
+    fn find_symbol(&mut self, heap: &mut Heap, token: &[u8]) -> Result<Ref, Memory>
         requires { is_name (map raised token.now) ≡ true }
         ensures grows { Grows heap.old.objects heap.new.objects }
         ensures made { IfOk result (λ r. IsIn heap.new.objects r × (object_at heap.new.objects r ≡ Symbol (name_of_bytes (map raised token.now)))) }
@@ -70,16 +84,6 @@ impl Names {
         }
         raise_all(&mut self.raised, token)?;
         heap.symbol(&self.raised)
-    }
-
-    // Notes where the symbol of a token stands. Where memory is refused it is not noted, which costs time alone.
-    fn note(&mut self, slot: usize, x: Ref) {
-        if self.slots.is_empty() {
-            let _ = self.slots.resize(SLOTS, None);
-        }
-        if slot < self.slots.len() {
-            self.slots[slot] = Some(x);
-        }
     }
 }
 
@@ -94,11 +98,11 @@ fn mixed_with(mixed: u32, token: &[u8], place: usize) -> u32 {
 // The slot of a token, by its length and at most four of its bytes, so that a long one costs no more.
 fn slot_of(token: &[u8]) -> usize {
     let length = token.len();
-    let mixed = mixed_with((length % SLOTS) as u32, token, 0);
+    let mixed = mixed_with((length % 1024) as u32, token, 0);
     let mixed = mixed_with(mixed, token, length / 2);
     let mixed = mixed_with(mixed, token, length.saturating_sub(2));
     let mixed = mixed_with(mixed, token, length.saturating_sub(1));
-    mixed as usize % SLOTS
+    mixed as usize
 }
 
 // Is this the name of the token, with its letters raised?

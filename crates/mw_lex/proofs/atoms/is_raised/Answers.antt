@@ -5,7 +5,7 @@ use Rattle.mw_model.specs.Texts.Lexemes.{raised}
 use Rattle.mw_model.proofs.Names.{same_bytes-refl}
 use Rattle.mw_lex.proofs.Raised.{not_same_bytes}
 use Rattle.std.proofs.Common.{get_or}
-use Rattle.mw_lex.proofs.name.is_raised.Goals as goal
+use Rattle.mw_lex.proofs.atoms.is_raised.Goals as goal
 
 pub returns-then-token-name : goal.returns-then-token-name
 returns-then-token-name c =

@@ -3,7 +3,7 @@ use Rattle.mw_model.specs.Terms.Object.{Symbol, is_name, name_of_bytes}
 use Rattle.mw_model.specs.Texts.Lexemes.{raised}
 use Rattle.mw_model.proofs.Names.{same_bytes-eq}
 use Rattle.mw_heap.specs.Objects.{object_at, IsIn}
-use Rattle.mw_lex.proofs.name.Names.find.Goals as goal
+use Rattle.mw_lex.proofs.atoms.Atoms.find_symbol.Goals as goal
 
 pub symbol-requires : goal.symbol-requires
 symbol-requires c = subst (λ u. is_name u ≡ true) (same_bytes-eq (map raised c.args.token.now) c.args.token.now (sym c.is_raised.ensures ∙ c.if-is_raised.true)) c.requires
