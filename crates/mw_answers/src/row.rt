@@ -1,4 +1,6 @@
 //! A book, what is due for it and what the program answers.
+ghost use Rattle.std.specs.Prelude.{◌≡◌, ◌↔◌, IsTrue, string_bytes};
+
 use mw_book::{Status, run};
 use mw_port::{MemSink, MemSource, Text};
 use std::alloc::{AllocError, Global};
@@ -15,6 +17,15 @@ pub struct Row {
 pub struct Answer {
     pub report: String,
     pub status: Status,
+}
+
+impl Answer {
+    /// Whether it is just what is due for the row's book: the report, byte by byte, and how the program is to end.
+    pub fn is_due(&self, row: &Row) -> bool
+        ensures { IsTrue result ↔ ((string_bytes self.now.report ≡ row.now.report.now) × (self.now.status ≡ row.now.status)) }
+    {
+        self.report.as_str() == row.report && self.status == row.status
+    }
 }
 
 /// The most bytes that one of the first hundred writes takes where `answer_with_faults` runs the program.
@@ -104,7 +115,7 @@ fn add_wrong(
     size: usize,
 ) -> Result<(), AllocError> {
     let answer = answer_of_command(alloc, words, row.book, size)?;
-    if answer.report.as_str() == row.report && answer.status == row.status {
+    if answer.is_due(row) {
         return Ok(());
     }
     wrong.push_str(row.book)?;
