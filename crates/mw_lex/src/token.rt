@@ -7,8 +7,8 @@ ghost use Rattle.mw_heap.specs.Objects.{object_at, IsIn, Grows};
 ghost use Rattle.mw_lex.specs.Forms.{IsForm, begins_name};
 ghost use Rattle.mw_lex.specs.Tokens.{IsToken, clamp, form_big};
 
-use crate::class::{digit, sign};
 use crate::Atoms;
+use crate::class::{digit, sign};
 use mw_heap::{Heap, Memory, Ref};
 
 /// What a token comes to.

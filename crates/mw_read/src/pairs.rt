@@ -7,12 +7,7 @@ use mw_heap::{Heap, Memory, Ref, View};
 use mw_lex::Slots;
 
 /// The pair of these parts. One that was met lately costs one comparison.
-pub(crate) fn pair(
-    met: &mut Slots,
-    heap: &mut Heap,
-    first: Ref,
-    rest: Ref,
-) -> Result<Ref, Memory>
+pub(crate) fn pair(met: &mut Slots, heap: &mut Heap, first: Ref, rest: Ref) -> Result<Ref, Memory>
     requires first_in { IsIn heap.old.objects first }
     requires rest_in { IsIn heap.old.objects rest }
     ensures grows { Grows heap.old.objects heap.new.objects }
