@@ -1,9 +1,8 @@
 //! The commands that judge a book.
-ghost use Rattle.std.specs.Prelude.{◌≡◌, ℕ, [], Some, IfOk};
+ghost use Rattle.std.specs.Prelude.{◌≡◌, ℕ, Some};
 ghost use Rattle.mw_model.specs.Reports.Request.{Check};
 ghost use Rattle.mw_model.specs.Reports.Trial.{trial_book};
 ghost use Rattle.mw_port.specs.Memories.{no_faults};
-ghost use Rattle.mw_book.specs.Knowing.{Judged};
 ghost use Rattle.mw_book.specs.Checks.{BookEnds, TrialEnds, SourceCounts, SinkCounts};
 
 use crate::Status;
@@ -12,19 +11,9 @@ use crate::book::{answer_book, conclude, read_all};
 use crate::judging::Judging;
 use crate::nowhere::Nowhere;
 use crate::promise::answers_promised;
-use mw_heap::Memory;
 use mw_port::{Sink, Source};
 use mw_reflect::reached_sound;
 use std::alloc::Global;
-
-// Nothing was read. It is boxed, so that the proofs of its owners are short.
-fn begin(alloc: Global, steps: u64) -> Result<Box<Judging>, Memory>
-    ensures judged { IfOk result (λ b. Judged b.value steps []) }
-    ensures lines { IfOk result (λ b. b.value.lines.items ≡ []) }
-{
-    let judging = Judging::new(alloc, steps)?;
-    Ok(Box::new(alloc, judging)?)
-}
 
 /// Judges the book on the source and writes its report, the line of each event before more is read.
 pub(crate) fn check<S: Source, K: Sink>(
@@ -38,7 +27,7 @@ pub(crate) fn check<S: Source, K: Sink>(
     ensures sink_counts { SinkCounts result (K.faults sink.old) (K.faults sink.new) }
 {
     answers_promised();
-    let Ok(mut boxed) = begin(alloc, steps) else {
+    let Ok(mut boxed) = Judging::new(alloc, steps) else {
         return Status::Memory;
     };
     let judging: &mut Judging = &mut boxed;
@@ -56,7 +45,7 @@ pub(crate) fn trial<S: Source, K: Sink>(
     ensures ends { (m : ℕ) → S.left source.old ≡ Some (trial_book m) → TrialEnds result m steps (K.taken sink.old) (K.taken sink.new) }
     ensures sink_counts { SinkCounts result (K.faults sink.old) (K.faults sink.new) }
 {
-    let Ok(mut boxed) = begin(alloc, steps) else {
+    let Ok(mut boxed) = Judging::new(alloc, steps) else {
         return Status::Memory;
     };
     let judging: &mut Judging = &mut boxed;

@@ -1,25 +1,13 @@
 //! The command that turns a book to a log.
-ghost use Rattle.std.specs.Prelude.{◌≡◌, [], IfOk};
 ghost use Rattle.mw_model.specs.Reports.Request.{Flat};
-ghost use Rattle.mw_book.specs.Flattened.{Flattened};
 ghost use Rattle.mw_book.specs.Checks.{BookEnds, SourceCounts, SinkCounts};
 
 use crate::Status;
 use crate::book::answer_book;
 use crate::flattening::Flattening;
 use crate::promise::answers_promised;
-use mw_heap::Memory;
 use mw_port::{Sink, Source};
 use std::alloc::Global;
-
-// Nothing was read. It is boxed, so that the proofs of its owner are short.
-fn begin(alloc: Global, steps: u64) -> Result<Box<Flattening>, Memory>
-    ensures flattened { IfOk result (λ b. Flattened b.value steps []) }
-    ensures lines { IfOk result (λ b. b.value.lines.items ≡ []) }
-{
-    let flattening = Flattening::new(alloc, steps)?;
-    Ok(Box::new(alloc, flattening)?)
-}
 
 /// Judges the book on the source and writes each event that is accepted before the first switch as its steps and the event with their numbers, before
 /// more is read.
@@ -34,7 +22,7 @@ pub(crate) fn flat<S: Source, K: Sink>(
     ensures sink_counts { SinkCounts result (K.faults sink.old) (K.faults sink.new) }
 {
     answers_promised();
-    let Ok(mut boxed) = begin(alloc, steps) else {
+    let Ok(mut boxed) = Flattening::new(alloc, steps) else {
         return Status::Memory;
     };
     let flattening: &mut Flattening = &mut boxed;

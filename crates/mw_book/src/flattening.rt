@@ -49,12 +49,12 @@ fn write_counts(lines: &mut Vec<u8>, events: u64, written: u64) -> Result<(), Me
 }
 
 impl Flattening {
-    /// Nothing was read.
-    pub(crate) fn new(alloc: Global, steps: u64) -> Result<Flattening, Memory>
-        ensures flattened { IfOk result (λ f. Flattened f steps []) }
-        ensures lines { IfOk result (λ f. f.lines.items ≡ []) }
+    /// Nothing was read. It is boxed, so that the proofs of its owner are short.
+    pub(crate) fn new(alloc: Global, steps: u64) -> Result<Box<Flattening>, Memory>
+        ensures flattened { IfOk result (λ b. Flattened b.value steps []) }
+        ensures lines { IfOk result (λ b. b.value.lines.items ≡ []) }
     {
-        Ok(Flattening {
+        let flattening = Flattening {
             kernel: Kernel::new(alloc, steps)?,
             events: 0,
             written: 0,
@@ -63,7 +63,8 @@ impl Flattening {
             lines: Vec::new(alloc),
             piece: Vec::new(alloc),
             copies: Copies::new(alloc),
-        })
+        };
+        Ok(Box::new(alloc, flattening)?)
     }
 
     // Writes the piece of an event aside, unless a switch was accepted. Answers whether the event is one of a log.

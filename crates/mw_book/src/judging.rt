@@ -1,5 +1,5 @@
 //! Judging data as they are read.
-ghost use Rattle.std.specs.Prelude.{◌≡◌, ◌+◌, ◌<◌, ◌^◌, true, cond, [], ◌∷◌, ◌++◌, OnOk, IfOk};
+ghost use Rattle.std.specs.Prelude.{◌≡◌, ◌+◌, ◌<◌, ◌^◌, cond, [], ◌∷◌, ◌++◌, OnOk, IfOk};
 ghost use Rattle.mw_model.specs.Reports.Request.{Check};
 ghost use Rattle.mw_model.specs.Reports.Report.{fate_text, is_accepted};
 ghost use Rattle.mw_kernel.specs.Fates.{fate_of};
@@ -22,17 +22,18 @@ pub(crate) struct Judging {
 }
 
 impl Judging {
-    /// Nothing was read.
-    pub(crate) fn new(alloc: Global, steps: u64) -> Result<Judging, Memory>
-        ensures judged { IfOk result (λ j. Judged j steps []) }
-        ensures lines { IfOk result (λ j. j.lines.items ≡ []) }
+    /// Nothing was read. It is boxed, so that the proofs of its owner are short.
+    pub(crate) fn new(alloc: Global, steps: u64) -> Result<Box<Judging>, Memory>
+        ensures judged { IfOk result (λ b. Judged b.value steps []) }
+        ensures lines { IfOk result (λ b. b.value.lines.items ≡ []) }
     {
-        Ok(Judging {
+        let judging = Judging {
             kernel: Kernel::new(alloc, steps)?,
             events: 0,
             refused: 0,
             lines: Vec::new(alloc),
-        })
+        };
+        Ok(Box::new(alloc, judging)?)
     }
 
     // Ends the line of an event with its fate, and counts it.

@@ -1,25 +1,13 @@
 //! The command that turns the derivations of a book to proofs.
-ghost use Rattle.std.specs.Prelude.{◌≡◌, [], IfOk};
 ghost use Rattle.mw_model.specs.Reports.Request.{Lower};
-ghost use Rattle.mw_book.specs.Lowered.{Lowered};
 ghost use Rattle.mw_book.specs.Checks.{BookEnds, SourceCounts, SinkCounts};
 
 use crate::Status;
 use crate::book::answer_book;
 use crate::lowering::Lowering;
 use crate::promise::answers_promised;
-use mw_heap::Memory;
 use mw_port::{Sink, Source};
 use std::alloc::Global;
-
-// Nothing was read. It is boxed, so that the proofs of its owner are short.
-fn begin(alloc: Global, steps: u64) -> Result<Box<Lowering>, Memory>
-    ensures lowered { IfOk result (λ b. Lowered b.value steps []) }
-    ensures lines { IfOk result (λ b. b.value.lines.items ≡ []) }
-{
-    let lowering = Lowering::new(alloc, steps)?;
-    Ok(Box::new(alloc, lowering)?)
-}
 
 /// Judges the book on the source, with derivations as good as proofs, and writes each event that is accepted with proofs in their place,
 /// before more is read.
@@ -34,7 +22,7 @@ pub(crate) fn lower<S: Source, K: Sink>(
     ensures sink_counts { SinkCounts result (K.faults sink.old) (K.faults sink.new) }
 {
     answers_promised();
-    let Ok(mut boxed) = begin(alloc, steps) else {
+    let Ok(mut boxed) = Lowering::new(alloc, steps) else {
         return Status::Memory;
     };
     let lowering: &mut Lowering = &mut boxed;

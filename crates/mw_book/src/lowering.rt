@@ -37,19 +37,20 @@ pub(crate) struct Lowering {
 }
 
 impl Lowering {
-    /// Nothing was read.
-    pub(crate) fn new(alloc: Global, steps: u64) -> Result<Lowering, Memory>
-        ensures lowered { IfOk result (λ l. Lowered l steps []) }
-        ensures lines { IfOk result (λ l. l.lines.items ≡ []) }
+    /// Nothing was read. It is boxed, so that the proofs of its owner are short.
+    pub(crate) fn new(alloc: Global, steps: u64) -> Result<Box<Lowering>, Memory>
+        ensures lowered { IfOk result (λ b. Lowered b.value steps []) }
+        ensures lines { IfOk result (λ b. b.value.lines.items ≡ []) }
     {
-        Ok(Lowering {
+        let lowering = Lowering {
             kernel: Kernel::new(alloc, steps)?,
             events: 0,
             refused: 0,
             lines: Vec::new(alloc),
             datum: Vec::new(alloc),
             remark: Vec::new(alloc),
-        })
+        };
+        Ok(Box::new(alloc, lowering)?)
     }
 
     // Begins a comment on an event: its number, its word and its label.

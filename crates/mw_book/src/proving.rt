@@ -1,5 +1,5 @@
 //! Proving formulas as they are read.
-ghost use Rattle.std.specs.Prelude.{◌≡◌, ◌+◌, ◌<◌, ◌^◌, true, cond, List, [], ◌∷◌, ◌++◌, OnOk, IfOk};
+ghost use Rattle.std.specs.Prelude.{◌≡◌, ◌+◌, ◌<◌, ◌^◌, cond, List, [], ◌∷◌, ◌++◌, OnOk, IfOk};
 ghost use Rattle.mw_model.specs.Terms.Object.{Object};
 ghost use Rattle.mw_model.specs.Reports.Request.{Taut};
 ghost use Rattle.mw_model.specs.Commands.TautologyBook.{initial_arities};
@@ -39,16 +39,16 @@ fn initial_arity(heap: &mut Heap) -> Result<Arity, Memory>
 }
 
 impl Proving {
-    /// Nothing was read.
-    pub(crate) fn new(alloc: Global) -> Result<Proving, Memory>
-        ensures proving { IfOk result IsProving }
-        ensures answered { IfOk result (λ p. Answered p []) }
-        ensures lines { IfOk result (λ p. p.lines.items ≡ []) }
+    /// Nothing was read. It is boxed, so that the proofs of its owner are short.
+    pub(crate) fn new(alloc: Global) -> Result<Box<Proving>, Memory>
+        ensures proving { IfOk result (λ b. IsProving b.value) }
+        ensures answered { IfOk result (λ b. Answered b.value []) }
+        ensures lines { IfOk result (λ b. b.value.lines.items ≡ []) }
     {
         let mut heap = Heap::new(alloc)?;
         heap.keep_words()?;
         let arity = initial_arity(&mut heap)?;
-        Ok(Proving {
+        let proving = Proving {
             kept: heap.mark(),
             heap,
             arity,
@@ -56,7 +56,8 @@ impl Proving {
             formulas: 0,
             unproved: 0,
             lines: Vec::new(alloc),
-        })
+        };
+        Ok(Box::new(alloc, proving)?)
     }
 
     // Writes the answer to a datum of which this was found, and counts it.

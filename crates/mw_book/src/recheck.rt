@@ -1,25 +1,13 @@
 //! The command that judges a log.
-ghost use Rattle.std.specs.Prelude.{◌≡◌, [], IfOk};
 ghost use Rattle.mw_model.specs.Reports.Request.{Recheck};
-ghost use Rattle.mw_book.specs.Rechecked.{Rechecked};
 ghost use Rattle.mw_book.specs.Checks.{BookEnds, SourceCounts, SinkCounts};
 
 use crate::Status;
 use crate::book::answer_book;
 use crate::promise::answers_promised;
 use crate::rechecking::Rechecking;
-use mw_heap::Memory;
 use mw_port::{Sink, Source};
 use std::alloc::Global;
-
-// Nothing was read. It is boxed, so that the proofs of its owner are short.
-fn begin(alloc: Global) -> Result<Box<Rechecking>, Memory>
-    ensures rechecked { IfOk result (λ b. Rechecked b.value []) }
-    ensures lines { IfOk result (λ b. b.value.lines.items ≡ []) }
-{
-    let rechecking = Rechecking::new(alloc)?;
-    Ok(Box::new(alloc, rechecking)?)
-}
 
 /// Judges the log on the source and writes its report, the line of each event before more is read.
 pub(crate) fn recheck<S: Source, K: Sink>(alloc: Global, source: &mut S, sink: &mut K) -> Status
@@ -28,7 +16,7 @@ pub(crate) fn recheck<S: Source, K: Sink>(alloc: Global, source: &mut S, sink: &
     ensures sink_counts { SinkCounts result (K.faults sink.old) (K.faults sink.new) }
 {
     answers_promised();
-    let Ok(mut boxed) = begin(alloc) else {
+    let Ok(mut boxed) = Rechecking::new(alloc) else {
         return Status::Memory;
     };
     let rechecking: &mut Rechecking = &mut boxed;

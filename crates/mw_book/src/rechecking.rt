@@ -54,18 +54,19 @@ fn write_answers(lines: &mut Vec<u8>, events: u64, denied: u64, left: u64) -> Re
 }
 
 impl Rechecking {
-    /// Nothing was read.
-    pub(crate) fn new(alloc: Global) -> Result<Rechecking, Memory>
-        ensures rechecked { IfOk result (λ r. Rechecked r []) }
-        ensures lines { IfOk result (λ r. r.lines.items ≡ []) }
+    /// Nothing was read. It is boxed, so that the proofs of its owner are short.
+    pub(crate) fn new(alloc: Global) -> Result<Box<Rechecking>, Memory>
+        ensures rechecked { IfOk result (λ b. Rechecked b.value []) }
+        ensures lines { IfOk result (λ b. b.value.lines.items ≡ []) }
     {
-        Ok(Rechecking {
+        let rechecking = Rechecking {
             flat: Flat::new(alloc)?,
             taken: 0,
             events: 0,
             denied: 0,
             lines: Vec::new(alloc),
-        })
+        };
+        Ok(Box::new(alloc, rechecking)?)
     }
 
     // Begins the line of a datum that is shown so, unless it is a step, which has none.

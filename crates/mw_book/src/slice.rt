@@ -1,8 +1,6 @@
 //! The command that keeps what a theorem of a book rests on.
-ghost use Rattle.std.specs.Prelude.{◌≡◌, [], IfOk};
 ghost use Rattle.mw_model.specs.Terms.Object.{name_of_bytes};
 ghost use Rattle.mw_model.specs.Reports.Request.{Slice};
-ghost use Rattle.mw_book.specs.Sliced.{Sliced};
 ghost use Rattle.mw_book.specs.Checks.{BookEnds, SourceCounts, SinkCounts};
 
 use crate::Status;
@@ -10,18 +8,8 @@ use crate::book::answer_book;
 use crate::promise::answers_promised;
 use crate::slicing::Slicing;
 use crate::theorem_name::TheoremName;
-use mw_heap::Memory;
 use mw_port::{Sink, Source};
 use std::alloc::Global;
-
-// Nothing was read. It is boxed, so that the proofs of its owner are short.
-fn begin(alloc: Global, name: TheoremName, steps: u64) -> Result<Box<Slicing>, Memory>
-    ensures sliced { IfOk result (λ b. Sliced b.value (name_of_bytes name) steps []) }
-    ensures lines { IfOk result (λ b. b.value.lines.items ≡ []) }
-{
-    let slicing = Slicing::new(alloc, name, steps)?;
-    Ok(Box::new(alloc, slicing)?)
-}
 
 /// Judges the book on the source and writes, when it has ended, the events that the theorem of this name rests on.
 pub(crate) fn slice<S: Source, K: Sink>(
@@ -36,7 +24,7 @@ pub(crate) fn slice<S: Source, K: Sink>(
     ensures sink_counts { SinkCounts result (K.faults sink.old) (K.faults sink.new) }
 {
     answers_promised();
-    let Ok(mut boxed) = begin(alloc, name, steps) else {
+    let Ok(mut boxed) = Slicing::new(alloc, name, steps) else {
         return Status::Memory;
     };
     let slicing: &mut Slicing = &mut boxed;

@@ -1,5 +1,5 @@
 //! Judging events as they are read, and keeping those that are accepted.
-ghost use Rattle.std.specs.Prelude.{◌≡◌, ◌+◌, ◌<◌, ◌^◌, cond, [], ◌∷◌, ◌++◌, IfOk, OnOk};
+ghost use Rattle.std.specs.Prelude.{◌≡◌, ◌+◌, ◌<◌, cond, [], ◌∷◌, ◌++◌, IfOk, OnOk};
 ghost use Rattle.mw_model.specs.Terms.Object.{name_of_bytes};
 ghost use Rattle.mw_model.specs.Reports.Request.{Slice};
 ghost use Rattle.mw_model.specs.Events.Fate.{fate, next};
@@ -31,8 +31,17 @@ pub(crate) struct Slicing {
 }
 
 impl Slicing {
-    /// Nothing was read.
-    pub(crate) fn new(alloc: Global, name: TheoremName, steps: u64) -> Result<Slicing, Memory>
+    /// Nothing was read. It is boxed, so that the proofs of its owner are short.
+    pub(crate) fn new(alloc: Global, name: TheoremName, steps: u64) -> Result<Box<Slicing>, Memory>
+        ensures sliced { IfOk result (λ b. Sliced b.value (name_of_bytes name) steps []) }
+        ensures lines { IfOk result (λ b. b.value.lines.items ≡ []) }
+    {
+        let slicing = Slicing::unread(alloc, name, steps)?;
+        Ok(Box::new(alloc, slicing)?)
+    }
+
+    // Nothing was read.
+    fn unread(alloc: Global, name: TheoremName, steps: u64) -> Result<Slicing, Memory>
         ensures sliced { IfOk result (λ s. Sliced s (name_of_bytes name) steps []) }
         ensures lines { IfOk result (λ s. s.lines.items ≡ []) }
     {

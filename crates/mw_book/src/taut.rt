@@ -1,26 +1,13 @@
 //! The command that proves the formulas of a book.
-ghost use Rattle.std.specs.Prelude.{◌≡◌, [], IfOk};
 ghost use Rattle.mw_model.specs.Reports.Request.{Taut};
-ghost use Rattle.mw_book.specs.Answered.{IsProving, Answered};
 ghost use Rattle.mw_book.specs.Checks.{BookEnds, SourceCounts, SinkCounts};
 
 use crate::Status;
 use crate::book::answer_book;
 use crate::promise::answers_promised;
 use crate::proving::Proving;
-use mw_heap::Memory;
 use mw_port::{Sink, Source};
 use std::alloc::Global;
-
-// Nothing was read. It is boxed, so that the proofs of its owner are short.
-fn begin(alloc: Global) -> Result<Box<Proving>, Memory>
-    ensures proving { IfOk result (λ b. IsProving b.value) }
-    ensures answered { IfOk result (λ b. Answered b.value []) }
-    ensures lines { IfOk result (λ b. b.value.lines.items ≡ []) }
-{
-    let proving = Proving::new(alloc)?;
-    Ok(Box::new(alloc, proving)?)
-}
 
 /// Proves the formulas of the book on the source and writes its answers, that to each datum before more is read.
 pub(crate) fn taut<S: Source, K: Sink>(alloc: Global, source: &mut S, sink: &mut K) -> Status
@@ -29,7 +16,7 @@ pub(crate) fn taut<S: Source, K: Sink>(alloc: Global, source: &mut S, sink: &mut
     ensures sink_counts { SinkCounts result (K.faults sink.old) (K.faults sink.new) }
 {
     answers_promised();
-    let Ok(mut boxed) = begin(alloc) else {
+    let Ok(mut boxed) = Proving::new(alloc) else {
         return Status::Memory;
     };
     let proving: &mut Proving = &mut boxed;

@@ -2,7 +2,7 @@
 use Rattle.std.proofs.Common.{[], sym, subst}
 use Rattle.mw_model.specs.Terms.Object.{name_of_bytes}
 use Rattle.mw_book.specs.Sliced.{Sliced}
-use Rattle.mw_book.proofs.slice.begin.Goals as goal
+use Rattle.mw_book.proofs.slicing.Slicing.new.Goals as goal
 
 pub returns-clause-sliced : goal.returns-clause-sliced
 returns-clause-sliced c = subst (λ s. Sliced s (name_of_bytes c.args.name) c.args.steps []) (sym c.in_ok-new.ensures.ok) c.in_ok-slicing.ensures.sliced
