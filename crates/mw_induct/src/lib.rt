@@ -4,6 +4,7 @@
 mod cases;
 mod falls;
 mod instance;
+mod looks;
 mod premises;
 mod shapes;
 mod steps;

@@ -11,16 +11,37 @@ ghost use Rattle.mw_induct.specs.Pairs.{are_cases_of_pairs, IsLikeFormula};
 
 use crate::cases::{are_cases, three_members};
 use crate::falls::are_all_falls;
+use crate::looks::take_looks_at_data;
 use crate::shapes::{is_disjunction, is_disjunction_from, is_ordinal_premise};
 use crate::steps::take_steps;
 use mw_heap::{Heap, Memory, Ref};
 use mw_term::Marks;
 
 /// Whether the conclusions are, in order, the premises of an induction that concludes the formula `f`, by `extras`: a list of the
-/// measure, the conditions, and for each condition a list of substitutions. The marks say what is a term. Nothing is made. Each member of
-/// a substitution takes a look from those that the heap allows, each time that it is read, since many steps may share it; the only error
-/// is being out of memory, also where no look is left.
+/// measure, the conditions, and for each condition a list of substitutions. The marks say what is a term. Nothing is made. Each case,
+/// each substitution and each member of one takes a look from those that the heap allows, each time that it is read, since many steps and
+/// many cases may share it; the only error is being out of memory, also where no look is left.
 pub fn premises_hold(
+    heap: &mut Heap,
+    f: Ref,
+    extras: Ref,
+    conclusions: &[Ref],
+    marks: &Marks,
+) -> Result<bool, Memory>
+    requires marks { (A : ArityTable) × AreMarks A heap.old.objects marks.now }
+    requires conclusion { IsIn heap.old.objects f }
+    requires extras { extras < length marks.now }
+    requires premises { All (IsIn heap.old.objects) conclusions.now }
+    requires formula { (A : ArityTable) × (is_formula_object A (object_at heap.old.objects f) ≡ true) }
+    ensures objects { heap.new.objects ≡ heap.old.objects }
+    ensures answer { IfOk result (λ b. (A : ArityTable) → AreMarks A heap.old.objects marks.now → b ≡ object_is_induction A (object_at heap.old.objects f) (conclusions_object heap.old.objects conclusions.now) (object_at heap.old.objects extras)) }
+{
+    take_looks_at_data(heap, extras)?;
+    are_premises_by(heap, f, extras, conclusions, marks)
+}
+
+// Whether the conclusions are the premises of an induction by these extras.
+fn are_premises_by(
     heap: &mut Heap,
     f: Ref,
     extras: Ref,
