@@ -33,7 +33,7 @@ impl Atoms {
         ensures grows { Grows heap.old.objects heap.new.objects }
         ensures made { IfOk result (λ r. IsIn heap.new.objects r × (object_at heap.new.objects r ≡ Natural n)) }
     {
-        let slot = (n % 1024) as usize;
+        let slot = (n % (1 << 16)) as usize;
         if let Some(place) = self.naturals.get(heap, slot) {
             if let View::Nat(m) = heap.view(place) {
                 if m == n {
@@ -87,22 +87,15 @@ impl Atoms {
     }
 }
 
-// A byte of a token mixed in, where there is one.
-fn mixed_with(mixed: u32, token: &[u8], place: usize) -> u32 {
-    match token.get(place) {
-        Some(b) => mixed.wrapping_mul(31).wrapping_add(*b as u32),
-        None => mixed,
-    }
-}
-
-// The slot of a token, by its length and at most four of its bytes, so that a long one costs no more.
+// The slot of a token, by its length and at most three of its bytes, so that a long one costs no more.
 fn slot_of(token: &[u8]) -> usize {
-    let length = token.len();
-    let mixed = mixed_with((length % 1024) as u32, token, 0);
-    let mixed = mixed_with(mixed, token, length / 2);
-    let mixed = mixed_with(mixed, token, length.saturating_sub(2));
-    let mixed = mixed_with(mixed, token, length.saturating_sub(1));
-    mixed as usize
+    let mixed = match token {
+        [] => 0,
+        [a] => *a as usize,
+        [a, z] => *a as usize * 31 + *z as usize,
+        [a, .., y, z] => (*a as usize * 31 + *y as usize) * 31 + *z as usize,
+    };
+    mixed.wrapping_add(token.len())
 }
 
 // Is this the name of the token, with its letters raised?

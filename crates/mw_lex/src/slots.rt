@@ -6,7 +6,7 @@ use mw_heap::{Heap, Ref};
 use std::alloc::Global;
 
 // How many slots there are.
-const SLOTS: usize = 1024;
+const SLOTS: usize = 4096;
 
 /// In each slot the place of an object that was met lately. A heap may have another object there by now, or none: a caller looks at
 /// what stands there before it trusts it.
