@@ -15,6 +15,9 @@ pub(crate) enum Job {
     Join(Ref, Ref, Ref),
 }
 
+// For how many jobs there is room at once: most objects need no more.
+const JOBS: usize = 64;
+
 // The copy of a cell that has one.
 fn copy_of(copies: &Copies, x: Ref) -> Ref
     requires { IsCopied copies.now x }
@@ -141,7 +144,7 @@ pub fn copy(from: &Heap, x: Ref, to: &mut Heap, copies: &mut Copies) -> Result<R
     ensures made { IfOk result (λ r. IsIn to.new.objects r × (object_at to.new.objects r ≡ object_at from.now.objects x)) }
 {
     copies.begin();
-    let mut jobs = Vec::new(to.alloc());
+    let mut jobs = Vec::with_capacity(to.alloc(), JOBS)?;
     jobs.push(Job::Copy(x))?;
     while let Some(job) = jobs.pop() {
         work(from, to, copies, &mut jobs, job)?;
