@@ -160,38 +160,46 @@ module _ (os : List Object) (n : ℕ) (t : Kept) (marks : List ObjectMark) (h : 
     pub functions-fail : (J : Judge) (proofs : Object) (r : Reason) → IsBlockOf t.arity (drafts_given os drafts) new (admitted.Refused r) → defined J now (drafts_given os drafts) proofs ≡ refuse now (refusal_of r)
     functions-fail J proofs r fails = refused-given J now proofs new (drafts_given os drafts) r (subst (λ B. IsBlockOf B (drafts_given os drafts) new (admitted.Refused r)) arities fails)
 
-    pub passed : (owed : Owed) → IsBlockOf t.arity (drafts_given os drafts) new (admitted.Obligations owed) → IsPassed (arity_table now.definitions) (drafts_given os drafts) new owed
-    passed owed p = given-passed (arity_table now.definitions) (drafts_given os drafts) new owed (subst (λ B. IsBlockOf B (drafts_given os drafts) new (admitted.Obligations owed)) arities p)
+    -- they pass their tests
+    module _ (owed : Owed) (tested : IsBlockOf t.arity (drafts_given os drafts) new (admitted.Obligations owed)) where
+      passed : IsPassed (arity_table now.definitions) (drafts_given os drafts) new owed
+      passed = given-passed (arity_table now.definitions) (drafts_given os drafts) new owed (subst (λ B. IsBlockOf B (drafts_given os drafts) new (admitted.Obligations owed)) arities tested)
 
-    module _ (owed : Owed) (p : IsPassed (arity_table now.definitions) (drafts_given os drafts) new owed) where
-      abbrev pub block_of : Block
-      block_of = Functions (functions p.passes.names p.passes.formals p.passes.bodies)
+      pub block_of : Block
+      block_of = Functions (functions passed.passes.names passed.passes.formals passed.passes.bodies)
 
       -- they are accepted as these
       pub functions-pass : (J : Judge) (proofs : Object) → IsAccepted J now (drafts_given os drafts) proofs → defined J now (drafts_given os drafts) proofs ≡ accept (add_to_theory now block_of)
-      functions-pass J proofs a = accepted-these J now proofs new (drafts_given os drafts) owed p a.0 a.1
+      unfolding block_of
+      functions-pass J proofs a = accepted-these J now proofs new (drafts_given os drafts) owed passed a.0 a.1
 
       -- without proofs they are accepted where nothing is owed
       pub alone-passes : (J : Judge) → same_object (object_at new owed.obligations) NIL ≡ true → defined J now (drafts_given os drafts) NIL ≡ accept (add_to_theory now block_of)
-      alone-passes J none = judged-given J now NIL new (drafts_given os drafts) owed p None (judged-none J now _ (sym (ap (λ o. same_object o NIL) p.passes.obligations) ∙ none))
+      unfolding block_of
+      alone-passes J none = judged-given J now NIL new (drafts_given os drafts) owed passed None (judged-none J now _ (sym (ap (λ o. same_object o NIL) passed.passes.obligations) ∙ none))
 
       pub alone-fails : (J : Judge) → same_object (object_at new owed.obligations) NIL ≡ false → defined J now (drafts_given os drafts) NIL ≡ refuse now COUNT
-      alone-fails J some = judged-given J now NIL new (drafts_given os drafts) owed p (Some COUNT) (judged-some J now _ (sym (ap (λ o. same_object o NIL) p.passes.obligations) ∙ some))
+      alone-fails J some = judged-given J now NIL new (drafts_given os drafts) owed passed (Some COUNT) (judged-some J now _ (sym (ap (λ o. same_object o NIL) passed.passes.obligations) ∙ some))
 
       pub alone-accepted : (J : Judge) → same_object (object_at new owed.obligations) NIL ≡ true → IsSound (defined J now (drafts_given os drafts) NIL).1 → IsAccepted J now (drafts_given os drafts) NIL
       alone-accepted J none sound = let e = alone-passes J none in (block_of, e, subst (λ r. IsSound r.1) e sound)
 
       -- they are a new block
       pub functions-block : (J : Judge) (proofs : Object) → IsAccepted J now (drafts_given os drafts) proofs → (ds : List Definition) → ds ≡ map function_of_entry owed.entries.items → IsNewBlock new (parts_of t) ds owed.axioms block_of
+      unfolding block_of
       functions-block J proofs a ds ds_are =
-          let q = p.passes in
+          let q = passed.passes in
           let B = functions q.names q.formals q.bodies in
           record {
-            means = subst (λ es. AreFunctions new es B) (sym ds_are) (functions-mean new B owed.entries.items (block-entries (arity_table now.definitions) p.drafts new new owed (Grows-refl new) q));
+            means = subst (λ es. AreFunctions new es B) (sym ds_are) (functions-mean new B owed.entries.items (block-entries (arity_table now.definitions) passed.drafts new new owed (Grows-refl new) q));
             axioms_in = q.axioms_in;
             axioms_are = q.axioms;
             sound = subst (λ u. IsSound (add_to_theory u block_of)) (sym theory-same) (subst IsSound (ap (λ r. r.1) (sym a.1 ∙ functions-pass J proofs a)) a.2);
           }
+
+      -- which is what the event leads to
+      pub block-leads : (J : Judge) (proofs : Object) → defined J now (drafts_given os drafts) proofs ≡ accept (add_to_theory now block_of) → add_to_theory (meant new (parts_of t)) block_of ≡ (defined J now (drafts_given os drafts) proofs).1
+      block-leads J proofs e = ap (λ u. add_to_theory u block_of) theory-same ∙ sym (ap (λ r. r.1) e)
 
   -- of a witness
   module _ (name bound free body : ℕ) where

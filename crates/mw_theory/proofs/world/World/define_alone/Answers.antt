@@ -1,12 +1,10 @@
 -- The tests of the functions, and that nothing is owed, and then the step that adds them.
 use Rattle.std.proofs.Common.{map, sym, ap, ◌∙◌}
 use Rattle.mw_model.specs.Terms.Object.{NIL}
-use Rattle.mw_model.specs.Values.Definition.{Functions}
-use Rattle.mw_model.specs.Events.Admission.{functions, add_to_theory}
 use Rattle.mw_theory.specs.Admitting.{function_of_entry}
 use Rattle.mw_theory.proofs.Held.{grown}
 use Rattle.mw_theory.proofs.Results.{OnErr-from}
-use Rattle.mw_theory.proofs.Defined.{theory-same, functions-fail, passed, alone-passes, alone-fails, alone-accepted, functions-block}
+use Rattle.mw_theory.proofs.Defined.{theory-same, functions-fail, alone-passes, alone-fails, alone-accepted, functions-block, block-leads}
 use Rattle.mw_theory.proofs.world.World.define_alone.Goals as goal
 
 pub returns-in-Refused-clause-world : goal.returns-in-Refused-clause-world
@@ -41,56 +39,42 @@ returns-then-not-is_nil-clause-world c = grown _ _ _ _ c.requires.world c.admit.
 
 pub returns-then-not-is_nil-clause-fate : goal.returns-then-not-is_nil-clause-fate
 returns-then-not-is_nil-clause-fate c = λ J.
-    let owed = c.in-Obligations.owed in
-    let new = c.admit.new.heap.objects in
-    let g = c.admit.ensures.grows in
-    let p = passed _ _ _ _ c.requires.world new g c.args.drafts owed c.in-Obligations.ensures.admitted in
     let some = sym c.is_nil.ensures ∙ c.if-not-is_nil.true in
-    sym (ap (λ r. r.0) (alone-fails _ _ _ _ c.requires.world new g c.args.drafts owed p J some))
+    sym (ap (λ r. r.0) (alone-fails _ _ _ _ c.requires.world c.admit.new.heap.objects c.admit.ensures.grows c.args.drafts c.in-Obligations.owed c.in-Obligations.ensures.admitted J some))
 
 pub returns-then-not-is_nil-clause-theory : goal.returns-then-not-is_nil-clause-theory
 returns-then-not-is_nil-clause-theory c = λ J.
-    let owed = c.in-Obligations.owed in
     let new = c.admit.new.heap.objects in
     let g = c.admit.ensures.grows in
-    let p = passed _ _ _ _ c.requires.world new g c.args.drafts owed c.in-Obligations.ensures.admitted in
     let some = sym c.is_nil.ensures ∙ c.if-not-is_nil.true in
-    theory-same _ _ _ _ c.requires.world new g ∙ sym (ap (λ r. r.1) (alone-fails _ _ _ _ c.requires.world new g c.args.drafts owed p J some))
+    theory-same _ _ _ _ c.requires.world new g ∙ sym (ap (λ r. r.1) (alone-fails _ _ _ _ c.requires.world new g c.args.drafts c.in-Obligations.owed c.in-Obligations.ensures.admitted J some))
 
 pub add_definitions-requires-clause-block : goal.add_definitions-requires-clause-block
 add_definitions-requires-clause-block c =
     let (J, sound) = c.requires.sound in
-    let owed = c.in-Obligations.owed in
     let new = c.admit.new.heap.objects in
     let g = c.admit.ensures.grows in
-    let p = passed _ _ _ _ c.requires.world new g c.args.drafts owed c.in-Obligations.ensures.admitted in
-    let none = sym c.is_nil.ensures ∙ c.if-not-is_nil.false in
-    let a = alone-accepted _ _ _ _ c.requires.world new g c.args.drafts owed p J none sound in
-    (_, functions-block _ _ _ _ c.requires.world new g c.args.drafts owed p J NIL a c.as_slice-2.result.now (c.as_slice-2.ensures.value ∙ (c.in_ok-block.ensures ∙ ap (map function_of_entry) c.as_slice.ensures.value)))
+    let owed = c.in-Obligations.owed in
+    let tested = c.in-Obligations.ensures.admitted in
+    let a = alone-accepted _ _ _ _ c.requires.world new g c.args.drafts owed tested J (sym c.is_nil.ensures ∙ c.if-not-is_nil.false) sound in
+    (_, functions-block _ _ _ _ c.requires.world new g c.args.drafts owed tested J NIL a c.as_slice-2.result.now (c.as_slice-2.ensures.value ∙ (c.in_ok-block.ensures ∙ ap (map function_of_entry) c.as_slice.ensures.value)))
 
 pub returns-in_err-add_definitions-clause-err : goal.returns-in_err-add_definitions-clause-err
 returns-in_err-add_definitions-clause-err c = OnErr-from _ _ (c.in_err-add_definitions.ensures.err ∙ theory-same _ _ _ _ c.requires.world c.admit.new.heap.objects c.admit.ensures.grows)
 
 pub returns-clause-fate : goal.returns-clause-fate
 returns-clause-fate c = λ J.
-    let owed = c.in-Obligations.owed in
-    let new = c.admit.new.heap.objects in
-    let g = c.admit.ensures.grows in
-    let p = passed _ _ _ _ c.requires.world new g c.args.drafts owed c.in-Obligations.ensures.admitted in
-    let none = sym c.is_nil.ensures ∙ c.if-not-is_nil.false in
-    sym (ap (λ r. r.0) (alone-passes _ _ _ _ c.requires.world new g c.args.drafts owed p J none))
+    sym (ap (λ r. r.0) (alone-passes _ _ _ _ c.requires.world c.admit.new.heap.objects c.admit.ensures.grows c.args.drafts c.in-Obligations.owed c.in-Obligations.ensures.admitted J (sym c.is_nil.ensures ∙ c.if-not-is_nil.false)))
 
 pub returns-clause-theory : goal.returns-clause-theory
 returns-clause-theory c = λ J.
     let (K, sound) = c.requires.sound in
-    let owed = c.in-Obligations.owed in
     let new = c.admit.new.heap.objects in
     let g = c.admit.ensures.grows in
-    let p = passed _ _ _ _ c.requires.world new g c.args.drafts owed c.in-Obligations.ensures.admitted in
+    let owed = c.in-Obligations.owed in
+    let tested = c.in-Obligations.ensures.admitted in
     let none = sym c.is_nil.ensures ∙ c.if-not-is_nil.false in
-    let a = alone-accepted _ _ _ _ c.requires.world new g c.args.drafts owed p K none sound in
-    let block = functions-block _ _ _ _ c.requires.world new g c.args.drafts owed p K NIL a c.as_slice-2.result.now (c.as_slice-2.ensures.value ∙ (c.in_ok-block.ensures ∙ ap (map function_of_entry) c.as_slice.ensures.value)) in
-    let B = Functions (functions p.passes.names p.passes.formals p.passes.bodies) in
-    c.in_ok-add_definitions.ensures.theory B block
-    ∙ (ap (λ t. add_to_theory t B) (theory-same _ _ _ _ c.requires.world new g)
-    ∙ sym (ap (λ r. r.1) (alone-passes _ _ _ _ c.requires.world new g c.args.drafts owed p J none)))
+    let a = alone-accepted _ _ _ _ c.requires.world new g c.args.drafts owed tested K none sound in
+    let block = functions-block _ _ _ _ c.requires.world new g c.args.drafts owed tested K NIL a c.as_slice-2.result.now (c.as_slice-2.ensures.value ∙ (c.in_ok-block.ensures ∙ ap (map function_of_entry) c.as_slice.ensures.value)) in
+    c.in_ok-add_definitions.ensures.theory _ block
+    ∙ block-leads _ _ _ _ c.requires.world new g c.args.drafts owed tested J NIL (alone-passes _ _ _ _ c.requires.world new g c.args.drafts owed tested J none)
