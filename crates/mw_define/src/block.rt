@@ -11,12 +11,11 @@ ghost use Rattle.mw_translate.specs.Expands.{ArePairsOfSymbols, pair_names, with
 ghost use Rattle.mw_define.specs.Blocks.{IsDraftIn, AreDraftsIn, names_of_drafts, formals_of_drafts, AreNames, IsCounted, Each2, IsExpansion, Expands, ExpandsNone, HasNoTerm, is_next_name, function_at, is_closed_at, IsExpanded, AreExpanded, IsClosedEntry, are_closed_at};
 
 use crate::admitted::Entry;
-use crate::block_names::is_among_names;
 use crate::draft::Draft;
 use crate::names::is_new_name;
 use indexmap::IndexSet;
 use mw_heap::{Heap, Memory, Ref, looks_for};
-use mw_term::{Arity, Formals};
+use mw_term::{Arity, Formals, is_among_symbols};
 use mw_translate::{Expanded, arities_of, expand, expand_under};
 
 // Adds x where it is a new name that is not there yet, and says whether it is.
@@ -29,7 +28,7 @@ fn add_name(heap: &Heap, names: &mut IndexSet<Ref>, x: Ref, arity: &Arity) -> Re
     if !is_new_name(heap, x, arity) {
         return Ok(false);
     }
-    if is_among_names(heap, names, x) {
+    if is_among_symbols(heap, names, x) {
         return Ok(false);
     }
     names.insert(x)?;

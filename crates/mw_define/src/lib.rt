@@ -5,7 +5,6 @@ mod admission;
 mod admitted;
 mod axioms;
 mod block;
-mod block_names;
 mod collect;
 mod descent;
 mod draft;

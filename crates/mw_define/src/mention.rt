@@ -11,10 +11,10 @@ ghost use Rattle.mw_define.specs.Collecting.{HasNames};
 ghost use Rattle.mw_define.specs.Mentioning.{IsLook, Splits, IsPiece, piece_mentions};
 ghost use Rattle.mw_define.specs.declared.piece.Piece.TheVariants as piece;
 
-use crate::block_names::is_among_names;
 use crate::piece::Piece;
 use indexmap::IndexSet;
 use mw_heap::{Heap, Memory, Ref, View, Word, take_look};
+use mw_term::is_among_symbols;
 
 fn split_lambda(
     heap: &Heap,
@@ -66,7 +66,7 @@ fn look_at_named(
         waiting.push(Piece::Terms(arguments))?;
         return Ok(false);
     }
-    if is_among_names(heap, names, name) {
+    if is_among_symbols(heap, names, name) {
         return Ok(true);
     }
     waiting.push(Piece::Terms(arguments))?;

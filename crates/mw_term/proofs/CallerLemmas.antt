@@ -52,9 +52,9 @@ module _ (os : List Object) (ms : List ObjectMark) (older : ArePartsOlder os) wh
 
   -- a new name changes no mark of what stands before its symbol, which is no part of that
   pub AreMarks-name : AreDistinct os → (A : ArityTable) (r : ℕ) (f : Name) (n : ℕ) → IsIn os r → object_at os r ≡ Symbol f → length ms ≤ r → AreMarks A os ms → AreMarks ((f, n) ∷ A) os ms
-  AreMarks-name distinct A r f n within is behind h = AreMarks-table A ((f, n) ∷ A) same h
+  AreMarks-name distinct A r f n within is after h = AreMarks-table A ((f, n) ∷ A) same h
     where
       same : (i : ℕ) (s : Name) → i < length ms → object_at os i ≡ Symbol s → arity_of A s ≡ cond (same_name f s) (Some n) (arity_of A s)
       same i s below e =
-          let other = name_differ-from f s (λ k. omega (arith, below, behind, distinct i r (omega (arith, below, behind, within)) within (e ∙ (ap Symbol (sym k) ∙ sym is)))) in
+          let other = name_differ-from f s (λ k. omega (arith, below, after, distinct i r (omega (arith, below, after, within)) within (e ∙ (ap Symbol (sym k) ∙ sym is)))) in
           sym (ap (λ b. cond b (Some n) (arity_of A s)) other)

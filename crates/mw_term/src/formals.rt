@@ -11,15 +11,16 @@ use crate::work::Work;
 use indexmap::IndexSet;
 use mw_heap::{Heap, Memory, Ref, View};
 
-// Whether the symbol x is among these.
-pub(crate) fn is_among_symbols(heap: &Heap, symbols: &IndexSet<Ref>, x: Ref) -> bool
+/// Whether the symbol x is among these.
+pub fn is_among_symbols(heap: &Heap, symbols: &IndexSet<Ref>, x: Ref) -> bool
     requires within { IsIn heap.now.objects x }
     requires symbol { is_symbol (object_at heap.now.objects x) ≡ true }
     requires symbols { AreSymbols heap.now.objects symbols.now.keys }
     ensures among { result ≡ is_among (name_of (object_at heap.now.objects x)) (names_at heap.now.objects symbols.now.keys) }
     ensures held { result ≡ list_any (nat_eq x) symbols.now.keys }
 {
-    heap.same(x, x) && symbols.contains(&x)
+    heap.order();
+    symbols.contains(&x)
 }
 
 // Adds x where it is a variable that is not there yet, and says whether it is.

@@ -19,6 +19,7 @@ mod work;
 
 pub use arity::Arity;
 pub use formal_names::Formals;
+pub use formals::is_among_symbols;
 pub use gather::{vars, vars_counted};
 pub use looks::{take_looks, take_looks_at_members, take_looks_since};
 pub use marks::{Marks, is_formula, is_term, mark_terms};

@@ -5,4 +5,4 @@ use Rattle.mw_define.proofs.block.add_name.Goals as goal
 pub returns-clause-added : goal.returns-clause-added
 returns-clause-added c =
     c.in_ok-insert.ensures.keys
-    ∙ ap (λ b. if b then c.args.names.now.keys else c.args.names.now.keys ++ c.args.x ∷ []) (sym c.is_among_names.ensures.held ∙ c.if-is_among_names.false)
+    ∙ ap (λ b. if b then c.args.names.now.keys else c.args.names.now.keys ++ c.args.x ∷ []) (sym c.is_among_symbols.ensures.held ∙ c.if-is_among_symbols.false)

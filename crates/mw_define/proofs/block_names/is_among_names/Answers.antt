@@ -1,7 +1,0 @@
--- Equal symbols have equal references.
-use Rattle.std.proofs.Common.{◌∙◌}
-use Rattle.mw_term.proofs.Symbols.{is_among-symbols}
-use Rattle.mw_define.proofs.block_names.is_among_names.Goals as goal
-
-pub returns-clause-among : goal.returns-clause-among
-returns-clause-among c = c.contains.ensures ∙ is_among-symbols c.args.heap.now.objects c.order.ensures.distinct c.args.x c.requires.within c.requires.symbol c.args.names.now.keys c.requires.symbols
