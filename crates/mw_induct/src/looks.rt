@@ -2,23 +2,12 @@
 ghost use Rattle.std.specs.Prelude.{◌≡◌};
 ghost use Rattle.mw_heap.specs.Objects.{IsIn};
 
-use crate::cases::three_members;
 use mw_heap::{Heap, Memory, Ref, View};
 use mw_term::take_looks_at_members;
 
 /// Takes a look, from those that the heap allows, for each case of an induction, for each of its substitutions, and for each member of one.
 /// The error is that fewer are left.
-pub(crate) fn take_looks_at_data(heap: &mut Heap, extras: Ref) -> Result<(), Memory>
-    requires { IsIn heap.old.objects extras }
-    ensures { heap.new.objects ≡ heap.old.objects }
-{
-    match three_members(heap, extras) {
-        Some((_, _, cases)) => take_looks_at_cases(heap, cases),
-        None => Ok(()),
-    }
-}
-
-fn take_looks_at_cases(heap: &mut Heap, cases: Ref) -> Result<(), Memory>
+pub(crate) fn take_looks_at_cases(heap: &mut Heap, cases: Ref) -> Result<(), Memory>
     requires { IsIn heap.old.objects cases }
     ensures { heap.new.objects ≡ heap.old.objects }
 {
@@ -31,6 +20,7 @@ fn take_looks_at_cases(heap: &mut Heap, cases: Ref) -> Result<(), Memory>
     Ok(())
 }
 
+// Takes a look for each substitution, and for each member of one.
 fn take_looks_at_substitutions(heap: &mut Heap, substitutions: Ref) -> Result<(), Memory>
     requires { IsIn heap.old.objects substitutions }
     ensures { heap.new.objects ≡ heap.old.objects }

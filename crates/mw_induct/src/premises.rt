@@ -11,7 +11,7 @@ ghost use Rattle.mw_induct.specs.Pairs.{are_cases_of_pairs, IsLikeFormula};
 
 use crate::cases::{are_cases, three_members};
 use crate::falls::are_all_falls;
-use crate::looks::take_looks_at_data;
+use crate::looks::take_looks_at_cases;
 use crate::shapes::{is_disjunction, is_disjunction_from, is_ordinal_premise};
 use crate::steps::take_steps;
 use mw_heap::{Heap, Memory, Ref};
@@ -36,26 +36,6 @@ pub fn premises_hold(
     ensures objects { heap.new.objects ≡ heap.old.objects }
     ensures answer { IfOk result (λ b. (A : ArityTable) → AreMarks A heap.old.objects marks.now → b ≡ object_is_induction A (object_at heap.old.objects f) (conclusions_object heap.old.objects conclusions.now) (object_at heap.old.objects extras)) }
 {
-    take_looks_at_data(heap, extras)?;
-    are_premises_by(heap, f, extras, conclusions, marks)
-}
-
-// Whether the conclusions are the premises of an induction by these extras.
-fn are_premises_by(
-    heap: &mut Heap,
-    f: Ref,
-    extras: Ref,
-    conclusions: &[Ref],
-    marks: &Marks,
-) -> Result<bool, Memory>
-    requires marks { (A : ArityTable) × AreMarks A heap.old.objects marks.now }
-    requires conclusion { IsIn heap.old.objects f }
-    requires extras { extras < length marks.now }
-    requires premises { All (IsIn heap.old.objects) conclusions.now }
-    requires formula { (A : ArityTable) × (is_formula_object A (object_at heap.old.objects f) ≡ true) }
-    ensures objects { heap.new.objects ≡ heap.old.objects }
-    ensures answer { IfOk result (λ b. (A : ArityTable) → AreMarks A heap.old.objects marks.now → b ≡ object_is_induction A (object_at heap.old.objects f) (conclusions_object heap.old.objects conclusions.now) (object_at heap.old.objects extras)) }
-{
     // what costs a constant comes first
     if conclusions.len() < 2 || !is_disjunction_from(heap, conclusions[0], f) {
         return Ok(false);
@@ -63,6 +43,7 @@ fn are_premises_by(
     let Some((measure, conditions, cases)) = three_members(heap, extras) else {
         return Ok(false);
     };
+    take_looks_at_cases(heap, cases)?;
     if !are_cases(heap, marks, conditions, cases) {
         return Ok(false);
     }

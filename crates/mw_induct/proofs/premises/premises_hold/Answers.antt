@@ -1,20 +1,68 @@
--- The data are those of the objects as they were before the looks were taken.
-use Rattle.std.proofs.Common.{◌≡◌, true, IfOk, sym, subst}
+-- The tests of the data and of the premises make the rule. The looks change no object.
+use Rattle.std.proofs.Common.{◌≡◌, ◌&&◌, true, IfOk, sym, subst, ◌∙◌, eqb, eqb-true}
+use Rattle.std.proofs.lemmas.Result.{IfOk-weaker}
+use Rattle.std.proofs.lemmas.Bool.{and_parts}
+use Rattle.mw_model.specs.Terms.Object.{same_object}
 use Rattle.mw_model.specs.Terms.Term.{ArityTable}
 use Rattle.mw_model.specs.Laws.Rules.{is_formula_object}
-use Rattle.mw_model.specs.Laws.RulesInduction.{object_is_induction}
+use Rattle.mw_model.specs.Laws.RulesInduction.{is_list_object, length_object, are_case_objects, premises_object}
 use Rattle.mw_heap.specs.Objects.{object_at}
 use Rattle.mw_term.specs.Marking.{AreMarks}
+use Rattle.mw_subst.proofs.FormulaObjects.{substitute_object-formula}
 use Rattle.mw_induct.specs.Conclusions.{conclusions_object}
+use Rattle.mw_induct.proofs.Ends.{data_pairs, object_is_induction-from, no_induction-data, no_induction-premises}
+use Rattle.mw_induct.proofs.Rests.{few_premises, other_premises}
 use Rattle.mw_induct.proofs.premises.premises_hold.Goals as goal
+use Rattle.mw_induct.proofs.premises.premises_hold.Goals.{then-conclusions-lt2-via-then-conclusions-lt2, then-conclusions-lt2-via-else-conclusions-lt2+then-not-is_disjunction_from}
 
-pub are_premises_by-requires-clause-marks : goal.are_premises_by-requires-clause-marks
-are_premises_by-requires-clause-marks c = (c.requires.marks.0, subst (λ os. AreMarks c.requires.marks.0 os c.args.marks.now) (sym c.in_ok-take_looks_at_data.ensures) c.requires.marks.1)
+pub returns-then-conclusions-lt2-clause-answer : goal.returns-then-conclusions-lt2-clause-answer
+returns-then-conclusions-lt2-clause-answer c = λ A k.
+    let os = c.args.heap.now.objects in
+    let ps = c.args.conclusions.now in
+    let f = object_at os c.args.f in
+    no_induction-premises A f (conclusions_object os ps) (object_at os c.args.extras) (λ m q s. elim c.then-conclusions-lt2.branch [
+      | then-conclusions-lt2-via-then-conclusions-lt2 w ↦ few_premises os ps w.if-conclusions-lt2.true f m q s
+      | then-conclusions-lt2-via-else-conclusions-lt2+then-not-is_disjunction_from w ↦ other_premises os ps w.index-conclusions-0.result f w.if-conclusions-lt2.false w.index-conclusions-0.is (w.is_disjunction_from.ensures.no w.if-not-is_disjunction_from.true) m q s
+    ])
 
-pub are_premises_by-requires-clause-formula : goal.are_premises_by-requires-clause-formula
-are_premises_by-requires-clause-formula c = (c.requires.formula.0, subst (λ os. is_formula_object c.requires.formula.0 (object_at os c.args.f) ≡ true) (sym c.in_ok-take_looks_at_data.ensures) c.requires.formula.1)
+pub returns-then-not-are_cases-clause-answer : goal.returns-then-not-are_cases-clause-answer
+returns-then-not-are_cases-clause-answer c = λ A k.
+    let os = c.args.heap.now.objects in
+    let e = c.in_ok-take_looks_at_cases.ensures in
+    let parts = c.in-Some.measure-1-given.0.0 in
+    let tested = subst (λ os. (A : ArityTable) → AreMarks A os c.args.marks.now →
+    c.are_cases.result ≡ (is_list_object (object_at os parts.1) && (eqb (length_object (object_at os parts.1)) (length_object (object_at os parts.2)) && are_case_objects A (object_at os parts.2)))) e c.are_cases.ensures in
+    no_induction-data A (object_at os c.args.f) (conclusions_object os c.args.conclusions.now) (object_at os c.args.extras) _ _ _ c.in-Some.ensures.members (sym (tested A k) ∙ c.if-not-are_cases.true)
+
+-- the tests of the data under the table of the marks
+pub are_premises-requires-clause-as_many : goal.are_premises-requires-clause-as_many
+are_premises-requires-clause-as_many c =
+    let marks = c.requires.marks in
+    let looked = subst (λ os. AreMarks marks.0 os c.args.marks.now) (sym c.in_ok-take_looks_at_cases.ensures) marks.1 in
+    eqb-true _ _ (and_parts _ _ (and_parts _ _ (sym (c.are_cases.ensures marks.0 looked) ∙ c.if-not-are_cases.false)).1).0
+
+pub are_premises-requires-clause-pairs : goal.are_premises-requires-clause-pairs
+are_premises-requires-clause-pairs c =
+    let marks = c.requires.marks in
+    let looked = subst (λ os. AreMarks marks.0 os c.args.marks.now) (sym c.in_ok-take_looks_at_cases.ensures) marks.1 in
+    search (data_pairs, sym c.if-not-are_cases.false ∙ c.are_cases.ensures marks.0 looked)
+
+pub are_premises-requires-clause-formula : goal.are_premises-requires-clause-formula
+are_premises-requires-clause-formula c =
+    let formula = c.requires.formula in
+    let same = subst (λ os. is_formula_object formula.0 (object_at os c.args.f) ≡ true) (sym c.in_ok-take_looks_at_cases.ensures) formula.1 in
+    λ s. substitute_object-formula formula.0 s (object_at c.take_looks_at_cases.new.heap.objects c.args.f) same
 
 pub returns-clause-answer : goal.returns-clause-answer
 returns-clause-answer c =
-    subst (λ os. IfOk c.are_premises_by.result (λ b. (A : ArityTable) → AreMarks A os c.args.marks.now → b ≡ object_is_induction A (object_at os c.args.f) (conclusions_object os c.args.conclusions.now) (object_at os c.args.extras)))
-    c.in_ok-take_looks_at_data.ensures c.are_premises_by.ensures.answer
+    let os = c.args.heap.now.objects in
+    let e = c.in_ok-take_looks_at_cases.ensures in
+    let parts = c.in-Some.measure-1-given.0.0 in
+    let tested = subst (λ os. (A : ArityTable) → AreMarks A os c.args.marks.now →
+    c.are_cases.result ≡ (is_list_object (object_at os parts.1) && (eqb (length_object (object_at os parts.1)) (length_object (object_at os parts.2)) && are_case_objects A (object_at os parts.2)))) e c.are_cases.ensures in
+    let made = subst (λ os. IfOk c.are_premises.result (λ b. b ≡ same_object (conclusions_object os c.args.conclusions.now)
+    (premises_object (object_at os c.args.f) (object_at os parts.0) (object_at os parts.1) (object_at os parts.2)))) e c.are_premises.ensures.premises in
+    IfOk-weaker c.are_premises.result _ _
+    (λ b h. λ A marks.
+    h ∙ object_is_induction-from A (object_at os c.args.f) (conclusions_object os c.args.conclusions.now) (object_at os c.args.extras) _ _ _ c.in-Some.ensures.members (sym (tested A marks) ∙ c.if-not-are_cases.false))
+    made
