@@ -109,13 +109,13 @@ free_parser os p e k = record {
 }
 
 -- a label, or a fault in its place
-pub hash_advance : (os : List Object) (t : State) (old mid new : Parser) (rest : List ℕ) (n : ℕ) (d x : List ℕ) (b : ℕ) (r : Outcome) → mid.token.items ≡ d → mid.start ≡ old.start →
+pub hash_advance : (os : List Object) (t : State) (old new : Parser) (rest : List ℕ) (n : ℕ) (d x : List ℕ) (b : ℕ) (r : Outcome) →
     ((z : List ℕ) → rest ++ z ≡ take n rest ++ (x ++ z)) → all_are is_digit d ≡ true → is_digit b ≡ false → length d ≤ 9 →
     ((e : Ending) (z : List ℕ) → meaning_of e t old (take n rest ++ z) ≡ resume t (lexemes_from e old.start 0 (35 ∷ (d ++ b ∷ z)))) →
-    Took os new.stack r (on t (label_lexeme old.start d b)) → EndsHash r mid new → Advances os t old rest r n new
-hash_advance os t old mid new rest n d x b outcomes.Pending i j e a c l m q s =
+    Took os new.stack r (on t (label_lexeme old.start d b)) → EndsHash r (length d) old new → Advances os t old rest r n new
+hash_advance os t old new rest n d x b outcomes.Pending e a c l m q s =
     let w = on t (label_lexeme old.start d b) in
-    let o : old.start + 2 + length d ≡ new.start = sym (s.1 ∙ ap₂ (λ u v. u + 2 + length v) j i) in (
+    let o : old.start + 2 + length d ≡ new.start = sym s.1 in (
       w.state,
       q.1,
       free_parser os new s.0 q.1.stack,
@@ -126,8 +126,8 @@ hash_advance os t old mid new rest n d x b outcomes.Pending i j e a c l m q s =
           ∙ ap (λ k. resume w.state (lexemes_from e' k 0 z)) o
           ∙ sym (ap (λ u. resume w.state (ahead e' u new.token.items new.start z)) s.0),
     )
-hash_advance os t old mid new rest n d x b (outcomes.Datum r) i j e a c l m q s =
-    let o : old.start + 2 + length d ≡ new.start = sym (s.1 ∙ ap₂ (λ u v. u + 2 + length v) j i) in (
+hash_advance os t old new rest n d x b (outcomes.Datum r) e a c l m q s =
+    let o : old.start + 2 + length d ≡ new.start = sym s.1 in (
       q.0,
       q.2,
       free_parser os new s.0 q.2.stack,
@@ -138,7 +138,7 @@ hash_advance os t old mid new rest n d x b (outcomes.Datum r) i j e a c l m q s 
           ∙ ap (λ k. and_events q.0 (resume Idle (lexemes_from e' k 0 z))) o
           ∙ ap (and_events q.0) (sym (ap (λ u. resume Idle (ahead e' u new.token.items new.start z)) s.0)),
     )
-hash_advance os t old mid new rest n d x b (outcomes.Fault f) i j e a c l m q s = λ e' z.
+hash_advance os t old new rest n d x b (outcomes.Fault f) e a c l m q s = λ e' z.
     ap (meaning_of e' t old) (e z)
     ∙ m e' (x ++ z)
     ∙ hash_step e' t old.start b d (x ++ z) a c l

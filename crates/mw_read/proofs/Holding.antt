@@ -113,6 +113,9 @@ holds_grows os os2 s t g h = record {
     means_grows (Full xs x r ls) m = (p ∙ m.0, agree_grows os os2 s.labels.entries ls g h.stack.listed m.1)
     means_grows (Broken f) m = absurd m
 
+pub ready_grows : (os os2 : List Object) (s : Stack) → Grows os os2 → IsStack os s → is_ready (pile_of os s.layers.items) ≡ false → is_ready (pile_of os2 s.layers.items) ≡ false
+ready_grows os os2 s g k n = ap is_ready (pile_grows os os2 s.layers.items g k.pile) ∙ n
+
 -- an atom is taken, where the heap grew for it
 pub atom_took : (os0 os1 os2 : List Object) (old s : Stack) (r : Outcome) (t : State) (y : Object) (x o : ℕ) → Holds os0 old t → Grows os0 os1 → object_at os1 x ≡ clamp y → IsStack os2 s → HoldsDatum os2 r →
     ((u : State) → Means os1 old u → Does os2 s.layers.items s.labels.entries r (on u (Atom o (object_at os1 x)))) → s.big ≡ (old.big || is_out_of_range y) → Took os2 s r (on t (Atom o y))

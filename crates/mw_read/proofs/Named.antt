@@ -1,5 +1,5 @@
 -- Labels and what the map says of them.
-use Rattle.std.proofs.Common.{◌≡◌, ℕ, Bool, true, false, cond, List, Option, Some, None, is_some, refl, sym, ap, true≢false, eqb-true, ◌∙◌, if◌then◌else◌, eqb, nat_eq}
+use Rattle.std.proofs.Common.{◌≡◌, ◌<◌, ℕ, Bool, true, false, not, cond, List, Option, Some, None, is_some, IfSome, MatchBool, refl, sym, ap, subst, true≢false, eqb-true, ◌∙◌, if◌then◌else◌, eqb, nat_eq}
 use Rattle.std.proofs.Common.{arith}
 use Rattle.std.proofs.lemmas.Grind.{common_steps}
 use Rattle.std.specs.Map.{lookup}
@@ -39,6 +39,18 @@ pub insert_is : (os : List Object) (old new : List (ℕ × Option ℕ)) (n q : �
     seen os (lookup (nat_eq q) new) ≡ (if eqb q n then Some (seen_at os o) else seen os (lookup (nat_eq q) old))
 insert_is os old new n q o h =
     ap (seen os) h ∙ seen_cond os (nat_eq n q) o (lookup (nat_eq q) old) ∙ ap (λ b. if b then Some (seen_at os o) else seen os (lookup (nat_eq q) old)) (key_eqb n q)
+
+-- a key that was new, or known
+pub new_or_known : (P Q : Type 0) (s b : Bool) → s ≡ not b → (s ≡ false → P) → (s ≡ true → Q) → MatchBool b P Q
+new_or_known P Q s true e f g = f e
+new_or_known P Q s false e f g = g e
+
+pub listed_at : (k x : ℕ) (b : Bool) (g new : Option (Option ℕ)) → new ≡ cond b (Some (Some x)) g → x < k → IfSome g (λ o. IfSome o (λ r. r < k)) → IfSome new (λ o. IfSome o (λ r. r < k))
+listed_at k x b g new e l h = subst (λ u. IfSome u (λ o. IfSome o (λ r. r < k))) (sym e) (at b)
+  where
+    at : (b : Bool) → IfSome (cond b (Some (Some x)) g) (λ o. IfSome o (λ r. r < k))
+    at true = l
+    at false = h
 
 seen_some : (os : List Object) (g : Option (Option ℕ)) → is_some (seen os g) ≡ is_some g
 seen_some os None = refl

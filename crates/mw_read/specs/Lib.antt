@@ -5,6 +5,7 @@ pub mod Named
 pub mod Kinds
 pub mod Piles
 pub mod Stacks
+pub mod Taken
 pub mod Held
 pub mod Lexing
 pub mod Parsing

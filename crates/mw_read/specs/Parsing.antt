@@ -74,10 +74,10 @@ Advances os t old rest (outcomes.Datum r) n new =
     (x : Object) × Completes os new.stack r x × IsParser os new × ((e : Ending) (z : List ℕ) → Fits new.begun e z → meaning_of e t old (take n rest ++ z) ≡ and_events x (meaning_of e Idle new z))
 Advances os t old rest (outcomes.Fault f) n new = (e : Ending) (x : List ℕ) → meaning_of e t old (rest ++ x) ≡ book [] (Some (fault_of f))
 
--- the label has ended, unless it is a fault
-abbrev pub EndsHash : Outcome → Parser → Parser → Type 0
-EndsHash (outcomes.Fault f) old new = Unit {0}
-EndsHash r old new = (new.begun ≡ Nothing) × (new.start ≡ old.start + 2 + length old.token.items)
+-- the label of n digits has ended, unless it is a fault
+abbrev pub EndsHash : Outcome → ℕ → Parser → Parser → Type 0
+EndsHash (outcomes.Fault f) n old new = Unit {0}
+EndsHash r n old new = (new.begun ≡ Nothing) × (new.start ≡ old.start + 2 + n)
 
 -- the number of bytes taken, where a text of n bytes has begun at o
 abbrev pub offset_at : Begun → ℕ → ℕ → ℕ

@@ -1,5 +1,5 @@
 //! The labels of a datum.
-ghost use Rattle.std.specs.Prelude.{◌≡◌, ℕ, ◌<◌, List, IfOk, IfSome, OnOk, None, MatchBool, true, false};
+ghost use Rattle.std.specs.Prelude.{◌≡◌, ℕ, ◌<◌, List, IfOk, IfSome, None, MatchBool, true, false};
 ghost use Rattle.mw_model.specs.Terms.Object.{Object};
 ghost use Rattle.mw_model.specs.Texts.Grammar.{Labels, Label, is_begun, labelled, complete};
 ghost use Rattle.mw_heap.specs.Objects.{object_at};
@@ -8,28 +8,24 @@ ghost use Rattle.mw_read.specs.Named.{Agree, seen_at, IsListed};
 use indexmap::IndexMap;
 use mw_heap::{Memory, Ref};
 
-// Begins the label, or says that it was begun already.
+// Begins the label, or says that it was begun already. No more is read after that, so what it named may go.
 pub(crate) fn begin(labels: &mut IndexMap<u32, Option<Ref>>, n: u32) -> Result<bool, Memory>
     ensures begun { IfOk result (λ new. (os : List Object) (ls : Labels) → Agree os labels.old.entries ls →
-        MatchBool new ((is_begun n ls ≡ false) × Agree os labels.new.entries (Label n None ls)) ((is_begun n ls ≡ true) × Agree os labels.new.entries ls)) }
+        MatchBool new ((is_begun n ls ≡ false) × Agree os labels.new.entries (Label n None ls)) (is_begun n ls ≡ true)) }
     ensures listed { IfOk result (λ new. (k : ℕ) → IsListed k labels.old.entries → IsListed k labels.new.entries) }
 {
-    if labels.contains_key(&n) {
-        return Ok(false);
-    }
-    labels.insert(n, None)?;
-    Ok(true)
+    let was = labels.insert(n, None)?;
+    Ok(was.is_none())
 }
 
 // The datum of the label is complete.
-pub(crate) fn end(labels: &mut IndexMap<u32, Option<Ref>>, n: u32, x: Ref) -> Result<(), Memory>
-    ensures agrees { OnOk result ((os : List Object) (ls : Labels) → Agree os labels.old.entries ls → Agree os labels.new.entries (complete n (object_at os x) ls)) }
-    ensures listed { OnOk result ((k : ℕ) → x < k → IsListed k labels.old.entries → IsListed k labels.new.entries) }
+pub(crate) fn end(labels: &mut IndexMap<u32, Option<Ref>>, n: u32, x: Ref)
+    ensures agrees { (os : List Object) (ls : Labels) → Agree os labels.old.entries ls → Agree os labels.new.entries (complete n (object_at os x) ls) }
+    ensures listed { (k : ℕ) → x < k → IsListed k labels.old.entries → IsListed k labels.new.entries }
 {
-    if labels.contains_key(&n) {
-        labels.insert(n, Some(x))?;
+    if let Some(place) = labels.get_mut(&n) {
+        *place = Some(x);
     }
-    Ok(())
 }
 
 // What a reference to the label names.

@@ -3,6 +3,7 @@
 
 mod kept;
 mod labels;
+mod lexeme;
 mod members;
 mod pairs;
 mod parser;

@@ -8,6 +8,7 @@ ghost use Rattle.mw_read.specs.Held.{Holds};
 ghost use Rattle.mw_read.specs.Parsing.{IsParser, Advances, offset_of, Moves, IsAfter, Begins, IsStarted, Fits, PassesWhite};
 ghost use Rattle.mw_read.specs.Standing.{Reaches, Stands, IsStanding, IsFree, Follows, Lasts, Tells, Says, Finishes, IsLast, HasEndedWith, HasEnded};
 
+use crate::lexeme::Lexeme;
 use crate::members::shown;
 use crate::stack::{Stack, fault};
 use crate::step::{Outcome, Step, SyntaxKind, lasting};
@@ -302,15 +303,15 @@ impl Parser {
             }
             Class::Opening => {
                 self.start += 1;
-                Ok((self.stack.open(at)?, 1))
+                Ok((self.stack.take(heap, Lexeme::Open, at)?, 1))
             }
             Class::Closing => {
                 self.start += 1;
-                Ok((self.stack.close(heap, at)?, 1))
+                Ok((self.stack.take(heap, Lexeme::Close, at)?, 1))
             }
             Class::Apostrophe => {
                 self.start += 1;
-                Ok((self.stack.quote(at)?, 1))
+                Ok((self.stack.take(heap, Lexeme::Quote, at)?, 1))
             }
             Class::Other => Ok((fault(SyntaxKind::Byte, at), 0)),
             Class::Bar => self.begin(heap, Begun::Bars, rest),

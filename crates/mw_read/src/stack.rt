@@ -1,15 +1,17 @@
 //! What is open: the lists, quotes and labels round the place that is read.
-ghost use Rattle.std.specs.Prelude.{◌≡◌, ℕ, List, [], length, IfOk, MatchOption};
+ghost use Rattle.std.specs.Prelude.{◌≡◌, ℕ, false, List, [], length, IfOk, MatchOption};
 ghost use Rattle.mw_model.specs.Terms.Object.{Object, symbol};
-ghost use Rattle.mw_model.specs.Texts.Lexemes.{Atom, Open, Close, Dot, Quote, Mark, Ref as Refers};
+ghost use Rattle.mw_model.specs.Texts.Lexemes.{Open, Close, Dot, Quote, Mark, Ref as Refers};
 ghost use Rattle.mw_model.specs.Texts.Grammar.{Labels, quoted};
 ghost use Rattle.mw_heap.specs.Objects.{object_at, IsIn, Grows};
 ghost use Rattle.mw_read.specs.Machine.{State, on};
 ghost use Rattle.mw_read.specs.Named.{Agree, IsListed};
 ghost use Rattle.mw_read.specs.Piles.{IsPile, pile_of, give_to, Does, IsFrames, IsInList, members_of, frames_round, Frames, HoldsDatum, closed_with, is_last, is_item, is_ready, has_member, EndsWith};
 ghost use Rattle.mw_read.specs.Stacks.{IsStack, Means};
+ghost use Rattle.mw_read.specs.Taken.{lexeme_at, MayCome};
 
 use crate::labels::{begin, end, look};
+use crate::lexeme::Lexeme;
 use crate::pairs::pair;
 use crate::step::{Fault, Outcome, SyntaxKind};
 use indexmap::IndexMap;
@@ -45,6 +47,33 @@ pub(crate) struct Stack {
 }
 
 impl Stack {
+    // What a lexeme at this offset makes of what is open. For an atom or a label the caller has seen that a datum may begin here.
+    #[inline(always)]
+    pub(crate) fn take(
+        &mut self,
+        heap: &mut Heap,
+        lexeme: Lexeme,
+        offset: u64,
+    ) -> Result<Outcome, Memory>
+        requires stack { IsStack heap.old.objects self.old }
+        requires comes { MayCome heap.old.objects (pile_of heap.old.objects self.old.layers.items) lexeme }
+        ensures grows { Grows heap.old.objects heap.new.objects }
+        ensures stack { IfOk result (λ r. IsStack heap.new.objects self.new) }
+        ensures datum { IfOk result (λ r. HoldsDatum heap.new.objects r) }
+        ensures turn { IfOk result (λ r. (t : State) → Means heap.old.objects self.old t → Does heap.new.objects self.new.layers.items self.new.labels.entries r (on t (lexeme_at heap.old.objects offset lexeme))) }
+        ensures big { IfOk result (λ r. self.new.big ≡ self.old.big) }
+    {
+        match lexeme {
+            Lexeme::Open => self.open(offset),
+            Lexeme::Close => self.close(heap, offset),
+            Lexeme::Dot => self.dot(offset),
+            Lexeme::Quote => self.quote(offset),
+            Lexeme::Atom(x) => give(&mut self.layers, &mut self.labels, &mut self.pairs, heap, x),
+            Lexeme::Mark(n) => self.mark(n, offset),
+            Lexeme::Ref(n) => self.refer(heap, n, offset),
+        }
+    }
+
     // Has the innermost list the datum after its dot, so that nothing may begin?
     pub(crate) fn is_full(&self) -> bool
         ensures { (os : List Object) → IsStack os self.now → result ≡ is_ready (pile_of os self.now.layers.items) }
@@ -56,7 +85,7 @@ impl Stack {
     }
 
     // A list begins.
-    pub(crate) fn open(&mut self, offset: u64) -> Result<Outcome, Memory>
+    fn open(&mut self, offset: u64) -> Result<Outcome, Memory>
         ensures turn { IfOk result (λ r. (os : List Object) → IsStack os self.old →
             IsStack os self.new × HoldsDatum os r × ((t : State) → Means os self.old t → Does os self.new.layers.items self.new.labels.entries r (on t (Open offset)))) }
         ensures big { IfOk result (λ r. self.new.big ≡ self.old.big) }
@@ -69,7 +98,7 @@ impl Stack {
     }
 
     // A closing parenthesis.
-    pub(crate) fn close(&mut self, heap: &mut Heap, offset: u64) -> Result<Outcome, Memory>
+    fn close(&mut self, heap: &mut Heap, offset: u64) -> Result<Outcome, Memory>
         requires stack { IsStack heap.old.objects self.old }
         ensures grows { Grows heap.old.objects heap.new.objects }
         ensures stack { IfOk result (λ r. IsStack heap.new.objects self.new) }
@@ -95,7 +124,7 @@ impl Stack {
     }
 
     // A dot.
-    pub(crate) fn dot(&mut self, offset: u64) -> Result<Outcome, Memory>
+    fn dot(&mut self, offset: u64) -> Result<Outcome, Memory>
         ensures turn { IfOk result (λ r. (os : List Object) → IsStack os self.old →
             IsStack os self.new × HoldsDatum os r × ((t : State) → Means os self.old t → Does os self.new.layers.items self.new.labels.entries r (on t (Dot offset)))) }
         ensures big { IfOk result (λ r. self.new.big ≡ self.old.big) }
@@ -108,7 +137,7 @@ impl Stack {
     }
 
     // A quote.
-    pub(crate) fn quote(&mut self, offset: u64) -> Result<Outcome, Memory>
+    fn quote(&mut self, offset: u64) -> Result<Outcome, Memory>
         ensures turn { IfOk result (λ r. (os : List Object) → IsStack os self.old →
             IsStack os self.new × HoldsDatum os r × ((t : State) → Means os self.old t → Does os self.new.layers.items self.new.labels.entries r (on t (Quote offset)))) }
         ensures big { IfOk result (λ r. self.new.big ≡ self.old.big) }
@@ -120,31 +149,12 @@ impl Stack {
         Ok(Outcome::Pending)
     }
 
-    // A datum without parts.
-    pub(crate) fn atom(&mut self, heap: &mut Heap, x: Ref, offset: u64) -> Result<Outcome, Memory>
-        requires object { IsIn heap.old.objects x }
-        requires stack { IsStack heap.old.objects self.old }
-        ensures grows { Grows heap.old.objects heap.new.objects }
-        ensures stack { IfOk result (λ r. IsStack heap.new.objects self.new) }
-        ensures datum { IfOk result (λ r. HoldsDatum heap.new.objects r) }
-        ensures turn { IfOk result (λ r. (t : State) → Means heap.old.objects self.old t → Does heap.new.objects self.new.layers.items self.new.labels.entries r (on t (Atom offset (object_at heap.old.objects x)))) }
-        ensures big { IfOk result (λ r. self.new.big ≡ self.old.big) }
-    {
-        if self.is_full() {
-            return Ok(fault(SyntaxKind::Dot, offset));
-        }
-        give(&mut self.layers, &mut self.labels, &mut self.pairs, heap, x)
-    }
-
     // A label.
-    pub(crate) fn mark(&mut self, n: u32, offset: u64) -> Result<Outcome, Memory>
-        ensures turn { IfOk result (λ r. (os : List Object) → IsStack os self.old →
+    fn mark(&mut self, n: u32, offset: u64) -> Result<Outcome, Memory>
+        ensures turn { IfOk result (λ r. (os : List Object) → IsStack os self.old → is_ready (pile_of os self.old.layers.items) ≡ false →
             IsStack os self.new × HoldsDatum os r × ((t : State) → Means os self.old t → Does os self.new.layers.items self.new.labels.entries r (on t (Mark offset n)))) }
         ensures big { IfOk result (λ r. self.new.big ≡ self.old.big) }
     {
-        if self.is_full() {
-            return Ok(fault(SyntaxKind::Dot, offset));
-        }
         if !begin(&mut self.labels, n)? {
             return Ok(fault(SyntaxKind::Label, offset));
         }
@@ -153,17 +163,15 @@ impl Stack {
     }
 
     // A reference to a label.
-    pub(crate) fn refer(&mut self, heap: &mut Heap, n: u32, offset: u64) -> Result<Outcome, Memory>
+    fn refer(&mut self, heap: &mut Heap, n: u32, offset: u64) -> Result<Outcome, Memory>
         requires stack { IsStack heap.old.objects self.old }
+        requires begins { is_ready (pile_of heap.old.objects self.old.layers.items) ≡ false }
         ensures grows { Grows heap.old.objects heap.new.objects }
         ensures stack { IfOk result (λ r. IsStack heap.new.objects self.new) }
         ensures datum { IfOk result (λ r. HoldsDatum heap.new.objects r) }
         ensures turn { IfOk result (λ r. (t : State) → Means heap.old.objects self.old t → Does heap.new.objects self.new.layers.items self.new.labels.entries r (on t (Refers offset n))) }
         ensures big { IfOk result (λ r. self.new.big ≡ self.old.big) }
     {
-        if self.is_full() {
-            return Ok(fault(SyntaxKind::Dot, offset));
-        }
         match look(&self.labels, n) {
             Some(x) => give(&mut self.layers, &mut self.labels, &mut self.pairs, heap, x),
             None => Ok(fault(SyntaxKind::Label, offset)),
@@ -244,7 +252,7 @@ fn give(
             }
             Layer::Mark(n) => {
                 layers.pop();
-                end(labels, n, x)?;
+                end(labels, n, x);
             }
             Layer::Dot => {
                 layers.pop();

@@ -4,13 +4,15 @@ ghost use Rattle.mw_model.specs.Terms.Object.{is_name_byte, name_of_bytes, Symbo
 ghost use Rattle.mw_model.specs.Texts.Lexemes.{all_are, is_constituent, is_digit, token_form, Atom, Ending};
 ghost use Rattle.mw_heap.specs.Objects.{Grows};
 ghost use Rattle.mw_read.specs.Machine.{State, on, is_full};
+ghost use Rattle.mw_read.specs.Piles.{pile_of, is_ready};
 ghost use Rattle.mw_read.specs.Stacks.{IsStack};
 ghost use Rattle.mw_read.specs.Held.{Holds, Took};
-ghost use Rattle.mw_read.specs.Parsing.{IsParser, Advances, EndsHash, meaning_of, Moves};
+ghost use Rattle.mw_read.specs.Parsing.{IsParser, Advances, EndsHash, meaning_of, is_inside, Moves};
 ghost use Rattle.mw_lex.specs.Runs.{StartsWith};
 ghost use Rattle.mw_read.specs.Lexing.{token_lexeme, label_lexeme};
 
 use crate::kept::{keep_after, whole_text};
+use crate::lexeme::Lexeme;
 use crate::parser::{Begun, Parser};
 use crate::stack::{Stack, fault};
 use crate::step::{Outcome, SyntaxKind};
@@ -94,15 +96,13 @@ impl Parser {
         ensures advances { IfOk result (λ r. (t : State) → Holds heap.old.objects self.old.stack t → Advances heap.new.objects t self.old rest.now r.0 r.1 self.new) }
     {
         let n = digits(rest);
-        let length = self.token.len() + n;
-        if length > 9 {
+        if self.token.len() + n > 9 {
             return Ok((fault(SyntaxKind::Label, self.start), 0));
         }
-        self.token.extend_from_slice(&rest[..n])?;
         if n == rest.len() {
-            return Ok((Outcome::Pending, n));
+            return self.pause(rest);
         }
-        let outcome = self.end_hash(heap, rest[n])?;
+        let outcome = self.end_hash(heap, &rest[..n], rest[n])?;
         Ok((outcome, n + 1))
     }
 
@@ -135,6 +135,7 @@ impl Parser {
         glued: bool,
     ) -> Result<Outcome, Memory>
         requires parser { IsParser heap.old.objects self.old }
+        requires inside { is_inside self.old.begun ≡ true }
         requires token { all_are is_constituent (self.old.token.items ++ bytes.now) ≡ true }
         requires room { self.old.start + (length self.old.token.items + length bytes.now) < 2 ^ 50 }
         ensures grows { Grows heap.old.objects heap.new.objects }
@@ -154,6 +155,7 @@ impl Parser {
     // A name between bars ends after these bytes.
     pub(crate) fn end_bars(&mut self, heap: &mut Heap, bytes: &[u8]) -> Result<Outcome, Memory>
         requires parser { IsParser heap.old.objects self.old }
+        requires inside { is_inside self.old.begun ≡ true }
         requires name { all_are is_name_byte (self.old.token.items ++ bytes.now) ≡ true }
         requires some { 0 < length (self.old.token.items ++ bytes.now) }
         requires room { self.old.start + (length self.old.token.items + length bytes.now) < 2 ^ 50 }
@@ -168,46 +170,50 @@ impl Parser {
         self.start += (self.token.len() + bytes.len()) as u64 + 2;
         if self.token.is_empty() {
             let x = heap.symbol(bytes)?;
-            return self.stack.atom(heap, x, start);
+            return self.stack.take(heap, Lexeme::Atom(x), start);
         }
         self.token.extend_from_slice(bytes)?;
         let x = heap.symbol(&self.token)?;
-        self.stack.atom(heap, x, start)
+        self.stack.take(heap, Lexeme::Atom(x), start)
     }
 
-    // A label or a reference ends with this byte.
-    fn end_hash(&mut self, heap: &mut Heap, b: u8) -> Result<Outcome, Memory>
+    // A label or a reference ends after these digits, with this byte.
+    fn end_hash(&mut self, heap: &mut Heap, bytes: &[u8], b: u8) -> Result<Outcome, Memory>
         requires parser { IsParser heap.old.objects self.old }
-        requires digits { all_are is_digit self.old.token.items ≡ true }
-        requires few { length self.old.token.items ≤ 9 }
+        requires inside { is_inside self.old.begun ≡ true }
+        requires digits { all_are is_digit (self.old.token.items ++ bytes.now) ≡ true }
+        requires few { length (self.old.token.items ++ bytes.now) ≤ 9 }
         requires room { self.old.start < 2 ^ 50 }
         ensures grows { Grows heap.old.objects heap.new.objects }
         ensures took { IfOk result (λ r. (t : State) → Holds heap.old.objects self.old.stack t → is_full t ≡ false →
-            Took heap.new.objects self.new.stack r (on t (label_lexeme self.old.start self.old.token.items b))) }
-        ensures ended { IfOk result (λ r. EndsHash r self.old self.new) }
+            Took heap.new.objects self.new.stack r (on t (label_lexeme self.old.start (self.old.token.items ++ bytes.now) b))) }
+        ensures ended { IfOk result (λ r. EndsHash r (length (self.old.token.items ++ bytes.now)) self.old self.new) }
     {
         let start = self.start;
-        if self.token.is_empty() {
+        keep_after(&mut self.token, bytes)?;
+        let text = whole_text(&self.token, bytes);
+        if text.is_empty() {
             return Ok(fault(SyntaxKind::Label, start));
         }
-        let n = few_digits(&self.token);
+        let count = text.len();
+        let n = few_digits(text);
         if b == b'=' {
-            self.end_label();
-            return self.stack.mark(n, start);
+            self.end_label(count);
+            return self.stack.take(heap, Lexeme::Mark(n), start);
         }
         if b == b'#' {
-            self.end_label();
-            return self.stack.refer(heap, n, start);
+            self.end_label(count);
+            return self.stack.take(heap, Lexeme::Ref(n), start);
         }
         Ok(fault(SyntaxKind::Label, start))
     }
 
-    fn end_label(&mut self)
-        requires { self.old.start + length self.old.token.items < 2 ^ 60 }
-        ensures { self.new ≡ record self.old { begun = Begun.Nothing; start = self.old.start + 2 + length self.old.token.items } }
+    fn end_label(&mut self, count: usize)
+        requires { self.old.start + count < 2 ^ 60 }
+        ensures { self.new ≡ record self.old { begun = Begun.Nothing; start = self.old.start + 2 + count } }
     {
         self.begun = Begun::Nothing;
-        self.start += self.token.len() as u64 + 2;
+        self.start += count as u64 + 2;
     }
 
     // The text that has begun goes on in the next piece.
@@ -232,6 +238,7 @@ fn end_token<const BEGINS: bool>(
     glued: bool,
 ) -> Result<Outcome, Memory>
     requires stack { IsStack heap.old.objects stack.old }
+    requires begins { is_ready (pile_of heap.old.objects stack.old.layers.items) ≡ false }
     requires token { all_are is_constituent token.now ≡ true }
     requires room { start < 2 ^ 50 }
     ensures grows { Grows heap.old.objects heap.new.objects }
@@ -239,12 +246,12 @@ fn end_token<const BEGINS: bool>(
         Took heap.new.objects stack.new r (on t (token_lexeme start glued (token_form token.now)))) }
 {
     match token_of::<BEGINS>(atoms, heap, &mut stack.big, token)? {
-        Token::Atom(x) => stack.atom(heap, x, start),
+        Token::Atom(x) => stack.take(heap, Lexeme::Atom(x), start),
         Token::Dot => {
             if glued {
                 return Ok(fault(SyntaxKind::Token, start + 1));
             }
-            stack.dot(start)
+            stack.take(heap, Lexeme::Dot, start)
         }
         Token::Bad => Ok(fault(SyntaxKind::Token, start)),
     }

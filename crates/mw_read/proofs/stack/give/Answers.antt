@@ -21,8 +21,8 @@ loop-layer-preserved c =
     give_mark c.args.heap.now.objects c.args.layers.now.items c.args.labels.now.entries c.args.x c.loop-layer.heap.objects
     ls.items c.pop-in-Mark.new.self.items c.loop-layer.labels.entries c.end.new.labels.entries c.loop-layer.x c.in-Mark.n c.loop-layer.invariant
     (popped_layer ls.items c.deref.result.now c.pop-in-Mark.new.self.items c.in-Some.layer (layers.Mark c.in-Mark.n) (vec_len ls) c.in-Some.ensures c.deref.ensures.value c.in-Mark.is ls.ok.0 c.pop-in-Mark.ensures.rest)
-    (c.in_ok-end-in-Mark.ensures.agrees c.loop-layer.heap.objects)
-    (c.in_ok-end-in-Mark.ensures.listed (length c.loop-layer.heap.objects) c.loop-layer.invariant.listed c.loop-layer.invariant.tags)
+    (c.end.ensures.agrees c.loop-layer.heap.objects)
+    (c.end.ensures.listed (length c.loop-layer.heap.objects) c.loop-layer.invariant.listed c.loop-layer.invariant.tags)
 
 pub returns-in-Dot-clause-pile : goal.returns-in-Dot-clause-pile
 returns-in-Dot-clause-pile c =

@@ -5,36 +5,43 @@ use Rattle.mw_read.specs.Machine.{on}
 use Rattle.mw_read.specs.Clamp.{clamp_state}
 use Rattle.mw_read.specs.Held.{Took}
 use Rattle.mw_read.specs.Lexing.{token_lexeme}
-use Rattle.mw_read.proofs.Beginning.{if_ok_both}
-use Rattle.mw_read.proofs.Holding.{atom_took, holds_grows, if_ok_all, stack_grows, took}
+use Rattle.mw_read.proofs.Holding.{atom_took, holds_grows, if_ok_all, ready_grows, stack_grows, took}
 use Rattle.mw_read.proofs.texts.end_token.Goals as goal
 
-pub atom-requires-clause-stack : goal.atom-requires-clause-stack
-atom-requires-clause-stack g c =
+pub take-requires-clause-stack : goal.take-requires-clause-stack
+take-requires-clause-stack g c =
     let k = stack_grows c.args.heap.now.objects c.token_of.new.heap.objects c.args.stack.now c.token_of.ensures.grows c.requires.stack in record { pile = k.pile; listed = k.listed }
+
+pub take-requires-clause-comes : goal.take-requires-clause-comes
+take-requires-clause-comes g c =
+    let m = subst (λ k. IsToken c.token_of.new.heap.objects k (token_form c.args.token.now)) c.in-Atom.is c.in_ok-x.ensures.made in
+    (m.2, ready_grows c.args.heap.now.objects c.token_of.new.heap.objects c.args.stack.now c.token_of.ensures.grows c.requires.stack c.requires.begins)
 
 pub returns-in-Atom-clause-took : goal.returns-in-Atom-clause-took
 returns-in-Atom-clause-took g c =
     let f = token_form c.args.token.now in
     let m = subst (λ k. IsToken c.token_of.new.heap.objects k f) c.in-Atom.is c.in_ok-x.ensures.made in
-    if_ok_all _ _ _ _ c.atom.result
+    if_ok_all _ _ _ _ c.take.result
     (λ r a b d e t h n.
-    subst (λ u. Took c.atom.new.heap.objects c.atom.new.self r (on t (token_lexeme c.args.start c.args.glued u))) (sym m.1)
-    (atom_took c.args.heap.now.objects c.token_of.new.heap.objects c.atom.new.heap.objects c.args.stack.now c.atom.new.self r t m.0 c.in-Atom.x c.args.start h c.token_of.ensures.grows m.3 a b d
+    subst (λ u. Took c.take.new.heap.objects c.take.new.self r (on t (token_lexeme c.args.start c.args.glued u))) (sym m.1)
+    (atom_took c.args.heap.now.objects c.token_of.new.heap.objects c.take.new.heap.objects c.args.stack.now c.take.new.self r t m.0 c.in-Atom.x c.args.start h c.token_of.ensures.grows m.3 a b d
     (e ∙ c.in_ok-x.ensures.big ∙ ap (λ u. c.args.stack.now.big || form_big u) m.1)))
-    c.atom.ensures.stack c.atom.ensures.datum c.atom.ensures.turn c.atom.ensures.big
+    c.take.ensures.stack c.take.ensures.datum c.take.ensures.turn c.take.ensures.big
+
+pub take-requires-in-Dot-clause-stack : goal.take-requires-in-Dot-clause-stack
+take-requires-in-Dot-clause-stack g c =
+    let k = stack_grows c.args.heap.now.objects c.token_of.new.heap.objects c.args.stack.now c.token_of.ensures.grows c.requires.stack in record { pile = k.pile; listed = k.listed }
 
 pub returns-else-glued-clause-took : goal.returns-else-glued-clause-took
 returns-else-glued-clause-took g c =
     let f = token_form c.args.token.now in
     let os = c.token_of.new.heap.objects in
     let m = subst (λ k. IsToken os k f) c.in-Dot.is c.in_ok-x.ensures.made in
-    let k = stack_grows c.args.heap.now.objects os c.args.stack.now c.token_of.ensures.grows c.requires.stack in
-    if_ok_both _ _ _ c.dot.result
-    (λ r v e t h n.
-    let w = v os (record { pile = k.pile; listed = k.listed }) in
-    subst (λ u. Took os c.dot.new.self r (on t (token_lexeme c.args.start c.args.glued u))) (sym m)
-    (subst (λ u. Took os c.dot.new.self r (on t (token_lexeme c.args.start u Point))) (sym c.if-glued.false)
-    (took os c.args.stack.now c.dot.new.self r t (Dot c.args.start) c.args.heap.now.objects h tt w.0 w.1 (w.2 (clamp_state t) (holds_grows c.args.heap.now.objects os c.args.stack.now t c.token_of.ensures.grows h).means)
+    if_ok_all _ _ _ _ c.take-in-Dot.result
+    (λ r a b d e t h n.
+    subst (λ u. Took c.take-in-Dot.new.heap.objects c.take-in-Dot.new.self r (on t (token_lexeme c.args.start c.args.glued u))) (sym m)
+    (subst (λ u. Took c.take-in-Dot.new.heap.objects c.take-in-Dot.new.self r (on t (token_lexeme c.args.start u Point))) (sym c.if-glued.false)
+    (took c.take-in-Dot.new.heap.objects c.args.stack.now c.take-in-Dot.new.self r t (Dot c.args.start) c.args.heap.now.objects h tt a b
+    (d (clamp_state t) (holds_grows c.args.heap.now.objects os c.args.stack.now t c.token_of.ensures.grows h).means)
     (e ∙ c.in_ok-x.ensures.big ∙ ap (λ u. c.args.stack.now.big || form_big u) m))))
-    c.dot.ensures.turn c.dot.ensures.big
+    c.take-in-Dot.ensures.stack c.take-in-Dot.ensures.datum c.take-in-Dot.ensures.turn c.take-in-Dot.ensures.big

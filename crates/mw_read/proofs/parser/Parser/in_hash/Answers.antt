@@ -1,10 +1,6 @@
-use Rattle.std.proofs.Common.{◌≡◌, ◌∙◌, ◌<◌, ◌≤◌, ◌+◌, ◌++◌, ◌∷◌, sym, ap, subst, length, take, drop, get_or, arith, refl, []}
+use Rattle.std.proofs.Common.{◌∙◌, ◌<◌, ◌≤◌, ◌+◌, ◌++◌, ◌∷◌, sym, ap, subst, length, take, drop, get_or, arith, []}
 use Rattle.mw_model.specs.Texts.Lexemes.{is_digit, lexemes_from}
-use Rattle.mw_read.specs.Machine.{on}
 use Rattle.mw_read.specs.Resume.{resume}
-use Rattle.mw_read.specs.Lexing.{label_lexeme}
-use Rattle.mw_read.specs.Held.{Took}
-use Rattle.mw_read.specs.declared.parser.Parser.{Parser}
 use Rattle.mw_read.specs.Parsing.{IsText, is_inside, ahead}
 use Rattle.mw_read.specs.declared.step.SyntaxKind.TheVariants as kinds
 use Rattle.mw_read.proofs.Holding.{holds_full, sound_clamp}
@@ -13,8 +9,8 @@ use Rattle.mw_read.proofs.Hashes.{hash_long, hash_advance}
 use Rattle.mw_read.proofs.Advancing.{fault_advances}
 use Rattle.mw_read.proofs.parser.Parser.in_hash.Goals as goal
 
-pub returns-then-length-gt9-clause-advances : goal.returns-then-length-gt9-clause-advances
-returns-then-length-gt9-clause-advances c t h =
+pub returns-then-len-n-gt9-clause-advances : goal.returns-then-len-n-gt9-clause-advances
+returns-then-len-n-gt9-clause-advances c t h =
     let a = c.args.self.now in
     let rest = c.args.rest.now in
     let n = c.digits-n.result in
@@ -23,7 +19,7 @@ returns-then-length-gt9-clause-advances c t h =
     let text = subst (λ m. IsText m a.token.items) c.requires.begun c.requires.parser.text in
     let whole = a.token.items ++ take n rest in
     let l = both_length a.token.items rest n run.within in
-    let long : 9 < length whole = omega (arith, l, c.len.ensures, a.token.ok.0, c.if-length-gt9.true) in
+    let long : 9 < length whole = omega (arith, l, c.len.ensures, a.token.ok.0, c.if-len-n-gt9.true) in
     fault_advances c.args.heap.now.objects t a a rest c.fault.result 0 (record { kind = kinds.Label; offset = a.start }) c.fault.ensures
     (λ e z.
     ap (λ m. resume t (ahead e m a.token.items a.start (rest ++ z))) c.requires.begun
@@ -41,13 +37,11 @@ returns-clause-advances c t h =
     let text = subst (λ m. IsText m a.token.items) c.requires.begun c.requires.parser.text in
     let whole = a.token.items ++ take n rest in
     let l = both_length a.token.items rest n run.within in
-    let few : length whole ≤ 9 = omega (arith, l, c.len.ensures, a.token.ok.0, c.if-length-gt9.false) in
-    let i : c.extend_from_slice.new.self.items ≡ whole = c.in_ok-extend_from_slice.ensures.items in
-    let mid : Parser = record a { token = c.extend_from_slice.new.self } in
-    hash_advance c.end_hash.new.heap.objects t a mid c.end_hash.new.self rest (n + 1) whole (drop (n + 1) rest) (get_or rest n 0) c.in_ok-outcome.outcome i refl
+    let few : length whole ≤ 9 = omega (arith, l, c.len.ensures, a.token.ok.0, c.if-len-n-gt9.false) in
+    hash_advance c.end_hash.new.heap.objects t a c.end_hash.new.self rest (n + 1) whole (drop (n + 1) rest) (get_or rest n 0) c.in_ok-outcome.outcome
     (λ z. take_cut [] rest (n + 1) z) (all_append is_digit a.token.items (take n rest) text.0 run.all) (run.ends lt) few
     (λ e z.
     ap (λ m. resume t (ahead e m a.token.items a.start (take (n + 1) rest ++ z))) c.requires.begun
     ∙ ap (λ y. resume t (lexemes_from e a.start 0 (35 ∷ y))) (go_on_past a.token.items rest n z lt))
-    (subst (λ u. Took c.end_hash.new.heap.objects c.end_hash.new.self.stack c.in_ok-outcome.outcome (on t (label_lexeme a.start u (get_or rest n 0)))) i (c.in_ok-outcome.ensures.took t h full))
+    (c.in_ok-outcome.ensures.took t h full)
     c.in_ok-outcome.ensures.ended

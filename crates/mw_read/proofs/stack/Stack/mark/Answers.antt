@@ -7,23 +7,21 @@ use Rattle.mw_read.proofs.Turns.{full_is, ready_frames, frames_may, stack_more, 
 use Rattle.mw_read.proofs.stack.Stack.mark.Goals as goal
 
 pub returns-then-not-branch-clause-turn : goal.returns-then-not-branch-clause-turn
-returns-then-not-branch-clause-turn c os s =
+returns-then-not-branch-clause-turn c os s n =
     let a = c.args.self.now in
-    let n = sym (c.is_full.ensures os s) ∙ c.if-is_full.false in
-    let r = sym c.fault-then-not-branch.ensures in (
+    let r = sym c.fault.ensures in (
       record { pile = s.pile; listed = c.in_ok-begin.ensures.listed (length os) s.listed },
       subst (λ u. HoldsDatum os u) r tt,
       λ t h.
           let f = sym (full_is os (pile_of os a.layers.items) a.labels.entries t h) ∙ n in
           let b = match_false _ c.in_ok-begin.field-0 c.if-not-branch.true (c.in_ok-begin.ensures.begun os (labels_of t) (shows_agree os (pile_of os a.layers.items) a.labels.entries t h)) in
           subst (λ u. Does os a.layers.items c.begin.new.labels.entries u (on t (Mark c.args.offset c.args.n))) r
-          (mark_old os (pile_of os a.layers.items) a.labels.entries t c.args.n c.args.offset h f b.0),
+          (mark_old os (pile_of os a.layers.items) a.labels.entries t c.args.n c.args.offset h f b),
     )
 
 pub returns-clause-turn : goal.returns-clause-turn
-returns-clause-turn c os s =
-    let a = c.args.self.now in
-    let n = sym (c.is_full.ensures os s) ∙ c.if-is_full.false in (
+returns-clause-turn c os s n =
+    let a = c.args.self.now in (
       record {
         pile = stack_more os a.layers.items c.push.new.self.items (layers.Mark c.args.n) c.in_ok-push.ensures.items s.pile
             ((frames_may (pile_of os a.layers.items) (ready_frames (pile_of os a.layers.items) n)).1.1 c.args.n) tt;

@@ -8,7 +8,7 @@ use Rattle.mw_read.proofs.stack.Stack.refer.Goals as goal
 
 pub give-requires-clause-waits : goal.give-requires-clause-waits
 give-requires-clause-waits c =
-    ready_frames (pile_of c.args.heap.now.objects c.args.self.now.layers.items) (sym (c.is_full.ensures c.args.heap.now.objects c.requires.stack) ∙ c.if-is_full.false)
+    ready_frames (pile_of c.args.heap.now.objects c.args.self.now.layers.items) c.requires.begins
 
 pub returns-in-Some-clause-turn : goal.returns-in-Some-clause-turn
 returns-in-Some-clause-turn c =
@@ -17,7 +17,7 @@ returns-in-Some-clause-turn c =
     let p = pile_of os a.layers.items in
     if_ok_map c.give.result
     (λ r f t h.
-    let n = sym (full_is os p a.labels.entries t h) ∙ sym (c.is_full.ensures os c.requires.stack) ∙ c.if-is_full.false in
+    let n = sym (full_is os p a.labels.entries t h) ∙ c.requires.begins in
     subst (λ (w : Turn). Does c.give.new.heap.objects c.give.new.layers.items c.give.new.labels.entries r w)
     (give_atom os p a.labels.entries t (object_at os c.in-Some.x) c.args.offset h n
     ∙ refer_some os p a.labels.entries t c.args.n c.args.offset c.in-Some.x h n (c.in-Some.ensures.names os (labels_of t) (shows_agree os p a.labels.entries t h)))
@@ -29,6 +29,6 @@ returns-in-None-clause-turn c t h =
     let a = c.args.self.now in
     let os = c.args.heap.now.objects in
     let p = pile_of os a.layers.items in
-    let n = sym (full_is os p a.labels.entries t h) ∙ sym (c.is_full.ensures os c.requires.stack) ∙ c.if-is_full.false in
-    subst (λ u. Does os a.layers.items a.labels.entries u (on t (Ref c.args.offset c.args.n))) (sym c.fault-in-None.ensures)
+    let n = sym (full_is os p a.labels.entries t h) ∙ c.requires.begins in
+    subst (λ u. Does os a.layers.items a.labels.entries u (on t (Ref c.args.offset c.args.n))) (sym c.fault.ensures)
     (refer_none os p a.labels.entries t c.args.n c.args.offset h n (c.in-None.ensures.names os (labels_of t) (shows_agree os p a.labels.entries t h)))
