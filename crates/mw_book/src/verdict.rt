@@ -65,7 +65,7 @@ fn members_of(heap: &Heap, x: Ref) -> Option<(Ref, Ref)>
     requires { IsIn heap.now.objects x }
     ensures { MatchOption result (formula_given (object_at heap.now.objects x) ≡ None) (λ m. IsNamed heap.now.objects (object_at heap.now.objects x) m.0 m.1) }
 {
-    let _ = heap.view(x);
+    heap.in_range(x);
     let Some((name, formula)) = two_members(heap, x) else {
         return None;
     };

@@ -15,7 +15,7 @@ use crate::piece::Piece;
 use indexmap::IndexSet;
 use mw_code::check_size;
 use mw_heap::{Heap, Memory, Ref};
-use mw_term::take_looks_since;
+use mw_term::take_searches_since;
 
 // The most looks at a term that is walked as a tree: one that needs more is answered as out of memory.
 const MOST_LOOKS: u32 = 1 << 24;
@@ -74,7 +74,7 @@ fn collect_calls(
         looks_left -= 1;
         let had = heap.mark();
         advance(heap, names, &item, &mut found, &mut waiting)?;
-        take_looks_since(heap, had, 1)?;
+        take_searches_since(heap, had, 1)?;
     }
     Ok(found)
 }

@@ -20,7 +20,7 @@ use crate::recursion::Recursion;
 use crate::testing::under_each;
 use indexmap::IndexSet;
 use mw_heap::{Heap, Memory, Ref};
-use mw_term::{take_looks, take_looks_since};
+use mw_term::{take_searches, take_searches_since};
 
 // That the measure falls at a call, under those of its tests that mention no function of these names.
 fn obligation(
@@ -98,7 +98,7 @@ fn owe_call(
         &mut looks_left,
     )?;
     add_formula(heap, owed, formula)?;
-    Ok(take_looks_since(heap, had, u64::MAX.saturating_sub(looks_left))?)
+    Ok(take_searches_since(heap, had, u64::MAX.saturating_sub(looks_left))?)
 }
 
 // Adds what a function owes at each of its calls.
@@ -211,6 +211,6 @@ pub(crate) fn owe_function(
         owed,
         &mut looks_left,
     )?;
-    take_looks(heap, MOST_LOOKS.saturating_sub(looks_left))?;
+    take_searches(heap, MOST_LOOKS.saturating_sub(looks_left))?;
     Ok(recursion)
 }

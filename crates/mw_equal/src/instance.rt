@@ -7,7 +7,7 @@ ghost use Rattle.mw_term.specs.Marking.{AreMarks};
 
 use mw_heap::{Heap, Memory, Ref};
 use mw_subst::{is_instance, sigma_of};
-use mw_term::{Marks, is_substitution, take_looks_at_members};
+use mw_term::{Marks, is_substitution, take_searches_of_members};
 
 /// Whether the conclusion is the premise, a formula, under the substitution, a proper list of pairs (variable . term), where the marks
 /// say what is a term. Nothing is made. Each member of the substitution takes a look from those that the heap allows, since many steps
@@ -27,7 +27,7 @@ pub fn instantiation(
     ensures objects { heap.new.objects ≡ heap.old.objects }
     ensures answer { IfOk result (λ b. (A : ArityTable) → AreMarks A heap.old.objects marks.now → b ≡ object_is_instance A (object_at heap.old.objects conclusion) (object_at heap.old.objects premise) (object_at heap.old.objects substitution)) }
 {
-    take_looks_at_members(heap, substitution)?;
+    take_searches_of_members(heap, substitution)?;
     is_formula_under(heap, conclusion, premise, substitution, marks)
 }
 

@@ -9,7 +9,7 @@ ghost use Rattle.mw_subst.specs.Sigma.{sigma_object, AreIn};
 use crate::shapes::members;
 use mw_heap::{Heap, Memory, Ref, View, take_look};
 use mw_subst::{Sigma, is_instance, substitute};
-use mw_term::take_looks;
+use mw_term::take_searches;
 
 /// Whether the conclusion is: ((lambda (x1 .. xn) b) t1 .. tn) = b with t1 .. tn for x1 .. xn. Nothing is made, but NIL where a part is
 /// missing; the only error is being out of memory.
@@ -69,7 +69,7 @@ fn actuals_of(heap: &mut Heap, function: Ref, arguments: Ref) -> Result<Sigma, M
 {
     let mut looks_left = u64::MAX;
     let sigma = actuals(heap, heap.second_of(function), arguments, &mut looks_left)?;
-    take_looks(heap, u64::MAX.saturating_sub(looks_left))?;
+    take_searches(heap, u64::MAX.saturating_sub(looks_left))?;
     Ok(sigma)
 }
 

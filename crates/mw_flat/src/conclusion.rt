@@ -76,8 +76,7 @@ pub(crate) fn conclusion_of(
     ensures before { IfOk result (λ o. IfSome o (λ c. c < x)) }
     ensures conclusion { (Fs : List Formula) → Each (IsFormula theory.now.arity) Fs → map (object_at heap.old.objects) conclusions.now ≡ map formula_object Fs → number ≡ length Fs + 1 → IfOk result (λ o. let t = meant heap.old.objects (parts_of theory.now) in IsConclusion heap.old.objects o (conclusion t.axioms t.theorems (arity_table t.definitions) t.definitions.profile Fs (object_at heap.old.objects x))) }
 {
-    // the view shows that it holds no natural past the range
-    let _ = heap.view(x);
+    heap.in_range(x);
     let Some(step) = members_of(heap, x) else {
         return Ok(None);
     };

@@ -38,8 +38,7 @@ pub(crate) fn is_entry(heap: &Heap, x: Ref, event: Event) -> Result<bool, Memory
     requires event { IsEvent heap.now.objects x event }
     ensures { IfOk result (λ b. b ≡ is_present (entry_of (object_at heap.now.objects x))) }
 {
-    // the view shows that it holds no natural past the range
-    let _ = heap.view(x);
+    heap.in_range(x);
     match event {
         Event::Verify { proof, .. } => Ok(is_natural(heap, proof)),
         Event::Define { proofs, .. } => Ok(are_naturals(heap, proofs)),

@@ -41,7 +41,7 @@ pub(crate) fn write_steps(
     ensures steps { OnOk result ((text : List ℕ) × InOrder (IsStepLine (map (object_at heap.now.objects) complete.now.keys)) (numbered 1 (map (object_at heap.now.objects) complete.now.keys)) text × (out.new.items ≡ out.old.items ++ text)) }
     ensures longer { (more : List ℕ) × (out.new.items ≡ out.old.items ++ more) }
 {
-    let mut left = looks_for(complete.len());
+    let mut left = looks_for(complete.len()) / 4;
     let mut bytes = complete
         .len()
         .saturating_mul(BYTES_FOR_A_STEP)

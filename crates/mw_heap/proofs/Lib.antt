@@ -14,3 +14,4 @@ pub mod BareNames
 pub mod Measures
 pub mod Measuring
 pub mod Words
+pub mod Indices

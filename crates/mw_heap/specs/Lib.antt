@@ -10,3 +10,4 @@ pub mod Variants
 pub mod Parts
 pub mod PrimitiveNames
 pub mod Packed
+pub mod Indices

@@ -16,7 +16,7 @@ use crate::sets::{
     insert_natural, is_place, note_place,
 };
 use crate::word::{WORDS, are_kept};
-use crate::{Mark, Memory, Ref, View, Word};
+use crate::{Mark, Memory, Notes, Ref, View, Word};
 use indexmap::IndexSet;
 use std::alloc::Global;
 use std::hash::BuildHasherDefault;
@@ -36,6 +36,8 @@ pub struct Heap {
     has_words: bool,
     // how many looks at cells are left to work that may look at a cell many times
     looks_left: u64,
+    // those that nobody has: what they hold says nothing
+    notes: Vec<Notes>,
     alloc: Global,
 }
 
@@ -70,6 +72,7 @@ impl Heap {
             places: Vec::new(alloc),
             has_words: false,
             looks_left: u64::MAX,
+            notes: Vec::new(alloc),
             alloc,
         })
     }
@@ -92,6 +95,37 @@ impl Heap {
         ensures { self.new.objects ≡ self.old.objects }
     {
         take_look(&mut self.looks_left)
+    }
+
+    /// Takes so many looks from those that are allowed. The error is that fewer are left.
+    pub fn take_looks(&mut self, looks: u64) -> Result<(), Memory>
+        ensures { self.new.objects ≡ self.old.objects }
+    {
+        let Some(left) = self.looks_left.checked_sub(looks) else {
+            return Err(Memory);
+        };
+        self.looks_left = left;
+        Ok(())
+    }
+
+    /// Notes on cells, with none noted yet. Those that were given back are lent again, so that their memory serves one walk after another.
+    pub fn lend_notes(&mut self) -> Notes
+        ensures objects { self.new.objects ≡ self.old.objects }
+        ensures none { result ≡ [] }
+    {
+        let mut notes = match self.notes.pop() {
+            Some(notes) => notes,
+            None => Notes::new(self.alloc),
+        };
+        notes.clear();
+        notes
+    }
+
+    /// Takes back notes that were lent. Where memory is refused they are dropped.
+    pub fn take_notes(&mut self, notes: Notes)
+        ensures { self.new.objects ≡ self.old.objects }
+    {
+        let _ = self.notes.push(notes);
     }
 
     /// The natural `n`.
@@ -294,6 +328,14 @@ impl Heap {
         ensures older { ArePartsOlder self.now.objects }
     {
         let _ = &self.cells;
+    }
+
+    /// No natural in an object is out of range: a heap holds none.
+    pub fn in_range(&self, x: Ref)
+        requires { IsIn self.now.objects x }
+        ensures { is_out_of_range (object_at self.now.objects x) ≡ false }
+    {
+        let _ = self.view(x);
     }
 
     /// Whether the name of the symbol `x` is before that of the symbol `y`: byte by byte, a proper prefix first.

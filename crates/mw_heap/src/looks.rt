@@ -4,14 +4,15 @@ ghost use Rattle.std.specs.Prelude.{◌≡◌, ◌+◌, ◌*◌, ◌-◌, ◌^�
 use crate::Memory;
 
 // The looks that any work may take, and how many more for each cell that it is about.
-const MOST_LOOKS: u64 = 1 << 24;
+const MOST_LOOKS: u64 = 1 << 26;
 
-const LOOKS_FOR_A_CELL: u64 = 64;
+const LOOKS_FOR_A_CELL: u64 = 256;
 
 /// How many looks at cells work on so many cells may take, where labels may have it look at a cell many times: past them it is answered
-/// as out of memory.
+/// as out of memory. A look is as much work as it is to compare two cells and to note that they were compared; what searches a table or
+/// makes a cell takes several.
 pub fn looks_for(cells: usize) -> u64
-    ensures { result ≡ min (2 ^ 24 + min (cells * 64) (2 ^ 64 - 1)) (2 ^ 64 - 1) }
+    ensures { result ≡ min (2 ^ 26 + min (cells * 256) (2 ^ 64 - 1)) (2 ^ 64 - 1) }
 {
     MOST_LOOKS.saturating_add((cells as u64).saturating_mul(LOOKS_FOR_A_CELL))
 }

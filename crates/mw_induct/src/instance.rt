@@ -8,7 +8,7 @@ ghost use Rattle.mw_induct.specs.Pairs.{IsLikeFormula};
 
 use mw_heap::{Heap, Memory, Ref, Word};
 use mw_subst::{is_instance, sigma_of};
-use mw_term::take_looks_at_members;
+use mw_term::take_searches_of_members;
 
 // Whether y is the object x under the substitution s, a proper list of pairs. Each member of s takes a look: many steps may share it.
 pub(crate) fn is_instance_by(heap: &mut Heap, x: Ref, s: Ref, y: Ref) -> Result<bool, Memory>
@@ -19,7 +19,7 @@ pub(crate) fn is_instance_by(heap: &mut Heap, x: Ref, s: Ref, y: Ref) -> Result<
     ensures objects { heap.new.objects ≡ heap.old.objects }
     ensures instance { IfOk result (λ b. b ≡ same_object (object_at heap.old.objects y) (substitute_object (object_at heap.old.objects s) (object_at heap.old.objects x))) }
 {
-    take_looks_at_members(heap, s)?;
+    take_searches_of_members(heap, s)?;
     let sigma = sigma_of(heap, s)?;
     is_instance(heap, x, &sigma, y)
 }

@@ -3,7 +3,7 @@ ghost use Rattle.std.specs.Prelude.{◌≡◌};
 ghost use Rattle.mw_heap.specs.Objects.{IsIn};
 
 use mw_heap::{Heap, Memory, Ref, View};
-use mw_term::take_looks_at_members;
+use mw_term::{take_searches, take_searches_of_members};
 
 /// Takes a look, from those that the heap allows, for each case of an induction, for each of its substitutions, and for each member of one.
 /// The error is that fewer are left.
@@ -13,7 +13,7 @@ pub(crate) fn take_looks_at_cases(heap: &mut Heap, cases: Ref) -> Result<(), Mem
 {
     let mut rest = cases;
     while let View::Pair(substitutions, more) = heap.view(rest) {
-        heap.take_look()?;
+        take_searches(heap, 1)?;
         take_looks_at_substitutions(heap, substitutions)?;
         rest = more;
     }
@@ -27,8 +27,8 @@ fn take_looks_at_substitutions(heap: &mut Heap, substitutions: Ref) -> Result<()
 {
     let mut rest = substitutions;
     while let View::Pair(s, more) = heap.view(rest) {
-        heap.take_look()?;
-        take_looks_at_members(heap, s)?;
+        take_searches(heap, 1)?;
+        take_searches_of_members(heap, s)?;
         rest = more;
     }
     Ok(())

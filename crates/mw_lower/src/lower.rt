@@ -35,8 +35,7 @@ impl Rewriter for Lower {
     ) -> Rewritten {
         match turned(heap, proof, axioms, theorems, marks, arity, profile) {
             Ok(Some(q)) => {
-                // whatever a heap holds is in range
-                let _ = heap.view(q);
+                heap.in_range(q);
                 Rewritten::Proof(q)
             }
             Ok(None) => Rewritten::Keep,

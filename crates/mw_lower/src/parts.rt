@@ -12,7 +12,7 @@ use crate::further::most_premises;
 use indexmap::IndexSet;
 use mw_heap::{Heap, Memory, Ref};
 use mw_proof::{conclusions_of, members_of};
-use mw_term::{Marks, take_looks};
+use mw_term::{Marks, take_searches};
 
 // The looks that a premise takes: labels may share a list of premises among many steps, and what replaces one by REPLACE has some forty
 // cells for each.
@@ -40,7 +40,7 @@ fn add_subproofs(
         return Ok(false);
     };
     let premises = conclusions.len() as u64;
-    take_looks(heap, premises.saturating_mul(LOOKS_FOR_A_PREMISE))?;
+    take_searches(heap, premises.saturating_mul(LOOKS_FOR_A_PREMISE))?;
     Ok(true)
 }
 

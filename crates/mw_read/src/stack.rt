@@ -1,6 +1,6 @@
 //! What is open: the lists, quotes and labels round the place that is read.
-ghost use Rattle.std.specs.Prelude.{◌≡◌, ℕ, false, List, [], length, IfOk, MatchOption};
-ghost use Rattle.mw_model.specs.Terms.Object.{Object, symbol};
+ghost use Rattle.std.specs.Prelude.{◌≡◌, false, List, [], length, IfOk, MatchOption};
+ghost use Rattle.mw_model.specs.Terms.Object.{Object};
 ghost use Rattle.mw_model.specs.Texts.Lexemes.{Open, Close, Dot, Quote, Mark, Ref as Refers};
 ghost use Rattle.mw_model.specs.Texts.Grammar.{Labels, quoted};
 ghost use Rattle.mw_heap.specs.Objects.{object_at, IsIn, Grows};

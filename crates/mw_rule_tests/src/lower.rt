@@ -253,8 +253,8 @@ fn symmetric_allowed(heap: &mut Heap, looks: u64) -> Result<Rewritten, Memory> {
 #[test]
 fn premises_take_looks(rt: HostRuntime) -> Result<(), Fail> {
     let mut heap = boxed(rt.alloc())?;
-    assert_eq!(rt; symmetric_allowed(&mut heap, 31)?, Rewritten::Memory);
-    assert_ne!(rt; symmetric_allowed(&mut heap, 32)?, Rewritten::Memory);
+    assert_eq!(rt; symmetric_allowed(&mut heap, 127)?, Rewritten::Memory);
+    assert_ne!(rt; symmetric_allowed(&mut heap, 128)?, Rewritten::Memory);
     Ok(())
 }
 

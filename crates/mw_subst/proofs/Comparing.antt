@@ -14,7 +14,7 @@ use Rattle.mw_subst.specs.Memo.{cell_of, substituted, found, Adds, AreUnique}
 use Rattle.mw_subst.specs.declared.memo.Memo.{Memo}
 use Rattle.mw_subst.specs.Instances.{IsInstance, IsClaimIn, Enters, IsEntered, IsTaken}
 use Rattle.mw_subst.proofs.SigmaObject.{lookup-push}
-use Rattle.mw_subst.proofs.Found.{none_found_at_first}
+use Rattle.mw_subst.proofs.Found.{none_found_at_first, none_unique}
 use Rattle.mw_subst.proofs.Made.{substitute-list}
 use Rattle.mw_subst.proofs.Path.{AreSmall, small-added, few, length-added}
 
@@ -139,13 +139,13 @@ pub record IsCompared (os : List Object) (s : Object) (whole : Part × ℕ) (ter
 abbrev pub left : List Object → List (ℕ × ℕ) → List (ℕ × ℕ) → Claims → ℕ
 left os terms lists waiting = 2 * (2 * length os - (length terms + length lists)) + length waiting
 
-pub compared-first : (os : List Object) (s : Object) (whole : Part × ℕ) (terms lists : List (ℕ × ℕ)) (waiting : Claims) → terms ≡ [] → lists ≡ [] → waiting ≡ whole ∷ [] → AreUnique [] [] → IsClaimIn os whole → IsCompared os s whole terms lists waiting
-compared-first os s whole terms lists waiting t l w unique within =
+pub compared-first : (os : List Object) (s : Object) (whole : Part × ℕ) (terms lists : List (ℕ × ℕ)) (waiting : Claims) → terms ≡ [] → lists ≡ [] → waiting ≡ whole ∷ [] → IsClaimIn os whole → IsCompared os s whole terms lists waiting
+compared-first os s whole terms lists waiting t l w within =
     subst (λ q. IsCompared os s whole terms lists q) (sym w) (subst (λ m. IsCompared os s whole terms m (whole ∷ [])) (sym l) (subst (λ m. IsCompared os s whole m [] (whole ∷ [])) (sym t) first))
   where
     first : IsCompared os s whole [] [] (whole ∷ [])
     first = record {
-      unique = unique;
+      unique = none_unique;
       within = (within, tt);
       small = (tt, tt);
       noted_in = λ p z f. absurd (none_found_at_first p (z, f));
@@ -241,27 +241,27 @@ module _ (os : List Object) (s : Object) (whole : Part × ℕ) (terms lists : Li
         let n = length-added terms lists mt ml c.0 c.1 adds in
         omega (arith, t, l, n, e.few, ap length e.longer_is, length-append rest e.more, length-append rest (c ∷ []))
 
-module _ (os : List Object) (s : Object) (whole : Part × ℕ) (noted : Memo) (rest : Claims) (c : Part × ℕ) (i : IsCompared os s whole noted.terms.entries noted.lists.entries (rest ++ c ∷ [])) (more : Memo) (longer : Claims) where
+module _ (os : List Object) (s : Object) (whole : Part × ℕ) (noted : Memo) (rest : Claims) (c : Part × ℕ) (i : IsCompared os s whole noted.terms noted.lists (rest ++ c ∷ [])) (more : Memo) (longer : Claims) where
   -- a claim that is refused is needed
   pub refused : AreDistinct os → IsTaken os s c noted more rest longer false → IsInstance os s whole → ⊥
   refused distinct t =
       elim t [
-        | inl a ↦ refused-again os s whole noted.terms.entries noted.lists.entries rest c i distinct a.0 a.1 (λ e. let k : true ≡ false = sym (eq-eqb a.0 c.1 e) ∙ sym a.2 in cc)
-        | inr n ↦ refused-last os s whole noted.terms.entries noted.lists.entries rest c i n.1
+        | inl a ↦ refused-again os s whole noted.terms noted.lists rest c i distinct a.0 a.1 (λ e. let k : true ≡ false = sym (eq-eqb a.0 c.1 e) ∙ sym a.2 in cc)
+        | inr n ↦ refused-last os s whole noted.terms noted.lists rest c i n.1
       ]
 
   -- one that is not refused goes
-  pub goes_on : AreUnique more.terms.entries more.lists.entries → IsTaken os s c noted more rest longer true → IsCompared os s whole more.terms.entries more.lists.entries longer × (left os more.terms.entries more.lists.entries longer < left os noted.terms.entries noted.lists.entries (rest ++ c ∷ []))
+  pub goes_on : AreUnique more.terms more.lists → IsTaken os s c noted more rest longer true → IsCompared os s whole more.terms more.lists longer × (left os more.terms more.lists longer < left os noted.terms noted.lists (rest ++ c ∷ []))
   goes_on unique t =
       elim t [
         | inl a ↦
-            let here : found noted.terms.entries noted.lists.entries c.0 ≡ Some c.1 = a.1 ∙ ap Some (eqb-true a.0 c.1 (sym a.2)) in
-            let r : IsCompared os s whole noted.terms.entries noted.lists.entries rest × (left os noted.terms.entries noted.lists.entries rest < left os noted.terms.entries noted.lists.entries (rest ++ c ∷ [])) = (compared-again os s whole noted.terms.entries noted.lists.entries rest c i here, left-again os s whole noted.terms.entries noted.lists.entries rest c i here) in
-            subst (λ m. IsCompared os s whole m.terms.entries m.lists.entries longer × (left os m.terms.entries m.lists.entries longer < left os noted.terms.entries noted.lists.entries (rest ++ c ∷ []))) (sym a.3)
-            (subst (λ w. IsCompared os s whole noted.terms.entries noted.lists.entries w × (left os noted.terms.entries noted.lists.entries w < left os noted.terms.entries noted.lists.entries (rest ++ c ∷ []))) (sym a.4) r)
+            let here : found noted.terms noted.lists c.0 ≡ Some c.1 = a.1 ∙ ap Some (eqb-true a.0 c.1 (sym a.2)) in
+            let r : IsCompared os s whole noted.terms noted.lists rest × (left os noted.terms noted.lists rest < left os noted.terms noted.lists (rest ++ c ∷ [])) = (compared-again os s whole noted.terms noted.lists rest c i here, left-again os s whole noted.terms noted.lists rest c i here) in
+            subst (λ m. IsCompared os s whole m.terms m.lists longer × (left os m.terms m.lists longer < left os noted.terms noted.lists (rest ++ c ∷ []))) (sym a.3)
+            (subst (λ w. IsCompared os s whole noted.terms noted.lists w × (left os noted.terms noted.lists w < left os noted.terms noted.lists (rest ++ c ∷ []))) (sym a.4) r)
         | inr n ↦ (
-          compared-entered os s whole noted.terms.entries noted.lists.entries rest c i more.terms.entries more.lists.entries n.0 unique longer n.1,
-          left-entered os s whole noted.terms.entries noted.lists.entries rest c i more.terms.entries more.lists.entries n.0 unique longer n.1,
+          compared-entered os s whole noted.terms noted.lists rest c i more.terms more.lists n.0 unique longer n.1,
+          left-entered os s whole noted.terms noted.lists rest c i more.terms more.lists n.0 unique longer n.1,
         )
       ]
 

@@ -10,13 +10,13 @@ use Rattle.mw_model.specs.Laws.Rules.{substitute_object, substitute_each_object}
 use Rattle.mw_model.proofs.ReadBack.{some_one}
 use Rattle.mw_heap.specs.Objects.{object_at, IsIn, Grows}
 use Rattle.mw_heap.proofs.Lists.{slice_get-append, slice_get-seam, slice_get-push}
-use Rattle.mw_heap.proofs.Objects.{object_at-Grows, IsIn-Grows, Grows-trans}
+use Rattle.mw_heap.proofs.Objects.{object_at-Grows, IsIn-Grows, Grows-refl, Grows-trans}
 use Rattle.mw_subst.specs.declared.part.Part.{Part}
 use Rattle.mw_subst.specs.declared.part.Part.TheVariants.{Term, Terms}
 use Rattle.mw_subst.specs.Sigma.{sigma_object, AreIn, term_or}
 use Rattle.mw_subst.specs.Memo.{cell_of, IsPartIn, substituted, found, IsFound, AreResults, AreMade, AreUnique, Adds}
 use Rattle.mw_subst.proofs.SigmaObject.{sigma_object-Grows, lookup-push}
-use Rattle.mw_subst.proofs.Found.{found-added}
+use Rattle.mw_subst.proofs.Found.{found-added, none_unique}
 use Rattle.mw_subst.proofs.Made.{results-push, results-Grows}
 
 -- each entry is of an object below n
@@ -47,6 +47,26 @@ pub record IsPath (first now : List Object) (pairs : List (ℕ × ℕ)) (x : ℕ
   pub falls : (i j : ℕ) (p q : Part) → i < j → slice_get path i ≡ Some p → slice_get path j ≡ Some q → cell_of q < cell_of p
   pub wanted : (i : ℕ) (p : Part) → slice_get path i ≡ Some p → found terms lists p ≡ None
   pub root : ((path ≡ []) × IsFound terms lists (Term x)) ⊎ (slice_get path 0 ≡ Some (Term x))
+
+none_found_yet : (p : Part) → found [] [] p ≡ None
+none_found_yet (Term x) = refl
+none_found_yet (Terms x) = refl
+
+-- at first the term itself waits
+path-first : (os : List Object) (pairs : List (ℕ × ℕ)) (x : ℕ) → IsPath os os pairs x [] [] (Term x ∷ [])
+path-first os pairs x = record {
+  grows = Grows-refl os;
+  made = (tt, tt);
+  unique = none_unique;
+  small = (tt, tt);
+  falls = λ i j p q k at_i at_j. elim (slice_get-push [] (Term x) q j at_j) [ inl h ↦ absurd (omega (arith, h.0)) | inr h ↦ absurd (omega (arith, k, h.0)) ];
+  wanted = λ i p at. none_found_yet p;
+  root = inr refl;
+}
+
+pub path-starts : (os : List Object) (pairs : List (ℕ × ℕ)) (x : ℕ) (terms lists : List (ℕ × ℕ)) (path : List Part) → terms ≡ [] → lists ≡ [] → path ≡ Term x ∷ [] → IsPath os os pairs x terms lists path
+path-starts os pairs x terms lists path t l p =
+    subst (λ q. IsPath os os pairs x terms lists q) (sym p) (subst (λ m. IsPath os os pairs x terms m (Term x ∷ [])) (sym l) (subst (λ m. IsPath os os pairs x m [] (Term x ∷ [])) (sym t) (path-first os pairs x)))
 
 -- the cell of the last part, and one
 abbrev pub height : List Part → ℕ

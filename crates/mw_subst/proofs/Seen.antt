@@ -47,7 +47,7 @@ pub record IsCounted (os : List Object) (x : ℕ) (terms lists : List (ℕ × �
   pub waits : (i : ℕ) (p : Part) → slice_get path i ≡ Some p → IsSeen os x seen p
   pub made : (p : Part) → IsFound terms lists p → IsAmong seen (cell_of p)
 
-no_more : (os : List Object) (x : ℕ) → AreReached os x []
+pub no_more : (os : List Object) (x : ℕ) → AreReached os x []
 no_more os x = record { distinct = IsDistinct-from_apart nat_eq [] (λ i j d k l. absurd (omega arith)); each = λ r h. cc }
 
 reached-push : (os : List Object) (x c : ℕ) (seen : List ℕ) → AreReached os x seen → list_any (nat_eq c) seen ≡ false → c ≤ x → IsCellReached os x c → AreReached os x (seen ++ c ∷ [])

@@ -32,5 +32,5 @@ IsEntered os s c waiting longer false = IsInstance os s c → ⊥
 -- the part was noted with a cell, the same or another, or it is noted now and the claim is entered
 abbrev pub IsTaken : List Object → Object → Part × ℕ → Memo → Memo → List (Part × ℕ) → List (Part × ℕ) → Bool → Type 0
 IsTaken os s c noted more waiting longer b =
-    ((z : ℕ) × (found noted.terms.entries noted.lists.entries c.0 ≡ Some z) × (b ≡ (z == c.1)) × (more ≡ noted) × (longer ≡ waiting))
-    ⊎ (Adds noted.terms.entries noted.lists.entries more.terms.entries more.lists.entries c.0 c.1 × IsEntered os s c waiting longer b)
+    ((z : ℕ) × (found noted.terms noted.lists c.0 ≡ Some z) × (b ≡ (z == c.1)) × (more ≡ noted) × (longer ≡ waiting))
+    ⊎ (Adds noted.terms noted.lists more.terms more.lists c.0 c.1 × IsEntered os s c waiting longer b)

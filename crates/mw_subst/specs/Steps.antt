@@ -23,5 +23,5 @@ step_for (Some r) = 0
 -- so many steps were taken.
 abbrev pub Advances : List Object → List Object → Object → Memo → Memo → List Part → List Part → Part → ℕ → ℕ → Type 0
 Advances old new s memo more path longer part before after =
-    ((r : ℕ) × IsIn new r × (object_at new r ≡ substituted s part (object_at old (cell_of part))) × Adds memo.terms.entries memo.lists.entries more.terms.entries more.lists.entries part r × (longer ≡ path) × (after ≡ before) × ((q : Part) → Needs old part q → IsFound memo.terms.entries memo.lists.entries q))
-    ⊎ ((inner : Part) × (cell_of inner < cell_of part) × (found memo.terms.entries memo.lists.entries inner ≡ None) × (longer ≡ path ++ part ∷ inner ∷ []) × (more ≡ memo) × Needs old part inner × (after ≡ before + step_for (found memo.terms.entries memo.lists.entries (other_kind inner))))
+    ((r : ℕ) × IsIn new r × (object_at new r ≡ substituted s part (object_at old (cell_of part))) × Adds memo.terms memo.lists more.terms more.lists part r × (longer ≡ path) × (after ≡ before) × ((q : Part) → Needs old part q → IsFound memo.terms memo.lists q))
+    ⊎ ((inner : Part) × (cell_of inner < cell_of part) × (found memo.terms memo.lists inner ≡ None) × (longer ≡ path ++ part ∷ inner ∷ []) × (more ≡ memo) × Needs old part inner × (after ≡ before + step_for (found memo.terms memo.lists (other_kind inner))))

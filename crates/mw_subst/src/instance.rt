@@ -1,5 +1,5 @@
 //! Whether a cell is an instance of a term, with nothing made.
-ghost use Rattle.std.specs.Prelude.{◌≡◌, None, IfOk, OnOk};
+ghost use Rattle.std.specs.Prelude.{◌≡◌, [], None, IfOk, OnOk};
 ghost use Rattle.mw_model.specs.Terms.Object.{same_object};
 ghost use Rattle.mw_model.specs.Laws.Rules.{substitute_object};
 ghost use Rattle.mw_heap.specs.Objects.{object_at, IsIn};
@@ -96,9 +96,9 @@ fn take_up(
     requires within { IsPartIn heap.old.objects part }
     requires sigma { AreIn heap.old.objects sigma.now }
     requires instance { IsIn heap.old.objects y }
-    requires unique { AreUnique noted.old.terms.entries noted.old.lists.entries }
+    requires unique { AreUnique noted.old.terms noted.old.lists }
     ensures objects { heap.new.objects ≡ heap.old.objects }
-    ensures unique { OnOk result (AreUnique noted.new.terms.entries noted.new.lists.entries) }
+    ensures unique { OnOk result (AreUnique noted.new.terms noted.new.lists) }
     ensures taken { IfOk result (λ b. IsTaken heap.old.objects (sigma_object heap.old.objects sigma.now) (part, y) noted.old noted.new waiting.old.items waiting.new.items b) }
 {
     if let Some(cell) = noted.find(part) {
@@ -109,8 +109,30 @@ fn take_up(
     enter(heap, sigma, &part, y, waiting)
 }
 
+// The claims that the part x as a term is y with the terms of a substitution, and what it comes to, are taken up one after another.
+fn compare(heap: &mut Heap, x: Ref, sigma: &Sigma, y: Ref, noted: &mut Memo) -> Result<bool, Memory>
+    requires within { IsIn heap.old.objects x }
+    requires sigma { AreIn heap.old.objects sigma.now }
+    requires instance { IsIn heap.old.objects y }
+    requires no_terms { noted.old.terms ≡ [] }
+    requires no_lists { noted.old.lists ≡ [] }
+    ensures objects { heap.new.objects ≡ heap.old.objects }
+    ensures instance { IfOk result (λ b. b ≡ same_object (substitute_object (sigma_object heap.old.objects sigma.now) (object_at heap.old.objects x)) (object_at heap.old.objects y)) }
+{
+    heap.order();
+    let mut waiting = Vec::new(sigma.alloc());
+    waiting.push((Part::Term(x), y))?;
+    while let Some((part, cell)) = waiting.pop() {
+        if !take_up(heap, sigma, part, cell, noted, &mut waiting)? {
+            return Ok(false);
+        }
+    }
+    Ok(true)
+}
+
 /// Whether y is the term x with the terms of a substitution for its variables. Nothing is made. It takes a look, from those that the heap
 /// allows, for each cell that it comes to as a term and for each that it comes to as a list of terms; and it ends at the first that differs.
+/// The errors are that memory is refused and that no look is left.
 pub fn is_instance(heap: &mut Heap, x: Ref, sigma: &Sigma, y: Ref) -> Result<bool, Memory>
     requires within { IsIn heap.old.objects x }
     requires sigma { AreIn heap.old.objects sigma.now }
@@ -118,14 +140,8 @@ pub fn is_instance(heap: &mut Heap, x: Ref, sigma: &Sigma, y: Ref) -> Result<boo
     ensures objects { heap.new.objects ≡ heap.old.objects }
     ensures instance { IfOk result (λ b. b ≡ same_object (substitute_object (sigma_object heap.old.objects sigma.now) (object_at heap.old.objects x)) (object_at heap.old.objects y)) }
 {
-    heap.order();
-    let mut noted = Memo::new(sigma.alloc());
-    let mut waiting = Vec::new(sigma.alloc());
-    waiting.push((Part::Term(x), y))?;
-    while let Some((part, cell)) = waiting.pop() {
-        if !take_up(heap, sigma, part, cell, &mut noted, &mut waiting)? {
-            return Ok(false);
-        }
-    }
-    Ok(true)
+    let mut noted = Memo::lent(heap);
+    let is = compare(heap, x, sigma, y, &mut noted)?;
+    noted.give_back(heap);
+    Ok(is)
 }

@@ -3,49 +3,57 @@ ghost use Rattle.std.specs.Prelude.{◌≡◌, [], OnOk, None};
 ghost use Rattle.mw_subst.specs.Memo.{found, Adds, AreUnique};
 
 use crate::part::Part;
-use indexmap::IndexMap;
-use mw_heap::{Memory, Ref};
-use std::alloc::Global;
+use mw_heap::{Heap, Memory, Notes, Ref};
 
 /// What was made of each part.
 #[derive(Drop)]
 pub(crate) struct Memo {
-    pub terms: IndexMap<Ref, Ref>,
-    pub lists: IndexMap<Ref, Ref>,
+    pub terms: Notes,
+    pub lists: Notes,
 }
 
 impl Memo {
-    pub fn new(alloc: Global) -> Memo
-        ensures terms { result.terms.entries ≡ [] }
-        ensures lists { result.lists.entries ≡ [] }
+    // No results, in notes that the heap lends.
+    pub fn lent(heap: &mut Heap) -> Memo
+        ensures objects { heap.new.objects ≡ heap.old.objects }
+        ensures terms { result.terms ≡ [] }
+        ensures lists { result.lists ≡ [] }
     {
         Memo {
-            terms: IndexMap::new(alloc),
-            lists: IndexMap::new(alloc),
+            terms: heap.lend_notes(),
+            lists: heap.lend_notes(),
         }
+    }
+
+    // Gives the notes back to the heap.
+    pub fn give_back(self, heap: &mut Heap)
+        ensures { heap.new.objects ≡ heap.old.objects }
+    {
+        heap.take_notes(self.terms);
+        heap.take_notes(self.lists);
     }
 
     // What was made of a part, if it was looked at.
     pub fn find(&self, part: Part) -> Option<Ref>
-        ensures { result ≡ found self.now.terms.entries self.now.lists.entries part }
+        ensures { result ≡ found self.now.terms self.now.lists part }
     {
         match part {
-            Part::Term(x) => self.terms.get(&x).copied(),
-            Part::Terms(x) => self.lists.get(&x).copied(),
+            Part::Term(x) => self.terms.find(x),
+            Part::Terms(x) => self.lists.find(x),
         }
     }
 
     // Keeps what was made of a new part.
     pub fn add(&mut self, part: Part, made: Ref) -> Result<(), Memory>
-        requires new { found self.old.terms.entries self.old.lists.entries part ≡ None }
-        requires unique { AreUnique self.old.terms.entries self.old.lists.entries }
-        ensures added { OnOk result (Adds self.old.terms.entries self.old.lists.entries self.new.terms.entries self.new.lists.entries part made) }
-        ensures unique { OnOk result (AreUnique self.new.terms.entries self.new.lists.entries) }
+        requires new { found self.old.terms self.old.lists part ≡ None }
+        requires unique { AreUnique self.old.terms self.old.lists }
+        ensures added { OnOk result (Adds self.old.terms self.old.lists self.new.terms self.new.lists part made) }
+        ensures unique { OnOk result (AreUnique self.new.terms self.new.lists) }
     {
         match part {
-            Part::Term(x) => self.terms.insert(x, made)?,
-            Part::Terms(x) => self.lists.insert(x, made)?,
-        };
+            Part::Term(x) => self.terms.add(x, made)?,
+            Part::Terms(x) => self.lists.add(x, made)?,
+        }
         Ok(())
     }
 }

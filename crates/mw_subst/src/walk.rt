@@ -1,5 +1,5 @@
 //! Substitution in a term.
-ghost use Rattle.std.specs.Prelude.{◌≡◌, ◌+◌, ◌<◌, ◌≤◌, ℕ, true, None, List, length, IfOk, OnOk, OnErr};
+ghost use Rattle.std.specs.Prelude.{◌≡◌, ◌+◌, ◌<◌, ◌≤◌, ℕ, true, None, List, [], length, IfOk, OnOk, OnErr};
 ghost use Rattle.mw_model.specs.Terms.Object.{symbol, same_object};
 ghost use Rattle.mw_model.specs.Laws.Rules.{substitute_object, image_object};
 ghost use Rattle.mw_heap.specs.Objects.{object_at, IsIn, Grows};
@@ -39,9 +39,9 @@ pub(crate) fn image(heap: &Heap, sigma: &Sigma, x: Ref) -> Ref
 fn step_term(heap: &mut Heap, sigma: &Sigma, memo: &Memo, x: Ref) -> Result<Progress, Memory>
     requires within { IsIn heap.old.objects x }
     requires sigma { AreIn heap.old.objects sigma.now }
-    requires made { AreMade heap.old.objects (sigma_object heap.old.objects sigma.now) memo.now.terms.entries memo.now.lists.entries }
+    requires made { AreMade heap.old.objects (sigma_object heap.old.objects sigma.now) memo.now.terms memo.now.lists }
     ensures grows { Grows heap.old.objects heap.new.objects }
-    ensures step { IfOk result (λ s. IsStep heap.old.objects heap.new.objects (sigma_object heap.old.objects sigma.now) memo.now.terms.entries memo.now.lists.entries (Term x) s) }
+    ensures step { IfOk result (λ s. IsStep heap.old.objects heap.new.objects (sigma_object heap.old.objects sigma.now) memo.now.terms memo.now.lists (Term x) s) }
 {
     let View::Pair(head, actuals) = heap.view(x) else {
         return Ok(Progress::Made(image(heap, sigma, x)));
@@ -58,9 +58,9 @@ fn step_term(heap: &mut Heap, sigma: &Sigma, memo: &Memo, x: Ref) -> Result<Prog
 
 fn step_terms(heap: &mut Heap, sigma: &Sigma, memo: &Memo, x: Ref) -> Result<Progress, Memory>
     requires within { IsIn heap.old.objects x }
-    requires made { AreMade heap.old.objects (sigma_object heap.old.objects sigma.now) memo.now.terms.entries memo.now.lists.entries }
+    requires made { AreMade heap.old.objects (sigma_object heap.old.objects sigma.now) memo.now.terms memo.now.lists }
     ensures grows { Grows heap.old.objects heap.new.objects }
-    ensures step { IfOk result (λ s. IsStep heap.old.objects heap.new.objects (sigma_object heap.old.objects sigma.now) memo.now.terms.entries memo.now.lists.entries (Terms x) s) }
+    ensures step { IfOk result (λ s. IsStep heap.old.objects heap.new.objects (sigma_object heap.old.objects sigma.now) memo.now.terms memo.now.lists (Terms x) s) }
 {
     let View::Pair(first, rest) = heap.view(x) else {
         return Ok(Progress::Made(heap.nil()?));
@@ -78,9 +78,9 @@ fn step_terms(heap: &mut Heap, sigma: &Sigma, memo: &Memo, x: Ref) -> Result<Pro
 fn take_step(heap: &mut Heap, sigma: &Sigma, memo: &Memo, part: &Part) -> Result<Progress, Memory>
     requires within { IsPartIn heap.old.objects part.now }
     requires sigma { AreIn heap.old.objects sigma.now }
-    requires made { AreMade heap.old.objects (sigma_object heap.old.objects sigma.now) memo.now.terms.entries memo.now.lists.entries }
+    requires made { AreMade heap.old.objects (sigma_object heap.old.objects sigma.now) memo.now.terms memo.now.lists }
     ensures grows { Grows heap.old.objects heap.new.objects }
-    ensures step { IfOk result (λ s. IsStep heap.old.objects heap.new.objects (sigma_object heap.old.objects sigma.now) memo.now.terms.entries memo.now.lists.entries part.now s) }
+    ensures step { IfOk result (λ s. IsStep heap.old.objects heap.new.objects (sigma_object heap.old.objects sigma.now) memo.now.terms memo.now.lists part.now s) }
 {
     match *part {
         Part::Term(x) => step_term(heap, sigma, memo, x),
@@ -100,11 +100,11 @@ fn advance<L: Ledger>(
 ) -> Result<(), Memory>
     requires within { IsPartIn heap.old.objects part }
     requires sigma { AreIn heap.old.objects sigma.now }
-    requires made { AreMade heap.old.objects (sigma_object heap.old.objects sigma.now) memo.old.terms.entries memo.old.lists.entries }
-    requires new { found memo.old.terms.entries memo.old.lists.entries part ≡ None }
-    requires unique { AreUnique memo.old.terms.entries memo.old.lists.entries }
+    requires made { AreMade heap.old.objects (sigma_object heap.old.objects sigma.now) memo.old.terms memo.old.lists }
+    requires new { found memo.old.terms memo.old.lists part ≡ None }
+    requires unique { AreUnique memo.old.terms memo.old.lists }
     ensures grows { Grows heap.old.objects heap.new.objects }
-    ensures unique { OnOk result (AreUnique memo.new.terms.entries memo.new.lists.entries) }
+    ensures unique { OnOk result (AreUnique memo.new.terms memo.new.lists) }
     ensures advanced { OnOk result (Advances heap.old.objects heap.new.objects (sigma_object heap.old.objects sigma.now) memo.old memo.new path.old.items path.new.items part steps.old steps.new) }
     ensures err { OnErr result (steps.new ≡ steps.old) }
 {
@@ -121,6 +121,37 @@ fn advance<L: Ledger>(
         Progress::Made(made) => memo.add(part, made)?,
     }
     Ok(())
+}
+
+// What is made of the term x, with all its parts made before it.
+fn make<L: Ledger>(
+    heap: &mut Heap,
+    x: Ref,
+    sigma: &Sigma,
+    memo: &mut Memo,
+    steps: &mut Steps<L>,
+) -> Result<Ref, Memory>
+    requires within { IsIn heap.old.objects x }
+    requires sigma { AreIn heap.old.objects sigma.now }
+    requires no_terms { memo.old.terms ≡ [] }
+    requires no_lists { memo.old.lists ≡ [] }
+    ensures grows { Grows heap.old.objects heap.new.objects }
+    ensures within { IfOk result (λ r. IsIn heap.new.objects r) }
+    ensures made { IfOk result (λ r. object_at heap.new.objects r ≡ substitute_object (sigma_object heap.old.objects sigma.now) (object_at heap.old.objects x)) }
+    ensures all { OnOk result ((cells : List ℕ) × AreReached heap.old.objects x cells × HasAllReached heap.old.objects x cells × (steps.new ≡ steps.old + length cells)) }
+    ensures each { (cells : List ℕ) × AreReached heap.old.objects x cells × (steps.new ≡ steps.old + length cells) }
+    ensures most { steps.new ≤ steps.old + (x + 1) }
+{
+    let mut path = Vec::new(sigma.alloc());
+    path.push(Part::Term(x))?;
+    steps.tick();
+    while let Some(part) = path.pop() {
+        advance(heap, sigma, memo, &mut path, part, steps)?;
+    }
+    match memo.find(Part::Term(x)) {
+        Some(made) => Ok(made),
+        None => unreachable!(),
+    }
 }
 
 /// The term x with the terms of a substitution for its variables. It takes one step for each cell that it reaches, however often that
@@ -142,17 +173,10 @@ pub fn substitute_counted<L: Ledger>(
     ensures each { (cells : List ℕ) × AreReached heap.old.objects x cells × (steps.new ≡ steps.old + length cells) }
     ensures most { steps.new ≤ steps.old + (x + 1) }
 {
-    let mut memo = Memo::new(sigma.alloc());
-    let mut path = Vec::new(sigma.alloc());
-    path.push(Part::Term(x))?;
-    steps.tick();
-    while let Some(part) = path.pop() {
-        advance(heap, sigma, &mut memo, &mut path, part, steps)?;
-    }
-    match memo.find(Part::Term(x)) {
-        Some(made) => Ok(made),
-        None => unreachable!(),
-    }
+    let mut memo = Memo::lent(heap);
+    let made = make(heap, x, sigma, &mut memo, steps)?;
+    memo.give_back(heap);
+    Ok(made)
 }
 
 // The same over a ledger that nobody reads.

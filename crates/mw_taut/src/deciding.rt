@@ -53,7 +53,7 @@ fn answer(heap: &Heap, outcome: Outcome) -> Decision
 {
     match outcome {
         Outcome::Proof(p) => {
-            let _ = heap.view(p);
+            heap.in_range(p);
             Decision::Proof(p)
         }
         Outcome::Against(c) => Decision::Choice(c),

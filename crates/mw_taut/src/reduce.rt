@@ -11,7 +11,7 @@ use crate::node::Node;
 use crate::reduced::Reduced;
 use crate::settled::Settled;
 use mw_heap::{Heap, Mark, Memory, Ref};
-use mw_term::take_looks;
+use mw_term::take_searches;
 
 // The looks of a part that is kept: it is looked up as a table is made.
 const LOOKS_FOR_A_KEPT_PART: u64 = 4;
@@ -33,7 +33,7 @@ fn take_looks_at(heap: &mut Heap, had: Mark, reduced: &Reduced) -> Result<(), Me
     };
     let made = heap.mark().cells().saturating_sub(had.cells()) as u64;
     let cells = made.saturating_mul(LOOKS_FOR_A_NEW_CELL);
-    take_looks(heap, cells.saturating_add(part))
+    take_searches(heap, cells.saturating_add(part))
 }
 
 // An equation, where e has the value.

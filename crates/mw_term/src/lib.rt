@@ -21,7 +21,7 @@ pub use arity::Arity;
 pub use formal_names::Formals;
 pub use formals::is_among_symbols;
 pub use gather::{vars, vars_counted};
-pub use looks::{take_looks, take_looks_at_members, take_looks_since};
+pub use looks::{take_searches, take_searches_of_members, take_searches_since};
 pub use marks::{Marks, is_formula, is_term, mark_terms};
 pub use names::is_function_symbol;
 pub use substitutions::is_substitution;

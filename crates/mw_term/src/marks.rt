@@ -189,7 +189,8 @@ impl Marks {
     {
         self.count_anew(below.cells())?;
         let had = self.cells.len();
-        let looks = looks_for(below.cells() - had);
+        // each look searches a table, which is as much work as four comparisons
+        let looks = looks_for(below.cells() - had) / 4;
         let mut work = Work::new(self.alloc, looks);
         let done = mark_up_to(&mut self.cells, heap, arity, below.cells(), &mut work);
         if done.is_err() {

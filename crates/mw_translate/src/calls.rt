@@ -19,7 +19,7 @@ use crate::progress::Progress;
 use crate::shape::two_members;
 use crate::table::takes;
 use mw_heap::{Heap, Memory, Ref, View, Word};
-use mw_term::{Arity, Formals, take_looks};
+use mw_term::{Arity, Formals, take_searches};
 
 // Whether a function may be called with so many actuals. IF takes three, whatever else a table says of it.
 fn is_call(heap: &Heap, newer: &Arity, older: &Arity, function: Ref, count: u64) -> bool
@@ -138,7 +138,7 @@ fn closed_head(heap: &mut Heap, lambda: Ref, list: Ref, body: Ref) -> Result<Pro
     if !formals.closes_counted(heap, body, &mut looks_left)? {
         return Ok(Progress::Fails);
     }
-    take_looks(heap, u64::MAX.saturating_sub(looks_left))?;
+    take_searches(heap, u64::MAX.saturating_sub(looks_left))?;
     Ok(Progress::Made(Made {
         object: list_of_three(heap, lambda, list, body)?,
         count: formals.len() as u64,

@@ -11,7 +11,7 @@ ghost use Rattle.mw_translate.specs.Lets.{append_object, prepend, extended_objec
 
 use crate::build::{call_of_two, list_of_one};
 use mw_heap::{Heap, Memory, Ref, View, Word};
-use mw_term::{Formals, take_looks, vars_counted};
+use mw_term::{Formals, take_searches, vars_counted};
 
 // Adds the variable x where it is no formal.
 fn add_other(heap: &Heap, formals: &Formals, others: &mut Vec<Ref>, x: Ref) -> Result<(), Memory>
@@ -156,7 +156,7 @@ pub(crate) fn let_call(
     let copies = (formals.len() as u64)
         .saturating_add(1)
         .saturating_mul(LOOKS_FOR_A_BINDING);
-    take_looks(
+    take_searches(
         heap,
         u64::MAX.saturating_sub(looks_left).saturating_add(copies),
     )?;

@@ -25,7 +25,7 @@ returns-clause-owed c =
     let t = c.requires.call.1 in
     let F = the_formula os es rs b function called f n k h t in
     let Fs = owed_at os es function (found_calls (functions_at os es) os (f ∷ [])) in
-    subst (λ (h : List Object). Adds os h c.args.owed.now.keys c.add_formula.new.owed.keys Fs) (sym c.in_ok-take_looks_since.ensures)
+    subst (λ (h : List Object). Adds os h c.args.owed.now.keys c.add_formula.new.owed.keys Fs) (sym c.in_ok-take_searches_since.ensures)
     (subst (Adds os new c.args.owed.now.keys c.add_formula.new.owed.keys) (sym (one-formula os es rs b function called f n k h t))
     (adds-later os new new c.args.owed.now.keys c.add_formula.new.owed.keys (F ∷ []) c.in_ok-formula.ensures.grows
     (c.in_ok-add_formula.ensures F (formula-is os es rs b function called f n k h t (object_at new c.in_ok-formula.formula) c.in_ok-formula.ensures.made.1) (formula-read os es rs b function called f n k h t))))

@@ -48,4 +48,4 @@ owe_found-requires-clause-all c =
     ∙ sym (kept-calls os new new g es e c.args.names.now.keys c.args.names.now.keys b.expanded c.requires.named.expanded.within)))
 
 pub returns-clause-owed : goal.returns-clause-owed
-returns-clause-owed c = subst (λ (h : List Object). OwesOne c.args.heap.now.objects h c.args.block.now c.args.function.now c.args.owed.now.keys c.owe_found.new.owed.keys c.in_ok-recursion.recursion) (sym c.in_ok-take_looks.ensures) (one-later c.args.heap.now.objects c.find_calls.new.heap.objects c.owe_found.new.heap.objects c.in_ok-calls.ensures.grows c.args.block.now c.args.function.now c.args.owed.now.keys c.owe_found.new.owed.keys c.requires.block.expanded c.requires.named.expanded.within c.in_ok-recursion.recursion c.in_ok-recursion.ensures.owed)
+returns-clause-owed c = subst (λ (h : List Object). OwesOne c.args.heap.now.objects h c.args.block.now c.args.function.now c.args.owed.now.keys c.owe_found.new.owed.keys c.in_ok-recursion.recursion) (sym c.in_ok-take_searches.ensures) (one-later c.args.heap.now.objects c.find_calls.new.heap.objects c.owe_found.new.heap.objects c.in_ok-calls.ensures.grows c.args.block.now c.args.function.now c.args.owed.now.keys c.owe_found.new.owed.keys c.requires.block.expanded c.requires.named.expanded.within c.in_ok-recursion.recursion c.in_ok-recursion.ensures.owed)

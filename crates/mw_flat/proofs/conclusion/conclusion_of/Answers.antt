@@ -68,7 +68,7 @@ returns-then-good-clause-conclusion c = λ Fs formulas same counted.
     let os = c.args.heap.now.objects in
     let A = c.args.theory.now.arity in
     let marked = c.in_ok-extend.ensures.marked in
-    good-step os c.args.theory.now c.requires.held c.args.x c.in-Some.step c.in-Some.ensures c.view.ensures.in_range c.args.conclusions.now c.args.number (sym c.is_number.ensures ∙ c.if-not-is_number.false) (method_of_logic c.in-Some-of.method)
+    good-step os c.args.theory.now c.requires.held c.args.x c.in-Some.step c.in-Some.ensures c.in_range.ensures c.args.conclusions.now c.args.number (sym c.is_number.ensures ∙ c.if-not-is_number.false) (method_of_logic c.in-Some-of.method)
     (sym c.of.ensures ∙ ap (option_map method_of_logic) c.in-Some-of.is) (sym (c.is_formula.ensures A os marked) ∙ c.if-not-is_formula.false) c.deref.result.now (sym c.in_ok-premises.ensures ∙ (ap (option_map (λ v. v.items)) c.in-Some-2.is ∙ ap Some (sym c.deref.ensures.value))) Fs formulas same counted
     (sym c.if-good.true ∙ c.in_ok-good.ensures.answer A marked)
 
@@ -77,6 +77,6 @@ returns-clause-conclusion c = λ Fs formulas same counted.
     let os = c.args.heap.now.objects in
     let A = c.args.theory.now.arity in
     let marked = c.in_ok-extend.ensures.marked in
-    bad-step os c.args.theory.now c.requires.held c.args.x c.in-Some.step c.in-Some.ensures c.view.ensures.in_range c.args.conclusions.now c.args.number (sym c.is_number.ensures ∙ c.if-not-is_number.false) (method_of_logic c.in-Some-of.method)
+    bad-step os c.args.theory.now c.requires.held c.args.x c.in-Some.step c.in-Some.ensures c.in_range.ensures c.args.conclusions.now c.args.number (sym c.is_number.ensures ∙ c.if-not-is_number.false) (method_of_logic c.in-Some-of.method)
     (sym c.of.ensures ∙ ap (option_map method_of_logic) c.in-Some-of.is) (sym (c.is_formula.ensures A os marked) ∙ c.if-not-is_formula.false) c.deref.result.now (sym c.in_ok-premises.ensures ∙ (ap (option_map (λ v. v.items)) c.in-Some-2.is ∙ ap Some (sym c.deref.ensures.value))) Fs formulas same counted
     (sym c.if-good.false ∙ c.in_ok-good.ensures.answer A marked)

@@ -16,7 +16,7 @@ returns-in-Verify c =
     let m = c.in-Verify in
     let e = Verify m.name m.formula m.proof in
     let event = subst (IsEvent os c.args.x) m.is c.requires.event in
-    c.is_natural.ensures ∙ sym (entry-is (object_at os c.args.x) (event_object os e) word.Verify c.view.ensures.in_range event.0 refl ∙ one-present (natural_of (object_at os m.proof)))
+    c.is_natural.ensures ∙ sym (entry-is (object_at os c.args.x) (event_object os e) word.Verify c.in_range.ensures event.0 refl ∙ one-present (natural_of (object_at os m.proof)))
 
 pub returns-in-Define : goal.returns-in-Define
 returns-in-Define c =
@@ -24,7 +24,7 @@ returns-in-Define c =
     let m = c.in-Define in
     let e = Define m.name m.formals m.body m.measure m.proofs in
     let event = subst (IsEvent os c.args.x) m.is c.requires.event in
-    c.are_naturals.ensures ∙ sym (entry-is (object_at os c.args.x) (event_object os e) word.Define c.view.ensures.in_range event.0 refl)
+    c.are_naturals.ensures ∙ sym (entry-is (object_at os c.args.x) (event_object os e) word.Define c.in_range.ensures event.0 refl)
 
 pub returns-then-branch : goal.returns-then-branch
 returns-then-branch c =
@@ -34,7 +34,7 @@ returns-then-branch c =
     let event = subst (IsEvent os c.args.x) m.is c.requires.event in
     let drafts = c.in_ok-are_drafts-in-DefineAll.ensures in
     c.are_naturals-then-branch.ensures
-    ∙ sym (entry-is (object_at os c.args.x) (event_object os e) word.DefineAll c.view.ensures.in_range event.0 refl ∙ ap (λ b. is_present (when b (naturals_of (object_at os m.proofs)))) (sym drafts ∙ c.if-branch.true))
+    ∙ sym (entry-is (object_at os c.args.x) (event_object os e) word.DefineAll c.in_range.ensures event.0 refl ∙ ap (λ b. is_present (when b (naturals_of (object_at os m.proofs)))) (sym drafts ∙ c.if-branch.true))
 
 pub returns-in-Skolem : goal.returns-in-Skolem
 returns-in-Skolem c =
@@ -43,8 +43,8 @@ returns-in-Skolem c =
     elim c.in-Skolem.is [
       | inl m ↦
           let event = subst (IsEvent os c.args.x) m.4 c.requires.event in
-          sym (entry-is x (event_object os (Skolem m.0 m.1 m.2 m.3)) word.Skolem c.view.ensures.in_range event.0 refl)
+          sym (entry-is x (event_object os (Skolem m.0 m.1 m.2 m.3)) word.Skolem c.in_range.ensures event.0 refl)
       | inr m ↦
           let event = subst (IsEvent os c.args.x) m.1 c.requires.event in
-          sym (entry-is x (event_object os (Profile m.0)) word.SetProfile c.view.ensures.in_range event.0 refl)
+          sym (entry-is x (event_object os (Profile m.0)) word.SetProfile c.in_range.ensures event.0 refl)
     ]

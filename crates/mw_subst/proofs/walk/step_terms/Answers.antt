@@ -11,20 +11,20 @@ use Rattle.mw_subst.proofs.walk.step_terms.Goals as goal
 pub cons-requires-clause-first_in : goal.cons-requires-clause-first_in
 cons-requires-clause-first_in c =
     let os = c.args.heap.now.objects in
-    (result_found os (substitute_object (sigma_object os c.args.sigma.now)) c.in-Pair.first c.in-Some.a c.args.memo.now.terms.entries c.requires.made.0 (sym c.find.ensures ∙ c.in-Some.is)).0
+    (result_found os (substitute_object (sigma_object os c.args.sigma.now)) c.in-Pair.first c.in-Some.a c.args.memo.now.terms c.requires.made.0 (sym c.find.ensures ∙ c.in-Some.is)).0
 
 pub cons-requires-clause-second_in : goal.cons-requires-clause-second_in
 cons-requires-clause-second_in c =
     let os = c.args.heap.now.objects in
-    (result_found os (substitute_each_object (sigma_object os c.args.sigma.now)) c.in-Pair.rest c.in-Some-find.d c.args.memo.now.lists.entries c.requires.made.1 (sym c.find-2.ensures ∙ c.in-Some-find.is)).0
+    (result_found os (substitute_each_object (sigma_object os c.args.sigma.now)) c.in-Pair.rest c.in-Some-find.d c.args.memo.now.lists c.requires.made.1 (sym c.find-2.ensures ∙ c.in-Some-find.is)).0
 
 pub returns-clause-step : goal.returns-clause-step
 returns-clause-step c =
     let os = c.args.heap.now.objects in
     let s = sigma_object os c.args.sigma.now in
-    let first = result_found os (substitute_object s) c.in-Pair.first c.in-Some.a c.args.memo.now.terms.entries c.requires.made.0 (sym c.find.ensures ∙ c.in-Some.is) in
-    let rest = result_found os (substitute_each_object s) c.in-Pair.rest c.in-Some-find.d c.args.memo.now.lists.entries c.requires.made.1 (sym c.find-2.ensures ∙ c.in-Some-find.is) in
-    (c.in_ok-cons.ensures.made.0, c.in_ok-cons.ensures.made.1 ∙ (ap₂ Pair first.1 rest.1 ∙ ap (substitute_each_object s) (sym c.in-Pair.ensures.shows.2)), list-needs os c.order.ensures.distinct c.args.memo.now.terms.entries c.args.memo.now.lists.entries c.args.x c.in-Pair.first c.in-Pair.rest c.in-Pair.ensures.shows.0 c.in-Pair.ensures.shows.1 c.in-Pair.ensures.shows.2 c.in-Some.a c.in-Some-find.d (sym c.find.ensures ∙ c.in-Some.is) (sym c.find-2.ensures ∙ c.in-Some-find.is))
+    let first = result_found os (substitute_object s) c.in-Pair.first c.in-Some.a c.args.memo.now.terms c.requires.made.0 (sym c.find.ensures ∙ c.in-Some.is) in
+    let rest = result_found os (substitute_each_object s) c.in-Pair.rest c.in-Some-find.d c.args.memo.now.lists c.requires.made.1 (sym c.find-2.ensures ∙ c.in-Some-find.is) in
+    (c.in_ok-cons.ensures.made.0, c.in_ok-cons.ensures.made.1 ∙ (ap₂ Pair first.1 rest.1 ∙ ap (substitute_each_object s) (sym c.in-Pair.ensures.shows.2)), list-needs os c.order.ensures.distinct c.args.memo.now.terms c.args.memo.now.lists c.args.x c.in-Pair.first c.in-Pair.rest c.in-Pair.ensures.shows.0 c.in-Pair.ensures.shows.1 c.in-Pair.ensures.shows.2 c.in-Some.a c.in-Some-find.d (sym c.find.ensures ∙ c.in-Some.is) (sym c.find-2.ensures ∙ c.in-Some-find.is))
 
 pub returns-in_default-find-clause-step : goal.returns-in_default-find-clause-step
 returns-in_default-find-clause-step c =

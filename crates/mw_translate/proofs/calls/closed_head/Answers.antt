@@ -30,7 +30,7 @@ returns-clause-head c = λ t h.
     let formals : formals_of xs ≡ Some names = sym c.in_ok-formals.ensures.formals ∙ ap (option_map (names_at os)) c.in-Some.is in
     let f = formals_are (names_of xs) names formals in
     let count : length names ≡ c.len.result = length-names_at os c.in-Some.formals ∙ sym c.len.ensures in
-    let same = ap (λ (h : List Object). list3 (object_at h c.args.lambda) (object_at h c.args.list) (object_at h c.args.body)) c.in_ok-take_looks.ensures in (
+    let same = ap (λ (h : List Object). list3 (object_at h c.args.lambda) (object_at h c.args.list) (object_at h c.args.body)) c.in_ok-take_searches.ensures in (
       c.in_ok-list_of_three.ensures.made.0,
       ap (λ o. head_of l xs o t b) f.0
           ∙ (ap₂ (λ p q. cond (p && q) (Some (list3 l xs b, length names)) None) f.1 (sym (c.in_ok-closes_counted.ensures t h) ∙ c.if-not-branch.false)

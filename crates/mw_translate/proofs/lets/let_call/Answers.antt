@@ -13,7 +13,7 @@ use Rattle.mw_translate.proofs.Appended.{symbols-in, prepend-names, formals_of-n
 use Rattle.mw_translate.proofs.lets.let_call.Goals as goal
 
 pub extended_call-requires-clause-others_in : goal.extended_call-requires-clause-others_in
-extended_call-requires-clause-others_in c = subst (λ (h : List Object). AreAllIn h c.in_ok-others.others.items) (sym c.in_ok-take_looks.ensures) (symbols-in c.args.heap.now.objects c.in_ok-others.others.items c.in_ok-others.ensures.symbols)
+extended_call-requires-clause-others_in c = subst (λ (h : List Object). AreAllIn h c.in_ok-others.others.items) (sym c.in_ok-take_searches.ensures) (symbols-in c.args.heap.now.objects c.in_ok-others.others.items c.in_ok-others.ensures.symbols)
 
 pub returns-in_default-clause-made : goal.returns-in_default-clause-made
 returns-in_default-clause-made c = λ A xs ts b n v e t.
@@ -27,7 +27,7 @@ returns-clause-made c = λ A xs ts b n v e t.
     let read : term_of (object_at os c.args.body) ≡ Some b = ap term_of e ∙ term_read A b (formed A b t) in
     let others : prepend os c.in_ok-others.others.items NIL ≡ names_object (without (variables b) xs) =
     prepend-names os c.in_ok-others.others.items c.in_ok-others.ensures.symbols ∙ ap names_object (c.in_ok-others.ensures.others b read ∙ ap (without (variables b)) f.1) in
-    let same = ap (λ (h : List Object). extended_object (object_at h c.args.names) (object_at h c.args.values) (prepend h c.in_ok-others.others.items NIL) (object_at h c.args.body)) c.in_ok-take_looks.ensures in (
+    let same = ap (λ (h : List Object). extended_object (object_at h c.args.names) (object_at h c.args.values) (prepend h c.in_ok-others.others.items NIL) (object_at h c.args.body)) c.in_ok-take_searches.ensures in (
       f.0,
       c.in_ok-extended_call.ensures.made.0,
       c.in_ok-extended_call.ensures.made.1 ∙ (same ∙ (ap₂ (λ x y. extended_object x y (prepend os c.in_ok-others.others.items NIL) (object_at os c.args.body)) n v ∙ (ap₂ (extended_object (names_object xs) (terms_object ts)) others e ∙ let_object xs ts b))),

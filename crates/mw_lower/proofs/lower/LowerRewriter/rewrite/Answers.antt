@@ -11,7 +11,7 @@ pub returns-in-Ok-Some-clause-rewritten : goal.returns-in-Ok-Some-clause-rewritt
 returns-in-Ok-Some-clause-rewritten c =
     let b = basis c.args.heap.now.objects c.args.arity.now c.args.axioms.now c.args.theorems.now (profile_of c.args.profile) in
     let h = subst (λ o. IsTurned b c.turned.new.heap.objects o (object_at c.args.heap.now.objects c.args.proof)) c.in-Ok-Some.field-0-is c.in-Ok-Some.ensures.turned in
-    (h.0, becomes_turns b _ _ h.1 c.view.ensures.in_range)
+    (h.0, becomes_turns b _ _ h.1 c.in_range.ensures)
 
 pub returns-in-Ok-None-clause-rewritten : goal.returns-in-Ok-None-clause-rewritten
 returns-in-Ok-None-clause-rewritten c =

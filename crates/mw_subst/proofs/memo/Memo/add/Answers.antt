@@ -1,22 +1,20 @@
--- A new part goes last.
-use Rattle.std.proofs.Common.{◌≡◌, None, sym, ap, ◌∙◌, refl, subst, nat_eq}
-use Rattle.std.specs.Map.{lookup}
-use Rattle.indexmap.proofs.CallerLemmas.{insert_entry-new}
-use Rattle.mw_subst.specs.Memo.{Adds, found}
+-- A new part goes last, so no part is there twice.
+use Rattle.std.proofs.Common.{◌≡◌, None, refl, sym, ap, ◌∙◌}
+use Rattle.mw_subst.specs.Memo.{found}
+use Rattle.mw_subst.specs.declared.part.Part.TheVariants.{Term, Terms}
+use Rattle.mw_subst.proofs.Found.{unique-added}
 use Rattle.mw_subst.proofs.memo.Memo.add.Goals as goal
 
-pub returns-in_ok-insert-in-Term-clause-added : goal.returns-in_ok-insert-in-Term-clause-added
-returns-in_ok-insert-in-Term-clause-added c =
+pub returns-in_ok-add-in-Term-clause-unique : goal.returns-in_ok-add-in-Term-clause-unique
+returns-in_ok-add-in-Term-clause-unique c =
     let terms = c.args.self.now.terms in
-    let lists = c.args.self.now.lists.entries in
-    let x = c.in-Term.x in
-    let none : lookup (nat_eq x) terms.entries ≡ None = ap (found terms.entries lists) (sym c.in-Term.is) ∙ c.requires.new in
-    subst (λ p. Adds terms.entries lists c.insert.new.self.entries lists p c.args.made) (sym c.in-Term.is) (c.in_ok-insert-in-Term.ensures.entries ∙ insert_entry-new nat_eq terms x c.args.made none, refl)
-
-pub returns-in_ok-insert-in-Terms-clause-added : goal.returns-in_ok-insert-in-Terms-clause-added
-returns-in_ok-insert-in-Terms-clause-added c =
-    let terms = c.args.self.now.terms.entries in
     let lists = c.args.self.now.lists in
-    let x = c.in-Terms.x in
-    let none : lookup (nat_eq x) lists.entries ≡ None = ap (found terms lists.entries) (sym c.in-Terms.is) ∙ c.requires.new in
-    subst (λ p. Adds terms lists.entries terms c.insert-in-Terms.new.self.entries p c.args.made) (sym c.in-Terms.is) (refl, c.in_ok-insert-in-Terms.ensures.entries ∙ insert_entry-new nat_eq lists x c.args.made none)
+    let none : found terms lists (Term c.in-Term.x) ≡ None = ap (found terms lists) (sym c.in-Term.is) ∙ c.requires.new in
+    unique-added terms lists c.add.new.self lists (Term c.in-Term.x) c.args.made c.requires.unique none (c.in_ok-add-in-Term.ensures.added, refl)
+
+pub returns-in_ok-add-in-Terms-clause-unique : goal.returns-in_ok-add-in-Terms-clause-unique
+returns-in_ok-add-in-Terms-clause-unique c =
+    let terms = c.args.self.now.terms in
+    let lists = c.args.self.now.lists in
+    let none : found terms lists (Terms c.in-Terms.x) ≡ None = ap (found terms lists) (sym c.in-Terms.is) ∙ c.requires.new in
+    unique-added terms lists terms c.add-in-Terms.new.self (Terms c.in-Terms.x) c.args.made c.requires.unique none (refl, c.in_ok-add-in-Terms.ensures.added)
