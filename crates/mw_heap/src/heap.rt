@@ -399,6 +399,17 @@ impl Heap {
         }
     }
 
+    /// Makes room for about so many more cells at once, where memory allows, so that the tables are seldom made anew. It promises no room:
+    /// `reserve` does, which makes as much for large naturals.
+    pub fn make_room(&mut self, cells: usize)
+        ensures objects { self.new.objects ≡ self.old.objects }
+        ensures spare { self.old.spare ≤ self.new.spare }
+    {
+        if self.cells.reserve(cells).is_ok() {
+            let _ = self.lengths.reserve(cells);
+        }
+    }
+
     /// Forgets each object that came after the mark. References to those that stay keep their meaning. It takes time in proportion
     /// to what goes.
     pub fn cut_back(&mut self, to: Mark)

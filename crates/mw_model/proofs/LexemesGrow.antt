@@ -194,15 +194,15 @@ bars_grow e o b bs more = go (after_run is_name_byte bs) refl
         let some : 0 < length (after_run is_name_byte bs) = omega (arith, ap length h) in
         let run = run_more is_name_byte more bs some in
         let rest = after_more is_name_byte more bs some ∙ ap (λ u. u ++ more) h in
-        behind c r h run rest
+        ended c r h run rest
       where
-        behind : (c : ℕ) (r : List ℕ) → after_run is_name_byte bs ≡ c ∷ r → run_of is_name_byte (bs ++ more) ≡ run_of is_name_byte bs → after_run is_name_byte (bs ++ more) ≡ c ∷ (r ++ more) → PieceGrows Bar e o b bs more
-        behind c [] h run rest =
+        ended : (c : ℕ) (r : List ℕ) → after_run is_name_byte bs ≡ c ∷ r → run_of is_name_byte (bs ++ more) ≡ run_of is_name_byte bs → after_run is_name_byte (bs ++ more) ≡ c ∷ (r ++ more) → PieceGrows Bar e o b bs more
+        ended c [] h run rest =
             last (omega (arith, all, ap length h))
             (λ L s. subst (λ u. GrowInto (barred Goes o (run_of is_name_byte bs) u ++ End None ∷ []) (piece Bar e o b (bs ++ more) ++ L)) (sym h)
             (subst (λ u. GrowInto (barred Goes o (run_of is_name_byte bs) (c ∷ []) ++ End None ∷ []) (u ++ L)) (sym (ap₂ (barred e o) run rest))
             (barred_grows e o (run_of is_name_byte bs) c more L s)))
-        behind c (d ∷ r) h run rest =
+        ended c (d ∷ r) h run rest =
             same (ap₂ (barred e o) run rest ∙ barred_more e o (run_of is_name_byte bs) c d r more ∙ sym (ap (barred Goes o (run_of is_name_byte bs)) h)) (ap (λ u. suc (length u)) run)
 
 hash_grows : (e : Ending) (o b : ℕ) (bs more : List ℕ) → PieceGrows Hash e o b bs more

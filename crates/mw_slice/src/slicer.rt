@@ -40,13 +40,13 @@ impl Model for Slicer {
 }
 
 // Where the room that was made last is used up, makes room for three times as many cells as there are, so that the heap's tables are
-// seldom made anew. Where that is refused the heap grows as it goes.
+// seldom made anew.
 fn make_room(heap: &mut Heap, room: &mut usize)
     ensures { heap.new.objects ≡ heap.old.objects }
 {
     let cells = heap.mark().cells();
     if cells >= *room {
-        let _ = heap.reserve(cells.saturating_mul(3));
+        heap.make_room(cells.saturating_mul(3));
         *room = cells.saturating_mul(4);
     }
 }
