@@ -65,8 +65,8 @@ fn count_of(heap: &Heap, list: Ref, looks_left: &mut u64) -> Result<Option<u64>,
 }
 
 // The names of the drafts with how many formals each has, where each has a list of formals. The functions may share their formals, which
-// are walked for each, here and when the block is closed, compiled and added: so a sixteenth of the looks is
-// allowed, each with a search in a table.
+// are walked for each, here and when the block is closed, compiled and added: so a sixteenth of the looks is allowed, each with a search
+// in a table.
 pub(crate) fn pairs_of(heap: &Heap, drafts: &[Draft]) -> Result<Option<Vec<(Ref, u64)>>, Memory>
     requires { AreDraftsIn heap.now.objects drafts.now }
     ensures { IfOk result (λ o. MatchOption o (formals_of_drafts heap.now.objects drafts.now ≡ None) (λ v. Each2 (IsCounted heap.now.objects) drafts.now v.items)) }

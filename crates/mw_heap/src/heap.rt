@@ -91,6 +91,7 @@ impl Heap {
     }
 
     /// Takes one look from those that are allowed. The error is that none is left: so much work is answered as out of memory.
+    #[inline(always)]
     pub fn take_look(&mut self) -> Result<(), Memory>
         ensures { self.new.objects ≡ self.old.objects }
     {
@@ -285,6 +286,7 @@ impl Heap {
     }
 
     /// What an object is made of. A pair's parts stand before it.
+    #[inline(always)]
     pub fn view(&self, x: Ref) -> View
         requires { IsIn self.now.objects x }
         ensures shows { Shows self.now.objects result (object_at self.now.objects x) }

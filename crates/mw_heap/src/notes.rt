@@ -57,6 +57,7 @@ impl Notes {
     }
 
     /// What is noted of a cell, if it is noted.
+    #[inline(always)]
     pub fn find(&self, x: Ref) -> Option<Ref>
         ensures { result ≡ lookup (nat_eq x) self.now }
     {
@@ -71,6 +72,7 @@ impl Notes {
 
     /// Notes a cell that is not noted yet. It takes memory in proportion to the place of the cell, unless one as far was noted before. The
     /// error is that memory is refused.
+    #[inline(always)]
     pub fn add(&mut self, x: Ref, note: Ref) -> Result<(), Memory>
         requires new { lookup (nat_eq x) self.old ≡ None }
         ensures added { OnOk result (self.new ≡ self.old ++ (x, note) ∷ []) }

@@ -109,7 +109,7 @@ fn take_up(
     enter(heap, sigma, &part, y, waiting)
 }
 
-// The claims that the part x as a term is y with the terms of a substitution, and what it comes to, are taken up one after another.
+// Whether y is the term x with the terms of a substitution. Which cell each part of x has to be is taken up one part after another.
 fn compare(heap: &mut Heap, x: Ref, sigma: &Sigma, y: Ref, noted: &mut Memo) -> Result<bool, Memory>
     requires within { IsIn heap.old.objects x }
     requires sigma { AreIn heap.old.objects sigma.now }

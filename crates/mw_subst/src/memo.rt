@@ -34,6 +34,7 @@ impl Memo {
     }
 
     // What was made of a part, if it was looked at.
+    #[inline(always)]
     pub fn find(&self, part: Part) -> Option<Ref>
         ensures { result ≡ found self.now.terms self.now.lists part }
     {
@@ -44,6 +45,7 @@ impl Memo {
     }
 
     // Keeps what was made of a new part.
+    #[inline(always)]
     pub fn add(&mut self, part: Part, made: Ref) -> Result<(), Memory>
         requires new { found self.old.terms self.old.lists part ≡ None }
         requires unique { AreUnique self.old.terms self.old.lists }

@@ -50,7 +50,7 @@ pub(crate) fn variables_in(heap: &Heap, term: Ref, work: &mut Work) -> Result<In
     ensures names { IfOk result (λ s. names_at heap.now.objects s.keys ≡ object_variables (object_at heap.now.objects term)) }
 {
     let mut found = IndexSet::new(work.alloc);
-    let mut looked = IndexSet::new(work.alloc);
+    let mut looked = IndexSet::with_capacity(work.alloc, work.parts)?;
     let mut waiting = Vec::new(work.alloc);
     waiting.push(Part::Term(term))?;
     while let Some(part) = waiting.pop() {
@@ -60,6 +60,7 @@ pub(crate) fn variables_in(heap: &Heap, term: Ref, work: &mut Work) -> Result<In
         }
         look(heap, &mut found, &mut waiting, part)?;
     }
+    work.parts = looked.len();
     Ok(found)
 }
 

@@ -9,6 +9,8 @@ use std::alloc::Global;
 pub(crate) struct Work {
     pub alloc: Global,
     pub looks_left: u64,
+    // how many parts the last walk over a term met: the next one begins with room for as many, since labels may share what is walked
+    pub parts: usize,
 }
 
 impl Work {
@@ -19,6 +21,7 @@ impl Work {
         Work {
             alloc,
             looks_left: looks,
+            parts: 0,
         }
     }
 

@@ -10,7 +10,7 @@ use Rattle.mw_term.proofs.Gathering.{IsGathering, gathering-start, gathering-ste
 use Rattle.mw_term.proofs.gather.variables_in.Goals as goal
 
 pub loop-part-init : goal.loop-part-init
-loop-part-init c = gathering-start c.args.heap.now.objects c.args.term _ _ _ c.requires c.new-found.ensures.empty c.new-looked.ensures.empty (c.in_ok-push.ensures.items ∙ ap (λ l. l ++ Term c.args.term ∷ []) c.new-waiting.ensures.items)
+loop-part-init c = gathering-start c.args.heap.now.objects c.args.term _ _ _ c.requires c.new-found.ensures.empty c.in_ok-looked.ensures.empty (c.in_ok-push.ensures.items ∙ ap (λ l. l ++ Term c.args.term ∷ []) c.new-waiting.ensures.items)
 
 pub loop-part-preserved-then-not-branch : goal.loop-part-preserved-then-not-branch
 loop-part-preserved-then-not-branch c =

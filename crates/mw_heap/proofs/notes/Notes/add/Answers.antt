@@ -1,5 +1,5 @@
 -- The index of the new entry is written at the place of its cell.
-use Rattle.std.proofs.Common.{◌≡◌, ℕ, ◌<◌, None, nat_eq, length, set, slice_get, sym, ap, ap₂, ◌∙◌, subst, arith}
+use Rattle.std.proofs.Common.{◌≡◌, ◌<◌, None, nat_eq, length, set, slice_get, sym, ap, ap₂, ◌∙◌, arith}
 use Rattle.std.specs.Map.{lookup}
 use Rattle.mw_heap.specs.Indices.{AreIndexed}
 use Rattle.mw_heap.proofs.Indices.{indexed-push}
