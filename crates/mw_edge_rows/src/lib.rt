@@ -1,0 +1,22 @@
+//! Worked books at the edges, as tests of the whole program: books in pieces, cut short, with faults of their text, nested deep, shared
+//! by labels, hostile.
+#![tactic(auto)]
+
+#[cfg(test)]
+mod calls;
+#[cfg(test)]
+mod depth;
+#[cfg(test)]
+mod due;
+#[cfg(test)]
+mod ends;
+#[cfg(test)]
+mod faults;
+#[cfg(test)]
+mod hostile;
+#[cfg(test)]
+mod pieces;
+#[cfg(test)]
+mod shared;
+#[cfg(test)]
+mod trial;
