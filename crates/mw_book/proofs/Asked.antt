@@ -1,8 +1,7 @@
 -- Whatever the words ask for, nothing is a part of what is due.
 use Rattle.std.proofs.Common.{List, ℕ, Option, refl}
-use Rattle.clap.specs.Walk.{Text}
 use Rattle.mw_model.specs.Reports.Request.{Request, Check, Trial, Taut, Lower, Slice, Flat, Recheck, Help, Usage}
-use Rattle.mw_book.specs.Commands.{asked, help_text}
+use Rattle.mw_request.specs.Commands.{asked, help_text}
 use Rattle.mw_model.specs.Reports.Trial.{trial_book}
 use Rattle.mw_model.specs.Texts.Grammar.{trees}
 use Rattle.mw_model.specs.Reports.Report.{last_line}
@@ -21,5 +20,5 @@ none_of begins Recheck input sink = part_none begins Recheck refl input sink
 none_of begins Help input sink = nothing_taken help_text sink
 none_of begins Usage input sink = nothing_taken help_text sink
 
-pub nothing_written : Begins → (words : List Text) (input sink : Option (List ℕ)) → IsPartOf (asked words) input sink sink
+pub nothing_written : Begins → (words : List (List ℕ)) (input sink : Option (List ℕ)) → IsPartOf (asked words) input sink sink
 nothing_written begins words input sink = none_of begins (asked words) input sink

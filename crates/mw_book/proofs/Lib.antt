@@ -1,10 +1,7 @@
-pub mod ExamplesCommands
 pub mod AnsweredBy
 pub mod Taken
 pub mod Ended
 pub mod Written
-pub mod Prefixes
-pub mod OneDatum
 pub mod Rounds
 pub mod Headlines
 pub mod TrialHeadlines
@@ -36,5 +33,3 @@ pub mod Summary
 pub mod Sinks
 pub mod Clauses
 pub mod Trials
-pub mod Faultless
-pub mod Requests

@@ -20,7 +20,7 @@ use Rattle.mw_book.specs.Statuses.{report_status, IsPartOf}
 use Rattle.mw_book.specs.Checks.{BookEnds, SourceCounts, ConcludesWith, IsHalt, IsStop}
 use Rattle.mw_book.specs.declared.status.Status.{Status as Ending}
 use Rattle.mw_book.specs.declared.status.Status.TheVariants as ending
-use Rattle.mw_book.proofs.Prefixes.{free_fits, first_data}
+use Rattle.mw_read.proofs.Prefixes.{free_fits, first_data}
 use Rattle.mw_book.proofs.Written.{takes_none, takes_both, takes_then, gives_none, gives_both, left_of, gives_has, ended_has, still_ended}
 
 -- that what was answered first begins a text that keeps the promise

@@ -1,5 +1,3 @@
-pub mod Commands
-pub mod Arguments
 pub mod Books
 pub mod Answered
 pub mod Verdicts
@@ -7,7 +5,6 @@ pub mod Due
 pub mod Answering
 pub mod Statuses
 pub mod Numbers
-pub mod Words
 pub mod Lines
 pub mod Knowing
 pub mod Lowered

@@ -1,7 +1,7 @@
 //! The program, but for its words, its source and its sink, which it is handed.
 ghost use Rattle.std.specs.Prelude.{◌≡◌, ◌≢◌, ◌⊎◌, true, false, IfSome, IfErr, OnOk, OnErr};
 ghost use Rattle.mw_model.specs.Reports.Request.{Help, Usage};
-ghost use Rattle.mw_book.specs.Commands.{asked, help_text};
+ghost use Rattle.mw_request.specs.Commands.{asked, help_text};
 ghost use Rattle.mw_port.specs.Ports.{Rises, Takes, HasEnded};
 ghost use Rattle.mw_book.specs.Books.{TakesSome};
 ghost use Rattle.mw_book.specs.Checks.{TrialEnds, SinkCounts, IsHalt};
@@ -17,8 +17,8 @@ use crate::recheck::recheck;
 use crate::slice::slice;
 use crate::taut::taut;
 use crate::trial::TrialSource;
-use crate::words::{Request, request_of};
 use mw_port::{Sink, Source, Text};
+use mw_request::{Request, request_of};
 use std::alloc::Global;
 
 // How the program is used: a line for each command.

@@ -7,8 +7,8 @@ use crate::Status;
 use crate::book::answer_book;
 use crate::promise::answers_promised;
 use crate::slicing::Slicing;
-use crate::theorem_name::TheoremName;
 use mw_port::{Sink, Source};
+use mw_request::TheoremName;
 use std::alloc::Global;
 
 /// Judges the book on the source and writes, when it has ended, the events that the theorem of this name rests on.

@@ -12,10 +12,10 @@ ghost use Rattle.mw_book.specs.Sliced.{Sliced, SlicedFor, name_asked};
 use crate::answering::Answering;
 use crate::kept::{write_absent, write_slice};
 use crate::line::write_fault;
-use crate::theorem_name::TheoremName;
 use mw_heap::{Memory, Ref};
 use mw_kernel::{Fate, Kernel};
 use mw_read::{Reader, Step, SyntaxKind};
+use mw_request::TheoremName;
 use mw_slice::{Picked, Slicer};
 use std::alloc::Global;
 

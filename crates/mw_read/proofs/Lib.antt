@@ -19,3 +19,4 @@ pub mod Ending
 pub mod Emptied
 pub mod Telling
 pub mod Feeding
+pub mod Prefixes

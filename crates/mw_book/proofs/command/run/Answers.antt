@@ -2,7 +2,7 @@
 use Rattle.std.proofs.Common.{IfSome, sym, ap, subst, ◌∙◌}
 use Rattle.mw_model.specs.Reports.Request.{Check}
 use Rattle.mw_book.specs.Statuses.{report_status, Keeps}
-use Rattle.mw_book.specs.Words.{meaning_of}
+use Rattle.mw_request.specs.Words.{meaning_of}
 use Rattle.mw_book.proofs.Asked.{nothing_written}
 use Rattle.mw_book.proofs.Fulfilled.{book_kept, trial_kept}
 use Rattle.mw_book.proofs.command.run.Goals as goal

@@ -1,0 +1,4 @@
+pub mod ExamplesCommands
+pub mod OneDatum
+pub mod Faultless
+pub mod Requests
