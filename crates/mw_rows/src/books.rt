@@ -1,8 +1,8 @@
 //! The books of the guide to writing books, docs/BOOKS.md, with the reports that it states.
-use crate::app::{APP, APPENDED};
-use crate::ranks::other_report_after_ranks;
-use crate::shorthand::{SHORTENED, SHORTHAND};
-use mw_answers::{Row, WRAP, WRAPPED, lines_from, other_report, wrong_answers};
+use mw_answers::{
+    APP, APPENDED, Row, SHORTENED, SHORTHAND, WRAP, WRAPPED, lines_from, other_report,
+    other_report_after_ranks, wrong_answers,
+};
 use mw_book::Status;
 use mw_read::SyntaxKind;
 use std::alloc::{AllocError, Global};

@@ -1,6 +1,8 @@
 //! Switches to a checker of the book: what is refused, and how proofs are judged after one.
-use crate::ranks::other_report_after_ranks;
-use mw_answers::{NEVER, OF_NEVER, Row, WRAP, WRAPPED, lines_from, other_report, wrong_answers};
+use mw_answers::{
+    NEVER, OF_NEVER, Row, WRAP, WRAPPED, lines_from, other_report, other_report_after_ranks,
+    wrong_answers,
+};
 use mw_book::Status;
 use std::alloc::{AllocError, Global};
 use std::test::Fail;

@@ -1,4 +1,4 @@
-//! Tests of the crates that hold the rules of proof, of judging and of the kernel: a file for each.
+//! Tests of the crates that hold the rules of proof, judging, the machine and what is made at the start: a file for each.
 #![tactic(auto)]
 
 #[cfg(test)]
@@ -7,8 +7,6 @@ mod base;
 mod equal;
 #[cfg(test)]
 mod induct;
-#[cfg(test)]
-mod kernel;
 #[cfg(test)]
 mod lower;
 #[cfg(test)]

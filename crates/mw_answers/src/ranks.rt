@@ -1,5 +1,5 @@
 //! The book books/ranks.book, after which others define recursive functions: theorems up to the two that a recursion down CDR owes.
-use mw_answers::other_report;
+use crate::row::other_report;
 use std::alloc::{AllocError, Global};
 
 const RANKS: &str =
@@ -267,7 +267,7 @@ const OF_RANKS: &str = "1 VERIFY SYMMETRY accepted
 ";
 
 /// The report on the theorems on ranks and these events after them, where these lines do not come after theirs.
-pub(crate) fn other_report_after_ranks(
+pub fn other_report_after_ranks(
     alloc: Global,
     steps: &str,
     events: &str,

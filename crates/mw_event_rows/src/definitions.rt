@@ -1,6 +1,5 @@
 //! Definitions: what is taken, what is refused, and what a theory does with a function that it has taken.
-use crate::ranks::other_report_after_ranks;
-use mw_answers::{Row, other_report, wrong_answers};
+use mw_answers::{Row, other_report, other_report_after_ranks, wrong_answers};
 use mw_book::Status;
 use std::alloc::{AllocError, Global};
 use std::test::Fail;

@@ -1,5 +1,5 @@
 //! A second checker, above WRAP.
-pub(crate) const SHORTHAND: &str =
+pub const SHORTHAND: &str =
     "; A checker that takes a shorthand for modus ponens beside all proofs, judged after wrap.book: so the proof of its claim is judged by WRAP.
 (switch wrap)
 
@@ -196,7 +196,7 @@ pub(crate) const SHORTHAND: &str =
 (switch short)
 ";
 
-pub(crate) const SHORTENED: [&str; 10] = [
+pub const SHORTENED: [&str; 10] = [
     "SWITCH WRAP",
     "DEFINE SPELL-OUT",
     "DEFINE SHORT",

@@ -1,6 +1,6 @@
 //! The book books/app.book, judged after books/ranks.book: appending associates, by induction.
 
-pub(crate) const APP: &str = "; Appending associates, shown by induction; judged after ranks.book.
+pub const APP: &str = "; Appending associates, shown by induction; judged after ranks.book.
 (define app (x y)
  (if (consp x) (cons (car x) (app (cdr x) y)) y)
  (rank x)
@@ -293,7 +293,7 @@ pub(crate) const APP: &str = "; Appending associates, shown by induction; judged
 ";
 
 /// What its events do, all of them accepted.
-pub(crate) const APPENDED: [&str; 11] = [
+pub const APPENDED: [&str; 11] = [
     "DEFINE APP",
     "VERIFY APP-OF-ATOM",
     "VERIFY APP-OF-PAIR",

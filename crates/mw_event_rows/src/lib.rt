@@ -1,0 +1,13 @@
+//! Worked books for events of each kind, as tests of the whole program: definitions, runs, inductions, profiles, what is no event.
+#![tactic(auto)]
+
+#[cfg(test)]
+mod definitions;
+#[cfg(test)]
+mod evals;
+#[cfg(test)]
+mod events;
+#[cfg(test)]
+mod induction;
+#[cfg(test)]
+mod profiles;
