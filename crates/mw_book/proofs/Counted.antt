@@ -5,10 +5,10 @@ use Rattle.mw_model.specs.Terms.Object.{Object}
 use Rattle.mw_model.specs.Texts.Pieces.{how_many}
 use Rattle.mw_model.specs.Commands.TautologyBook.{OwesTautology, is_proved, tautology_summary}
 use Rattle.mw_model.specs.Reports.Request.{Taut}
+use Rattle.mw_lines.specs.Lines.{formulas_line}
 use Rattle.mw_book.specs.Answered.{Answered, IsProving, ProvedFor, lines_of}
 use Rattle.mw_book.specs.Answering.{Answers}
 use Rattle.mw_book.specs.Due.{AreAnswers}
-use Rattle.mw_book.specs.Lines.{formulas_line}
 use Rattle.mw_book.specs.declared.proving.Proving.{Proving}
 use Rattle.mw_book.proofs.Pieces.{how_many-append}
 use Rattle.mw_book.proofs.Promising.{answers_both}

@@ -14,9 +14,9 @@ use Rattle.mw_model.specs.Commands.Transition.{Transition, is_acceptance, last_t
 use Rattle.mw_model.specs.Commands.Slice.{begins_with, some_passes}
 use Rattle.mw_model.specs.Commands.Flattening.{OwesFlat, flat_events, flat_summary, is_logged_word, is_switch, plain_course}
 use Rattle.mw_kernel.specs.Knowledge.{Knowledge, theory_of}
+use Rattle.mw_lines.specs.Lines.{flat_line}
 use Rattle.mw_book.specs.Answering.{Answers, HasAnswered}
 use Rattle.mw_book.specs.Flattened.{Flattened, FlattenedFor, HasEndedEvent}
-use Rattle.mw_book.specs.Lines.{flat_line}
 use Rattle.mw_book.specs.declared.flattening.Flattening.{Flattening}
 use Rattle.mw_book.proofs.AnsweredBy.{answers_by}
 use Rattle.mw_book.proofs.Courses.{event_after, course_more, judged, last-append, length-course}

@@ -9,18 +9,14 @@ pub mod Pieces
 pub mod Courses
 pub mod LoweredPieces
 pub mod FlatPieces
-pub mod FlatWritten
-pub mod ShortTheorems
 pub mod SlicedTexts
 pub mod Promising
 pub mod Proved
 pub mod Counted
-pub mod Owing
 pub mod Asked
 pub mod Fulfilled
 pub mod Appending
 pub mod Showing
-pub mod Symbols
 pub mod OneMore
 pub mod LoweredOne
 pub mod SlicedOne
@@ -29,7 +25,5 @@ pub mod Logs
 pub mod RecheckedOne
 pub mod SlicedPlaces
 pub mod LastLines
-pub mod Summary
 pub mod Sinks
 pub mod Clauses
-pub mod Trials

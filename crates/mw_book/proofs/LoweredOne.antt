@@ -20,8 +20,8 @@ use Rattle.mw_model.specs.Texts.Pieces.{InOrder, how_many}
 use Rattle.mw_model.specs.Commands.Transition.{Transition, Effect, last_theory, is_acceptance}
 use Rattle.mw_model.specs.Commands.Lowering.{IsLoweredBy, OwesByFate, OwesLowered, derived_course, refused_in, course_summary}
 use Rattle.mw_kernel.specs.Knowledge.{Knowledge, theory_of}
+use Rattle.mw_lines.specs.Lines.{line_begun, summary_of}
 use Rattle.mw_book.specs.Answering.{Answers, HasAnswered}
-use Rattle.mw_book.specs.Lines.{line_begun, summary_of}
 use Rattle.mw_book.specs.Lowered.{Lowered, LoweredFor}
 use Rattle.mw_book.specs.declared.lowering.Lowering.{Lowering}
 use Rattle.mw_book.proofs.AnsweredBy.{answers_by}

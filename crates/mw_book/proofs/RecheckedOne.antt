@@ -15,8 +15,8 @@ use Rattle.mw_read.specs.Shown.{IsShown, ShowsEvent, first_symbol}
 use Rattle.mw_flat.specs.Going.{Going, theory_of, HasCollected, IsNoted, IsAnswered, ComesBy, Comes, is_step_word}
 use Rattle.mw_flat.specs.Verdicts.{answer_of}
 use Rattle.mw_flat.specs.declared.verdict.Verdict.{Verdict}
+use Rattle.mw_lines.specs.Lines.{answers_line, line_begun}
 use Rattle.mw_book.specs.Answering.{Answers, HasAnswered}
-use Rattle.mw_book.specs.Lines.{answers_line, line_begun}
 use Rattle.mw_book.specs.Rechecked.{HasEndedDatum, Rechecked, RecheckedFor, denied_said, events_said, said_text}
 use Rattle.mw_book.specs.declared.rechecking.Rechecking.{Rechecking}
 use Rattle.mw_book.proofs.AnsweredBy.{answers_by}

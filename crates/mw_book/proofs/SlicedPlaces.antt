@@ -16,9 +16,9 @@ use Rattle.mw_model.specs.Commands.Slicing.{accepted_events, SliceOwed}
 use Rattle.mw_read.specs.Kinds.{kind_of}
 use Rattle.mw_read.specs.declared.step.SyntaxKind.{SyntaxKind}
 use Rattle.mw_slice.specs.Slices.{events_of}
+use Rattle.mw_lines.specs.Lines.{fault_line}
 use Rattle.mw_book.specs.Answering.{fault_of}
 use Rattle.mw_book.specs.Due.{IsLastText, refused_for}
-use Rattle.mw_book.specs.Lines.{fault_line}
 use Rattle.mw_book.specs.Sliced.{SlicedFor, name_asked}
 use Rattle.mw_book.specs.declared.slicing.Slicing.{Slicing}
 use Rattle.mw_book.proofs.AnsweredBy.{last_by, refused_by}

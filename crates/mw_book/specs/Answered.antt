@@ -1,15 +1,10 @@
 -- Where the proving of formulas stands.
-use Rattle.std.specs.Prelude.{◌≡◌, ℕ, ◌≤◌, true, false, not, List, length, Option}
-use Rattle.mw_model.specs.Terms.Object.{Object, list2}
-use Rattle.mw_model.specs.Values.Primitive.{is_symbol}
-use Rattle.mw_model.specs.Events.Fate.{is_out_of_range}
-use Rattle.mw_model.specs.Reports.Report.{word_text}
+use Rattle.std.specs.Prelude.{◌≡◌, ℕ, ◌≤◌, not, List, length}
+use Rattle.mw_model.specs.Terms.Object.{Object}
 use Rattle.mw_model.specs.Reports.Request.{Request, Taut}
 use Rattle.mw_model.specs.Texts.Pieces.{how_many}
 use Rattle.mw_model.specs.Commands.TautologyBook.{initial_arities, is_proved}
-use Rattle.mw_heap.specs.Objects.{object_at, IsIn}
 use Rattle.mw_term.specs.Marking.{AreMarks}
-use Rattle.mw_read.specs.Shown.{IsShown, shown_text}
 use Rattle.mw_book.specs.Answering.{AnsweredBy}
 use Rattle.mw_book.specs.declared.proving.Proving.{Proving}
 
@@ -32,15 +27,3 @@ lines_of p = p.lines.items
 -- the request is to prove the formulas, and these data were answered
 abbrev pub ProvedFor : Proving → Request → List Object → Type 0
 ProvedFor p = AnsweredBy {P = Unit {0}} (λ u. Taut) (λ u given. IsProving p × Answered p given)
-
--- the reference is shown as the first member of the datum
-abbrev pub ShowsWord : List Object → Option ℕ → Object → Type 0
-ShowsWord os word x = IsShown os word × (shown_text os word ≡ word_text x)
-
--- The datum is a list of these two, of which the first is a symbol.
-pub record IsNamed (os : List Object) (x : Object) (name formula : ℕ) : Type 0 where
-  pub name_in : IsIn os name
-  pub formula_in : IsIn os formula
-  pub symbol : is_symbol (object_at os name) ≡ true
-  pub list : x ≡ list2 (object_at os name) (object_at os formula)
-  pub in_range : is_out_of_range x ≡ false

@@ -1,16 +1,12 @@
 pub mod Books
 pub mod Answered
-pub mod Verdicts
 pub mod Due
 pub mod Answering
 pub mod Statuses
 pub mod Numbers
-pub mod Lines
 pub mod Knowing
 pub mod Lowered
 pub mod Sliced
 pub mod Flattened
-pub mod FlatEvents
 pub mod Rechecked
 pub mod Checks
-pub mod Trials

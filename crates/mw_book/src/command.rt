@@ -16,9 +16,9 @@ use crate::promise::answers_promised;
 use crate::recheck::recheck;
 use crate::slice::slice;
 use crate::taut::taut;
-use crate::trial::TrialSource;
 use mw_port::{Sink, Source, Text};
 use mw_request::{Request, request_of};
+use mw_trial::TrialSource;
 use std::alloc::Global;
 
 // How the program is used: a line for each command.

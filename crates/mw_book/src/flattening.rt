@@ -6,14 +6,14 @@ ghost use Rattle.mw_model.specs.Reports.Report.{is_accepted};
 ghost use Rattle.mw_model.specs.Commands.Flattening.{OwesFlat, is_logged_word};
 ghost use Rattle.mw_heap.specs.Objects.{object_at, IsIn};
 ghost use Rattle.mw_kernel.specs.Fates.{fate_of};
+ghost use Rattle.mw_lines.specs.Lines.{flat_line};
 ghost use Rattle.mw_book.specs.Flattened.{Flattened, FlattenedFor, HasEndedEvent};
-ghost use Rattle.mw_book.specs.Lines.{flat_line};
 
 use crate::answering::Answering;
-use crate::flat_event::write_flat;
-use crate::line::{write_fault, write_number};
 use mw_heap::{Memory, Ref, Refusal, Word};
 use mw_kernel::{Fate, Kernel};
+use mw_lines::{write_fault, write_number};
+use mw_logged::write_flat;
 use mw_read::{Reader, Step, SyntaxKind};
 use mw_slice::Copies;
 use std::alloc::Global;

@@ -6,9 +6,10 @@ ghost use Rattle.mw_kernel.specs.Fates.{fate_of};
 ghost use Rattle.mw_book.specs.Knowing.{Judged, JudgedFor};
 
 use crate::answering::Answering;
-use crate::line::{begin_line, end_line, write_fault, write_summary};
+use crate::fate_line::end_line;
 use mw_heap::{Memory, Ref, Refusal};
 use mw_kernel::{Fate, Kernel};
+use mw_lines::{begin_line, write_fault, write_summary};
 use mw_read::{Reader, Step, SyntaxKind, shown};
 use std::alloc::Global;
 

@@ -7,9 +7,8 @@ ghost use Rattle.mw_model.specs.Texts.Pieces.{InOrder, comment};
 ghost use Rattle.mw_model.specs.Commands.Slice.{event_at};
 ghost use Rattle.mw_slice.specs.Slices.{events_of};
 
-use crate::answer::write_line;
-use crate::line::write_number;
 use mw_heap::Memory;
+use mw_lines::{write_line, write_number};
 use mw_slice::Slicer;
 
 // The events at these places, each on a line.

@@ -1,17 +1,15 @@
 //! Judging a book from its bytes to its report.
 #![tactic(auto)]
 
-mod answer;
 mod answering;
 mod book;
 mod check;
 mod command;
+mod fate_line;
 mod flat;
-mod flat_event;
 mod flattening;
 mod judging;
 mod kept;
-mod line;
 mod lower;
 mod lowering;
 mod nowhere;
@@ -25,9 +23,7 @@ mod slice;
 mod slicing;
 mod status;
 mod taut;
-mod trial;
-mod verdict;
 
 pub use command::run;
+pub use mw_trial::TrialSource;
 pub use status::Status;
-pub use trial::TrialSource;

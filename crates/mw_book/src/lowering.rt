@@ -10,13 +10,14 @@ ghost use Rattle.mw_heap.specs.Objects.{object_at, IsIn};
 ghost use Rattle.mw_read.specs.Shown.{ShowsEvent};
 ghost use Rattle.mw_kernel.specs.Fates.{fate_of};
 ghost use Rattle.mw_kernel.specs.Knowledge.{theory_of};
-ghost use Rattle.mw_book.specs.Lines.{line_begun};
+ghost use Rattle.mw_lines.specs.Lines.{line_begun};
 ghost use Rattle.mw_book.specs.Lowered.{Lowered, LoweredFor};
 
 use crate::answering::Answering;
-use crate::line::{begin_line, end_line, write_fault, write_summary};
+use crate::fate_line::end_line;
 use mw_heap::{Memory, Ref, Refusal};
 use mw_kernel::{Fate, Kernel};
+use mw_lines::{begin_line, write_fault, write_summary};
 use mw_lower::Lower;
 use mw_model::lowering::{lowered_events, lowerings_possible};
 use mw_print::write_datum;

@@ -3,15 +3,14 @@ ghost use Rattle.std.specs.Prelude.{◌≡◌, ◌+◌, ◌<◌, ◌^◌, cond, 
 ghost use Rattle.mw_model.specs.Terms.Object.{Object};
 ghost use Rattle.mw_model.specs.Reports.Request.{Taut};
 ghost use Rattle.mw_model.specs.Commands.TautologyBook.{initial_arities};
-ghost use Rattle.mw_book.specs.Answered.{IsProving, Answered, ProvedFor, ShowsWord, lines_of};
+ghost use Rattle.mw_lines.specs.Members.{ShowsWord};
+ghost use Rattle.mw_lines.specs.Verdicts.{IsVerdict, is_theorem};
+ghost use Rattle.mw_book.specs.Answered.{IsProving, Answered, ProvedFor, lines_of};
 ghost use Rattle.mw_book.specs.Answering.{Answers};
-ghost use Rattle.mw_book.specs.Verdicts.{IsVerdict, is_theorem};
 
-use crate::answer::{write_answer, write_formulas};
 use crate::answering::Answering;
-use crate::line::write_fault;
-use crate::verdict::{Verdict, verdict_on};
 use mw_heap::{Heap, Mark, Memory, Profile, Ref};
+use mw_lines::{Verdict, verdict_on, write_answer, write_fault, write_formulas};
 use mw_preamble::admit_all;
 use mw_read::{Reader, Step, SyntaxKind, shown};
 use mw_term::{Arity, Marks};

@@ -4,13 +4,13 @@ ghost use Rattle.mw_model.specs.Terms.Object.{Object};
 ghost use Rattle.mw_model.specs.Reports.Request.{Recheck};
 ghost use Rattle.mw_read.specs.Shown.{ShowsEvent};
 ghost use Rattle.mw_flat.specs.Verdicts.{answer_of};
-ghost use Rattle.mw_book.specs.Lines.{answers_line, line_begun};
+ghost use Rattle.mw_lines.specs.Lines.{answers_line, line_begun};
 ghost use Rattle.mw_book.specs.Rechecked.{HasEndedDatum, Rechecked, RecheckedFor};
 
 use crate::answering::Answering;
-use crate::line::{begin_line, write_fault, write_number};
 use mw_flat::{Flat, Verdict, is_step_word};
 use mw_heap::{Memory, Ref, Word};
+use mw_lines::{begin_line, write_fault, write_number};
 use mw_read::{Reader, Step, SyntaxKind, shown};
 use std::alloc::Global;
 

@@ -11,9 +11,9 @@ ghost use Rattle.mw_book.specs.Sliced.{Sliced, SlicedFor, name_asked};
 
 use crate::answering::Answering;
 use crate::kept::{write_absent, write_slice};
-use crate::line::write_fault;
 use mw_heap::{Memory, Ref};
 use mw_kernel::{Fate, Kernel};
+use mw_lines::write_fault;
 use mw_read::{Reader, Step, SyntaxKind};
 use mw_request::TheoremName;
 use mw_slice::{Picked, Slicer};

@@ -1,7 +1,7 @@
 use Rattle.std.proofs.Common.{◌-◌, [], ◌∷◌, ◌++◌, ap, ◌∙◌}
 use Rattle.std.specs.Prelude.{codes}
 use Rattle.mw_model.specs.Texts.Printing.{numeral}
-use Rattle.mw_book.proofs.Summary.{answers-joined}
+use Rattle.mw_lines.proofs.Summary.{answers-joined}
 use Rattle.mw_book.proofs.rechecking.write_answers.Goals as goal
 
 pub returns : goal.returns

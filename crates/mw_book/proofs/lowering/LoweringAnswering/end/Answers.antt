@@ -1,9 +1,9 @@
 -- The last line of the lowered book.
 use Rattle.std.proofs.Common.{◌≡◌, ℕ, List, ◌++◌, codes, sym, ap, ◌∙◌, subst, append_assoc}
 use Rattle.mw_read.specs.Kinds.{kind_of}
+use Rattle.mw_lines.specs.Lines.{fault_line, summary_of}
 use Rattle.mw_book.specs.Answering.{fault_of}
 use Rattle.mw_book.specs.Due.{IsLastText}
-use Rattle.mw_book.specs.Lines.{fault_line, summary_of}
 use Rattle.mw_book.specs.declared.lowering.Lowering.{Lowering}
 use Rattle.mw_book.proofs.LastLines.{lowered_fault, lowered_summary}
 use Rattle.mw_book.proofs.LoweredOne.{lowered_few}

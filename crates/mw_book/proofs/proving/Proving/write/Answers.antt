@@ -1,7 +1,7 @@
 -- One datum more is answered.
 use Rattle.std.proofs.Common.{sym, ap, ◌∙◌}
+use Rattle.mw_lines.proofs.Owing.{verdict_proved}
 use Rattle.mw_book.proofs.Counted.{answers_one}
-use Rattle.mw_book.proofs.Owing.{verdict_proved}
 use Rattle.mw_book.proofs.proving.Proving.write.Goals as goal
 
 pub returns-clause-answers : goal.returns-clause-answers

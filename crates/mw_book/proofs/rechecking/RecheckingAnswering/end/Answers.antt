@@ -1,8 +1,8 @@
 -- The last line of the report.
 use Rattle.std.proofs.Common.{◌++◌, sym, ap, ◌∙◌, subst, arith}
+use Rattle.mw_lines.specs.Lines.{answers_line}
 use Rattle.mw_book.specs.Answering.{fault_of}
 use Rattle.mw_book.specs.Due.{IsLastText}
-use Rattle.mw_book.specs.Lines.{answers_line}
 use Rattle.mw_book.proofs.LastLines.{rechecked_summary}
 use Rattle.mw_book.proofs.RecheckedOne.{rechecked_few}
 use Rattle.mw_book.proofs.rechecking.RecheckingAnswering.end.Goals as goal

@@ -11,9 +11,9 @@ use Rattle.mw_model.specs.Commands.Slice.{event_at, target}
 use Rattle.mw_read.specs.Kinds.{kind_of}
 use Rattle.mw_read.specs.declared.step.SyntaxKind.{SyntaxKind}
 use Rattle.mw_slice.specs.Slices.{events_of}
+use Rattle.mw_lines.specs.Lines.{fault_line}
 use Rattle.mw_book.specs.Answering.{fault_of}
 use Rattle.mw_book.specs.Due.{IsLastText}
-use Rattle.mw_book.specs.Lines.{fault_line}
 use Rattle.mw_book.specs.Sliced.{name_asked}
 use Rattle.mw_book.proofs.SlicedPlaces.{places_within, sliced_absent, sliced_fault, sliced_found, sliced_refused}
 use Rattle.mw_book.proofs.slicing.SlicingAnswering.end.Goals as goal

@@ -1,0 +1,110 @@
+//! The lines of the answers to a book of formulas.
+ghost use Rattle.std.specs.Prelude.{◌≡◌, ◌≤◌, ◌-◌, ◌++◌, ◌∷◌, [], List, ℕ, OnOk, codes};
+ghost use Rattle.mw_model.specs.Terms.Object.{Object};
+ghost use Rattle.mw_model.specs.Texts.Printing.{numeral};
+ghost use Rattle.mw_model.specs.Reports.Report.{spaced, word_text};
+ghost use Rattle.mw_model.specs.Commands.TautologyBook.{OwesTautology, remark};
+ghost use Rattle.mw_model.specs.Texts.Written.{IsWritten};
+ghost use Rattle.mw_heap.specs.Objects.{object_at, IsIn};
+ghost use Rattle.mw_lines.specs.Lines.{formulas_line};
+ghost use Rattle.mw_lines.specs.Members.{ShowsWord};
+ghost use Rattle.mw_lines.specs.Verdicts.{IsVerdict};
+
+use crate::line::{write_number, write_shown};
+use crate::verdict::Verdict;
+use mw_heap::{Heap, Memory, Ref};
+use mw_print::write_datum;
+
+// Begins a comment on a datum: its number, and its first member or a dash.
+fn begin_remark(
+    lines: &mut Vec<u8>,
+    heap: &Heap,
+    number: u64,
+    word: Option<Ref>,
+) -> Result<(), Memory>
+    requires shows { (x : Object) × ShowsWord heap.now.objects word x }
+    ensures { OnOk result ((x : Object) → ShowsWord heap.now.objects word x → lines.new.items ≡ lines.old.items ++ (codes "; " ++ (numeral number ++ 32 ∷ (word_text x ++ 32 ∷ [])))) }
+{
+    lines.extend_from_slice(b"; ")?;
+    write_number(lines, number)?;
+    lines.push(b' ')?;
+    write_shown(lines, heap, word)?;
+    lines.push(b' ')?;
+    Ok(())
+}
+
+// Writes why a datum has no proof.
+fn write_remark(
+    lines: &mut Vec<u8>,
+    heap: &Heap,
+    number: u64,
+    word: Option<Ref>,
+    reason: &[u8],
+) -> Result<(), Memory>
+    requires shows { (x : Object) × ShowsWord heap.now.objects word x }
+    ensures { OnOk result ((x : Object) → ShowsWord heap.now.objects word x → lines.new.items ≡ lines.old.items ++ remark number x reason.now) }
+{
+    begin_remark(lines, heap, number, word)?;
+    lines.extend_from_slice(reason)?;
+    lines.push(b'\n')?;
+    Ok(())
+}
+
+/// Writes the datum of a reference and a line end.
+pub fn write_line(lines: &mut Vec<u8>, heap: &Heap, x: Ref) -> Result<(), Memory>
+    requires within { IsIn heap.now.objects x }
+    ensures { OnOk result ((text : List ℕ) × (next : ℕ) × IsWritten (object_at heap.now.objects x) 1 text next × (lines.new.items ≡ lines.old.items ++ (text ++ 10 ∷ []))) }
+{
+    write_datum(heap, x, 1, lines)?;
+    lines.push(b'\n')?;
+    Ok(())
+}
+
+// Writes the choice under which a datum's formula is false.
+fn write_choice(
+    lines: &mut Vec<u8>,
+    heap: &Heap,
+    number: u64,
+    word: Option<Ref>,
+    choice: Ref,
+) -> Result<(), Memory>
+    requires shows { (x : Object) × ShowsWord heap.now.objects word x }
+    requires within { IsIn heap.now.objects choice }
+    ensures { OnOk result ((x : Object) → ShowsWord heap.now.objects word x → (text : List ℕ) × (next : ℕ) × IsWritten (object_at heap.now.objects choice) 1 text next × (lines.new.items ≡ lines.old.items ++ remark number x (spaced (codes "FALSE") text))) }
+{
+    begin_remark(lines, heap, number, word)?;
+    lines.extend_from_slice(b"FALSE ")?;
+    write_line(lines, heap, choice)
+}
+
+/// Writes the piece that is owed for a datum of this number, of which this was found.
+pub fn write_answer(
+    lines: &mut Vec<u8>,
+    heap: &Heap,
+    number: u64,
+    word: Option<Ref>,
+    verdict: &Verdict,
+) -> Result<(), Memory>
+    requires found { (x : Object) × ShowsWord heap.now.objects word x × IsVerdict heap.now.objects x verdict.now }
+    ensures { OnOk result ((x : Object) → ShowsWord heap.now.objects word x → IsVerdict heap.now.objects x verdict.now → (piece : List ℕ) × (lines.new.items ≡ lines.old.items ++ piece) × OwesTautology (number, x) piece) }
+{
+    match verdict {
+        Verdict::Shape => write_remark(lines, heap, number, word, b"SHAPE"),
+        Verdict::Many => write_remark(lines, heap, number, word, b"MANY"),
+        Verdict::Fails(choice) => write_choice(lines, heap, number, word, *choice),
+        Verdict::Theorem(theorem) => write_line(lines, heap, *theorem),
+    }
+}
+
+/// Writes how many formulas there were and how many were proved.
+pub fn write_formulas(lines: &mut Vec<u8>, formulas: u64, unproved: u64) -> Result<(), Memory>
+    requires { unproved ≤ formulas }
+    ensures { OnOk result (lines.new.items ≡ lines.old.items ++ formulas_line formulas (formulas - unproved)) }
+{
+    lines.extend_from_slice(b"formulas ")?;
+    write_number(lines, formulas)?;
+    lines.extend_from_slice(b" proved ")?;
+    write_number(lines, formulas - unproved)?;
+    lines.push(b'\n')?;
+    Ok(())
+}

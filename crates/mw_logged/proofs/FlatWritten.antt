@@ -1,0 +1,80 @@
+-- What is written for an event with numbers in place of its proofs: a list of proofs counts up to its end, and the event stands after the steps.
+use Rattle.std.proofs.Common.{◌≡◌, ℕ, false, List, [], ◌∷◌, ◌++◌, map, refl, sym, ap, ◌∙◌, subst}
+use Rattle.mw_model.specs.Terms.Object.{Object, Natural, Symbol, Pair, NIL, same_object}
+use Rattle.mw_model.specs.Values.Primitive.{is_pair}
+use Rattle.mw_model.specs.Terms.Term.{firsts}
+use Rattle.mw_model.specs.Texts.Written.{IsWritten}
+use Rattle.mw_model.specs.Commands.Subproofs.{proofs_within, each_within, distinct_proofs}
+use Rattle.mw_model.specs.Texts.Pieces.{InOrder, numbered}
+use Rattle.mw_model.specs.Commands.Flattening.{number_among, numbers_among, IsStepLine, StepsWritten}
+use Rattle.mw_heap.specs.Objects.{object_at}
+use Rattle.mw_heap.specs.Lists.{list_object}
+use Rattle.mw_logged.specs.FlatEvents.{proper_list, numbers_object, put_before, WritesFlat}
+
+-- ---- lists up to their ends
+
+each_within-proper : (ps : Object) → each_within (proper_list ps) ≡ each_within ps
+each_within-proper (Natural n) = refl
+each_within-proper (Symbol s) = refl
+each_within-proper (Pair p ps) = ap (λ l. proofs_within p ++ l) (each_within-proper ps)
+
+pub distinct_proofs-proper : (ps : Object) → distinct_proofs (proper_list ps) ≡ distinct_proofs ps
+distinct_proofs-proper ps = ap (firsts same_object) (each_within-proper ps)
+
+numbers_among-proper : (qs : List Object) (ps : Object) → numbers_among qs (proper_list ps) ≡ numbers_among qs ps
+numbers_among-proper qs (Natural n) = refl
+numbers_among-proper qs (Symbol s) = refl
+numbers_among-proper qs (Pair p ps) = ap (Pair (Natural (number_among qs p))) (numbers_among-proper qs ps)
+
+pub no_members : (x : Object) → is_pair x ≡ false → proper_list x ≡ NIL
+no_members (Natural n) h = refl
+no_members (Symbol s) h = refl
+no_members (Pair a b) h = cc
+
+module _ (os : List Object) where
+  pub put_before-push : (xs : List ℕ) (x : ℕ) (rest : Object) → put_before os (xs ++ x ∷ []) rest ≡ put_before os xs (Pair (object_at os x) rest)
+  put_before-push [] x rest = refl
+  put_before-push (y ∷ xs) x rest = ap (Pair (object_at os y)) (put_before-push xs x rest)
+
+  pub put_before-NIL : (xs : List ℕ) → put_before os xs NIL ≡ list_object os xs
+  put_before-NIL [] = refl
+  put_before-NIL (x ∷ xs) = ap (Pair (object_at os x)) (put_before-NIL xs)
+
+  -- one member more, and the last one
+  pub members-next : (list : Object) (xs new : List ℕ) (rest first more : ℕ) → put_before os xs (proper_list (object_at os rest)) ≡ list → object_at os rest ≡ Pair (object_at os first) (object_at os more) → new ≡ xs ++ first ∷ [] → put_before os new (proper_list (object_at os more)) ≡ list
+  members-next list xs new rest first more same is pushed =
+      ap (λ ys. put_before os ys (proper_list (object_at os more))) pushed
+      ∙ put_before-push xs first (proper_list (object_at os more))
+      ∙ ap (λ o. put_before os xs (proper_list o)) (sym is)
+      ∙ same
+
+  pub members-end : (list : Object) (xs : List ℕ) (rest : ℕ) → put_before os xs (proper_list (object_at os rest)) ≡ list → is_pair (object_at os rest) ≡ false → list_object os xs ≡ list
+  members-end list xs rest same end = sym (put_before-NIL xs) ∙ ap (put_before os xs) (sym (no_members (object_at os rest) end)) ∙ same
+
+  -- ---- numbers in place of proofs
+
+  numbers_object-map : (qs : List Object) (xs : List ℕ) → numbers_object (map (λ x. number_among qs (object_at os x)) xs) ≡ numbers_among qs (list_object os xs)
+  numbers_object-map qs [] = refl
+  numbers_object-map qs (x ∷ xs) = ap (Pair (Natural (number_among qs (object_at os x)))) (numbers_object-map qs xs)
+
+  -- the numbers of the members of a list, among the proofs that the members are made of
+  pub numbers_are : (ps : Object) (xs numbers : List ℕ) → list_object os xs ≡ proper_list ps → numbers ≡ map (λ x. number_among (distinct_proofs (list_object os xs)) (object_at os x)) xs → numbers_object numbers ≡ numbers_among (distinct_proofs ps) ps
+  numbers_are ps xs numbers listed is =
+      ap numbers_object is
+      ∙ numbers_object-map (distinct_proofs (list_object os xs)) xs
+      ∙ ap (λ o. numbers_among (distinct_proofs o) o) listed
+      ∙ ap (λ qs. numbers_among qs (proper_list ps)) (distinct_proofs-proper ps)
+      ∙ numbers_among-proper (distinct_proofs ps) ps
+
+pub steps-proper : (ps x : Object) (text : List ℕ) → x ≡ proper_list ps → StepsWritten x text → StepsWritten ps text
+steps-proper ps x text is h = subst (λ qs. InOrder (IsStepLine qs) (numbered 1 qs) text) (ap distinct_proofs is ∙ distinct_proofs-proper ps) h
+
+-- the event x on its line, after the steps
+pub written_after : (ps x y : Object) (was steps now : List ℕ) (f : (text : List ℕ) × StepsWritten ps text × (steps ≡ was ++ text)) (l : (text : List ℕ) × (next : ℕ) × IsWritten y 1 text next × (now ≡ steps ++ (text ++ 10 ∷ []))) → was ≡ [] → y ≡ x → WritesFlat ps x now
+written_after ps x y was steps now f l empty same = (
+  f.0,
+  l.0 ++ 10 ∷ [],
+  l.3 ∙ ap (λ u. u ++ (l.0 ++ 10 ∷ [])) (f.2 ∙ ap (λ u. u ++ f.0) empty),
+  f.1,
+  (l.0, l.1, subst (λ z. IsWritten z 1 l.0 l.1) same l.2, refl),
+)

@@ -1,0 +1,2 @@
+pub mod FlatWritten
+pub mod ShortTheorems
