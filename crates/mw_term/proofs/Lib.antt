@@ -9,6 +9,7 @@ pub mod Gathered
 pub mod FormalList
 pub mod Heads
 mod Gathering
+mod HeldBodies
 pub mod TermOccurrences
 mod SameArities
 pub mod CallerLemmas

@@ -1,5 +1,6 @@
 pub mod Tables
 pub mod Parts
 pub mod Occurrences
+pub mod Bodies
 pub mod Marking
 pub mod Packing

@@ -95,8 +95,8 @@ impl Formals {
         Ok(is_closed(heap, &self.symbols, term, &mut work)?)
     }
 
-    /// The same, where each cell that is looked at takes a look from those that are left. The errors are that memory is refused and that
-    /// no look is left.
+    /// The same, where each cell that is looked at and each variable that is tested takes a look from those that are left. The errors are
+    /// that memory is refused and that no look is left.
     pub fn closes_counted(
         &self,
         heap: &Heap,

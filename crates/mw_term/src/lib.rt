@@ -2,6 +2,7 @@
 #![tactic(auto)]
 
 mod arity;
+mod bodies;
 mod cell_mark;
 mod formal_names;
 mod formals;

@@ -6,8 +6,10 @@ ghost use Rattle.mw_model.specs.Values.Primitive.{is_symbol};
 ghost use Rattle.mw_model.specs.Laws.Rules.{is_term_object, is_formula_object};
 ghost use Rattle.mw_heap.specs.Objects.{object_at, IsIn};
 ghost use Rattle.mw_term.specs.Marking.{AreMarks, mark_of_object};
+ghost use Rattle.mw_term.specs.Bodies.{AreBodies};
 
 use crate::Arity;
+use crate::bodies::Bodies;
 use crate::cell_mark::{CellMark, mark_at};
 use crate::head::is_lambda_head;
 use crate::list::{are_more_terms, is_call, is_formula_list, is_lambda_call};
@@ -33,12 +35,15 @@ fn mark_pair(
     marks: &[CellMark],
     first: Ref,
     rest: Ref,
+    bodies: &mut Bodies,
     work: &mut Work,
 ) -> Result<CellMark, Memory>
     requires marked { AreMarks arity.now heap.now.objects marks.now }
     requires first { first < length marks.now }
     requires rest { rest < length marks.now }
-    ensures { IfOk result (λ m. m ≡ mark_of_object arity.now (Pair (object_at heap.now.objects first) (object_at heap.now.objects rest))) }
+    requires bodies { AreBodies heap.now.objects bodies.old.found.entries }
+    ensures mark { IfOk result (λ m. m ≡ mark_of_object arity.now (Pair (object_at heap.now.objects first) (object_at heap.now.objects rest))) }
+    ensures bodies { OnOk result (AreBodies heap.now.objects bodies.new.found.entries) }
 {
     let head = mark_at(marks, first);
     let actuals = mark_at(marks, rest);
@@ -49,7 +54,7 @@ fn mark_pair(
             is_call(heap, arity, first, rest, actuals.is_terms(), work)?,
             is_terms,
             is_formula_list(heap, marks, first, rest),
-            is_lambda_head(heap, marks, first, rest, work)?,
+            is_lambda_head(heap, marks, first, rest, bodies, work)?,
         )),
         View::Pair(_, tail) => Ok(CellMark::no_formula(
             is_lambda_call(heap, head.is_head(), tail, actuals.is_terms(), rest, work)?,
@@ -64,17 +69,20 @@ fn mark_cell(
     arity: &Arity,
     marks: &[CellMark],
     x: Ref,
+    bodies: &mut Bodies,
     work: &mut Work,
 ) -> Result<CellMark, Memory>
     requires within { IsIn heap.now.objects x }
     requires marked { AreMarks arity.now heap.now.objects marks.now }
     requires before { x ≤ length marks.now }
-    ensures { IfOk result (λ m. m ≡ mark_of_object arity.now (object_at heap.now.objects x)) }
+    requires bodies { AreBodies heap.now.objects bodies.old.found.entries }
+    ensures mark { IfOk result (λ m. m ≡ mark_of_object arity.now (object_at heap.now.objects x)) }
+    ensures bodies { OnOk result (AreBodies heap.now.objects bodies.new.found.entries) }
 {
     match heap.view(x) {
         View::Nat(_) => Ok(CellMark::no_formula(false, false)),
         View::Symbol => Ok(mark_symbol(heap, x)),
-        View::Pair(first, rest) => mark_pair(heap, arity, marks, first, rest, work),
+        View::Pair(first, rest) => mark_pair(heap, arity, marks, first, rest, bodies, work),
     }
 }
 
@@ -84,17 +92,20 @@ fn mark_up_to(
     heap: &Heap,
     arity: &Arity,
     end: usize,
+    bodies: &mut Bodies,
     work: &mut Work,
 ) -> Result<(), Memory>
     requires marked { AreMarks arity.now heap.now.objects cells.old.items }
     requires from { length cells.old.items ≤ end }
     requires to { end ≤ length heap.now.objects }
+    requires bodies { AreBodies heap.now.objects bodies.old.found.entries }
     ensures marked { OnOk result (AreMarks arity.now heap.now.objects cells.new.items) }
     ensures length { OnOk result (length cells.new.items ≡ end) }
     ensures kept { take (length cells.old.items) cells.new.items ≡ cells.old.items }
+    ensures bodies { OnOk result (AreBodies heap.now.objects bodies.new.found.entries) }
 {
     for i in cells.len()..end {
-        let mark = mark_cell(heap, arity, cells.as_slice(), heap.nth(i), work)?;
+        let mark = mark_cell(heap, arity, cells.as_slice(), heap.nth(i), bodies, work)?;
         cells.push(mark)?;
     }
     Ok(())
@@ -129,8 +140,10 @@ impl Model for Marks {
     ghost view = { λ m. m.cells.items };
 }
 
-/// The marks of the objects of the heap below a mark. It takes time in proportion to them, and to the size of each distinct head of
-/// a lambda call; where these share so much that it would be more than an allowance, it is answered as out of memory.
+/// The marks of the objects of the heap below a mark. It takes time in proportion to them, to the formals and the variables of each
+/// distinct head of a lambda call, and to the size of each distinct body of one once; a body is walked again only where so many others
+/// came between that its variables were forgotten. Where these share so much that it would be more than an allowance, it is answered as
+/// out of memory.
 pub fn mark_terms(alloc: Global, heap: &Heap, arity: &Arity, below: Mark) -> Result<Marks, Memory>
     requires { below ≤ length heap.now.objects }
     ensures marked { IfOk result (AreMarks arity.now heap.now.objects) }
@@ -192,7 +205,15 @@ impl Marks {
         // each look searches a table, which is as much work as four comparisons
         let looks = looks_for(below.cells() - had) / 4;
         let mut work = Work::new(self.alloc, looks);
-        let done = mark_up_to(&mut self.cells, heap, arity, below.cells(), &mut work);
+        let mut bodies = Bodies::new(self.alloc);
+        let done = mark_up_to(
+            &mut self.cells,
+            heap,
+            arity,
+            below.cells(),
+            &mut bodies,
+            &mut work,
+        );
         if done.is_err() {
             self.cells.truncate(had);
         }

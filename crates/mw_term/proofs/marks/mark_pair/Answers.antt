@@ -6,8 +6,8 @@ use Rattle.mw_term.specs.Marking.{mark_of_object, term_count, formal_count}
 use Rattle.mw_term.proofs.ListMarks.{mark_is, terms_of_pair, mark_of_lambda}
 use Rattle.mw_term.proofs.marks.mark_pair.Goals as goal
 
-pub returns-in_ok-is_lambda_head-in-Symbol : goal.returns-in_ok-is_lambda_head-in-Symbol
-returns-in_ok-is_lambda_head-in-Symbol c =
+pub returns-in_ok-is_lambda_head-in-Symbol-clause-mark : goal.returns-in_ok-is_lambda_head-in-Symbol-clause-mark
+returns-in_ok-is_lambda_head-in-Symbol-clause-mark c =
     let os = c.args.heap.now.objects in
     let A = c.args.arity.now in
     let a = object_at os c.args.first in
@@ -19,10 +19,10 @@ returns-in_ok-is_lambda_head-in-Symbol c =
     c.in_ok-is_call-in-Symbol.ensures
     (c.are_more_terms-is_terms.ensures ∙ terms_of_pair A a r _ _ head actuals)
     (c.is_formula_list.ensures A c.requires.marked)
-    (c.in_ok-is_lambda_head-in-Symbol.ensures A c.requires.marked)
+    (c.in_ok-is_lambda_head-in-Symbol.ensures.head A c.requires.marked)
 
-pub returns-in_ok-is_lambda_call-in-Pair : goal.returns-in_ok-is_lambda_call-in-Pair
-returns-in_ok-is_lambda_call-in-Pair c =
+pub returns-in_ok-is_lambda_call-in-Pair-clause-mark : goal.returns-in_ok-is_lambda_call-in-Pair-clause-mark
+returns-in_ok-is_lambda_call-in-Pair-clause-mark c =
     let os = c.args.heap.now.objects in
     let A = c.args.arity.now in
     let a = object_at os c.args.first in
