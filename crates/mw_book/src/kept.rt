@@ -17,7 +17,7 @@ fn write_kept(lines: &mut Vec<u8>, slicer: &Slicer, places: &[u64]) -> Result<()
     ensures { OnOk result ((body : List ℕ) × InOrder IsDatumLine (map (event_at (events_of slicer.now)) places.now) body × (lines.new.items ≡ lines.old.items ++ body)) }
 {
     for &place in places {
-        write_line(lines, slicer.heap(), slicer.event(place))?;
+        write_line(lines, slicer.heap(place), slicer.event(place))?;
     }
     Ok(())
 }

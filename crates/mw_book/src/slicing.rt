@@ -47,7 +47,7 @@ impl Slicing {
     {
         Ok(Slicing {
             kernel: Kernel::new(alloc, steps)?,
-            slicer: Slicer::new(alloc)?,
+            slicer: Slicer::new(alloc),
             name,
             events: 0,
             lines: Vec::new(alloc),

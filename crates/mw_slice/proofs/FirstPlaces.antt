@@ -1,15 +1,16 @@
 -- The first place of a list that passes a test, as the list grows at its end.
-use Rattle.std.proofs.Common.{◌≡◌, ℕ, zero, suc, ◌+◌, ◌<◌, ◌≤◌, Bool, true, false, ◌&&◌, ◌||◌, cond, List, [], ◌∷◌, ◌++◌, length, take, drop, get_or, All, Option, Some, None, is_some, refl, sym, ap, ap₂, ◌∙◌, subst, arith}
+use Rattle.std.proofs.Common.{◌≡◌, ℕ, zero, suc, ◌+◌, ◌<◌, ◌≤◌, Bool, true, false, ◌&&◌, ◌||◌, cond, List, [], ◌∷◌, ◌++◌, length, take, drop, get_or, All, Contains, Option, Some, None, is_some, refl, sym, ap, ap₂, ◌∙◌, subst, arith}
 use Rattle.std.specs.Map.{keys_of}
-use Rattle.std.proofs.lemmas.List.Elements.{All-append, All-cons, All-nil}
+use Rattle.std.proofs.lemmas.List.Elements.{All-append, All-cons, All-nil, All-head, All-tail}
 use Rattle.mw_model.specs.Terms.Object.{Object, same_object, third_of}
-use Rattle.mw_model.specs.Commands.Slice.{begins_with, later_place, first_place, some_passes}
+use Rattle.mw_model.specs.Commands.Slice.{begins_with, event_at, later_place, first_place, some_passes, theorems_named}
 use Rattle.mw_model.proofs.Names.{same_object-eq}
 use Rattle.mw_model.proofs.SameObject.{same_object-swap}
 use Rattle.mw_heap.specs.Objects.{object_at, IsIn}
 use Rattle.mw_slice.specs.declared.added.Added.{Added}
-use Rattle.mw_slice.specs.Events.{objects_of}
-use Rattle.mw_slice.specs.Firsts.{AreFirsts, proves, first_or, first_by}
+use Rattle.mw_slice.specs.Heaps.{heap_of, IsPlaced, object_in}
+use Rattle.mw_slice.specs.Events.{AreIn, objects_of}
+use Rattle.mw_slice.specs.Firsts.{AreFirsts, IsIndex, NamesNone, proves, first_or, first_by}
 
 first_or-none : (o : Option ℕ) → first_or o None ≡ o
 first_or-none None = refl
@@ -100,21 +101,21 @@ firsts-push os firsts new f i e all within =
 -- ---- the events so far
 
 -- those before a place, with the one there
-pub objects_of-next : (os : List Object) (added : List Added) (i : ℕ) (d : Added) → i < length added → objects_of os (take (suc i) added) ≡ objects_of os (take i added) ++ object_at os (get_or added i d).event ∷ []
-objects_of-next os [] i d h = absurd (omega arith)
-objects_of-next os (a ∷ added) zero d h = refl
-objects_of-next os (a ∷ added) (suc i) d h = ap (λ l. object_at os a.event ∷ l) (objects_of-next os added i d (omega arith))
+pub objects_of-next : (hs : List (List Object)) (added : List Added) (i : ℕ) (d : Added) → i < length added → objects_of hs (take (suc i) added) ≡ objects_of hs (take i added) ++ object_in hs (get_or added i d) ∷ []
+objects_of-next hs [] i d h = absurd (omega arith)
+objects_of-next hs (a ∷ added) zero d h = refl
+objects_of-next hs (a ∷ added) (suc i) d h = ap (λ l. object_in hs a ∷ l) (objects_of-next hs added i d (omega arith))
 
-pub objects_of-parts : (os : List Object) (added : List Added) (i : ℕ) (d : Added) → i < length added → objects_of os added ≡ objects_of os (take i added) ++ (object_at os (get_or added i d).event ∷ objects_of os (drop (suc i) added))
-objects_of-parts os [] i d h = absurd (omega arith)
-objects_of-parts os (a ∷ added) zero d h = refl
-objects_of-parts os (a ∷ added) (suc i) d h = ap (λ l. object_at os a.event ∷ l) (objects_of-parts os added i d (omega arith))
+pub objects_of-parts : (hs : List (List Object)) (added : List Added) (i : ℕ) (d : Added) → i < length added → objects_of hs added ≡ objects_of hs (take i added) ++ (object_in hs (get_or added i d) ∷ objects_of hs (drop (suc i) added))
+objects_of-parts hs [] i d h = absurd (omega arith)
+objects_of-parts hs (a ∷ added) zero d h = refl
+objects_of-parts hs (a ∷ added) (suc i) d h = ap (λ l. object_in hs a ∷ l) (objects_of-parts hs added i d (omega arith))
 
-pub length-objects_of : (os : List Object) (added : List Added) (i : ℕ) → i ≤ length added → length (objects_of os (take i added)) ≡ i
-length-objects_of os [] zero h = refl
-length-objects_of os [] (suc i) h = absurd (omega arith)
-length-objects_of os (a ∷ added) zero h = refl
-length-objects_of os (a ∷ added) (suc i) h = ap suc (length-objects_of os added i (omega arith))
+pub length-objects_of : (hs : List (List Object)) (added : List Added) (i : ℕ) → i ≤ length added → length (objects_of hs (take i added)) ≡ i
+length-objects_of hs [] zero h = refl
+length-objects_of hs [] (suc i) h = absurd (omega arith)
+length-objects_of hs (a ∷ added) zero h = refl
+length-objects_of hs (a ∷ added) (suc i) h = ap suc (length-objects_of hs added i (omega arith))
 
 pub none_of : {X : Type 0} (o : Option X) → is_some o ≡ false → o ≡ None
 none_of None h = refl
@@ -124,49 +125,61 @@ pub some_of : {X : Type 0} (o : Option X) → is_some o ≡ true → (x : X) × 
 some_of None h = cc
 some_of (Some x) h = (x, refl)
 
-module _ (os : List Object) (added : List Added) (i : ℕ) (a : Added) (is : a ≡ get_or added i a) (within : i < length added) where
-  pub events-next : objects_of os (take (i + 1) added) ≡ objects_of os (take i added) ++ object_at os a.event ∷ []
+module _ (hs : List (List Object)) (added : List Added) (i : ℕ) (a : Added) (is : a ≡ get_or added i a) (within : i < length added) where
+  pub events-next : objects_of hs (take (i + 1) added) ≡ objects_of hs (take i added) ++ object_in hs a ∷ []
   events-next =
       let one : i + 1 ≡ suc i = omega arith in
-      ap (λ n. objects_of os (take n added)) one ∙ (objects_of-next os added i a within ∙ ap (λ b. objects_of os (take i added) ++ object_at os b.event ∷ []) (sym is))
+      ap (λ n. objects_of hs (take n added)) one ∙ (objects_of-next hs added i a within ∙ ap (λ b. objects_of hs (take i added) ++ object_in hs b ∷ []) (sym is))
 
-  pub events-parts : objects_of os added ≡ objects_of os (take i added) ++ (object_at os a.event ∷ objects_of os (drop (suc i) added))
-  events-parts = objects_of-parts os added i a within ∙ ap (λ b. objects_of os (take i added) ++ (object_at os b.event ∷ objects_of os (drop (suc i) added))) (sym is)
+  pub events-parts : objects_of hs added ≡ objects_of hs (take i added) ++ (object_in hs a ∷ objects_of hs (drop (suc i) added))
+  events-parts = objects_of-parts hs added i a within ∙ ap (λ b. objects_of hs (take i added) ++ (object_in hs b ∷ objects_of hs (drop (suc i) added))) (sym is)
 
-  pub first_place-next : (test : Object → Bool) → first_place test (objects_of os (take (i + 1) added)) ≡ first_or (first_place test (objects_of os (take i added))) (cond (test (object_at os a.event)) (Some i) None)
+  pub first_place-next : (test : Object → Bool) → first_place test (objects_of hs (take (i + 1) added)) ≡ first_or (first_place test (objects_of hs (take i added))) (cond (test (object_in hs a)) (Some i) None)
   first_place-next test =
       ap (first_place test) events-next
-      ∙ (first_place-push test (objects_of os (take i added)) (object_at os a.event)
-      ∙ ap (λ n. first_or (first_place test (objects_of os (take i added))) (cond (test (object_at os a.event)) (Some n) None)) (length-objects_of os added i (omega arith)))
+      ∙ (first_place-push test (objects_of hs (take i added)) (object_in hs a)
+      ∙ ap (λ n. first_or (first_place test (objects_of hs (take i added))) (cond (test (object_in hs a)) (Some n) None)) (length-objects_of hs added i (omega arith)))
 
-  pub some_passes-next : (test : Object → Bool) → some_passes test (objects_of os (take i added)) ≡ false → test (object_at os a.event) ≡ false → some_passes test (objects_of os (take (i + 1) added)) ≡ false
+  pub some_passes-next : (test : Object → Bool) → some_passes test (objects_of hs (take i added)) ≡ false → test (object_in hs a) ≡ false → some_passes test (objects_of hs (take (i + 1) added)) ≡ false
   some_passes-next test before here =
       ap (some_passes test) events-next
-      ∙ (some_passes-append test (objects_of os (take i added)) (object_at os a.event ∷ [])
+      ∙ (some_passes-append test (objects_of hs (take i added)) (object_in hs a ∷ [])
       ∙ ap₂ (λ x y. x || (y || false)) before here)
 
-  pub some_passes-here : (test : Object → Bool) → test (object_at os a.event) ≡ true → some_passes test (objects_of os added) ≡ true
+  pub some_passes-here : (test : Object → Bool) → test (object_in hs a) ≡ true → some_passes test (objects_of hs added) ≡ true
   some_passes-here test here =
       ap (some_passes test) events-parts
-      ∙ (some_passes-append test (objects_of os (take i added)) (object_at os a.event ∷ objects_of os (drop (suc i) added))
-      ∙ (ap (λ b. some_passes test (objects_of os (take i added)) || (b || some_passes test (objects_of os (drop (suc i) added)))) here ∙ or_true (some_passes test (objects_of os (take i added)))))
+      ∙ (some_passes-append test (objects_of hs (take i added)) (object_in hs a ∷ objects_of hs (drop (suc i) added))
+      ∙ (ap (λ b. some_passes test (objects_of hs (take i added)) || (b || some_passes test (objects_of hs (drop (suc i) added)))) here ∙ or_true (some_passes test (objects_of hs (take i added)))))
     where
       or_true : (b : Bool) → (b || true) ≡ true
       or_true true = refl
       or_true false = refl
 
-  pub first_place-none : (test : Object → Bool) → first_place test (objects_of os (take i added)) ≡ None → test (object_at os a.event) ≡ false → first_place test (objects_of os (take (i + 1) added)) ≡ None
+  pub first_place-none : (test : Object → Bool) → first_place test (objects_of hs (take i added)) ≡ None → test (object_in hs a) ≡ false → first_place test (objects_of hs (take (i + 1) added)) ≡ None
   first_place-none test before here = first_place-next test ∙ ap₂ (λ o b. first_or o (cond b (Some i) None)) before here
 
-  pub first_place-found : (test : Object → Bool) → first_place test (objects_of os (take i added)) ≡ None → test (object_at os a.event) ≡ true → first_place test (objects_of os added) ≡ Some i
+  pub first_place-found : (test : Object → Bool) → first_place test (objects_of hs (take i added)) ≡ None → test (object_in hs a) ≡ true → first_place test (objects_of hs added) ≡ Some i
   first_place-found test before here =
       ap (first_place test) events-parts
-      ∙ (first_place-here test (objects_of os (take i added)) (objects_of os (drop (suc i) added)) (object_at os a.event) before here
-      ∙ ap Some (length-objects_of os added i (omega arith)))
+      ∙ (first_place-here test (objects_of hs (take i added)) (objects_of hs (drop (suc i) added)) (object_in hs a) before here
+      ∙ ap Some (length-objects_of hs added i (omega arith)))
+
+-- no event names a theorem
+pub none_named : (os : List Object) (firsts : List (ℕ × ℕ)) (hs : List (List Object)) (added : List Added) → AreIn hs added → ((k : ℕ) → k < length hs → NamesNone (heap_of hs k)) → IsIndex os firsts (objects_of hs added)
+none_named os firsts hs added placed none i c m = absurd (nothing (subst (λ l. Contains l c) (named i added placed) m))
+  where
+    nothing : Contains [] c → ⊥
+    nothing h = absurd (omega (arith, h.1))
+
+    named : (i : ℕ) (added : List Added) → AreIn hs added → theorems_named (event_at (objects_of hs added) i) ≡ []
+    named i [] p = refl
+    named zero (a ∷ added) p = let q = All-head (IsPlaced hs) a added p in none a.heap q.heap a.event q.within
+    named (suc i) (a ∷ added) p = named i added (All-tail (IsPlaced hs) a added p)
 
 -- all of them
-pub events-all : (os : List Object) (added : List Added) (i : ℕ) → length added ≤ i → objects_of os (take i added) ≡ objects_of os added
-events-all os [] zero h = refl
-events-all os [] (suc i) h = refl
-events-all os (a ∷ added) zero h = absurd (omega arith)
-events-all os (a ∷ added) (suc i) h = ap (λ l. object_at os a.event ∷ l) (events-all os added i (omega arith))
+pub events-all : (hs : List (List Object)) (added : List Added) (i : ℕ) → length added ≤ i → objects_of hs (take i added) ≡ objects_of hs added
+events-all hs [] zero h = refl
+events-all hs [] (suc i) h = refl
+events-all hs (a ∷ added) zero h = absurd (omega arith)
+events-all hs (a ∷ added) (suc i) h = ap (λ l. object_in hs a ∷ l) (events-all hs added i (omega arith))

@@ -1,23 +1,25 @@
 -- From the last place down: an event is kept where it is the goal, sets the second profile, or is what those kept ask for.
-use Rattle.std.proofs.Common.{◌≡◌, ℕ, zero, suc, ◌-◌, ◌<◌, ◌≤◌, Bool, true, false, ◌&&◌, ◌||◌, not, cond, eqb, ltb, List, [], ◌∷◌, ◌++◌, length, reverse, take, drop, get_or, refl, sym, ap, ap₂, ◌∙◌, inl, inr, subst, arith, eqb-true, eq-eqb}
+use Rattle.std.proofs.Common.{◌≡◌, ℕ, zero, suc, ◌-◌, ◌<◌, ◌≤◌, Bool, true, false, ◌&&◌, ◌||◌, not, cond, eqb, ltb, List, [], ◌∷◌, ◌++◌, length, reverse, take, drop, get_or, Contains, refl, sym, ap, ap₂, ◌∙◌, inl, inr, subst, arith, eqb-true, eq-eqb}
 use Rattle.std.proofs.lemmas.Bool.{or_cases, or_left, or_right, lt-ltb, eqb-false}
 use Rattle.std.proofs.lemmas.List.{reverse-append, length-reverse}
 use Rattle.std.proofs.Math.Seq.{take-append_seam}
 use Rattle.mw_model.specs.Terms.Object.{Object}
 use Rattle.mw_model.specs.Commands.Slice.{begins_with, event_at, some_passes, occurs, without_name, names_added, theorems_named, first_proof, is_place, rests_on, sets_profile, is_idle}
 use Rattle.mw_model.proofs.SlicePlaces.{is_wanted, changes, collected, places_by, slice_places}
-use Rattle.mw_heap.specs.Objects.{object_at}
-use Rattle.mw_slice.specs.Firsts.{first_by}
+use Rattle.mw_heap.specs.Objects.{Grows}
+use Rattle.mw_slice.specs.Firsts.{AreFirsts, IsIndex}
 use Rattle.mw_slice.specs.declared.added.Added.{Added}
 use Rattle.mw_slice.specs.declared.basis.Basis.{Basis}
 use Rattle.mw_slice.specs.declared.part.Part.{Part}
+use Rattle.mw_slice.specs.Heaps.{object_in}
 use Rattle.mw_slice.specs.Events.{objects_of}
+use Rattle.mw_slice.proofs.Growing.{some_passes-same, notes_grow, event_asks-grows, basis_grows}
 use Rattle.mw_slice.specs.Supports.{Support, Named, Proved, has, notes, names_place, event_asks, is_asked_for, IsBasis}
 
-pub event_at-objects_of : (os : List Object) (added : List Added) (i : ℕ) (d : Added) → i < length added → event_at (objects_of os added) i ≡ object_at os (get_or added i d).event
-event_at-objects_of os [] i d h = absurd (omega arith)
-event_at-objects_of os (a ∷ added) zero d h = refl
-event_at-objects_of os (a ∷ added) (suc i) d h = event_at-objects_of os added i d (omega arith)
+pub event_at-objects_of : (hs : List (List Object)) (added : List Added) (i : ℕ) (d : Added) → i < length added → event_at (objects_of hs added) i ≡ object_in hs (get_or added i d)
+event_at-objects_of hs [] i d h = absurd (omega arith)
+event_at-objects_of hs (a ∷ added) zero d h = refl
+event_at-objects_of hs (a ∷ added) (suc i) d h = event_at-objects_of hs added i d (omega arith)
 
 -- ---- one place after another
 
@@ -50,9 +52,10 @@ module _ (es : List Object) (n : ℕ) (some : 0 < n) (places new : List ℕ) (wh
 
 -- ---- what passes among several
 
-some_passes-same : {X : Type 0} (f g : X → Bool) → ((x : X) → f x ≡ g x) → (xs : List X) → some_passes f xs ≡ some_passes g xs
-some_passes-same f g h [] = refl
-some_passes-same f g h (x ∷ xs) = ap₂ (λ a b. a || b) (h x) (some_passes-same f g h xs)
+-- tests that agree on the members
+some_passes-among : {X : Type 0} (f g : X → Bool) (xs : List X) → ((x : X) → Contains xs x → f x ≡ g x) → some_passes f xs ≡ some_passes g xs
+some_passes-among f g [] h = refl
+some_passes-among f g (x ∷ xs) h = ap₂ (λ a b. a || b) (h x (0, omega arith, refl)) (some_passes-among f g xs (λ y m. h y (suc m.0, omega (arith, m.1), m.2)))
 
 or_regroup : (a b c d : Bool) → ((a || b) || (c || d)) ≡ ((a || c) || (b || d))
 or_regroup true b c d = refl
@@ -103,7 +106,7 @@ module _ (os : List Object) (firsts : List (ℕ × ℕ)) (es : List Object) (goa
     collects = ap (λ m. collected (is_wanted es goal) m []) e;
   })
 
-  module _ (right : (c : Object) → first_by os firsts c ≡ first_proof es c) (j : ℕ) (above : List ℕ) (basis : Basis) (later : (i : ℕ) → some_passes (λ k. eqb k i) above ≡ true → j < i) (asked : (s : Support) → notes os basis s ≡ some_passes (λ i. event_asks os firsts s (event_at es i)) above) where
+  module _ (right : IsIndex os firsts es) (j : ℕ) (above : List ℕ) (basis : Basis) (later : (i : ℕ) → some_passes (λ k. eqb k i) above ≡ true → j < i) (asked : (s : Support) → notes os basis s ≡ some_passes (λ i. event_asks os firsts s (event_at es i)) above) where
     named : some_passes (λ i. some_passes (λ f. occurs f (without_name (event_at es i))) (names_added (event_at es j))) above ≡ some_passes (λ f. notes os basis (Named f)) (names_added (event_at es j))
     named =
         some_passes-swap (λ i f. occurs f (without_name (event_at es i))) above (names_added (event_at es j))
@@ -112,7 +115,7 @@ module _ (os : List Object) (firsts : List (ℕ × ℕ)) (es : List Object) (goa
     proved : some_passes (λ i. some_passes (λ c. is_place (first_proof es c) j) (theorems_named (event_at es i))) above ≡ notes os basis (Proved j)
     proved =
         some_passes-same (λ i. some_passes (λ c. is_place (first_proof es c) j) (theorems_named (event_at es i))) (λ i. event_asks os firsts (Proved j) (event_at es i))
-        (λ i. some_passes-same (λ c. is_place (first_proof es c) j) (names_place os firsts j) (λ c. ap (λ o. is_place o j) (sym (right c))) (theorems_named (event_at es i))) above
+        (λ i. some_passes-among (λ c. is_place (first_proof es c) j) (names_place os firsts j) (theorems_named (event_at es i)) (λ c m. ap (λ o. is_place o j) (sym (right i c m)))) above
         ∙ sym (asked (Proved j))
 
     rested_on : some_passes (λ i. rests_on es i j) above ≡ (some_passes (λ f. notes os basis (Named f)) (names_added (event_at es j)) || notes os basis (Proved j))
@@ -136,7 +139,7 @@ module _ (os : List Object) (firsts : List (ℕ × ℕ)) (es : List Object) (goa
             let m : j < goal = grind (arith, eqb-false j goal e) in
             ap₂ (λ a b. (a && sets_profile 2 (event_at es j)) || b) (lt-ltb j goal m) rested_on
 
-  module _ (right : (c : Object) → first_by os firsts c ≡ first_proof es c) (n : ℕ) (places new : List ℕ) (basis more : Basis) (some : 0 < n) (bounded : n ≤ suc goal) (k : IsKeeping n places basis)
+  module _ (right : IsIndex os firsts es) (n : ℕ) (places new : List ℕ) (basis more : Basis) (some : 0 < n) (bounded : n ≤ suc goal) (k : IsKeeping n places basis)
       (e : Object) (is : event_at es (n - 1) ≡ e) (is_basis : IsBasis os firsts more)
       (supports : (s : Support) → notes os more s ≡ cond (is_asked_for os basis goal e (n - 1)) (notes os basis s || event_asks os firsts s e) (notes os basis s))
       (pushed : new ≡ cond (is_asked_for os basis goal e (n - 1)) (places ++ (n - 1) ∷ []) places) where
@@ -170,6 +173,17 @@ module _ (os : List Object) (firsts : List (ℕ × ℕ)) (es : List Object) (goa
           collects = place_passed (is_wanted es goal) n some places (collected (is_wanted es goal) (suc goal) []) k.collects (wanted ∙ b);
         })
 
+-- the same in a heap that has grown
+pub keeping_grows : (os new : List Object) (firsts : List (ℕ × ℕ)) (es : List Object) (goal n : ℕ) (places : List ℕ) (basis : Basis) → Grows os new → AreFirsts os firsts → IsKeeping os firsts es goal n places basis → IsKeeping new firsts es goal n places basis
+keeping_grows os new firsts es goal n places basis grows all k = record {
+  later = k.later;
+  is_basis = basis_grows os new grows firsts all basis k.is_basis;
+  asked = λ s.
+      notes_grow os new grows basis k.is_basis.inside s
+      ∙ (k.asked s ∙ some_passes-same (λ i. event_asks os firsts s (event_at es i)) (λ i. event_asks new firsts s (event_at es i)) (λ i. sym (event_asks-grows os new grows firsts all s (event_at es i))) (reverse places));
+  collects = k.collects;
+}
+
 -- ---- the places in order
 
 pub whole_reversed : (xs ys : List ℕ) (n : ℕ) → n ≡ length xs → ys ≡ reverse xs → take n (ys ++ drop (length ys) xs) ≡ reverse xs
@@ -177,12 +191,12 @@ whole_reversed xs ys n e f =
     let same : n ≡ length ys = e ∙ (sym (length-reverse xs) ∙ ap length (sym f)) in
     ap (λ k. take k (ys ++ drop (length ys) xs)) same ∙ (take-append_seam ys (drop (length ys) xs) ∙ f)
 
-take-objects_of : (os : List Object) (added : List Added) (n : ℕ) → objects_of os (take n added) ≡ take n (objects_of os added)
-take-objects_of os [] zero = refl
-take-objects_of os [] (suc n) = refl
-take-objects_of os (a ∷ added) zero = refl
-take-objects_of os (a ∷ added) (suc n) = ap (λ l. object_at os a.event ∷ l) (take-objects_of os added n)
+take-objects_of : (hs : List (List Object)) (added : List Added) (n : ℕ) → objects_of hs (take n added) ≡ take n (objects_of hs added)
+take-objects_of hs [] zero = refl
+take-objects_of hs [] (suc n) = refl
+take-objects_of hs (a ∷ added) zero = refl
+take-objects_of hs (a ∷ added) (suc n) = ap (λ l. object_in hs a ∷ l) (take-objects_of hs added n)
 
 -- the slice, once it is known whether a switch comes before the goal
-pub slice_by : (os : List Object) (added : List Added) (goal : ℕ) (b : Bool) → b ≡ some_passes (begins_with "SWITCH") (objects_of os (take goal added)) → places_by (objects_of os added) goal b ≡ slice_places (objects_of os added) goal
-slice_by os added goal b switched = ap (places_by (objects_of os added) goal) (switched ∙ ap (some_passes (begins_with "SWITCH")) (take-objects_of os added goal))
+pub slice_by : (hs : List (List Object)) (added : List Added) (goal : ℕ) (b : Bool) → b ≡ some_passes (begins_with "SWITCH") (objects_of hs (take goal added)) → places_by (objects_of hs added) goal b ≡ slice_places (objects_of hs added) goal
+slice_by hs added goal b switched = ap (places_by (objects_of hs added) goal) (switched ∙ ap (some_passes (begins_with "SWITCH")) (take-objects_of hs added goal))

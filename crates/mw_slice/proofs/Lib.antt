@@ -3,7 +3,10 @@ mod CopiedParts
 mod Entering
 mod EventMembers
 mod FirstPlaces
+mod Growing
 mod InOrder
+mod NoTheorems
+mod OneHeap
 mod Keeping
 mod Noted
 mod Walking

@@ -7,7 +7,7 @@ use Rattle.mw_slice.specs.declared.copies.Note.{Note}
 use Rattle.mw_slice.specs.Copies.{noted_in, noted, copy_of}
 
 -- past the end there is none
-past_end : {X : Type 0} (xs : List X) (i : ℕ) (d : X) → length xs ≤ i → get_or xs i d ≡ d
+pub past_end : {X : Type 0} (xs : List X) (i : ℕ) (d : X) → length xs ≤ i → get_or xs i d ≡ d
 past_end [] i d h = refl
 past_end (x ∷ xs) zero d h = absurd (omega (arith, h))
 past_end (x ∷ xs) (suc i) d h = past_end xs i d (omega (arith, h))

@@ -1,6 +1,7 @@
 pub mod Copies
 pub mod Events
 pub mod Firsts
+pub mod Heaps
 pub mod Parts
 pub mod Picked
 pub mod Slices

@@ -1,7 +1,9 @@
 //! Copies of objects of another heap.
-ghost use Rattle.std.specs.Prelude.{◌≡◌, ℕ, Some, [], ◌∷◌, ◌++◌, IfOk, OnOk};
+ghost use Rattle.std.specs.Prelude.{◌≡◌, ℕ, Some, [], ◌∷◌, ◌++◌, IfOk, OnOk, OnErr};
 ghost use Rattle.mw_model.specs.Terms.Object.{Pair};
 ghost use Rattle.mw_heap.specs.Objects.{object_at, IsIn, Grows};
+ghost use Rattle.mw_heap.specs.Parts.{part_at, IsPart};
+ghost use Rattle.mw_slice.specs.Slices.{IsNil};
 ghost use Rattle.mw_slice.specs.Copies.{AreCopies, IsCopied, CanBeDone, IsDone, copy_of};
 ghost use Rattle.mw_slice.specs.declared.copying.Job.TheVariants.{Copy, Join};
 
@@ -150,4 +152,43 @@ pub fn copy(from: &Heap, x: Ref, to: &mut Heap, copies: &mut Copies) -> Result<R
         work(from, to, copies, &mut jobs, job)?;
     }
     Ok(copy_of(copies, x))
+}
+
+/// The same, where the heap is as it was once memory is refused.
+pub(crate) fn copy_or_cut(
+    from: &Heap,
+    x: Ref,
+    to: &mut Heap,
+    copies: &mut Copies,
+) -> Result<Ref, Memory>
+    requires { IsIn from.now.objects x }
+    ensures grows { Grows to.old.objects to.new.objects }
+    ensures made { IfOk result (λ r. IsIn to.new.objects r × (object_at to.new.objects r ≡ object_at from.now.objects x)) }
+    ensures err { OnErr result (to.new.objects ≡ to.old.objects) }
+{
+    let start = to.mark();
+    let made = copy(from, x, to, copies);
+    if made.is_err() {
+        to.cut_back(start);
+    }
+    made
+}
+
+/// The copy of a part of an object of another heap, and NIL where it is missing. It costs what `copy` does.
+pub(crate) fn copy_part(
+    from: &Heap,
+    part: Option<Ref>,
+    to: &mut Heap,
+    nil: Ref,
+    copies: &mut Copies,
+) -> Result<Ref, Memory>
+    requires within { IsPart from.now.objects part }
+    requires nil { IsNil to.old.objects nil }
+    ensures grows { Grows to.old.objects to.new.objects }
+    ensures made { IfOk result (λ r. IsIn to.new.objects r × (object_at to.new.objects r ≡ part_at from.now.objects part)) }
+{
+    match part {
+        Some(x) => copy(from, x, to, copies),
+        None => Ok(nil),
+    }
 }

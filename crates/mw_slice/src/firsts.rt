@@ -1,14 +1,17 @@
 //! Where formulas are first proved.
-ghost use Rattle.std.specs.Prelude.{◌≡◌, cond, Some, None, IfOk, OnOk};
+ghost use Rattle.std.specs.Prelude.{◌≡◌, ℕ, ◌<◌, false, length, cond, Some, None, IfOk, OnOk};
 ghost use Rattle.mw_model.specs.Terms.Object.{Object};
 ghost use Rattle.mw_model.specs.Commands.Slice.{first_proof};
-ghost use Rattle.mw_heap.specs.Objects.{object_at, IsIn};
+ghost use Rattle.mw_heap.specs.Objects.{object_at, IsIn, Grows};
 ghost use Rattle.mw_slice.specs.Events.{AreIn, objects_of};
-ghost use Rattle.mw_slice.specs.Firsts.{AreFirsts, proves, first_or, first_by};
+ghost use Rattle.mw_slice.specs.Firsts.{AreFirsts, IsIndex, NamesNone, proves, first_or, first_by};
+ghost use Rattle.mw_slice.specs.Heaps.{heap_of};
 ghost use Rattle.mw_slice.specs.Slices.{IsNil};
 
+use crate::Copies;
 use crate::added::Added;
-use crate::nil::or_nil;
+use crate::copying::copy_part;
+use crate::heaps::Heaps;
 use indexmap::IndexMap;
 use mw_heap::{Heap, Memory, Ref, Word};
 
@@ -22,45 +25,106 @@ pub(crate) fn place_of(heap: &Heap, firsts: &IndexMap<Ref, u64>, formula: Ref) -
     firsts.get(&formula).copied()
 }
 
-// Notes the place of an event, if it is the first to prove its formula.
+// Notes the place of an event, if it is the first to prove its formula. That is copied to the heap `to`.
 fn note_first(
-    heap: &Heap,
-    nil: Ref,
+    from: &Heap,
     event: Ref,
     place: u64,
+    to: &mut Heap,
+    nil: Ref,
+    copies: &mut Copies,
     firsts: &mut IndexMap<Ref, u64>,
 ) -> Result<(), Memory>
-    requires within { IsIn heap.now.objects event }
-    requires nil { IsNil heap.now.objects nil }
-    requires firsts { AreFirsts heap.now.objects firsts.old.entries }
-    ensures firsts { OnOk result (AreFirsts heap.now.objects firsts.new.entries) }
-    ensures noted { OnOk result ((c : Object) → first_by heap.now.objects firsts.new.entries c ≡ first_or (first_by heap.now.objects firsts.old.entries c) (cond (proves c (object_at heap.now.objects event)) (Some place) None)) }
+    requires within { IsIn from.now.objects event }
+    requires nil { IsNil to.old.objects nil }
+    requires firsts { AreFirsts to.old.objects firsts.old.entries }
+    ensures grows { Grows to.old.objects to.new.objects }
+    ensures firsts { OnOk result (AreFirsts to.new.objects firsts.new.entries) }
+    ensures noted { OnOk result ((c : Object) → first_by to.new.objects firsts.new.entries c ≡ first_or (first_by to.old.objects firsts.old.entries c) (cond (proves c (object_at from.now.objects event)) (Some place) None)) }
 {
-    if !heap.is_headed(event, Word::Verify) {
+    if !from.is_headed(event, Word::Verify) {
         return Ok(());
     }
-    heap.order();
-    let formula = or_nil(heap, heap.third_of(event), nil);
-    if place_of(heap, firsts, formula).is_none() {
+    let formula = copy_part(from, from.third_of(event), to, nil, copies)?;
+    to.order();
+    if place_of(to, firsts, formula).is_none() {
         firsts.insert(formula, place)?;
     }
     Ok(())
 }
 
-/// Of each formula the place of the first event that proves it, found in one pass.
-pub(crate) fn first_proofs(
-    heap: &Heap,
-    nil: Ref,
+// Of each formula the place of the first event that proves it, found in one pass. The formulas are copied to the heap `to`.
+fn first_proofs(
+    heaps: &Heaps,
     added: &[Added],
+    to: &mut Heap,
+    nil: Ref,
+    copies: &mut Copies,
 ) -> Result<IndexMap<Ref, u64>, Memory>
-    requires within { AreIn heap.now.objects added.now }
-    requires nil { IsNil heap.now.objects nil }
-    ensures firsts { IfOk result (λ f. AreFirsts heap.now.objects f.entries) }
-    ensures all { IfOk result (λ f. (c : Object) → first_by heap.now.objects f.entries c ≡ first_proof (objects_of heap.now.objects added.now) c) }
+    requires within { AreIn heaps.now added.now }
+    requires nil { IsNil to.old.objects nil }
+    ensures grows { Grows to.old.objects to.new.objects }
+    ensures firsts { IfOk result (λ f. AreFirsts to.new.objects f.entries) }
+    ensures all { IfOk result (λ f. (c : Object) → first_by to.new.objects f.entries c ≡ first_proof (objects_of heaps.now added.now) c) }
 {
-    let mut firsts = IndexMap::new(heap.alloc());
+    let mut firsts = IndexMap::new(to.alloc());
     for (place, event) in added.iter().enumerate() {
-        note_first(heap, nil, event.event, place as u64, &mut firsts)?;
+        let from = heaps.get(event.heap);
+        note_first(
+            from,
+            event.event,
+            place as u64,
+            to,
+            nil,
+            copies,
+            &mut firsts,
+        )?;
     }
     Ok(firsts)
+}
+
+// Whether an object of the heap is headed by the word of the steps that name a theorem: else no proof in it names one.
+fn names_theorem(heap: &Heap) -> bool
+    ensures { result ≡ false → NamesNone heap.now.objects }
+{
+    heap.order();
+    for index in 0..heap.mark().cells() {
+        if heap.is_headed(heap.nth(index), Word::Theorem) {
+            return true;
+        }
+    }
+    false
+}
+
+// Whether one of an event's heaps has such an object.
+fn some_names_theorem(heaps: &Heaps) -> bool
+    ensures { result ≡ false → (k : ℕ) → k < length heaps.now → NamesNone (heap_of heaps.now k) }
+{
+    for place in 0..heaps.len() {
+        if names_theorem(heaps.get(place)) {
+            return true;
+        }
+    }
+    false
+}
+
+/// Of each formula that a step of an event names the place of the first event that proves it. Where no step names one, no formula is
+/// copied.
+pub(crate) fn first_proofs_named(
+    heaps: &Heaps,
+    added: &[Added],
+    to: &mut Heap,
+    nil: Ref,
+    copies: &mut Copies,
+) -> Result<IndexMap<Ref, u64>, Memory>
+    requires within { AreIn heaps.now added.now }
+    requires nil { IsNil to.old.objects nil }
+    ensures grows { Grows to.old.objects to.new.objects }
+    ensures firsts { IfOk result (λ f. AreFirsts to.new.objects f.entries) }
+    ensures index { IfOk result (λ f. IsIndex to.new.objects f.entries (objects_of heaps.now added.now)) }
+{
+    if some_names_theorem(heaps) {
+        return first_proofs(heaps, added, to, nil, copies);
+    }
+    Ok(IndexMap::new(to.alloc()))
 }

@@ -1,4 +1,4 @@
-//! What a theorem rests on: the accepted events of a book, in a heap of their own, and those of them that a theorem needs.
+//! What a theorem rests on: the accepted events of a book, in heaps of their own, and those of them that a theorem needs.
 #![tactic(auto)]
 
 mod added;
@@ -8,6 +8,7 @@ mod copying;
 mod event;
 mod firsts;
 mod gathering;
+mod heaps;
 mod names;
 mod nil;
 mod part;

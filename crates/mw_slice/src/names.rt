@@ -1,41 +1,105 @@
 //! The names that events add.
-ghost use Rattle.std.specs.Prelude.{◌≡◌};
+ghost use Rattle.std.specs.Prelude.{◌≡◌, IfOk};
 ghost use Rattle.mw_model.specs.Commands.Slice.{some_passes, first_members, names_added};
-ghost use Rattle.mw_heap.specs.Objects.{object_at, IsIn};
+ghost use Rattle.mw_heap.specs.Objects.{object_at, IsIn, Grows};
+ghost use Rattle.mw_heap.specs.Parts.{part_at, IsPart};
 ghost use Rattle.mw_slice.specs.Slices.{IsNil};
 ghost use Rattle.mw_slice.specs.Supports.{Named, IsInside, notes};
 
+use crate::Copies;
 use crate::basis::Basis;
-use crate::nil::or_nil;
-use mw_heap::{Heap, Ref, View, Word};
+use crate::copying::copy;
+use mw_heap::{Heap, Memory, Ref, View, Word};
+
+// Whether it is an atom that was met in the heap `to`, where an atom is copied.
+fn is_atom_met(
+    from: &Heap,
+    x: Ref,
+    to: &mut Heap,
+    copies: &mut Copies,
+    basis: &Basis,
+) -> Result<bool, Memory>
+    requires within { IsIn from.now.objects x }
+    requires inside { IsInside to.old.objects basis.now }
+    ensures grows { Grows to.old.objects to.new.objects }
+    ensures met { IfOk result (λ b. b ≡ notes to.new.objects basis.now (Named (object_at from.now.objects x))) }
+{
+    if from.is_pair(Some(x)) {
+        return Ok(false);
+    }
+    let name = copy(from, x, to, copies)?;
+    Ok(basis.has_name(to, name))
+}
+
+// The same of a part, which is NIL where it is missing.
+fn is_met(
+    from: &Heap,
+    part: Option<Ref>,
+    to: &mut Heap,
+    nil: Ref,
+    copies: &mut Copies,
+    basis: &Basis,
+) -> Result<bool, Memory>
+    requires within { IsPart from.now.objects part }
+    requires nil { IsNil to.old.objects nil }
+    requires inside { IsInside to.old.objects basis.now }
+    ensures grows { Grows to.old.objects to.new.objects }
+    ensures met { IfOk result (λ b. b ≡ notes to.new.objects basis.now (Named (part_at from.now.objects part))) }
+{
+    match part {
+        Some(x) => is_atom_met(from, x, to, copies, basis),
+        None => Ok(basis.has_name(to, nil)),
+    }
+}
 
 // Whether a member of the list begins with a name that was met.
-fn begins_with_met(heap: &Heap, nil: Ref, basis: &Basis, list: Ref) -> bool
-    requires within { IsIn heap.now.objects list }
-    requires nil { IsNil heap.now.objects nil }
-    requires inside { IsInside heap.now.objects basis.now }
-    ensures { result ≡ some_passes (λ f. notes heap.now.objects basis.now (Named f)) (first_members (object_at heap.now.objects list)) }
+fn begins_with_met(
+    from: &Heap,
+    list: Ref,
+    to: &mut Heap,
+    nil: Ref,
+    copies: &mut Copies,
+    basis: &Basis,
+) -> Result<bool, Memory>
+    requires within { IsIn from.now.objects list }
+    requires nil { IsNil to.old.objects nil }
+    requires inside { IsInside to.old.objects basis.now }
+    ensures grows { Grows to.old.objects to.new.objects }
+    ensures met { IfOk result (λ b. b ≡ some_passes (λ f. notes to.new.objects basis.now (Named f)) (first_members (object_at from.now.objects list))) }
 {
     let mut list = list;
-    while let View::Pair(member, rest) = heap.view(list) {
-        if basis.has_name(heap, or_nil(heap, heap.car(member), nil)) {
-            return true;
+    while let View::Pair(member, rest) = from.view(list) {
+        if is_met(from, from.car(member), to, nil, copies, basis)? {
+            return Ok(true);
         }
         list = rest;
     }
-    false
+    Ok(false)
 }
 
-/// Whether a name that the event adds was met.
-pub(crate) fn adds_met(heap: &Heap, nil: Ref, basis: &Basis, event: Ref) -> bool
-    requires within { IsIn heap.now.objects event }
-    requires nil { IsNil heap.now.objects nil }
-    requires inside { IsInside heap.now.objects basis.now }
-    ensures { result ≡ some_passes (λ f. notes heap.now.objects basis.now (Named f)) (names_added (object_at heap.now.objects event)) }
+/// Whether a name that the event adds was met in the heap `to`, where these names are copied.
+pub(crate) fn adds_met(
+    from: &Heap,
+    event: Ref,
+    to: &mut Heap,
+    nil: Ref,
+    copies: &mut Copies,
+    basis: &Basis,
+) -> Result<bool, Memory>
+    requires within { IsIn from.now.objects event }
+    requires nil { IsNil to.old.objects nil }
+    requires inside { IsInside to.old.objects basis.now }
+    ensures grows { Grows to.old.objects to.new.objects }
+    ensures met { IfOk result (λ b. b ≡ some_passes (λ f. notes to.new.objects basis.now (Named f)) (names_added (object_at from.now.objects event))) }
 {
-    let second = or_nil(heap, heap.second_of(event), nil);
-    if heap.is_headed(event, Word::Define) || heap.is_headed(event, Word::Skolem) {
-        return basis.has_name(heap, second);
+    if from.is_headed(event, Word::Define) || from.is_headed(event, Word::Skolem) {
+        return is_met(from, from.second_of(event), to, nil, copies, basis);
     }
-    heap.is_headed(event, Word::DefineAll) && begins_with_met(heap, nil, basis, second)
+    if !from.is_headed(event, Word::DefineAll) {
+        return Ok(false);
+    }
+    match from.second_of(event) {
+        Some(list) => begins_with_met(from, list, to, nil, copies, basis),
+        None => Ok(false),
+    }
 }

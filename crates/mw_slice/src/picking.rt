@@ -3,30 +3,33 @@ ghost use Rattle.std.specs.Prelude.{◌≡◌, ℕ, ◌<◌, suc, cond, true, �
 ghost use Rattle.mw_model.specs.Terms.Object.{Object, is_name, name_of_bytes};
 ghost use Rattle.mw_model.specs.Commands.Slice.{begins_with, some_passes, target, first_proof, is_idle, IsSlice};
 ghost use Rattle.mw_model.proofs.SlicePlaces.{is_wanted, changes, collected, slice_places};
-ghost use Rattle.mw_heap.specs.Objects.{object_at, IsIn};
+ghost use Rattle.mw_heap.specs.Objects.{object_at, IsIn, Grows};
 ghost use Rattle.mw_slice.specs.Events.{AreIn, objects_of};
-ghost use Rattle.mw_slice.specs.Firsts.{AreFirsts, first_by};
+ghost use Rattle.mw_slice.specs.Firsts.{AreFirsts, IsIndex};
 ghost use Rattle.mw_slice.specs.Slices.{IsNil};
 ghost use Rattle.mw_slice.specs.Supports.{Support, notes, event_asks, is_asked_for, IsInside, IsBasis};
 
+use crate::Copies;
 use crate::added::Added;
 use crate::basis::Basis;
+use crate::copying::copy;
 use crate::event::{is_idle, is_theorem, sets_profile};
-use crate::firsts::first_proofs;
+use crate::firsts::first_proofs_named;
 use crate::gathering::gather_event;
+use crate::heaps::{Heaps, heap_with_words};
 use crate::names::adds_met;
 use indexmap::IndexMap;
 use mw_heap::{Heap, Memory, Ref, Word};
 
 // The place of the first theorem of this name.
-fn target(heap: &Heap, added: &[Added], name: &[u8]) -> Option<usize>
-    requires within { AreIn heap.now.objects added.now }
+fn target(heaps: &Heaps, added: &[Added], name: &[u8]) -> Option<usize>
+    requires within { AreIn heaps.now added.now }
     requires name { is_name name.now ≡ true }
     ensures within { IfSome result (λ place. place < length added.now) }
-    ensures target { result ≡ target (objects_of heap.now.objects added.now) (name_of_bytes name.now) }
+    ensures target { result ≡ target (objects_of heaps.now added.now) (name_of_bytes name.now) }
 {
     for (place, event) in added.iter().enumerate() {
-        if is_theorem(heap, event.event, name) {
+        if is_theorem(heaps.get(event.heap), event.event, name) {
             return Some(place);
         }
     }
@@ -34,12 +37,12 @@ fn target(heap: &Heap, added: &[Added], name: &[u8]) -> Option<usize>
 }
 
 // Whether one of the events is a switch.
-fn has_switch(heap: &Heap, added: &[Added]) -> bool
-    requires { AreIn heap.now.objects added.now }
-    ensures { result ≡ some_passes (begins_with "SWITCH") (objects_of heap.now.objects added.now) }
+fn has_switch(heaps: &Heaps, added: &[Added]) -> bool
+    requires { AreIn heaps.now added.now }
+    ensures { result ≡ some_passes (begins_with "SWITCH") (objects_of heaps.now added.now) }
 {
     for event in added {
-        if heap.is_headed(event.event, Word::Switch) {
+        if heaps.get(event.heap).is_headed(event.event, Word::Switch) {
             return true;
         }
     }
@@ -58,52 +61,73 @@ fn keep_change(heap: &Heap, event: Ref, place: u64, places: &mut Vec<u64>) -> Re
 }
 
 // Up to the goal, the places from the last one down of the events that change the theory.
-fn changing(heap: &Heap, added: &[Added], goal: usize) -> Result<Vec<u64>, Memory>
-    requires within { AreIn heap.now.objects added.now }
+fn changing(heaps: &Heaps, added: &[Added], goal: usize) -> Result<Vec<u64>, Memory>
+    requires within { AreIn heaps.now added.now }
     requires goal { goal < length added.now }
-    ensures { IfOk result (λ v. reverse v.items ≡ collected (changes (objects_of heap.now.objects added.now)) (suc goal) []) }
+    ensures { IfOk result (λ v. reverse v.items ≡ collected (changes (objects_of heaps.now added.now)) (suc goal) []) }
 {
-    let mut places = Vec::new(heap.alloc());
+    let mut places = Vec::new(heaps.alloc());
     for place in (0..goal + 1).rev() {
-        keep_change(heap, added[place].event, place as u64, &mut places)?;
+        let event = added[place];
+        keep_change(
+            heaps.get(event.heap),
+            event.event,
+            place as u64,
+            &mut places,
+        )?;
     }
     Ok(places)
 }
 
-// Whether the event at a place is the goal, sets the second profile, proves or defines what is asked for.
-fn is_asked_for(heap: &Heap, nil: Ref, basis: &Basis, event: Ref, place: u64, goal: u64) -> bool
-    requires within { IsIn heap.now.objects event }
-    requires nil { IsNil heap.now.objects nil }
-    requires inside { IsInside heap.now.objects basis.now }
-    ensures { result ≡ is_asked_for heap.now.objects basis.now goal (object_at heap.now.objects event) place }
-{
-    place == goal
-        || sets_profile(heap, event, 2)
-        || adds_met(heap, nil, basis, event)
-        || basis.places.contains(&place)
-}
-
-// Keeps an event, if it is asked for.
-fn keep(
-    heap: &Heap,
-    nil: Ref,
-    firsts: &IndexMap<Ref, u64>,
+// Whether the event at a place is the goal, sets the second profile, proves or defines what is asked for. The names that it adds are
+// copied to the heap `to`.
+fn is_asked_for(
+    from: &Heap,
     event: Ref,
     place: u64,
     goal: u64,
+    to: &mut Heap,
+    nil: Ref,
+    copies: &mut Copies,
+    basis: &Basis,
+) -> Result<bool, Memory>
+    requires within { IsIn from.now.objects event }
+    requires nil { IsNil to.old.objects nil }
+    requires inside { IsInside to.old.objects basis.now }
+    ensures grows { Grows to.old.objects to.new.objects }
+    ensures asked { IfOk result (λ b. b ≡ is_asked_for to.new.objects basis.now goal (object_at from.now.objects event) place) }
+{
+    if place == goal || sets_profile(from, event, 2) || basis.places.contains(&place) {
+        return Ok(true);
+    }
+    adds_met(from, event, to, nil, copies, basis)
+}
+
+// Keeps an event, if it is asked for: it is copied to the heap `to`, and what it asks for is gathered there.
+fn keep(
+    from: &Heap,
+    event: Ref,
+    place: u64,
+    goal: u64,
+    to: &mut Heap,
+    nil: Ref,
+    copies: &mut Copies,
+    firsts: &IndexMap<Ref, u64>,
     basis: &mut Basis,
     places: &mut Vec<u64>,
 ) -> Result<(), Memory>
-    requires within { IsIn heap.now.objects event }
-    requires nil { IsNil heap.now.objects nil }
-    requires firsts { AreFirsts heap.now.objects firsts.now.entries }
-    requires basis { IsBasis heap.now.objects firsts.now.entries basis.old }
-    ensures basis { OnOk result (IsBasis heap.now.objects firsts.now.entries basis.new) }
-    ensures supports { OnOk result ((s : Support) → notes heap.now.objects basis.new s ≡ cond (is_asked_for heap.now.objects basis.old goal (object_at heap.now.objects event) place) (notes heap.now.objects basis.old s || event_asks heap.now.objects firsts.now.entries s (object_at heap.now.objects event)) (notes heap.now.objects basis.old s)) }
-    ensures places { OnOk result (places.new.items ≡ cond (is_asked_for heap.now.objects basis.old goal (object_at heap.now.objects event) place) (places.old.items ++ place ∷ []) places.old.items) }
+    requires within { IsIn from.now.objects event }
+    requires nil { IsNil to.old.objects nil }
+    requires firsts { AreFirsts to.old.objects firsts.now.entries }
+    requires basis { IsBasis to.old.objects firsts.now.entries basis.old }
+    ensures grows { Grows to.old.objects to.new.objects }
+    ensures basis { OnOk result (IsBasis to.new.objects firsts.now.entries basis.new) }
+    ensures supports { OnOk result ((s : Support) → notes to.new.objects basis.new s ≡ cond (is_asked_for to.new.objects basis.old goal (object_at from.now.objects event) place) (notes to.new.objects basis.old s || event_asks to.new.objects firsts.now.entries s (object_at from.now.objects event)) (notes to.new.objects basis.old s)) }
+    ensures places { OnOk result (places.new.items ≡ cond (is_asked_for to.new.objects basis.old goal (object_at from.now.objects event) place) (places.old.items ++ place ∷ []) places.old.items) }
 {
-    if is_asked_for(heap, nil, basis, event, place, goal) {
-        gather_event(heap, nil, firsts, event, basis)?;
+    if is_asked_for(from, event, place, goal, to, nil, copies, basis)? {
+        let kept = copy(from, event, to, copies)?;
+        gather_event(to, nil, firsts, kept, basis)?;
         places.push(place)?;
     }
     Ok(())
@@ -111,30 +135,34 @@ fn keep(
 
 // Up to the goal, the places from the last one down of the events that it rests on, over the places where formulas are first proved.
 fn needed_over(
-    heap: &Heap,
-    nil: Ref,
-    firsts: &IndexMap<Ref, u64>,
+    heaps: &Heaps,
     added: &[Added],
     goal: usize,
+    to: &mut Heap,
+    nil: Ref,
+    copies: &mut Copies,
+    firsts: &IndexMap<Ref, u64>,
 ) -> Result<Vec<u64>, Memory>
-    requires within { AreIn heap.now.objects added.now }
-    requires nil { IsNil heap.now.objects nil }
-    requires firsts { AreFirsts heap.now.objects firsts.now.entries }
-    requires all { (c : Object) → first_by heap.now.objects firsts.now.entries c ≡ first_proof (objects_of heap.now.objects added.now) c }
+    requires within { AreIn heaps.now added.now }
+    requires nil { IsNil to.old.objects nil }
+    requires firsts { AreFirsts to.old.objects firsts.now.entries }
+    requires index { IsIndex to.old.objects firsts.now.entries (objects_of heaps.now added.now) }
     requires goal { goal < length added.now }
-    ensures { IfOk result (λ v. reverse v.items ≡ collected (is_wanted (objects_of heap.now.objects added.now) goal) (suc goal) []) }
+    ensures { IfOk result (λ v. reverse v.items ≡ collected (is_wanted (objects_of heaps.now added.now) goal) (suc goal) []) }
 {
-    let mut basis = Basis::new(heap.alloc());
-    let mut places = Vec::new(heap.alloc());
+    let mut basis = Basis::new(heaps.alloc());
+    let mut places = Vec::new(heaps.alloc());
     for place in (0..goal + 1).rev() {
-        let event = added[place].event;
+        let event = added[place];
         keep(
-            heap,
-            nil,
-            firsts,
-            event,
+            heaps.get(event.heap),
+            event.event,
             place as u64,
             goal as u64,
+            to,
+            nil,
+            copies,
+            firsts,
             &mut basis,
             &mut places,
         )?;
@@ -142,15 +170,26 @@ fn needed_over(
     Ok(places)
 }
 
-// Up to the goal, the places from the last one down of the events that it rests on.
-fn needed(heap: &Heap, nil: Ref, added: &[Added], goal: usize) -> Result<Vec<u64>, Memory>
-    requires within { AreIn heap.now.objects added.now }
-    requires nil { IsNil heap.now.objects nil }
+// The same, where formulas and the events that are kept are copied to the heap `to`.
+fn needed_in(heaps: &Heaps, added: &[Added], goal: usize, to: &mut Heap) -> Result<Vec<u64>, Memory>
+    requires within { AreIn heaps.now added.now }
     requires goal { goal < length added.now }
-    ensures { IfOk result (λ v. reverse v.items ≡ collected (is_wanted (objects_of heap.now.objects added.now) goal) (suc goal) []) }
+    ensures { IfOk result (λ v. reverse v.items ≡ collected (is_wanted (objects_of heaps.now added.now) goal) (suc goal) []) }
 {
-    let firsts = first_proofs(heap, nil, added)?;
-    needed_over(heap, nil, &firsts, added, goal)
+    let nil = to.nil()?;
+    let mut copies = Copies::new(heaps.alloc());
+    let firsts = first_proofs_named(heaps, added, to, nil, &mut copies)?;
+    needed_over(heaps, added, goal, to, nil, &mut copies, &firsts)
+}
+
+// Up to the goal, the places from the last one down of the events that it rests on.
+fn needed(heaps: &Heaps, added: &[Added], goal: usize) -> Result<Vec<u64>, Memory>
+    requires within { AreIn heaps.now added.now }
+    requires goal { goal < length added.now }
+    ensures { IfOk result (λ v. reverse v.items ≡ collected (is_wanted (objects_of heaps.now added.now) goal) (suc goal) []) }
+{
+    let mut to = heap_with_words(heaps.alloc())?;
+    needed_in(heaps, added, goal, &mut to)
 }
 
 // The places in the other order.
@@ -163,32 +202,25 @@ fn reversed(places: Vec<u64>) -> Vec<u64>
 }
 
 // The places of the slice for a goal.
-fn slice(heap: &Heap, nil: Ref, added: &[Added], goal: usize) -> Result<Vec<u64>, Memory>
-    requires within { AreIn heap.now.objects added.now }
-    requires nil { IsNil heap.now.objects nil }
+fn slice(heaps: &Heaps, added: &[Added], goal: usize) -> Result<Vec<u64>, Memory>
+    requires within { AreIn heaps.now added.now }
     requires goal { goal < length added.now }
-    ensures { IfOk result (λ v. v.items ≡ slice_places (objects_of heap.now.objects added.now) goal) }
+    ensures { IfOk result (λ v. v.items ≡ slice_places (objects_of heaps.now added.now) goal) }
 {
-    if has_switch(heap, &added[..goal]) {
-        return Ok(reversed(changing(heap, added, goal)?));
+    if has_switch(heaps, &added[..goal]) {
+        return Ok(reversed(changing(heaps, added, goal)?));
     }
-    Ok(reversed(needed(heap, nil, added, goal)?))
+    Ok(reversed(needed(heaps, added, goal)?))
 }
 
 /// The places of the slice for the first theorem of this name; nothing where there is none.
-pub(crate) fn pick(
-    heap: &Heap,
-    nil: Ref,
-    added: &[Added],
-    name: &[u8],
-) -> Result<Option<Vec<u64>>, Memory>
-    requires within { AreIn heap.now.objects added.now }
-    requires nil { IsNil heap.now.objects nil }
+pub(crate) fn pick(heaps: &Heaps, added: &[Added], name: &[u8]) -> Result<Option<Vec<u64>>, Memory>
+    requires within { AreIn heaps.now added.now }
     requires name { is_name name.now ≡ true }
-    ensures { IfOk result (λ places. MatchOption places (target (objects_of heap.now.objects added.now) (name_of_bytes name.now) ≡ None) (λ v. (goal : ℕ) × (target (objects_of heap.now.objects added.now) (name_of_bytes name.now) ≡ Some goal) × IsSlice (objects_of heap.now.objects added.now) goal v.items)) }
+    ensures { IfOk result (λ places. MatchOption places (target (objects_of heaps.now added.now) (name_of_bytes name.now) ≡ None) (λ v. (goal : ℕ) × (target (objects_of heaps.now added.now) (name_of_bytes name.now) ≡ Some goal) × IsSlice (objects_of heaps.now added.now) goal v.items)) }
 {
-    match target(heap, added, name) {
-        Some(goal) => Ok(Some(slice(heap, nil, added, goal)?)),
+    match target(heaps, added, name) {
+        Some(goal) => Ok(Some(slice(heaps, added, goal)?)),
         None => Ok(None),
     }
 }

@@ -61,7 +61,7 @@ fn picks(slicer: &Slicer, name: &[u8], places: &[u64]) -> bool
 }
 
 fn boxed_slicer(alloc: Global) -> Result<Box<Slicer>, Memory> {
-    let slicer = Slicer::new(alloc)?;
+    let slicer = Slicer::new(alloc);
     Ok(Box::new(alloc, slicer)?)
 }
 
@@ -101,17 +101,19 @@ fn after_a_switch_every_change_is_picked(rt: HostRuntime) -> Result<(), Fail> {
     Ok(())
 }
 
-// Whether a theorem is there, whether it is gone once it is taken back, and whether the heap is then as it was.
+// Whether a theorem is there, whether it is gone once it is taken back, and whether the heap of the event before it is then as it was.
 fn takes_back(heap: &mut Heap, slicer: &mut Slicer) -> Result<[bool; 3], Memory> {
-    let before = slicer.heap().mark();
+    let event = read(heap, SWITCHED[0])?;
+    slicer.add(heap, event)?;
+    let before = slicer.heap(0).mark();
     let event = read(heap, SWITCHED[1])?;
     slicer.add(heap, event)?;
-    let is_there = picks(slicer, b"A", &[0]);
+    let is_there = picks(slicer, b"A", &[0, 1]);
     slicer.take_back();
     Ok([
         is_there,
         picks(slicer, b"A", &[]),
-        slicer.heap().mark() == before,
+        slicer.heap(0).mark() == before,
     ])
 }
 

@@ -1,19 +1,25 @@
 -- One event more.
-use Rattle.std.proofs.Common.{Some, None, cond, sym, ap, ◌∙◌}
+use Rattle.std.proofs.Common.{take, Some, None, cond, sym, ap, ◌∙◌}
 use Rattle.mw_heap.specs.Objects.{object_at}
+use Rattle.mw_heap.proofs.Objects.{Grows-trans}
 use Rattle.mw_slice.specs.Firsts.{proves, first_or}
+use Rattle.mw_model.specs.Commands.Slice.{first_place}
+use Rattle.mw_slice.specs.Events.{objects_of}
 use Rattle.mw_slice.proofs.FirstPlaces.{first_place-next}
 use Rattle.mw_slice.proofs.firsts.first_proofs.Goals as goal
 
 pub loop-place-preserved : goal.loop-place-preserved
 loop-place-preserved c =
-    let os = c.args.heap.now.objects in
+    let hs = c.args.heaps.now in
     let i = c.loop-place.place in
     let a = c.index-added-place.result in
+    let before = c.loop-place.invariant in
     let noted = c.in_ok-note_first.ensures in (
+      Grows-trans c.args.to.now.objects c.loop-place.to.objects c.note_first.new.to.objects before.0 c.note_first.ensures.grows,
       noted.firsts,
       λ f.
           noted.noted f
-          ∙ (ap (λ o. first_or o (cond (proves f (object_at os a.event)) (Some i) None)) (c.loop-place.invariant.1 f)
-          ∙ sym (first_place-next os c.args.added.now i a c.index-added-place.is c.loop-place-test.true (proves f))),
+          ∙ (ap (λ o. first_or o (cond (proves f (object_at c.get-from.result.now.objects a.event)) (Some i) None)) (before.2 f)
+          ∙ (ap (λ os. first_or (first_place (proves f) (objects_of hs (take i c.args.added.now))) (cond (proves f (object_at os a.event)) (Some i) None)) c.get-from.ensures
+          ∙ sym (first_place-next hs c.args.added.now i a c.index-added-place.is c.loop-place-test.true (proves f)))),
     )

@@ -6,5 +6,5 @@ use Rattle.mw_slice.proofs.picking.changing.Given as goal
 
 abbrev pub invariant-loop-place : goal.invariant-loop-place
 invariant-loop-place l =
-    let es = objects_of l.heap.objects l.added in
+    let es = objects_of l.heaps l.added in
     collected (changes es) l.place (reverse l.places.items) ≡ collected (changes es) (suc l.goal) []

@@ -5,4 +5,4 @@ use Rattle.mw_slice.specs.Events.{objects_of}
 use Rattle.mw_slice.proofs.picking.has_switch.Given as goal
 
 abbrev pub invariant-loop-event : goal.invariant-loop-event
-invariant-loop-event l = some_passes (begins_with "SWITCH") (objects_of l.heap.objects (take l.event-index l.added)) ≡ false
+invariant-loop-event l = some_passes (begins_with "SWITCH") (objects_of l.heaps (take l.event-index l.added)) ≡ false

@@ -7,5 +7,5 @@ use Rattle.mw_slice.proofs.picking.pick.Goals as goal
 
 pub returns-in_ok-slice-in-Some : goal.returns-in_ok-slice-in-Some
 returns-in_ok-slice-in-Some c =
-    let es = objects_of c.args.heap.now.objects c.args.added.now in
+    let es = objects_of c.args.heaps.now c.args.added.now in
     (c.in-Some.goal, sym c.in-Some.ensures.target, subst (IsSlice es c.in-Some.goal) (sym c.in_ok-slice-in-Some.ensures) (slice_exists es c.in-Some.goal))

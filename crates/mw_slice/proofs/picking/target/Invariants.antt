@@ -6,4 +6,4 @@ use Rattle.mw_slice.specs.Events.{objects_of}
 use Rattle.mw_slice.proofs.picking.target.Given as goal
 
 abbrev pub invariant-loop-place : goal.invariant-loop-place
-invariant-loop-place l = target (objects_of l.heap.objects (take l.place l.added)) (name_of_bytes l.name) ≡ None
+invariant-loop-place l = target (objects_of l.heaps (take l.place l.added)) (name_of_bytes l.name) ≡ None
