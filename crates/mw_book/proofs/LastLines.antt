@@ -1,5 +1,5 @@
 -- The last lines, and how many of the data were refused.
-use Rattle.std.proofs.Common.{◌≡◌, ℕ, ◌+◌, ◌-◌, List, ◌++◌, Some, None, codes, refl, sym, ap, ap₂, subst}
+use Rattle.std.proofs.Common.{◌≡◌, ℕ, ◌+◌, ◌-◌, List, ◌++◌, Some, None, codes, refl, ap, ap₂}
 use Rattle.mw_model.specs.Terms.Object.{Object}
 use Rattle.mw_model.specs.Reports.Request.{Request, Check, Taut, Lower, Flat, Recheck}
 use Rattle.mw_kernel.specs.Knowledge.{theory_of}

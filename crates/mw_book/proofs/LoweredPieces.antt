@@ -1,12 +1,11 @@
 -- Each event of a course of derivations has a piece.
-use Rattle.std.proofs.Common.{◌≡◌, ℕ, suc, ◌+◌, true, List, [], ◌∷◌, ◌++◌, length, codes, refl, ap, ◌∙◌, arith}
+use Rattle.std.proofs.Common.{◌≡◌, ℕ, true, List, [], ◌∷◌, ◌++◌, codes, refl, ap}
 use Rattle.mw_model.specs.Terms.Object.{Object}
 use Rattle.mw_model.specs.Values.Truth.{Each}
-use Rattle.mw_model.specs.Events.Theory.{Theory}
 use Rattle.mw_model.specs.Events.Refusal.{Fate, Accepted, Refused}
 use Rattle.mw_model.specs.Reports.Report.{is_accepted, line}
 use Rattle.mw_model.specs.Texts.Pieces.{InOrder}
-use Rattle.mw_model.specs.Commands.Transition.{Effect, Transition, course_from, last_theory_from, is_acceptance}
+use Rattle.mw_model.specs.Commands.Transition.{Transition, is_acceptance}
 use Rattle.mw_model.specs.Commands.Lowering.{IsLowered, OwesByFate, OwesLowered}
 use Rattle.mw_book.proofs.Pieces.{LabelledTexts, may_be_written}
 

@@ -1,12 +1,12 @@
 -- What reading more, and judging one event more, makes of where the slicing stands.
-use Rattle.std.proofs.Common.{◌≡◌, ℕ, ◌+◌, Bool, true, false, cond, List, [], ◌∷◌, ◌++◌, length, map, refl, sym, ap, ap₂, ◌∙◌, subst}
+use Rattle.std.proofs.Common.{◌≡◌, ℕ, ◌+◌, Bool, true, false, cond, List, [], ◌∷◌, ◌++◌, length, map, refl, sym, ap, ap₂, ◌∙◌}
 use Rattle.std.specs.Prelude.{filter}
 use Rattle.std.proofs.lemmas.List.{length_push, map-append, append-nil}
 use Rattle.std.proofs.lemmas.List.Elements.{filter-append}
 use Rattle.mw_model.specs.Terms.Object.{Name, Object}
 use Rattle.mw_model.specs.Values.Primitive.{One}
 use Rattle.mw_model.specs.Reports.Request.{Request, Slice}
-use Rattle.mw_model.specs.Events.Theory.{Theory, initial}
+use Rattle.mw_model.specs.Events.Theory.{initial}
 use Rattle.mw_model.specs.Events.Fate.{is_out_of_range, happens, fate, next, after}
 use Rattle.mw_model.specs.Reports.Report.{is_accepted}
 use Rattle.mw_model.specs.Commands.Transition.{Transition, course, last_theory, is_acceptance}

@@ -1,5 +1,5 @@
 -- The places of a slice are those of events, and what is written of them is owed.
-use Rattle.std.proofs.Common.{◌≡◌, ℕ, zero, suc, ◌<◌, ◌≤◌, Bool, true, false, ◌||◌, cond, eqb, List, [], ◌∷◌, ◌++◌, length, map, take, Option, Some, None, codes, refl, sym, ap, ap₂, ◌∙◌, subst, arith, eq-eqb}
+use Rattle.std.proofs.Common.{◌≡◌, ℕ, zero, suc, ◌<◌, ◌≤◌, Bool, true, false, cond, eqb, List, [], ◌∷◌, ◌++◌, length, map, take, Option, Some, None, codes, refl, sym, ap, ap₂, ◌∙◌, subst, arith, eq-eqb}
 use Rattle.std.specs.Prelude.{All, slice_index_or}
 use Rattle.std.proofs.lemmas.Bool.{and_parts, ltb-true, or_left, or_right}
 use Rattle.std.proofs.lemmas.List.{length-map}
@@ -11,7 +11,7 @@ use Rattle.mw_model.specs.Texts.Printing.{numeral}
 use Rattle.mw_model.specs.Reports.Report.{spaced}
 use Rattle.mw_model.specs.Texts.Written.{IsDatumLine}
 use Rattle.mw_model.specs.Texts.Pieces.{InOrder, comment}
-use Rattle.mw_model.specs.Commands.Slice.{begins_with, event_at, some_passes, later_place, first_place, target, rests_on, Needed, the_goal, the_profile, the_basis, is_idle, IsKept, IsSlice}
+use Rattle.mw_model.specs.Commands.Slice.{begins_with, event_at, some_passes, later_place, first_place, target, Needed, the_goal, the_profile, the_basis, is_idle, IsKept, IsSlice}
 use Rattle.mw_model.specs.Commands.Slicing.{accepted_events, SliceOwed}
 use Rattle.mw_read.specs.Kinds.{kind_of}
 use Rattle.mw_read.specs.declared.step.SyntaxKind.{SyntaxKind}

@@ -1,5 +1,5 @@
 -- The last line of the report on the trial book, and what cannot stop its judging.
-use Rattle.std.proofs.Common.{◌≡◌, ◌∙◌, ℕ, List, [], ◌++◌, Option, Some, None, inl, inr, refl, sym, ap, subst, arith}
+use Rattle.std.proofs.Common.{◌≡◌, ◌∙◌, ℕ, List, [], Option, Some, None, inl, inr, refl, sym, ap, subst, arith}
 use Rattle.mw_model.specs.Texts.Grammar.{Book, book, trees}
 use Rattle.mw_model.specs.Reports.Report.{Status, Done, SomeRefused, Syntax, report_of, last_line}
 use Rattle.mw_model.specs.Reports.Trial.{trial_book}

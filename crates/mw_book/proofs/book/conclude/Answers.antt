@@ -1,11 +1,10 @@
 -- What the sink took of the lines and the last text.
-use Rattle.std.proofs.Common.{inl, subst}
+use Rattle.std.proofs.Common.{subst}
 use Rattle.mw_model.specs.Reports.Report.{status_of}
 use Rattle.mw_book.specs.Answering.{fault_of}
 use Rattle.mw_book.specs.Books.{TakesSome}
 use Rattle.mw_book.specs.Due.{IsLastText, refused_for}
 use Rattle.mw_book.proofs.Rounds.{concludes_with_halt}
-use Rattle.mw_book.proofs.Written.{nothing_taken}
 use Rattle.mw_book.proofs.book.conclude.Goals as goal
 
 pub returns-in-Err-clause-concludes : goal.returns-in-Err-clause-concludes

@@ -1,5 +1,5 @@
 -- The event is judged, and its piece put after the lines where it is accepted.
-use Rattle.std.proofs.Common.{◌∙◌, ◌+◌, ◌<◌, ◌^◌, ap, arith}
+use Rattle.std.proofs.Common.{◌∙◌, ap, arith}
 use Rattle.std.proofs.lemmas.Result.{on_ok_weaker}
 use Rattle.mw_model.specs.Events.Fate.{fate, next}
 use Rattle.mw_model.specs.Commands.Slice.{begins_with}

@@ -1,5 +1,5 @@
 -- The event is refused.
-use Rattle.std.proofs.Common.{◌+◌, ◌<◌, ◌^◌, arith}
+use Rattle.std.proofs.Common.{arith}
 use Rattle.std.proofs.lemmas.Result.{on_ok_weaker}
 use Rattle.mw_book.proofs.FlattenedOne.{ended_large, flattened_few}
 use Rattle.mw_book.proofs.flattening.FlatteningAnswering.answer_large.Goals as goal

@@ -1,5 +1,5 @@
 -- The events that are kept, or that there is no such theorem, or the fault.
-use Rattle.std.proofs.Common.{◌≡◌, ◌∙◌, ◌<◌, ℕ, List, ◌++◌, map, Option, Some, None, cond, codes, refl, sym, ap, subst, append_assoc}
+use Rattle.std.proofs.Common.{◌≡◌, ◌∙◌, ◌<◌, ℕ, List, ◌++◌, map, Option, Some, None, cond, codes, refl, sym, ap, subst}
 use Rattle.std.specs.Prelude.{All, length}
 use Rattle.mw_model.specs.Terms.Object.{name_of_bytes}
 use Rattle.mw_model.specs.Values.Definition.{is_present}
@@ -8,14 +8,11 @@ use Rattle.mw_model.specs.Reports.Report.{spaced}
 use Rattle.mw_model.specs.Texts.Written.{IsDatumLine}
 use Rattle.mw_model.specs.Texts.Pieces.{InOrder, comment}
 use Rattle.mw_model.specs.Commands.Slice.{event_at, target}
-use Rattle.mw_read.specs.Kinds.{kind_of}
 use Rattle.mw_read.specs.declared.step.SyntaxKind.{SyntaxKind}
 use Rattle.mw_slice.specs.Slices.{events_of}
-use Rattle.mw_lines.specs.Lines.{fault_line}
 use Rattle.mw_book.specs.Answering.{fault_of}
 use Rattle.mw_book.specs.Due.{IsLastText}
-use Rattle.mw_book.specs.Sliced.{name_asked}
-use Rattle.mw_book.proofs.SlicedPlaces.{places_within, sliced_absent, sliced_fault, sliced_found, sliced_refused}
+use Rattle.mw_book.proofs.SlicedPlaces.{places_within, sliced_absent, sliced_found, sliced_refused}
 use Rattle.mw_book.proofs.slicing.SlicingAnswering.end.Goals as goal
 
 no_fault : (f : Option (SyntaxKind × ℕ)) → ((x : SyntaxKind × ℕ) → f ≡ Some x → ⊥) → f ≡ None
