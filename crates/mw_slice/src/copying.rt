@@ -3,7 +3,6 @@ ghost use Rattle.std.specs.Prelude.{◌≡◌, ℕ, Some, [], ◌∷◌, ◌++�
 ghost use Rattle.mw_model.specs.Terms.Object.{Pair};
 ghost use Rattle.mw_heap.specs.Objects.{object_at, IsIn, Grows};
 ghost use Rattle.mw_heap.specs.Parts.{part_at, IsPart};
-ghost use Rattle.mw_slice.specs.Slices.{IsNil};
 ghost use Rattle.mw_slice.specs.Copies.{AreCopies, IsCopied, CanBeDone, IsDone, copy_of};
 ghost use Rattle.mw_slice.specs.declared.copying.Job.TheVariants.{Copy, Join};
 
@@ -179,16 +178,14 @@ pub(crate) fn copy_part(
     from: &Heap,
     part: Option<Ref>,
     to: &mut Heap,
-    nil: Ref,
     copies: &mut Copies,
 ) -> Result<Ref, Memory>
-    requires within { IsPart from.now.objects part }
-    requires nil { IsNil to.old.objects nil }
+    requires { IsPart from.now.objects part }
     ensures grows { Grows to.old.objects to.new.objects }
     ensures made { IfOk result (λ r. IsIn to.new.objects r × (object_at to.new.objects r ≡ part_at from.now.objects part)) }
 {
     match part {
         Some(x) => copy(from, x, to, copies),
-        None => Ok(nil),
+        None => to.nil(),
     }
 }

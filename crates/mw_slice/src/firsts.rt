@@ -6,7 +6,6 @@ ghost use Rattle.mw_heap.specs.Objects.{object_at, IsIn, Grows};
 ghost use Rattle.mw_slice.specs.Events.{AreIn, objects_of};
 ghost use Rattle.mw_slice.specs.Firsts.{AreFirsts, IsIndex, NamesNone, proves, first_or, first_by};
 ghost use Rattle.mw_slice.specs.Heaps.{heap_of};
-ghost use Rattle.mw_slice.specs.Slices.{IsNil};
 
 use crate::Copies;
 use crate::added::Added;
@@ -31,12 +30,10 @@ fn note_first(
     event: Ref,
     place: u64,
     to: &mut Heap,
-    nil: Ref,
     copies: &mut Copies,
     firsts: &mut IndexMap<Ref, u64>,
 ) -> Result<(), Memory>
     requires within { IsIn from.now.objects event }
-    requires nil { IsNil to.old.objects nil }
     requires firsts { AreFirsts to.old.objects firsts.old.entries }
     ensures grows { Grows to.old.objects to.new.objects }
     ensures firsts { OnOk result (AreFirsts to.new.objects firsts.new.entries) }
@@ -45,7 +42,7 @@ fn note_first(
     if !from.is_headed(event, Word::Verify) {
         return Ok(());
     }
-    let formula = copy_part(from, from.third_of(event), to, nil, copies)?;
+    let formula = copy_part(from, from.third_of(event), to, copies)?;
     to.order();
     if place_of(to, firsts, formula).is_none() {
         firsts.insert(formula, place)?;
@@ -58,11 +55,9 @@ fn first_proofs(
     heaps: &Heaps,
     added: &[Added],
     to: &mut Heap,
-    nil: Ref,
     copies: &mut Copies,
 ) -> Result<IndexMap<Ref, u64>, Memory>
     requires within { AreIn heaps.now added.now }
-    requires nil { IsNil to.old.objects nil }
     ensures grows { Grows to.old.objects to.new.objects }
     ensures firsts { IfOk result (λ f. AreFirsts to.new.objects f.entries) }
     ensures all { IfOk result (λ f. (c : Object) → first_by to.new.objects f.entries c ≡ first_proof (objects_of heaps.now added.now) c) }
@@ -70,15 +65,7 @@ fn first_proofs(
     let mut firsts = IndexMap::new(to.alloc());
     for (place, event) in added.iter().enumerate() {
         let from = heaps.get(event.heap);
-        note_first(
-            from,
-            event.event,
-            place as u64,
-            to,
-            nil,
-            copies,
-            &mut firsts,
-        )?;
+        note_first(from, event.event, place as u64, to, copies, &mut firsts)?;
     }
     Ok(firsts)
 }
@@ -96,7 +83,7 @@ fn names_theorem(heap: &Heap) -> bool
     false
 }
 
-// Whether one of an event's heaps has such an object.
+// Whether one of the heaps has such an object.
 fn some_names_theorem(heaps: &Heaps) -> bool
     ensures { result ≡ false → (k : ℕ) → k < length heaps.now → NamesNone (heap_of heaps.now k) }
 {
@@ -114,17 +101,15 @@ pub(crate) fn first_proofs_named(
     heaps: &Heaps,
     added: &[Added],
     to: &mut Heap,
-    nil: Ref,
     copies: &mut Copies,
 ) -> Result<IndexMap<Ref, u64>, Memory>
     requires within { AreIn heaps.now added.now }
-    requires nil { IsNil to.old.objects nil }
     ensures grows { Grows to.old.objects to.new.objects }
     ensures firsts { IfOk result (λ f. AreFirsts to.new.objects f.entries) }
     ensures index { IfOk result (λ f. IsIndex to.new.objects f.entries (objects_of heaps.now added.now)) }
 {
     if some_names_theorem(heaps) {
-        return first_proofs(heaps, added, to, nil, copies);
+        return first_proofs(heaps, added, to, copies);
     }
     Ok(IndexMap::new(to.alloc()))
 }

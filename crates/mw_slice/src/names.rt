@@ -3,7 +3,6 @@ ghost use Rattle.std.specs.Prelude.{◌≡◌, IfOk};
 ghost use Rattle.mw_model.specs.Commands.Slice.{some_passes, first_members, names_added};
 ghost use Rattle.mw_heap.specs.Objects.{object_at, IsIn, Grows};
 ghost use Rattle.mw_heap.specs.Parts.{part_at, IsPart};
-ghost use Rattle.mw_slice.specs.Slices.{IsNil};
 ghost use Rattle.mw_slice.specs.Supports.{Named, IsInside, notes};
 
 use crate::Copies;
@@ -36,19 +35,20 @@ fn is_met(
     from: &Heap,
     part: Option<Ref>,
     to: &mut Heap,
-    nil: Ref,
     copies: &mut Copies,
     basis: &Basis,
 ) -> Result<bool, Memory>
     requires within { IsPart from.now.objects part }
-    requires nil { IsNil to.old.objects nil }
     requires inside { IsInside to.old.objects basis.now }
     ensures grows { Grows to.old.objects to.new.objects }
     ensures met { IfOk result (λ b. b ≡ notes to.new.objects basis.now (Named (part_at from.now.objects part))) }
 {
     match part {
         Some(x) => is_atom_met(from, x, to, copies, basis),
-        None => Ok(basis.has_name(to, nil)),
+        None => {
+            let nil = to.nil()?;
+            Ok(basis.has_name(to, nil))
+        }
     }
 }
 
@@ -57,19 +57,17 @@ fn begins_with_met(
     from: &Heap,
     list: Ref,
     to: &mut Heap,
-    nil: Ref,
     copies: &mut Copies,
     basis: &Basis,
 ) -> Result<bool, Memory>
     requires within { IsIn from.now.objects list }
-    requires nil { IsNil to.old.objects nil }
     requires inside { IsInside to.old.objects basis.now }
     ensures grows { Grows to.old.objects to.new.objects }
     ensures met { IfOk result (λ b. b ≡ some_passes (λ f. notes to.new.objects basis.now (Named f)) (first_members (object_at from.now.objects list))) }
 {
     let mut list = list;
     while let View::Pair(member, rest) = from.view(list) {
-        if is_met(from, from.car(member), to, nil, copies, basis)? {
+        if is_met(from, from.car(member), to, copies, basis)? {
             return Ok(true);
         }
         list = rest;
@@ -82,24 +80,22 @@ pub(crate) fn adds_met(
     from: &Heap,
     event: Ref,
     to: &mut Heap,
-    nil: Ref,
     copies: &mut Copies,
     basis: &Basis,
 ) -> Result<bool, Memory>
     requires within { IsIn from.now.objects event }
-    requires nil { IsNil to.old.objects nil }
     requires inside { IsInside to.old.objects basis.now }
     ensures grows { Grows to.old.objects to.new.objects }
     ensures met { IfOk result (λ b. b ≡ some_passes (λ f. notes to.new.objects basis.now (Named f)) (names_added (object_at from.now.objects event))) }
 {
     if from.is_headed(event, Word::Define) || from.is_headed(event, Word::Skolem) {
-        return is_met(from, from.second_of(event), to, nil, copies, basis);
+        return is_met(from, from.second_of(event), to, copies, basis);
     }
     if !from.is_headed(event, Word::DefineAll) {
         return Ok(false);
     }
     match from.second_of(event) {
-        Some(list) => begins_with_met(from, list, to, nil, copies, basis),
+        Some(list) => begins_with_met(from, list, to, copies, basis),
         None => Ok(false),
     }
 }

@@ -6,7 +6,6 @@ ghost use Rattle.mw_model.proofs.SlicePlaces.{is_wanted, changes, collected, sli
 ghost use Rattle.mw_heap.specs.Objects.{object_at, IsIn, Grows};
 ghost use Rattle.mw_slice.specs.Events.{AreIn, objects_of};
 ghost use Rattle.mw_slice.specs.Firsts.{AreFirsts, IsIndex};
-ghost use Rattle.mw_slice.specs.Slices.{IsNil};
 ghost use Rattle.mw_slice.specs.Supports.{Support, notes, event_asks, is_asked_for, IsInside, IsBasis};
 
 use crate::Copies;
@@ -87,12 +86,10 @@ fn is_asked_for(
     place: u64,
     goal: u64,
     to: &mut Heap,
-    nil: Ref,
     copies: &mut Copies,
     basis: &Basis,
 ) -> Result<bool, Memory>
     requires within { IsIn from.now.objects event }
-    requires nil { IsNil to.old.objects nil }
     requires inside { IsInside to.old.objects basis.now }
     ensures grows { Grows to.old.objects to.new.objects }
     ensures asked { IfOk result (λ b. b ≡ is_asked_for to.new.objects basis.now goal (object_at from.now.objects event) place) }
@@ -100,7 +97,7 @@ fn is_asked_for(
     if place == goal || sets_profile(from, event, 2) || basis.places.contains(&place) {
         return Ok(true);
     }
-    adds_met(from, event, to, nil, copies, basis)
+    adds_met(from, event, to, copies, basis)
 }
 
 // Keeps an event, if it is asked for: it is copied to the heap `to`, and what it asks for is gathered there.
@@ -110,14 +107,12 @@ fn keep(
     place: u64,
     goal: u64,
     to: &mut Heap,
-    nil: Ref,
     copies: &mut Copies,
     firsts: &IndexMap<Ref, u64>,
     basis: &mut Basis,
     places: &mut Vec<u64>,
 ) -> Result<(), Memory>
     requires within { IsIn from.now.objects event }
-    requires nil { IsNil to.old.objects nil }
     requires firsts { AreFirsts to.old.objects firsts.now.entries }
     requires basis { IsBasis to.old.objects firsts.now.entries basis.old }
     ensures grows { Grows to.old.objects to.new.objects }
@@ -125,7 +120,8 @@ fn keep(
     ensures supports { OnOk result ((s : Support) → notes to.new.objects basis.new s ≡ cond (is_asked_for to.new.objects basis.old goal (object_at from.now.objects event) place) (notes to.new.objects basis.old s || event_asks to.new.objects firsts.now.entries s (object_at from.now.objects event)) (notes to.new.objects basis.old s)) }
     ensures places { OnOk result (places.new.items ≡ cond (is_asked_for to.new.objects basis.old goal (object_at from.now.objects event) place) (places.old.items ++ place ∷ []) places.old.items) }
 {
-    if is_asked_for(from, event, place, goal, to, nil, copies, basis)? {
+    if is_asked_for(from, event, place, goal, to, copies, basis)? {
+        let nil = to.nil()?;
         let kept = copy(from, event, to, copies)?;
         gather_event(to, nil, firsts, kept, basis)?;
         places.push(place)?;
@@ -139,12 +135,10 @@ fn needed_over(
     added: &[Added],
     goal: usize,
     to: &mut Heap,
-    nil: Ref,
     copies: &mut Copies,
     firsts: &IndexMap<Ref, u64>,
 ) -> Result<Vec<u64>, Memory>
     requires within { AreIn heaps.now added.now }
-    requires nil { IsNil to.old.objects nil }
     requires firsts { AreFirsts to.old.objects firsts.now.entries }
     requires index { IsIndex to.old.objects firsts.now.entries (objects_of heaps.now added.now) }
     requires goal { goal < length added.now }
@@ -160,7 +154,6 @@ fn needed_over(
             place as u64,
             goal as u64,
             to,
-            nil,
             copies,
             firsts,
             &mut basis,
@@ -176,10 +169,9 @@ fn needed_in(heaps: &Heaps, added: &[Added], goal: usize, to: &mut Heap) -> Resu
     requires goal { goal < length added.now }
     ensures { IfOk result (λ v. reverse v.items ≡ collected (is_wanted (objects_of heaps.now added.now) goal) (suc goal) []) }
 {
-    let nil = to.nil()?;
     let mut copies = Copies::new(heaps.alloc());
-    let firsts = first_proofs_named(heaps, added, to, nil, &mut copies)?;
-    needed_over(heaps, added, goal, to, nil, &mut copies, &firsts)
+    let firsts = first_proofs_named(heaps, added, to, &mut copies)?;
+    needed_over(heaps, added, goal, to, &mut copies, &firsts)
 }
 
 // Up to the goal, the places from the last one down of the events that it rests on.

@@ -72,8 +72,9 @@ impl Slicer {
         }
     }
 
-    /// The places of the events that the first theorem of this name rests on, and its own. It takes time in proportion to the number of
-    /// events, the distinct cells of the formulas that they prove, the names that they add, and the distinct cells of those that are picked.
+    /// The places of the events that the first theorem of this name rests on, and its own. Of each event it looks at the name and the
+    /// names that it adds, and then it takes time in proportion to the distinct cells of those that are picked; for a step by THEOREM it
+    /// looks once at each cell that `add` copied, and where there is such a step, at the formula of each theorem.
     pub fn pick(&self, name: &[u8]) -> Picked
         requires { is_name name.now ≡ true }
         ensures { IsPicked (events_of self.now) (name_of_bytes name.now) result }

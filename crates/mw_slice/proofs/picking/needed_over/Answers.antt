@@ -6,7 +6,7 @@ use Rattle.mw_heap.specs.Objects.{object_at}
 use Rattle.mw_heap.proofs.Objects.{Grows-trans}
 use Rattle.mw_slice.specs.Heaps.{object_in}
 use Rattle.mw_slice.specs.Events.{objects_of}
-use Rattle.mw_slice.proofs.Growing.{nil_grows, firsts_grow, index_grows}
+use Rattle.mw_slice.proofs.Growing.{firsts_grow, index_grows}
 use Rattle.mw_slice.proofs.Keeping.{event_at-objects_of, all_collected, keeping_starts, keeping_grows, keeping_goes}
 use Rattle.mw_slice.proofs.picking.needed_over.Goals as goal
 
@@ -16,9 +16,6 @@ loop-place-init c =
       ([], sym (append-nil os)),
       keeping_starts os c.args.firsts.now.entries (objects_of c.args.heaps.now c.args.added.now) c.args.goal (c.args.goal + 1) c.new-places.result.items c.new-basis.result (omega arith) c.new-places.ensures.items c.new-basis.ensures.parts (c.new-basis.ensures.supports os),
     )
-
-pub keep-requires-clause-nil : goal.keep-requires-clause-nil
-keep-requires-clause-nil c = nil_grows c.args.to.now.objects c.loop-place.to.objects c.loop-place.invariant.0 c.args.nil c.requires.nil
 
 pub keep-requires-clause-firsts : goal.keep-requires-clause-firsts
 keep-requires-clause-firsts c = firsts_grow c.args.to.now.objects c.loop-place.to.objects c.loop-place.invariant.0 c.args.firsts.now.entries c.requires.firsts
