@@ -12,6 +12,13 @@ pub struct Row {
     pub status: Status,
 }
 
+/// A step limit, a book, and what the report on the book under that limit is to begin with.
+pub struct Limited {
+    pub steps: &'static str,
+    pub book: &'static str,
+    pub report: &'static str,
+}
+
 /// What the program wrote and how it ended.
 #[derive(Drop)]
 pub struct Answer {
@@ -78,6 +85,16 @@ pub fn other_report(
     } else {
         Ok(answer.report)
     }
+}
+
+/// The reports that do not begin with what is due.
+pub fn other_reports(alloc: Global, rows: &[Limited]) -> Result<String, AllocError> {
+    let mut others = String::new(alloc);
+    for row in rows {
+        let other = other_report(alloc, row.steps, row.book, row.report)?;
+        others.push_str(other.as_str())?;
+    }
+    Ok(others)
 }
 
 /// The books on which the program, called with these words, does not write and end as is due, each with what it wrote and how it ended,

@@ -4,6 +4,8 @@ ghost use Rattle.mw_model.specs.Terms.Object.{Object};
 ghost use Rattle.mw_model.specs.Reports.Request.{Request};
 ghost use Rattle.mw_model.specs.Reports.Report.{status_of as status_with};
 ghost use Rattle.mw_port.specs.Ports.{Takes};
+ghost use Rattle.mw_read.specs.Standing.{Stands, IsFree};
+ghost use Rattle.mw_read.specs.Feeding.{IsAwaiting};
 ghost use Rattle.mw_book.specs.Books.{TakesSome};
 ghost use Rattle.mw_book.specs.Due.{AreAnswers, IsLastText, refused_for};
 ghost use Rattle.mw_book.specs.Answering.{HasAnswered, ReadWhole, fault_of};
@@ -65,20 +67,44 @@ pub(crate) fn read_all<A: Answering, S: Source, K: Sink>(
     ensures source_counts { IfErr result (λ s. SourceCounts s (S.faults source.old) (S.faults source.new)) }
     ensures sink_counts { IfErr result (λ s. SinkCounts s (K.faults sink.old) (K.faults sink.new)) }
 {
-    answers_promised();
     let mut reader = Reader::new(alloc);
+    read_pieces(answering, source, sink, &mut reader)
+}
+
+// The same, by a reader that was fed nothing. It stands apart, since each step of the loop costs more to prove where it owns a reader.
+fn read_pieces<A: Answering, S: Source, K: Sink>(
+    answering: &mut A,
+    source: &mut S,
+    sink: &mut K,
+    reader: &mut Reader,
+) -> Result<Option<(SyntaxKind, u64)>, Status>
+    requires answered { A.answered answering.old (A.request answering.old) [] }
+    requires due { AreAnswers (A.request answering.old) [] [] }
+    requires none_left { A.unwritten answering.old ≡ [] }
+    requires count { A.count answering.old ≡ 0 }
+    requires stands { (os : List Object) → Stands os reader.old.parser [] [] }
+    requires free { IsFree reader.old.parser }
+    requires awaits { IsAwaiting reader.old }
+    ensures whole { IfOk result (λ f. ReadWhole A.unwritten A.answered (A.request answering.old) (S.left source.old) (S.left source.new) (K.taken sink.old) (K.taken sink.new) f answering.new) }
+    ensures steady { OnOk result ((S.faults source.new ≡ S.faults source.old) × (K.faults sink.new ≡ K.faults sink.old)) }
+    ensures stops { IfErr result IsStop }
+    ensures ends { IfErr result (λ s. BookEnds s (A.request answering.old) (S.left source.old) (S.left source.new) (K.taken sink.old) (K.taken sink.new)) }
+    ensures source_counts { IfErr result (λ s. SourceCounts s (S.faults source.old) (S.faults source.new)) }
+    ensures sink_counts { IfErr result (λ s. SinkCounts s (K.faults sink.old) (K.faults sink.new)) }
+{
+    answers_promised();
     let mut buffer = [0; PIECE];
     for _ in 0..=LIMIT {
         let Ok(n) = source.read(&mut buffer) else {
             return Err(Status::ReadFault);
         };
         if n == 0 {
-            let Ok(fault) = finish(answering, &mut reader) else {
+            let Ok(fault) = finish(answering, reader) else {
                 return Err(Status::Memory);
             };
             return Ok(fault);
         }
-        let Ok(fault) = take_piece(answering, &mut reader, &buffer[..n]) else {
+        let Ok(fault) = take_piece(answering, reader, &buffer[..n]) else {
             return Err(Status::Memory);
         };
         if fault.is_some() {

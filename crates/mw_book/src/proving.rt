@@ -29,6 +29,13 @@ pub(crate) struct Proving {
     lines: Vec<u8>,
 }
 
+// A heap that finds the words of formulas by their places.
+fn heap_with_words(alloc: Global) -> Result<Heap, Memory> {
+    let mut heap = Heap::new(alloc)?;
+    heap.keep_words()?;
+    Ok(heap)
+}
+
 // The arities of the initial theory.
 fn initial_arity(heap: &mut Heap) -> Result<Arity, Memory>
     ensures { IfOk result (λ a. a ≡ initial_arities) }
@@ -44,9 +51,18 @@ impl Proving {
         ensures answered { IfOk result (λ b. Answered b.value []) }
         ensures lines { IfOk result (λ b. b.value.lines.items ≡ []) }
     {
-        let mut heap = Heap::new(alloc)?;
-        heap.keep_words()?;
+        let mut heap = heap_with_words(alloc)?;
         let arity = initial_arity(&mut heap)?;
+        Proving::over(alloc, heap, arity)
+    }
+
+    // Nothing was read, over this heap.
+    fn over(alloc: Global, heap: Heap, arity: Arity) -> Result<Box<Proving>, Memory>
+        requires { arity ≡ initial_arities }
+        ensures proving { IfOk result (λ b. IsProving b.value) }
+        ensures answered { IfOk result (λ b. Answered b.value []) }
+        ensures lines { IfOk result (λ b. b.value.lines.items ≡ []) }
+    {
         let proving = Proving {
             kept: heap.mark(),
             heap,

@@ -1,5 +1,5 @@
 //! Definitions: what is taken, what is refused, and what a theory does with a function that it has taken.
-use mw_answers::{Row, other_report, other_report_after_ranks, wrong_answers};
+use mw_answers::{Limited, Row, other_report_after_ranks, other_reports, wrong_answers};
 use mw_book::Status;
 use std::alloc::{AllocError, Global};
 use std::test::Fail;
@@ -365,41 +365,56 @@ const OF_AFTER: &str = "16 EVAL - accepted (1 2 3)
 events 38 accepted 27 refused 11 level 1
 ";
 
-// A number of units, a book and its report within them.
-const LIMITED: [(&str, &str, &str); 3] = [
-    (
-        "1",
-        "(skolem pick y (x) (equal x y)) (eval (pick 1)) (eval (if nil (pick 1) 2))",
-        "1 SKOLEM PICK accepted
+const LIMITED: [Limited; 3] = [
+    Limited {
+        steps: "1",
+        book: "(skolem pick y (x) (equal x y)) (eval (pick 1)) (eval (if nil (pick 1) 2))",
+        report: "1 SKOLEM PICK accepted
 2 EVAL - refused WITNESS
 3 EVAL - accepted 2
 events 3 accepted 2 refused 1 level 1
 ",
-    ),
-    (
-        "2",
-        "(define twice (x) (+ x x) nil ()) (eval (twice 4))",
-        "1 DEFINE TWICE accepted
+    },
+    Limited {
+        steps: "2",
+        book: "(define twice (x) (+ x x) nil ()) (eval (twice 4))",
+        report: "1 DEFINE TWICE accepted
 2 EVAL - accepted 8
 events 2 accepted 2 refused 0 level 1
 ",
-    ),
-    (
-        "1",
-        "(define twice (x) (+ x x) nil ()) (eval (twice 4))",
-        "1 DEFINE TWICE accepted
+    },
+    Limited {
+        steps: "1",
+        book: "(define twice (x) (+ x x) nil ()) (eval (twice 4))",
+        report: "1 DEFINE TWICE accepted
 2 EVAL - refused STEPS
 events 2 accepted 1 refused 1 level 1
 ",
-    ),
+    },
 ];
 
-// A number of units, what is evaluated within it after the recursions, and the end of the event's line.
-const LIMITED_RECURSIONS: [(&str, &str, &str); 4] = [
-    ("8", "(ev '(1 2))", "accepted T"),
-    ("7", "(ev '(1 2))", "refused STEPS"),
-    ("12", "(app '(1 2) '(3))", "accepted (1 2 3)"),
-    ("11", "(app '(1 2) '(3))", "refused STEPS"),
+// Each book comes after the recursions, and what is due for it after their lines.
+const LIMITED_RECURSIONS: [Limited; 4] = [
+    Limited {
+        steps: "8",
+        book: "(eval (ev '(1 2)))",
+        report: "16 EVAL - accepted T\n",
+    },
+    Limited {
+        steps: "7",
+        book: "(eval (ev '(1 2)))",
+        report: "16 EVAL - refused STEPS\n",
+    },
+    Limited {
+        steps: "12",
+        book: "(eval (app '(1 2) '(3)))",
+        report: "16 EVAL - accepted (1 2 3)\n",
+    },
+    Limited {
+        steps: "11",
+        book: "(eval (app '(1 2) '(3)))",
+        report: "16 EVAL - refused STEPS\n",
+    },
 ];
 
 // The report on the recursions and these events after them, where these lines do not come after theirs.
@@ -414,25 +429,14 @@ fn other_lines(
     other_report_after_ranks(alloc, steps, book.as_str(), due.as_str())
 }
 
-// The reports that are not those expected.
-fn wrong_limits(alloc: Global) -> Result<String, AllocError> {
-    let mut wrong = String::new(alloc);
-    for (steps, book, report) in LIMITED {
-        let other = other_report(alloc, steps, book, report)?;
-        wrong.push_str(other.as_str())?;
+// The reports on the recursions and each book after them that are not those expected.
+fn other_limits_of_recursions(alloc: Global) -> Result<String, AllocError> {
+    let mut others = String::new(alloc);
+    for row in &LIMITED_RECURSIONS {
+        let other = other_lines(alloc, row.steps, row.book, row.report)?;
+        others.push_str(other.as_str())?;
     }
-    Ok(wrong)
-}
-
-fn wrong_limits_of_recursions(alloc: Global) -> Result<String, AllocError> {
-    let mut wrong = String::new(alloc);
-    for (steps, term, end) in LIMITED_RECURSIONS {
-        let event = format!(in alloc; "(eval {term})")?;
-        let line = format!(in alloc; "16 EVAL - {end}\n")?;
-        let other = other_lines(alloc, steps, event.as_str(), line.as_str())?;
-        wrong.push_str(other.as_str())?;
-    }
-    Ok(wrong)
+    Ok(others)
 }
 
 #[test]
@@ -465,14 +469,14 @@ fn recursions_that_descend_are_defined(rt: HostRuntime) -> Result<(), Fail> {
 
 #[test]
 fn units_of_calls_are_counted(rt: HostRuntime) -> Result<(), Fail> {
-    let wrong = wrong_limits(rt.alloc())?;
-    assert_eq!(rt; wrong.as_str(), "");
+    let others = other_reports(rt.alloc(), &LIMITED)?;
+    assert_eq!(rt; others.as_str(), "");
     Ok(())
 }
 
 #[test]
 fn units_of_recursions_are_counted(rt: HostRuntime) -> Result<(), Fail> {
-    let wrong = wrong_limits_of_recursions(rt.alloc())?;
-    assert_eq!(rt; wrong.as_str(), "");
+    let others = other_limits_of_recursions(rt.alloc())?;
+    assert_eq!(rt; others.as_str(), "");
     Ok(())
 }

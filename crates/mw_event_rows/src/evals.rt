@@ -1,7 +1,6 @@
 //! What EVAL shows, and within how many units.
-use mw_answers::{Answer, Row, answer_of_command, wrong_answers};
+use mw_answers::{Limited, Row, other_reports, wrong_answers};
 use mw_book::Status;
-use std::alloc::{AllocError, Global};
 use std::test::Fail;
 
 const VALUES: [Row; 1] = [Row {
@@ -56,42 +55,58 @@ events 23 accepted 13 refused 10 level 1
     status: Status::SomeRefused,
 }];
 
-// A number of units, what is evaluated within it, and the end of the event's line.
-const LIMITED: [(&str, &str, &str); 10] = [
-    ("1", "(+ (+ 1 1) 1)", "refused STEPS"),
-    ("2", "(+ (+ 1 1) 1)", "accepted 3"),
-    ("1", "((lambda (x y) (cons y x)) 1 2)", "accepted (2 . 1)"),
-    ("13", "(logic.len '(1 2 3))", "refused STEPS"),
-    ("14", "(logic.len '(1 2 3))", "accepted 3"),
-    ("1", "(or (+ 1 1) 2)", "refused STEPS"),
-    ("2", "(or (+ 1 1) 2)", "accepted 2"),
-    ("1", "(if nil (car (car 1)) 2)", "accepted 2"),
-    ("3", "(equal (cons 1 2) (cons 1 2))", "accepted T"),
-    (
-        "1",
-        "(+ 340282366920938463463374607431768211455 1)",
-        "refused OVERFLOW",
-    ),
+const LIMITED: [Limited; 10] = [
+    Limited {
+        steps: "1",
+        book: "(eval (+ (+ 1 1) 1))",
+        report: "1 EVAL - refused STEPS\n",
+    },
+    Limited {
+        steps: "2",
+        book: "(eval (+ (+ 1 1) 1))",
+        report: "1 EVAL - accepted 3\n",
+    },
+    Limited {
+        steps: "1",
+        book: "(eval ((lambda (x y) (cons y x)) 1 2))",
+        report: "1 EVAL - accepted (2 . 1)\n",
+    },
+    Limited {
+        steps: "13",
+        book: "(eval (logic.len '(1 2 3)))",
+        report: "1 EVAL - refused STEPS\n",
+    },
+    Limited {
+        steps: "14",
+        book: "(eval (logic.len '(1 2 3)))",
+        report: "1 EVAL - accepted 3\n",
+    },
+    Limited {
+        steps: "1",
+        book: "(eval (or (+ 1 1) 2))",
+        report: "1 EVAL - refused STEPS\n",
+    },
+    Limited {
+        steps: "2",
+        book: "(eval (or (+ 1 1) 2))",
+        report: "1 EVAL - accepted 2\n",
+    },
+    Limited {
+        steps: "1",
+        book: "(eval (if nil (car (car 1)) 2))",
+        report: "1 EVAL - accepted 2\n",
+    },
+    Limited {
+        steps: "3",
+        book: "(eval (equal (cons 1 2) (cons 1 2)))",
+        report: "1 EVAL - accepted T\n",
+    },
+    Limited {
+        steps: "1",
+        book: "(eval (+ 340282366920938463463374607431768211455 1))",
+        report: "1 EVAL - refused OVERFLOW\n",
+    },
 ];
-
-// The answer to an EVAL within so many units.
-fn answer_of(alloc: Global, steps: &str, term: &str) -> Result<Answer, AllocError> {
-    let book = format!(in alloc; "(eval {term})")?;
-    answer_of_command(alloc, &["check", "--steps", steps], book.as_str(), 4096)
-}
-
-// The EVALs whose lines are not those expected.
-fn wrong_limits(alloc: Global) -> Result<String, AllocError> {
-    let mut wrong = String::new(alloc);
-    for (steps, term, end) in LIMITED {
-        let line = format!(in alloc; "1 EVAL - {end}\n")?;
-        let answer = answer_of(alloc, steps, term)?;
-        if !answer.report.as_str().starts_with(line.as_str()) {
-            writeln!(wrong, "{steps} {term}")?;
-        }
-    }
-    Ok(wrong)
-}
 
 #[test]
 fn terms_are_evaluated(rt: HostRuntime) -> Result<(), Fail> {
@@ -102,7 +117,7 @@ fn terms_are_evaluated(rt: HostRuntime) -> Result<(), Fail> {
 
 #[test]
 fn units_are_counted(rt: HostRuntime) -> Result<(), Fail> {
-    let wrong = wrong_limits(rt.alloc())?;
-    assert_eq!(rt; wrong.as_str(), "");
+    let others = other_reports(rt.alloc(), &LIMITED)?;
+    assert_eq!(rt; others.as_str(), "");
     Ok(())
 }

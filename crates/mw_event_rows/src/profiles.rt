@@ -1,5 +1,7 @@
 //! The second profile, which has multiplication, and when it can be chosen.
-use mw_answers::{Row, WRAP, WRAPPED, lines_from, other_report, wrong_answers};
+use mw_answers::{
+    Limited, Row, WRAP, WRAPPED, lines_from, other_report, other_reports, wrong_answers,
+};
 use mw_book::Status;
 use std::alloc::{AllocError, Global};
 use std::test::Fail;
@@ -140,29 +142,28 @@ events 9 accepted 1 refused 8 level 1
     },
 ];
 
-// A number of units, what is evaluated within it in the second profile, and the end of the event's line.
-const LIMITED: [(&str, &str, &str); 4] = [
-    ("1", "(* 2 3)", "accepted 6"),
-    ("1", "(* (* 2 3) 4)", "refused STEPS"),
-    ("2", "(* (* 2 3) 4)", "accepted 24"),
-    (
-        "1",
-        "(* 18446744073709551616 18446744073709551616)",
-        "refused OVERFLOW",
-    ),
+const LIMITED: [Limited; 4] = [
+    Limited {
+        steps: "1",
+        book: "(profile 2)(eval (* 2 3))",
+        report: "1 PROFILE - accepted\n2 EVAL - accepted 6\n",
+    },
+    Limited {
+        steps: "1",
+        book: "(profile 2)(eval (* (* 2 3) 4))",
+        report: "1 PROFILE - accepted\n2 EVAL - refused STEPS\n",
+    },
+    Limited {
+        steps: "2",
+        book: "(profile 2)(eval (* (* 2 3) 4))",
+        report: "1 PROFILE - accepted\n2 EVAL - accepted 24\n",
+    },
+    Limited {
+        steps: "1",
+        book: "(profile 2)(eval (* 18446744073709551616 18446744073709551616))",
+        report: "1 PROFILE - accepted\n2 EVAL - refused OVERFLOW\n",
+    },
 ];
-
-// The reports on products that are not those expected.
-fn wrong_limits(alloc: Global) -> Result<String, AllocError> {
-    let mut wrong = String::new(alloc);
-    for (steps, term, end) in LIMITED {
-        let book = format!(in alloc; "(profile 2)(eval {term})")?;
-        let due = format!(in alloc; "1 PROFILE - accepted\n2 EVAL - {end}\n")?;
-        let other = other_report(alloc, steps, book.as_str(), due.as_str())?;
-        wrong.push_str(other.as_str())?;
-    }
-    Ok(wrong)
-}
 
 // The report on a product that is shown under a checker which runs LOGIC.PROOFP, where it is not the one expected.
 fn other_report_on_a_product(alloc: Global) -> Result<String, AllocError> {
@@ -185,8 +186,8 @@ fn a_profile_is_chosen_at_the_beginning(rt: HostRuntime) -> Result<(), Fail> {
 
 #[test]
 fn units_of_products_are_counted(rt: HostRuntime) -> Result<(), Fail> {
-    let wrong = wrong_limits(rt.alloc())?;
-    assert_eq!(rt; wrong.as_str(), "");
+    let others = other_reports(rt.alloc(), &LIMITED)?;
+    assert_eq!(rt; others.as_str(), "");
     Ok(())
 }
 

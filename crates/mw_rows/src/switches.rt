@@ -223,44 +223,69 @@ pub(crate) fn book_with_useless_checker(alloc: Global, test: &str) -> Result<Str
     )
 }
 
+// The report on a theorem under a checker with this test, within so many units, where it is not refused for this reason.
+fn other_outcome(
+    alloc: Global,
+    steps: &str,
+    test: &str,
+    reason: &str,
+) -> Result<String, AllocError> {
+    let book = book_with_useless_checker(alloc, test)?;
+    let book = format!(in alloc; "{book}(verify refl (pequal* x x) (axiom (pequal* x x)))\n")?;
+    let due = format!(in alloc;
+        "1 DEFINE USELESS accepted\n2 VERIFY CLAIM accepted\n3 SWITCH USELESS accepted\n4 VERIFY REFL refused {reason}\n"
+    )?;
+    other_report(alloc, steps, book.as_str(), due.as_str())
+}
+
 // The answers of useless checkers that are not those expected.
 fn wrong_outcomes(alloc: Global) -> Result<String, AllocError> {
     let mut wrong = String::new(alloc);
-    for (steps, test, reason) in OUTCOMES {
-        let book = book_with_useless_checker(alloc, test)?;
-        let book = format!(in alloc; "{book}(verify refl (pequal* x x) (axiom (pequal* x x)))\n")?;
-        let due = format!(in alloc;
-            "1 DEFINE USELESS accepted\n2 VERIFY CLAIM accepted\n3 SWITCH USELESS accepted\n4 VERIFY REFL refused {reason}\n"
-        )?;
-        let other = other_report(alloc, steps, book.as_str(), due.as_str())?;
+    for row in &OUTCOMES {
+        let other = other_outcome(alloc, row.0, row.1, row.2)?;
         wrong.push_str(other.as_str())?;
     }
     Ok(wrong)
+}
+
+// The report on a theorem under the checker that runs LOGIC.PROOFP, after these lines, where it does not end so.
+fn other_wrap(alloc: Global, steps: &str, lines: &str, end: &str) -> Result<String, AllocError> {
+    let book = format!(in alloc;
+        "{WRAP}(switch wrap)\n(verify refl (pequal* x x) (axiom (pequal* x x)))\n"
+    )?;
+    let due = format!(in alloc; "{lines}9 SWITCH WRAP accepted\n10 VERIFY REFL {end}")?;
+    other_report(alloc, steps, book.as_str(), due.as_str())
 }
 
 // The reports on the checker that runs LOGIC.PROOFP that are not those expected.
 fn wrong_wraps(alloc: Global) -> Result<String, AllocError> {
     let mut wrong = String::new(alloc);
     let lines = lines_from(alloc, 1, &WRAPPED)?;
-    let book = format!(in alloc;
-        "{WRAP}(switch wrap)\n(verify refl (pequal* x x) (axiom (pequal* x x)))\n"
-    )?;
-    for (steps, end) in JUDGED {
-        let due = format!(in alloc; "{lines}9 SWITCH WRAP accepted\n10 VERIFY REFL {end}")?;
-        let other = other_report(alloc, steps, book.as_str(), due.as_str())?;
+    for row in &JUDGED {
+        let other = other_wrap(alloc, row.0, lines.as_str(), row.1)?;
         wrong.push_str(other.as_str())?;
     }
     Ok(wrong)
+}
+
+// The report on a recursion under the checker that runs LOGIC.PROOFP, after these lines, where it does not end so.
+fn other_definition(
+    alloc: Global,
+    steps: &str,
+    lines: &str,
+    end: &str,
+) -> Result<String, AllocError> {
+    let book = format!(in alloc; "{WRAP}{DEFINED}")?;
+    let due = format!(in alloc; "{lines}22 SWITCH WRAP accepted\n23 DEFINE APP {end}\n")?;
+    other_report_after_ranks(alloc, steps, book.as_str(), due.as_str())
 }
 
 // The reports on a recursion under the checker that runs LOGIC.PROOFP that are not those expected.
 fn wrong_definitions(alloc: Global) -> Result<String, AllocError> {
     let mut wrong = String::new(alloc);
     let lines = lines_from(alloc, 14, &WRAPPED)?;
-    let book = format!(in alloc; "{WRAP}{DEFINED}")?;
-    for (steps, end) in DEFINED_WITHIN {
-        let due = format!(in alloc; "{lines}22 SWITCH WRAP accepted\n23 DEFINE APP {end}\n")?;
-        let other = other_report_after_ranks(alloc, steps, book.as_str(), due.as_str())?;
+    for row in &DEFINED_WITHIN {
+        let other = other_definition(alloc, row.0, lines.as_str(), row.1)?;
         wrong.push_str(other.as_str())?;
     }
     Ok(wrong)

@@ -1,4 +1,7 @@
 //! Each rule on equal objects once where it holds and once where it does not.
+ghost use Rattle.std.specs.Prelude.{◌≡◌, true};
+ghost use Rattle.mw_model.specs.Terms.Object.{is_name};
+
 use mw_equal::{beta, functional_equality, instantiation, reduced};
 use mw_forms::{boxed, equation, form, is_in, list, not, or, pair};
 use mw_heap::{Heap, Memory, Ref};
@@ -28,6 +31,23 @@ fn equalities(heap: &mut Heap) -> Result<(bool, bool), Memory> {
     let bad = equal_calls(heap, y, x)?;
     let followed = follows_for(heap, x, y, good)?;
     Ok((followed, follows_for(heap, x, y, bad)?))
+}
+
+// Whether the rule gives that calls of these functions, which have no arguments, are equal.
+fn follows_without_arguments(heap: &mut Heap, f: &[u8], g: &[u8]) -> Result<bool, Memory>
+    requires f { is_name f.now ≡ true }
+    requires g { is_name g.now ≡ true }
+{
+    let first = form(heap, f, &[])?;
+    let second = form(heap, g, &[])?;
+    let c = equation(heap, first, second)?;
+    Ok(is_in(heap, c) && functional_equality(heap, c))
+}
+
+// (ONE) = (ONE), and (ONE) = (TWO).
+fn equalities_without_arguments(heap: &mut Heap) -> Result<(bool, bool), Memory> {
+    let followed = follows_without_arguments(heap, b"ONE", b"ONE")?;
+    Ok((followed, follows_without_arguments(heap, b"ONE", b"TWO")?))
 }
 
 // The function (LAMBDA (X) X).
@@ -102,6 +122,13 @@ fn instances(heap: &mut Heap) -> Result<(bool, bool), Memory> {
 fn equal_arguments_make_equal_calls(rt: HostRuntime) -> Result<(), Fail> {
     let mut heap = boxed(rt.alloc())?;
     assert_eq!(rt; equalities(&mut heap)?, (true, false));
+    Ok(())
+}
+
+#[test]
+fn calls_without_arguments_are_equal(rt: HostRuntime) -> Result<(), Fail> {
+    let mut heap = boxed(rt.alloc())?;
+    assert_eq!(rt; equalities_without_arguments(&mut heap)?, (true, false));
     Ok(())
 }
 

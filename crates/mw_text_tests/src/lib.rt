@@ -17,6 +17,8 @@ mod print;
 #[cfg(test)]
 mod read;
 #[cfg(test)]
+mod shared;
+#[cfg(test)]
 mod slice;
 #[cfg(test)]
 mod subst;

@@ -1,11 +1,10 @@
 //! The events that theorems rest on.
-ghost use Rattle.mw_heap.specs.Objects.{IsIn};
-ghost use Rattle.std.specs.Prelude.{◌≡◌, true, IfOk};
+ghost use Rattle.std.specs.Prelude.{◌≡◌, true};
 ghost use Rattle.mw_model.specs.Terms.Object.{is_name};
 
-use mw_forms::{boxed, is_in};
+use crate::shared::read;
+use mw_forms::boxed;
 use mw_heap::{Heap, Memory, Ref};
-use mw_read::{Reader, Step};
 use mw_slice::{Picked, Slicer};
 use std::alloc::Global;
 use std::test::Fail;
@@ -27,18 +26,6 @@ const SWITCHED: [&[u8]; 5] = [
     b"(print x)",
     b"(verify b (pequal* y y) (axiom (pequal* y y)))",
 ];
-
-// The first datum of a text.
-fn read(heap: &mut Heap, text: &[u8]) -> Result<Ref, Memory>
-    ensures { IfOk result (λ x. IsIn heap.new.objects x) }
-{
-    let mut reader = Reader::new(heap.alloc());
-    let (step, _) = reader.step(heap, text);
-    match step {
-        Step::Datum(x) if is_in(heap, x) => Ok(x),
-        _ => Err(Memory),
-    }
-}
 
 // Adds five events, each from a heap that has those before it too.
 fn add_events(heap: &mut Heap, slicer: &mut Slicer, texts: &[&[u8]; 5]) -> Result<(), Memory> {

@@ -5,12 +5,12 @@ use Rattle.std.proofs.lemmas.Result.{err_from_is_err_and}
 use Rattle.mw_port.specs.Ports.{Gives}
 use Rattle.mw_book.specs.Checks.{SinkCounts}
 use Rattle.mw_book.proofs.Rounds.{between_none, here, known_here, count_short, room_for, read_fails, part_here, whole_end, whole_fault, taken_all, write_stops, between_more, halt_ends, halt_reads, halt_stops}
-use Rattle.mw_book.proofs.book.read_all.Goals as goal
+use Rattle.mw_book.proofs.book.read_pieces.Goals as goal
 
 pub loop-init : goal.loop-init
 loop-init g c = record {
-  between = between_none c.args.answering.now c.new-reader.result.parser c.requires.answered c.requires.due c.requires.none_left c.requires.count c.new-reader.ensures.stands c.new-reader.ensures.free;
-  awaits = c.new-reader.ensures.awaits;
+  between = between_none c.args.answering.now c.args.reader.now.parser c.requires.answered c.requires.due c.requires.none_left c.requires.count c.requires.stands c.requires.free;
+  awaits = c.requires.awaits;
   source_steady = refl;
   size = refl;
   sink_steady = refl;

@@ -1,7 +1,7 @@
 use Rattle.std.proofs.Common.{◌≡◌, length}
 use Rattle.mw_read.specs.Feeding.{IsAwaiting}
 use Rattle.mw_book.proofs.Rounds.{Between}
-use Rattle.mw_book.proofs.book.read_all.Given as goal
+use Rattle.mw_book.proofs.book.read_pieces.Given as goal
 
 abbrev pub invariant-loop : goal.invariant-loop
 invariant-loop g l = record {
