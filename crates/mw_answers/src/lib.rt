@@ -14,7 +14,7 @@ pub use never::{NEVER, OF_NEVER};
 pub use ranks::other_report_after_ranks;
 pub use row::{
     Answer, Limited, Row, WRITTEN, answer_of_check, answer_of_command, answer_with_faults,
-    lines_from, other_report, other_reports, wrong_answers,
+    expect_empty, lines_from, other_report, other_reports, wrong_answers,
 };
 pub use shared_proof::book_of_the_proof;
 pub use shorthand::{SHORTENED, SHORTHAND};

@@ -1,9 +1,10 @@
 //! A book, what is due for it and what the program answers.
-ghost use Rattle.std.specs.Prelude.{◌≡◌, ◌↔◌, IsTrue, string_bytes};
+ghost use Rattle.std.specs.Prelude.{◌≡◌, ◌≢◌, ◌↔◌, [], IsTrue, OnOk, OnErr, string_bytes};
 
 use mw_book::{Status, run};
 use mw_port::{MemSink, MemSource, Text};
 use std::alloc::{AllocError, Global};
+use std::test::Fail;
 
 /// A book, the report that is due for it and how the program is to end.
 pub struct Row {
@@ -110,6 +111,18 @@ pub fn wrong_answers(
         add_wrong(&mut wrong, alloc, words, row, size)?;
     }
     Ok(wrong)
+}
+
+/// Fails with this text, which tells what went wrong, exactly when it is not empty.
+pub fn expect_empty(wrong: String) -> Result<(), Fail>
+    ensures empty { OnOk result (string_bytes wrong ≡ []) }
+    ensures some { OnErr result (string_bytes wrong ≢ []) }
+{
+    if wrong.as_str().is_empty() {
+        Ok(())
+    } else {
+        Err(Fail::new(wrong))
+    }
 }
 
 /// The lines of events that are accepted, from this number on: of each its word and its label.

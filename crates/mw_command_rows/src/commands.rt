@@ -1,5 +1,5 @@
 //! The words of the command line, and what the program does with them.
-use mw_answers::{Answer, answer_of_command};
+use mw_answers::{Answer, answer_of_command, expect_empty};
 use mw_book::Status;
 use std::alloc::{AllocError, Global};
 use std::test::Fail;
@@ -137,9 +137,7 @@ fn wrong_trials(alloc: Global) -> Result<String, AllocError> {
 
 #[test]
 fn other_words_are_told_how_the_program_is_used(rt: HostRuntime) -> Result<(), Fail> {
-    let wrong = wrong_rows(rt.alloc(), &OTHERS, Status::Usage, HELP)?;
-    assert_eq!(rt; wrong.as_str(), "");
-    Ok(())
+    expect_empty(wrong_rows(rt.alloc(), &OTHERS, Status::Usage, HELP)?)
 }
 
 #[test]
@@ -152,14 +150,10 @@ fn help_alone_is_answered(rt: HostRuntime) -> Result<(), Fail> {
 
 #[test]
 fn a_book_is_judged_under_any_step_limit_in_range(rt: HostRuntime) -> Result<(), Fail> {
-    let wrong = wrong_rows(rt.alloc(), &CHECKS, Status::Done, REPORT)?;
-    assert_eq!(rt; wrong.as_str(), "");
-    Ok(())
+    expect_empty(wrong_rows(rt.alloc(), &CHECKS, Status::Done, REPORT)?)
 }
 
 #[test]
 fn trial_books_are_accepted(rt: HostRuntime) -> Result<(), Fail> {
-    let wrong = wrong_trials(rt.alloc())?;
-    assert_eq!(rt; wrong.as_str(), "");
-    Ok(())
+    expect_empty(wrong_trials(rt.alloc())?)
 }

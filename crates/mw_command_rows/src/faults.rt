@@ -1,5 +1,5 @@
 //! What each command has written where a read or a write fails.
-use mw_answers::answer_with_faults;
+use mw_answers::{answer_with_faults, expect_empty};
 use mw_book::Status;
 use std::alloc::{AllocError, Global};
 use std::test::Fail;
@@ -110,14 +110,10 @@ fn wrong_at_a_write(alloc: Global) -> Result<String, AllocError> {
 
 #[test]
 fn what_was_written_first_stays_where_a_read_fails(rt: HostRuntime) -> Result<(), Fail> {
-    let wrong = wrong_at_a_read(rt.alloc())?;
-    assert_eq!(rt; wrong.as_str(), "");
-    Ok(())
+    expect_empty(wrong_at_a_read(rt.alloc())?)
 }
 
 #[test]
 fn what_was_written_first_stays_where_a_write_fails(rt: HostRuntime) -> Result<(), Fail> {
-    let wrong = wrong_at_a_write(rt.alloc())?;
-    assert_eq!(rt; wrong.as_str(), "");
-    Ok(())
+    expect_empty(wrong_at_a_write(rt.alloc())?)
 }

@@ -1,5 +1,5 @@
 //! Books, and the logs that `flat` makes of them.
-use mw_answers::{NEVER, Row, wrong_answers};
+use mw_answers::{NEVER, Row, expect_empty, wrong_answers};
 use mw_book::Status;
 use mw_read::SyntaxKind;
 use std::test::Fail;
@@ -75,14 +75,10 @@ const FLATTENED: [Row; 10] = [
 
 #[test]
 fn each_event_is_written_after_its_steps(rt: HostRuntime) -> Result<(), Fail> {
-    let wrong = wrong_answers(rt.alloc(), &["flat"], &FLATTENED, 4096)?;
-    assert_eq!(rt; wrong.as_str(), "");
-    Ok(())
+    expect_empty(wrong_answers(rt.alloc(), &["flat"], &FLATTENED, 4096)?)
 }
 
 #[test]
 fn a_book_that_is_read_byte_by_byte_has_the_same_log(rt: HostRuntime) -> Result<(), Fail> {
-    let wrong = wrong_answers(rt.alloc(), &["flat"], &FLATTENED, 1)?;
-    assert_eq!(rt; wrong.as_str(), "");
-    Ok(())
+    expect_empty(wrong_answers(rt.alloc(), &["flat"], &FLATTENED, 1)?)
 }

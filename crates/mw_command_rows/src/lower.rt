@@ -1,5 +1,5 @@
 //! Books of derivations, and what `lower` writes for them.
-use mw_answers::{Answer, Row, answer_of_check, answer_of_command, wrong_answers};
+use mw_answers::{Answer, Row, answer_of_check, answer_of_command, expect_empty, wrong_answers};
 use mw_book::Status;
 use mw_read::SyntaxKind;
 use std::alloc::{AllocError, Global};
@@ -76,16 +76,12 @@ fn lowered(alloc: Global, book: &str, size: usize) -> Result<Answer, AllocError>
 
 #[test]
 fn what_holds_no_derivations_is_written_as_it_is(rt: HostRuntime) -> Result<(), Fail> {
-    let wrong = wrong_answers(rt.alloc(), &["lower"], &UNCHANGED, 4096)?;
-    assert_eq!(rt; wrong.as_str(), "");
-    Ok(())
+    expect_empty(wrong_answers(rt.alloc(), &["lower"], &UNCHANGED, 4096)?)
 }
 
 #[test]
 fn what_is_read_byte_by_byte_is_written_in_the_same_way(rt: HostRuntime) -> Result<(), Fail> {
-    let wrong = wrong_answers(rt.alloc(), &["lower"], &UNCHANGED, 1)?;
-    assert_eq!(rt; wrong.as_str(), "");
-    Ok(())
+    expect_empty(wrong_answers(rt.alloc(), &["lower"], &UNCHANGED, 1)?)
 }
 
 #[test]

@@ -1,5 +1,7 @@
 //! Logs, and what `recheck` answers to them.
-use mw_answers::{Answer, NEVER, Row, answer_of_command, book_of_the_proof, wrong_answers};
+use mw_answers::{
+    Answer, NEVER, Row, answer_of_command, book_of_the_proof, expect_empty, wrong_answers,
+};
 use mw_book::Status;
 use mw_read::SyntaxKind;
 use std::alloc::{AllocError, Global};
@@ -133,16 +135,12 @@ fn answer_to_the_log_of(alloc: Global, book: &str) -> Result<Answer, AllocError>
 
 #[test]
 fn each_event_of_a_log_is_answered(rt: HostRuntime) -> Result<(), Fail> {
-    let wrong = wrong_answers(rt.alloc(), &["recheck"], &LOGS, 4096)?;
-    assert_eq!(rt; wrong.as_str(), "");
-    Ok(())
+    expect_empty(wrong_answers(rt.alloc(), &["recheck"], &LOGS, 4096)?)
 }
 
 #[test]
 fn a_log_that_is_read_byte_by_byte_has_the_same_report(rt: HostRuntime) -> Result<(), Fail> {
-    let wrong = wrong_answers(rt.alloc(), &["recheck"], &LOGS, 1)?;
-    assert_eq!(rt; wrong.as_str(), "");
-    Ok(())
+    expect_empty(wrong_answers(rt.alloc(), &["recheck"], &LOGS, 1)?)
 }
 
 #[test]

@@ -1,5 +1,5 @@
 //! Books, and what `slice` keeps of them.
-use mw_answers::{Row, WRAP, answer_of_check, answer_of_command, wrong_answers};
+use mw_answers::{Row, WRAP, answer_of_check, answer_of_command, expect_empty, wrong_answers};
 use mw_book::Status;
 use mw_read::SyntaxKind;
 use std::test::Fail;
@@ -73,16 +73,12 @@ const SWITCHED: &str = "(switch wrap) (print a) (verify refl (pequal* x x) (axio
 
 #[test]
 fn what_a_theorem_rests_on_is_kept(rt: HostRuntime) -> Result<(), Fail> {
-    let wrong = wrong_answers(rt.alloc(), &["slice", "use"], &SLICED, 4096)?;
-    assert_eq!(rt; wrong.as_str(), "");
-    Ok(())
+    expect_empty(wrong_answers(rt.alloc(), &["slice", "use"], &SLICED, 4096)?)
 }
 
 #[test]
 fn a_book_that_is_read_byte_by_byte_has_the_same_slice(rt: HostRuntime) -> Result<(), Fail> {
-    let wrong = wrong_answers(rt.alloc(), &["slice", "use"], &SLICED, 1)?;
-    assert_eq!(rt; wrong.as_str(), "");
-    Ok(())
+    expect_empty(wrong_answers(rt.alloc(), &["slice", "use"], &SLICED, 1)?)
 }
 
 #[test]

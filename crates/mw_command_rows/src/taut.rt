@@ -1,5 +1,5 @@
 //! Books of formulas, and what `taut` writes for them.
-use mw_answers::{Answer, Row, answer_of_check, answer_of_command, wrong_answers};
+use mw_answers::{Answer, Row, answer_of_check, answer_of_command, expect_empty, wrong_answers};
 use mw_book::Status;
 use mw_read::SyntaxKind;
 use std::alloc::{AllocError, Global};
@@ -88,16 +88,12 @@ fn proofs_of(alloc: Global, book: &str, size: usize) -> Result<Answer, AllocErro
 
 #[test]
 fn what_is_no_tautology_has_a_comment(rt: HostRuntime) -> Result<(), Fail> {
-    let wrong = wrong_answers(rt.alloc(), &["taut"], &UNPROVED, 4096)?;
-    assert_eq!(rt; wrong.as_str(), "");
-    Ok(())
+    expect_empty(wrong_answers(rt.alloc(), &["taut"], &UNPROVED, 4096)?)
 }
 
 #[test]
 fn what_is_read_byte_by_byte_is_answered_in_the_same_way(rt: HostRuntime) -> Result<(), Fail> {
-    let wrong = wrong_answers(rt.alloc(), &["taut"], &UNPROVED, 1)?;
-    assert_eq!(rt; wrong.as_str(), "");
-    Ok(())
+    expect_empty(wrong_answers(rt.alloc(), &["taut"], &UNPROVED, 1)?)
 }
 
 #[test]

@@ -1,5 +1,5 @@
 //! The first fault of a book's text.
-use mw_answers::{Row, wrong_answers};
+use mw_answers::{Row, expect_empty, wrong_answers};
 use mw_book::Status;
 use mw_read::SyntaxKind;
 use std::test::Fail;
@@ -213,14 +213,10 @@ const DATA: [Row; 2] = [
 
 #[test]
 fn the_first_fault_ends_a_book(rt: HostRuntime) -> Result<(), Fail> {
-    let wrong = wrong_answers(rt.alloc(), &["check"], &FAULTS, 4096)?;
-    assert_eq!(rt; wrong.as_str(), "");
-    Ok(())
+    expect_empty(wrong_answers(rt.alloc(), &["check"], &FAULTS, 4096)?)
 }
 
 #[test]
 fn a_label_and_a_quote_begin_data_of_their_own(rt: HostRuntime) -> Result<(), Fail> {
-    let wrong = wrong_answers(rt.alloc(), &["check"], &DATA, 4096)?;
-    assert_eq!(rt; wrong.as_str(), "");
-    Ok(())
+    expect_empty(wrong_answers(rt.alloc(), &["check"], &DATA, 4096)?)
 }

@@ -1,5 +1,7 @@
 //! Definitions: what is taken, what is refused, and what a theory does with a function that it has taken.
-use mw_answers::{Limited, Row, other_report_after_ranks, other_reports, wrong_answers};
+use mw_answers::{
+    Limited, Row, expect_empty, other_report_after_ranks, other_reports, wrong_answers,
+};
 use mw_book::Status;
 use std::alloc::{AllocError, Global};
 use std::test::Fail;
@@ -441,42 +443,30 @@ fn other_limits_of_recursions(alloc: Global) -> Result<String, AllocError> {
 
 #[test]
 fn functions_are_defined(rt: HostRuntime) -> Result<(), Fail> {
-    let wrong = wrong_answers(rt.alloc(), &["check"], &FUNCTIONS, 4096)?;
-    assert_eq!(rt; wrong.as_str(), "");
-    Ok(())
+    expect_empty(wrong_answers(rt.alloc(), &["check"], &FUNCTIONS, 4096)?)
 }
 
 #[test]
 fn witnesses_are_chosen(rt: HostRuntime) -> Result<(), Fail> {
-    let wrong = wrong_answers(rt.alloc(), &["check"], &WITNESSES, 4096)?;
-    assert_eq!(rt; wrong.as_str(), "");
-    Ok(())
+    expect_empty(wrong_answers(rt.alloc(), &["check"], &WITNESSES, 4096)?)
 }
 
 #[test]
 fn blocks_are_taken_whole(rt: HostRuntime) -> Result<(), Fail> {
-    let wrong = wrong_answers(rt.alloc(), &["check"], &BLOCKS, 4096)?;
-    assert_eq!(rt; wrong.as_str(), "");
-    Ok(())
+    expect_empty(wrong_answers(rt.alloc(), &["check"], &BLOCKS, 4096)?)
 }
 
 #[test]
 fn recursions_that_descend_are_defined(rt: HostRuntime) -> Result<(), Fail> {
-    let wrong = other_lines(rt.alloc(), "10000000", AFTER, OF_AFTER)?;
-    assert_eq!(rt; wrong.as_str(), "");
-    Ok(())
+    expect_empty(other_lines(rt.alloc(), "10000000", AFTER, OF_AFTER)?)
 }
 
 #[test]
 fn units_of_calls_are_counted(rt: HostRuntime) -> Result<(), Fail> {
-    let others = other_reports(rt.alloc(), &LIMITED)?;
-    assert_eq!(rt; others.as_str(), "");
-    Ok(())
+    expect_empty(other_reports(rt.alloc(), &LIMITED)?)
 }
 
 #[test]
 fn units_of_recursions_are_counted(rt: HostRuntime) -> Result<(), Fail> {
-    let others = other_limits_of_recursions(rt.alloc())?;
-    assert_eq!(rt; others.as_str(), "");
-    Ok(())
+    expect_empty(other_limits_of_recursions(rt.alloc())?)
 }

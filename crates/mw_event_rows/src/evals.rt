@@ -1,5 +1,5 @@
 //! What EVAL shows, and within how many units.
-use mw_answers::{Limited, Row, other_reports, wrong_answers};
+use mw_answers::{Limited, Row, expect_empty, other_reports, wrong_answers};
 use mw_book::Status;
 use std::test::Fail;
 
@@ -110,14 +110,10 @@ const LIMITED: [Limited; 10] = [
 
 #[test]
 fn terms_are_evaluated(rt: HostRuntime) -> Result<(), Fail> {
-    let wrong = wrong_answers(rt.alloc(), &["check"], &VALUES, 4096)?;
-    assert_eq!(rt; wrong.as_str(), "");
-    Ok(())
+    expect_empty(wrong_answers(rt.alloc(), &["check"], &VALUES, 4096)?)
 }
 
 #[test]
 fn units_are_counted(rt: HostRuntime) -> Result<(), Fail> {
-    let others = other_reports(rt.alloc(), &LIMITED)?;
-    assert_eq!(rt; others.as_str(), "");
-    Ok(())
+    expect_empty(other_reports(rt.alloc(), &LIMITED)?)
 }

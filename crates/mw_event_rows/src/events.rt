@@ -1,5 +1,5 @@
 //! The fate of each kind of event.
-use mw_answers::{Row, wrong_answers};
+use mw_answers::{Row, expect_empty, wrong_answers};
 use mw_book::Status;
 use std::test::Fail;
 
@@ -215,21 +215,15 @@ const NO_EVENTS: [Row; 9] = [
 
 #[test]
 fn formulas_have_the_fates_of_their_proofs(rt: HostRuntime) -> Result<(), Fail> {
-    let wrong = wrong_answers(rt.alloc(), &["check"], &PROOFS, 4096)?;
-    assert_eq!(rt; wrong.as_str(), "");
-    Ok(())
+    expect_empty(wrong_answers(rt.alloc(), &["check"], &PROOFS, 4096)?)
 }
 
 #[test]
 fn objects_are_printed(rt: HostRuntime) -> Result<(), Fail> {
-    let wrong = wrong_answers(rt.alloc(), &["check"], &PRINTED, 4096)?;
-    assert_eq!(rt; wrong.as_str(), "");
-    Ok(())
+    expect_empty(wrong_answers(rt.alloc(), &["check"], &PRINTED, 4096)?)
 }
 
 #[test]
 fn what_is_no_event_is_refused(rt: HostRuntime) -> Result<(), Fail> {
-    let wrong = wrong_answers(rt.alloc(), &["check"], &NO_EVENTS, 4096)?;
-    assert_eq!(rt; wrong.as_str(), "");
-    Ok(())
+    expect_empty(wrong_answers(rt.alloc(), &["check"], &NO_EVENTS, 4096)?)
 }

@@ -1,6 +1,7 @@
 //! The second profile, which has multiplication, and when it can be chosen.
 use mw_answers::{
-    Limited, Row, WRAP, WRAPPED, lines_from, other_report, other_reports, wrong_answers,
+    Limited, Row, WRAP, WRAPPED, expect_empty, lines_from, other_report, other_reports,
+    wrong_answers,
 };
 use mw_book::Status;
 use std::alloc::{AllocError, Global};
@@ -179,21 +180,15 @@ fn other_report_on_a_product(alloc: Global) -> Result<String, AllocError> {
 
 #[test]
 fn a_profile_is_chosen_at_the_beginning(rt: HostRuntime) -> Result<(), Fail> {
-    let wrong = wrong_answers(rt.alloc(), &["check"], &PROFILES, 4096)?;
-    assert_eq!(rt; wrong.as_str(), "");
-    Ok(())
+    expect_empty(wrong_answers(rt.alloc(), &["check"], &PROFILES, 4096)?)
 }
 
 #[test]
 fn units_of_products_are_counted(rt: HostRuntime) -> Result<(), Fail> {
-    let others = other_reports(rt.alloc(), &LIMITED)?;
-    assert_eq!(rt; others.as_str(), "");
-    Ok(())
+    expect_empty(other_reports(rt.alloc(), &LIMITED)?)
 }
 
 #[test]
 fn a_checker_of_the_second_profile_multiplies(rt: HostRuntime) -> Result<(), Fail> {
-    let wrong = other_report_on_a_product(rt.alloc())?;
-    assert_eq!(rt; wrong.as_str(), "");
-    Ok(())
+    expect_empty(other_report_on_a_product(rt.alloc())?)
 }

@@ -1,6 +1,6 @@
 //! The axioms and the built-in definitions that docs/AXIOMS.md lists, judged by the program.
 use crate::switches::book_with_useless_checker;
-use mw_answers::other_report;
+use mw_answers::{expect_empty, other_report};
 use std::alloc::{AllocError, Global};
 use std::test::Fail;
 
@@ -469,18 +469,12 @@ fn other_definitions(alloc: Global, profile: u8, own: &[&str]) -> Result<String,
 
 #[test]
 fn the_axioms_are_those_listed(rt: HostRuntime) -> Result<(), Fail> {
-    let wrong = other_axioms(rt.alloc(), 1, &[], 55)?;
-    assert_eq!(rt; wrong.as_str(), "");
-    let wrong = other_axioms(rt.alloc(), 2, &PRODUCTS, 62)?;
-    assert_eq!(rt; wrong.as_str(), "");
-    Ok(())
+    expect_empty(other_axioms(rt.alloc(), 1, &[], 55)?)?;
+    expect_empty(other_axioms(rt.alloc(), 2, &PRODUCTS, 62)?)
 }
 
 #[test]
 fn the_definitions_are_those_listed(rt: HostRuntime) -> Result<(), Fail> {
-    let wrong = other_definitions(rt.alloc(), 1, &OF_ONE)?;
-    assert_eq!(rt; wrong.as_str(), "");
-    let wrong = other_definitions(rt.alloc(), 2, &OF_TWO)?;
-    assert_eq!(rt; wrong.as_str(), "");
-    Ok(())
+    expect_empty(other_definitions(rt.alloc(), 1, &OF_ONE)?)?;
+    expect_empty(other_definitions(rt.alloc(), 2, &OF_TWO)?)
 }

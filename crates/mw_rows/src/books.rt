@@ -1,7 +1,7 @@
 //! The books of the guide to writing books, docs/BOOKS.md, with the reports that it states.
 use mw_answers::{
-    APP, APPENDED, Row, SHORTENED, SHORTHAND, WRAP, WRAPPED, lines_from, other_report,
-    other_report_after_ranks, wrong_answers,
+    APP, APPENDED, Row, SHORTENED, SHORTHAND, WRAP, WRAPPED, expect_empty, lines_from,
+    other_report, other_report_after_ranks, wrong_answers,
 };
 use mw_book::Status;
 use mw_read::SyntaxKind;
@@ -400,35 +400,25 @@ fn other_report_after_shorthand(alloc: Global) -> Result<String, AllocError> {
 
 #[test]
 fn the_books_of_the_guide_have_its_reports(rt: HostRuntime) -> Result<(), Fail> {
-    let wrong = wrong_answers(rt.alloc(), &["check"], &BOOKS, 4096)?;
-    assert_eq!(rt; wrong.as_str(), "");
-    Ok(())
+    expect_empty(wrong_answers(rt.alloc(), &["check"], &BOOKS, 4096)?)
 }
 
 #[test]
 fn the_recursions_of_the_guide_are_defined(rt: HostRuntime) -> Result<(), Fail> {
-    let wrong = other_report_after_ranks(rt.alloc(), "10000000", AFTER_RANKS, OF_AFTER_RANKS)?;
-    assert_eq!(rt; wrong.as_str(), "");
-    Ok(())
+    expect_empty(other_report_after_ranks(rt.alloc(), "10000000", AFTER_RANKS, OF_AFTER_RANKS)?)
 }
 
 #[test]
 fn the_induction_of_the_guide_is_accepted(rt: HostRuntime) -> Result<(), Fail> {
-    let wrong = other_report_after_app(rt.alloc())?;
-    assert_eq!(rt; wrong.as_str(), "");
-    Ok(())
+    expect_empty(other_report_after_app(rt.alloc())?)
 }
 
 #[test]
 fn the_checker_of_the_guide_says_yes(rt: HostRuntime) -> Result<(), Fail> {
-    let wrong = other_report_after_wrap(rt.alloc())?;
-    assert_eq!(rt; wrong.as_str(), "");
-    Ok(())
+    expect_empty(other_report_after_wrap(rt.alloc())?)
 }
 
 #[test]
 fn the_shorthand_of_the_guide_is_taken(rt: HostRuntime) -> Result<(), Fail> {
-    let wrong = other_report_after_shorthand(rt.alloc())?;
-    assert_eq!(rt; wrong.as_str(), "");
-    Ok(())
+    expect_empty(other_report_after_shorthand(rt.alloc())?)
 }

@@ -1,7 +1,7 @@
 //! Switches to a checker of the book: what is refused, and how proofs are judged after one.
 use mw_answers::{
-    NEVER, OF_NEVER, Row, WRAP, WRAPPED, lines_from, other_report, other_report_after_ranks,
-    wrong_answers,
+    NEVER, OF_NEVER, Row, WRAP, WRAPPED, expect_empty, lines_from, other_report,
+    other_report_after_ranks, wrong_answers,
 };
 use mw_book::Status;
 use std::alloc::{AllocError, Global};
@@ -299,35 +299,25 @@ fn other_report_after_never(alloc: Global) -> Result<String, AllocError> {
 
 #[test]
 fn checkers_are_switched_to(rt: HostRuntime) -> Result<(), Fail> {
-    let wrong = wrong_answers(rt.alloc(), &["check"], &SWITCHES, 4096)?;
-    assert_eq!(rt; wrong.as_str(), "");
-    Ok(())
+    expect_empty(wrong_answers(rt.alloc(), &["check"], &SWITCHES, 4096)?)
 }
 
 #[test]
 fn a_checker_that_says_no_refuses_proofs_alone(rt: HostRuntime) -> Result<(), Fail> {
-    let wrong = other_report_after_never(rt.alloc())?;
-    assert_eq!(rt; wrong.as_str(), "");
-    Ok(())
+    expect_empty(other_report_after_never(rt.alloc())?)
 }
 
 #[test]
 fn outcomes_of_checkers_are_told(rt: HostRuntime) -> Result<(), Fail> {
-    let wrong = wrong_outcomes(rt.alloc())?;
-    assert_eq!(rt; wrong.as_str(), "");
-    Ok(())
+    expect_empty(wrong_outcomes(rt.alloc())?)
 }
 
 #[test]
 fn a_checker_may_run_the_reference_checker(rt: HostRuntime) -> Result<(), Fail> {
-    let wrong = wrong_wraps(rt.alloc())?;
-    assert_eq!(rt; wrong.as_str(), "");
-    Ok(())
+    expect_empty(wrong_wraps(rt.alloc())?)
 }
 
 #[test]
 fn each_proof_of_a_definition_has_all_units(rt: HostRuntime) -> Result<(), Fail> {
-    let wrong = wrong_definitions(rt.alloc())?;
-    assert_eq!(rt; wrong.as_str(), "");
-    Ok(())
+    expect_empty(wrong_definitions(rt.alloc())?)
 }
