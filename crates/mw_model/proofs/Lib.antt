@@ -34,19 +34,6 @@ pub mod Begins
 pub mod Defined
 pub mod BuiltInTotal
 pub mod BytesOrder
-pub mod Examples
-mod ExamplesProofs
-mod ExamplesDefinitions
-mod ExamplesObligations
-mod ExamplesBlocks
-mod ExamplesRuns
-mod ExamplesSwitch
-mod ExamplesEvents
-mod ExamplesProfile
-mod ExamplesText
-mod ExamplesSyntax
-mod ExamplesTrial
-mod ExamplesLong
 pub mod Numerals
 pub mod Lexing
 pub mod AtomText
@@ -56,23 +43,16 @@ pub mod Finite
 pub mod CallDepth
 pub mod NewNames
 pub mod CodeStays
-mod ExamplesLogs
-mod ExamplesTautologies
 pub mod Demands
 pub mod Settling
 pub mod Deriving
 pub mod SlicePlaces
 pub mod WrittenData
-mod ExamplesSlices
 pub mod TurnsTest
-mod ExamplesDerivations
 pub mod TextWritten
 pub mod FlatData
-mod ExamplesFlattening
 pub mod Tautologies
-mod ExamplesWritten
 pub mod Logs
-mod ExamplesHeadlines
 pub mod LogAccepted
 pub mod Lowered
 pub mod ObligationsReadable

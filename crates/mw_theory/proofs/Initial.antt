@@ -59,16 +59,16 @@ first_theory : (P : Profile) → theory_with (axioms_of P (admitted.definitions_
 unfolding admitted.definitions_of
 first_theory P = refl
 
--- The heaps after the axioms of the primitives, those of the definitions, NIL, and each of the two lists.
+-- The heaps with the axioms of the definitions, those of the primitives, NIL, and each of the two lists.
 pub record Begins (P : Profile) (a b n p q : List Object) (primitives definitions : List ℕ) (nil first second : ℕ) (known : List ℕ) : Type 0 where
   pub a_grows : Grows a b
   pub b_grows : Grows b n
   pub n_grows : Grows n p
   pub p_grows : Grows p q
-  pub primitives_in : All (IsIn a) primitives
-  pub primitives_are : map (object_at a) primitives ≡ map formula_object (primitive_axioms P)
-  pub definitions_in : All (IsIn b) definitions
-  pub definitions_are : map (object_at b) definitions ≡ map formula_object (axioms_in_order (admitted.definitions_of P).blocks)
+  pub definitions_in : All (IsIn a) definitions
+  pub definitions_are : map (object_at a) definitions ≡ map formula_object (axioms_in_order (admitted.definitions_of P).blocks)
+  pub primitives_in : All (IsIn b) primitives
+  pub primitives_are : map (object_at b) primitives ≡ map formula_object (primitive_axioms P)
   pub nil_in : IsIn n nil
   pub nil_is : object_at n nil ≡ NIL
   pub first_in : IsIn p first
@@ -78,37 +78,37 @@ pub record Begins (P : Profile) (a b n p q : List Object) (primitives definition
   pub known_is : known ≡ reverse definitions ++ (reverse primitives ++ [])
 
 module _ (P : Profile) (a b n p q : List Object) (primitives definitions : List ℕ) (nil first second : ℕ) (known : List ℕ) (h : Begins P a b n p q primitives definitions nil first second known) where
+  to_first : Grows a p
+  to_first = Grows-trans a b p h.a_grows (Grows-trans b n p h.b_grows h.n_grows)
+
+  definitions_last : Grows a q
+  definitions_last = Grows-trans a p q to_first h.p_grows
+
+  primitives_last : Grows b q
+  primitives_last = Grows-trans b n q h.b_grows (Grows-trans n p q h.n_grows h.p_grows)
+
   first_axioms : object_at p first ≡ axioms_of P []
   first_axioms =
       h.first_is
-      ∙ (ap₂ put_all (map_grown a n (Grows-trans a b n h.a_grows h.b_grows) primitives h.primitives_in ∙ h.primitives_are) h.nil_is
+      ∙ (ap₂ put_all (map_grown b n h.b_grows primitives h.primitives_in ∙ h.primitives_are) h.nil_is
       ∙ put_formulas (primitive_axioms P) NIL)
 
-  second_axioms : object_at q second ≡ axioms_of P (admitted.definitions_of P).blocks
+  pub second_axioms : object_at q second ≡ axioms_of P (admitted.definitions_of P).blocks
   second_axioms =
       h.second_is
-      ∙ (ap₂ put_all (map_grown b p (Grows-trans b n p h.b_grows h.n_grows) definitions h.definitions_in ∙ h.definitions_are) first_axioms
+      ∙ (ap₂ put_all (map_grown a p to_first definitions h.definitions_in ∙ h.definitions_are) first_axioms
       ∙ axioms_put P (admitted.definitions_of P).blocks)
 
-  nil_last : object_at q nil ≡ NIL
+  pub nil_last : object_at q nil ≡ NIL
   nil_last = object_at-Grows n q (Grows-trans n p q h.n_grows h.p_grows) nil h.nil_in ∙ h.nil_is
-
-  a_last : Grows a q
-  a_last = Grows-trans a b q h.a_grows (Grows-trans b n q h.b_grows (Grows-trans n p q h.n_grows h.p_grows))
-
-  b_last : Grows b q
-  b_last = Grows-trans b n q h.b_grows (Grows-trans n p q h.n_grows h.p_grows)
 
   pub known_last : list_object q known ≡ object_at q second
   known_last =
       ap (list_object q) h.known_is
       ∙ (known_put q definitions (reverse primitives ++ [])
-      ∙ (ap₂ put_all (map_grown b q b_last definitions h.definitions_in ∙ (sym (map_grown b p (Grows-trans b n p h.b_grows h.n_grows) definitions h.definitions_in)))
-      (known_put q primitives [] ∙ (ap₂ put_all (map_grown a q a_last primitives h.primitives_in ∙ sym (map_grown a n (Grows-trans a b n h.a_grows h.b_grows) primitives h.primitives_in)) (sym h.nil_is) ∙ sym h.first_is))
+      ∙ (ap₂ put_all (map_grown a q definitions_last definitions h.definitions_in ∙ sym (map_grown a p to_first definitions h.definitions_in))
+      (known_put q primitives [] ∙ (ap₂ put_all (map_grown b q primitives_last primitives h.primitives_in ∙ sym (map_grown b n h.b_grows primitives h.primitives_in)) (sym h.nil_is) ∙ sym h.first_is))
       ∙ sym h.second_is))
-
-  pub begun_theory : theory_with (object_at q second) (object_at q nil) (admitted.definitions_of P) None 1 ≡ initial P
-  begun_theory = ap₂ (λ x y. theory_with x y (admitted.definitions_of P) None 1) second_axioms nil_last ∙ first_theory P
 
   pub nil_kept : IsIn q nil
   nil_kept = IsIn-Grows n q (Grows-trans n p q h.n_grows h.p_grows) nil h.nil_in
@@ -116,7 +116,10 @@ module _ (P : Profile) (a b n p q : List Object) (primitives definitions : List 
   pub known_begun : All (IsIn q) known
   known_begun =
       subst (All (IsIn q)) (sym h.known_is)
-      (all_put (IsIn q) definitions (reverse primitives ++ []) (all-grow b q b_last definitions h.definitions_in) (all_put (IsIn q) primitives [] (all-grow a q a_last primitives h.primitives_in) (All-nil (IsIn q))))
+      (all_put (IsIn q) definitions (reverse primitives ++ []) (all-grow a q definitions_last definitions h.definitions_in) (all_put (IsIn q) primitives [] (all-grow b q primitives_last primitives h.primitives_in) (All-nil (IsIn q))))
+
+pub begun_theory : (P : Profile) (axioms theorems : Object) → axioms ≡ axioms_of P (admitted.definitions_of P).blocks → theorems ≡ NIL → theory_with axioms theorems (admitted.definitions_of P) None 1 ≡ initial P
+begun_theory P axioms theorems axioms_are theorems_are = ap₂ (λ x y. theory_with x y (admitted.definitions_of P) None 1) axioms_are theorems_are ∙ first_theory P
 
 -- What is kept of the theory at the start.
 module _ (q : List Object) (t : Kept) (P : Profile) (profile : profile_of t.profile ≡ P) (checker : t.checker ≡ None) (level : t.level ≡ 1) (entered : AreEntries q t.entries (admitted.definitions_of P).blocks) (theory : theory_with (object_at q t.axioms) (object_at q t.theorems) (admitted.definitions_of P) None 1 ≡ initial P) (sound : IsSound (initial P)) where

@@ -57,8 +57,7 @@ pub(crate) fn add_block(
 {
     let pairs = pairs_of(heap, block)?;
     let lists = with_lists(heap, pairs.as_slice(), axioms, lists)?;
-    let had = sizes_of(arity, entries, known);
-    match add_parts(
+    add_or_keep(
         heap,
         block,
         pairs.as_slice(),
@@ -67,13 +66,8 @@ pub(crate) fn add_block(
         entries,
         table,
         known,
-    ) {
-        Ok(()) => Ok(lists),
-        Err(refusal) => {
-            cut_back(had, arity, entries, known);
-            Err(refusal)
-        }
-    }
+    )?;
+    Ok(lists)
 }
 
 // The lists with these pairs and axioms in front.
@@ -97,8 +91,40 @@ fn with_lists(
     Ok(Lists { axioms, arity_list })
 }
 
-// Adds a block to the arity table, the entries, the known axioms and, last, the code. Where memory is refused some of it may stay with
-// all but the code.
+// Adds a block to the arity table, the entries, the known axioms and the code. Where memory is refused the first three are what they were.
+fn add_or_keep(
+    heap: &Heap,
+    block: &[Definition],
+    pairs: &[(Ref, u64)],
+    axioms: &[Ref],
+    arity: &mut Arity,
+    entries: &mut Entries,
+    table: &mut Table,
+    known: &mut Known,
+) -> Result<(), Memory>
+    requires symbols { ArePairsOfSymbols heap.now.objects pairs.now }
+    requires new { AreNew heap.now.objects arity.old pairs.now }
+    requires block { (D : Definitions) × (B : Block) × MayBeAdded heap.now.objects table.old D block.now B }
+    ensures table { (D : Definitions) (B : Block) → MayBeAdded heap.now.objects table.old D block.now B → OnOk result (StandsFor heap.now.objects table.new (with_block B D)) }
+    ensures arity { OnOk result (arity.new ≡ with_pairs heap.now.objects pairs.now arity.old) }
+    ensures entries { OnOk result (entries.new ≡ entries.old ++ block.now ∷ []) }
+    ensures known { OnOk result (known.new ≡ reverse axioms.now ++ known.old) }
+    ensures err_table { (os : List Object) (E : Definitions) → StandsFor os table.old E → OnErr result (StandsFor os table.new E) }
+    ensures err_arity { OnErr result (arity.new ≡ arity.old) }
+    ensures err_entries { OnErr result (entries.new ≡ entries.old) }
+    ensures err_known { OnErr result (known.new ≡ known.old) }
+{
+    let had = sizes_of(arity, entries, known);
+    match add_parts(heap, block, pairs, axioms, arity, entries, table, known) {
+        Ok(()) => Ok(()),
+        Err(refusal) => {
+            cut_back(had, arity, entries, known);
+            Err(refusal)
+        }
+    }
+}
+
+// The same, with the code last. Where memory is refused some of the block may stay with all but the code.
 fn add_parts(
     heap: &Heap,
     block: &[Definition],

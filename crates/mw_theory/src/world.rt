@@ -9,7 +9,7 @@ ghost use Rattle.mw_model.specs.Events.Admission.{add_to_theory};
 ghost use Rattle.mw_heap.specs.Objects.{object_at, IsIn};
 ghost use Rattle.mw_term.specs.Marking.{AreMarks};
 ghost use Rattle.mw_theory.specs.Worlds.{theory_in, IsWorld};
-ghost use Rattle.mw_theory.specs.Knowledge.{with_theorem};
+ghost use Rattle.mw_theory.specs.Knowledge.{parts_of, meant, with_theorem, IsHeld};
 ghost use Rattle.mw_theory.specs.Defining.{IsNewBlockIn};
 
 use crate::beginning::begin;
@@ -40,14 +40,23 @@ impl World {
         ensures room { IfOk result (λ w. length w.heap.objects ≡ w.needed) }
     {
         let mut heap = Heap::new(alloc)?;
-        heap.keep_words()?;
-        let theory = begin(&mut heap, Profile::One)?;
-        Ok(World {
+        let theory = begin_first(&mut heap)?;
+        Ok(World::over(heap, theory))
+    }
+
+    // A theory over the heap that has its objects, none of which has a mark.
+    fn over(heap: Heap, theory: Theory) -> World
+        requires held { IsHeld heap.objects theory }
+        ensures world { IsWorld result }
+        ensures theory { theory_in result ≡ meant heap.objects (parts_of theory) }
+        ensures room { length result.heap.objects ≡ result.needed }
+    {
+        World {
             needed: heap.mark(),
+            marks: Marks::new(heap.alloc()),
             heap,
             theory,
-            marks: Marks::new(alloc),
-        })
+        }
     }
 
     /// Allows an event as many looks at cells as its own cells give it.
@@ -135,6 +144,15 @@ impl World {
         cut_marks(&mut self.marks, to);
         self.heap.cut_back(to);
     }
+}
+
+// The initial theory of the first profile, in a heap that has the words first, and finds them by their places.
+fn begin_first(heap: &mut Heap) -> Result<Theory, Memory>
+    ensures held { IfOk result (IsHeld heap.new.objects) }
+    ensures theory { IfOk result (λ t. meant heap.new.objects (parts_of t) ≡ initial One) }
+{
+    heap.keep_words()?;
+    begin(heap, Profile::One)
 }
 
 // Forgets the marks of the objects from there on, since the heap forgets these.

@@ -17,32 +17,32 @@ with_lists-requires-clause-symbols c =
     let (D, B, h, e) = c.requires.block in
     symbols os os (Grows-refl os) c.args.table.now D c.args.block.now B h c.as_slice.result.now (c.as_slice.ensures.value ∙ c.in_ok-pairs.ensures)
 
-pub add_parts-requires-clause-symbols : goal.add_parts-requires-clause-symbols
-add_parts-requires-clause-symbols c =
+pub add_or_keep-requires-clause-symbols : goal.add_or_keep-requires-clause-symbols
+add_or_keep-requires-clause-symbols c =
     let (D, B, h, e) = c.requires.block in
     symbols_later c.args.heap.now.objects c.with_lists.new.heap.objects c.with_lists.ensures.grows c.args.table.now D c.args.block.now B h c.as_slice-2.result.now (c.as_slice-2.ensures.value ∙ c.in_ok-pairs.ensures)
 
-pub add_parts-requires-clause-new : goal.add_parts-requires-clause-new
-add_parts-requires-clause-new c =
+pub add_or_keep-requires-clause-new : goal.add_or_keep-requires-clause-new
+add_or_keep-requires-clause-new c =
     let (D, B, h, e) = c.requires.block in
     new_later c.args.heap.now.objects c.with_lists.new.heap.objects c.with_lists.ensures.grows c.args.table.now D c.args.block.now B h c.as_slice-2.result.now (c.as_slice-2.ensures.value ∙ c.in_ok-pairs.ensures) c.args.arity.now e
 
-pub add_parts-requires-clause-block : goal.add_parts-requires-clause-block
-add_parts-requires-clause-block c =
+pub add_or_keep-requires-clause-block : goal.add_or_keep-requires-clause-block
+add_or_keep-requires-clause-block c =
     let (D, B, h, e) = c.requires.block in
     (D, B, may_be_added_grows c.args.heap.now.objects c.with_lists.new.heap.objects c.with_lists.ensures.grows c.args.table.now D c.args.block.now B h)
 
-pub returns-in-Ok-clause-table : goal.returns-in-Ok-clause-table
-returns-in-Ok-clause-table c D B h =
-    c.in-Ok.ensures.table D B (may_be_added_grows c.args.heap.now.objects c.with_lists.new.heap.objects c.with_lists.ensures.grows c.args.table.now D c.args.block.now B h)
+pub returns-clause-table : goal.returns-clause-table
+returns-clause-table c D B h =
+    c.in_ok-add_or_keep.ensures.table D B (may_be_added_grows c.args.heap.now.objects c.with_lists.new.heap.objects c.with_lists.ensures.grows c.args.table.now D c.args.block.now B h)
 
-pub returns-in-Ok-clause-arity : goal.returns-in-Ok-clause-arity
-returns-in-Ok-clause-arity c D B h e =
-    c.in-Ok.ensures.arity
+pub returns-clause-arity : goal.returns-clause-arity
+returns-clause-arity c D B h e =
+    c.in_ok-add_or_keep.ensures.arity
     ∙ arities_later c.args.heap.now.objects c.with_lists.new.heap.objects c.with_lists.ensures.grows c.args.table.now D c.args.block.now B h c.as_slice-2.result.now (c.as_slice-2.ensures.value ∙ c.in_ok-pairs.ensures) c.args.arity.now e
 
-pub returns-in-Ok-clause-arity_list : goal.returns-in-Ok-clause-arity_list
-returns-in-Ok-clause-arity_list c D B h e =
+pub returns-clause-arity_list : goal.returns-clause-arity_list
+returns-clause-arity_list c D B h e =
     let os = c.args.heap.now.objects in
     let listed = c.in_ok-lists.ensures in (
       listed.arity_list_in,

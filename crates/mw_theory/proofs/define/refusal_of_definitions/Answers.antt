@@ -5,7 +5,8 @@ use Rattle.mw_model.specs.Values.Definition.{arity_table}
 use Rattle.mw_model.specs.Events.Obligation.{obligations}
 use Rattle.mw_model.specs.Events.Admission.{functions, measures}
 use Rattle.mw_heap.specs.Objects.{object_at}
-use Rattle.mw_heap.proofs.Objects.{object_at-Grows, Grows-trans}
+use Rattle.mw_heap.proofs.Objects.{IsIn-Grows, object_at-Grows, Grows-trans}
+use Rattle.mw_term.proofs.CallerLemmas.{AreMarks-grows}
 use Rattle.mw_define.specs.BlockTests.{IsBlockOf}
 use Rattle.mw_define.specs.declared.admitted.Admitted.TheVariants as admitted
 use Rattle.mw_theory.specs.Knowledge.{parts_of, meant}
@@ -41,3 +42,18 @@ returns-in-Obligations-clause-defined g c = λ before grows ready.
 
 pub refusal_of_proofs-requires-clause-ready : goal.refusal_of_proofs-requires-clause-ready
 refusal_of_proofs-requires-clause-ready g c = let (os, grows, ready) = c.requires.ready in (os, Grows-trans os c.args.heap.now.objects c.admit.new.heap.objects grows c.admit.ensures.grows, ready)
+
+pub refusal_of_proofs-requires-clause-proofs : goal.refusal_of_proofs-requires-clause-proofs
+refusal_of_proofs-requires-clause-proofs g c = IsIn-Grows _ _ c.admit.ensures.grows _ c.requires.proofs
+
+pub refusal_of_proofs-requires-clause-marked : goal.refusal_of_proofs-requires-clause-marked
+refusal_of_proofs-requires-clause-marked g c = AreMarks-grows _ _ _ _ c.admit.ensures.grows c.requires.marked
+
+pub returns-in-Refused-clause-marked : goal.returns-in-Refused-clause-marked
+returns-in-Refused-clause-marked g c = AreMarks-grows _ _ _ _ c.admit.ensures.grows c.requires.marked
+
+pub returns-in-Memory-clause-marked : goal.returns-in-Memory-clause-marked
+returns-in-Memory-clause-marked g c = AreMarks-grows _ _ _ _ c.admit.ensures.grows c.requires.marked
+
+pub returns-in-Obligations-clause-grows : goal.returns-in-Obligations-clause-grows
+returns-in-Obligations-clause-grows g c = Grows-trans _ _ _ c.admit.ensures.grows c.refusal_of_proofs.ensures.grows

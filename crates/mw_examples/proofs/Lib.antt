@@ -1,0 +1,20 @@
+pub mod Examples
+mod Proofs
+mod Definitions
+mod Obligations
+mod Blocks
+mod Runs
+mod Switch
+mod Events
+mod Profile
+mod Text
+mod Syntax
+mod Trial
+mod Long
+mod Logs
+mod Tautologies
+mod Slices
+mod Derivations
+mod Flattening
+mod Written
+mod Headlines
