@@ -1,5 +1,5 @@
 //! Formals as sets of symbols.
-ghost use Rattle.std.specs.Prelude.{◌≡◌, true, [], ◌∷◌, ◌++◌, IfOk, IfSome, option_map, nat_eq, if◌then◌else◌};
+ghost use Rattle.std.specs.Prelude.{◌≡◌, true, [], ◌∷◌, ◌++◌, Some, None, IfOk, OnOk, IfSome, option_map, nat_eq, if◌then◌else◌};
 ghost use Rattle.std.specs.List.{list_any};
 ghost use Rattle.mw_model.specs.Values.Primitive.{is_symbol, name_of};
 ghost use Rattle.mw_model.specs.Terms.Term.{is_among};
@@ -23,6 +23,48 @@ pub fn is_among_symbols(heap: &Heap, symbols: &IndexSet<Ref>, x: Ref) -> bool
     symbols.contains(&x)
 }
 
+// The formals of which x is the list, where it is one of distinct variables.
+pub(crate) fn formal_set(
+    heap: &Heap,
+    x: Ref,
+    work: &mut Work,
+) -> Result<Option<IndexSet<Ref>>, Memory>
+    requires { IsIn heap.now.objects x }
+    ensures formals { IfOk result (λ o. option_map (λ s. names_at heap.now.objects s.keys) o ≡ formals_of (object_at heap.now.objects x)) }
+    ensures symbols { IfOk result (λ o. IfSome o (λ s. AreSymbols heap.now.objects s.keys)) }
+{
+    let mut formals = IndexSet::new(work.alloc);
+    if add_formals(heap, &mut formals, x, work)? {
+        Ok(Some(formals))
+    } else {
+        Ok(None)
+    }
+}
+
+// Adds the members of x where there are no formals yet, up to the first that is no new variable, and says whether x is a list of distinct
+// variables.
+fn add_formals(
+    heap: &Heap,
+    formals: &mut IndexSet<Ref>,
+    x: Ref,
+    work: &mut Work,
+) -> Result<bool, Memory>
+    requires within { IsIn heap.now.objects x }
+    requires none { formals.old.keys ≡ [] }
+    ensures formals { IfOk result (λ b. (if b then Some (names_at heap.now.objects formals.new.keys) else None) ≡ formals_of (object_at heap.now.objects x)) }
+    ensures symbols { OnOk result (AreSymbols heap.now.objects formals.new.keys) }
+{
+    let mut rest = x;
+    while let View::Pair(first, more) = heap.view(rest) {
+        work.take_look()?;
+        if !add_formal(heap, formals, first)? {
+            return Ok(false);
+        }
+        rest = more;
+    }
+    Ok(heap.is_nil(Some(rest)))
+}
+
 // Adds x where it is a variable that is not there yet, and says whether it is.
 fn add_formal(heap: &Heap, formals: &mut IndexSet<Ref>, x: Ref) -> Result<bool, Memory>
     requires within { IsIn heap.now.objects x }
@@ -39,31 +81,5 @@ fn add_formal(heap: &Heap, formals: &mut IndexSet<Ref>, x: Ref) -> Result<bool, 
             Ok(true)
         }
         _ => Ok(false),
-    }
-}
-
-// The formals of which x is the list, where it is one of distinct variables.
-pub(crate) fn formal_set(
-    heap: &Heap,
-    x: Ref,
-    work: &mut Work,
-) -> Result<Option<IndexSet<Ref>>, Memory>
-    requires { IsIn heap.now.objects x }
-    ensures formals { IfOk result (λ o. option_map (λ s. names_at heap.now.objects s.keys) o ≡ formals_of (object_at heap.now.objects x)) }
-    ensures symbols { IfOk result (λ o. IfSome o (λ s. AreSymbols heap.now.objects s.keys)) }
-{
-    let mut formals = IndexSet::new(work.alloc);
-    let mut rest = x;
-    while let View::Pair(first, more) = heap.view(rest) {
-        work.take_look()?;
-        if !add_formal(heap, &mut formals, first)? {
-            return Ok(None);
-        }
-        rest = more;
-    }
-    if heap.is_nil(Some(rest)) {
-        Ok(Some(formals))
-    } else {
-        Ok(None)
     }
 }

@@ -67,6 +67,24 @@ pub(crate) fn is_closed_body(
     if let Some(variables) = bodies.find(body) {
         return are_among(heap, names, variables, work);
     }
+    is_closed_new_body(heap, names, body, bodies, work)
+}
+
+// The same of a body whose variables are not held. They are held then.
+fn is_closed_new_body(
+    heap: &Heap,
+    names: &IndexSet<Ref>,
+    body: Ref,
+    bodies: &mut Bodies,
+    work: &mut Work,
+) -> Result<bool, Memory>
+    requires within { IsIn heap.now.objects body }
+    requires symbols { AreSymbols heap.now.objects names.now.keys }
+    requires bodies { AreBodies heap.now.objects bodies.old.found.entries }
+    ensures closed { IfOk result (λ b. b ≡ is_closed_object (names_at heap.now.objects names.now.keys) (object_at heap.now.objects body)) }
+    ensures bodies { OnOk result (AreBodies heap.now.objects bodies.new.found.entries) }
+    ensures held { OnOk result (IsSome (variables_found bodies.new.found.entries body)) }
+{
     let variables = variables_in(heap, body, work)?;
     let closed = are_among(heap, names, &variables, work)?;
     bodies.add(body, variables)?;

@@ -43,14 +43,49 @@ pub fn vars_counted(heap: &Heap, t: Ref, looks_left: &mut u64) -> Result<Vars, M
     Ok(Vars::from_set(symbols))
 }
 
-// The free variables of a term. Each of its parts is looked at once.
+// The free variables of a term.
 pub(crate) fn variables_in(heap: &Heap, term: Ref, work: &mut Work) -> Result<IndexSet<Ref>, Memory>
     requires { IsIn heap.now.objects term }
     ensures symbols { IfOk result (λ s. AreSymbols heap.now.objects s.keys) }
     ensures names { IfOk result (λ s. names_at heap.now.objects s.keys ≡ object_variables (object_at heap.now.objects term)) }
 {
     let mut found = IndexSet::new(work.alloc);
+    find_variables(heap, &mut found, term, work)?;
+    Ok(found)
+}
+
+// Finds the free variables of a term, where none are found yet.
+fn find_variables(
+    heap: &Heap,
+    found: &mut IndexSet<Ref>,
+    term: Ref,
+    work: &mut Work,
+) -> Result<(), Memory>
+    requires within { IsIn heap.now.objects term }
+    requires none_found { found.old.keys ≡ [] }
+    ensures symbols { OnOk result (AreSymbols heap.now.objects found.new.keys) }
+    ensures names { OnOk result (names_at heap.now.objects found.new.keys ≡ object_variables (object_at heap.now.objects term)) }
+{
     let mut looked = IndexSet::with_capacity(work.alloc, work.parts)?;
+    look_at_parts(heap, found, &mut looked, term, work)?;
+    work.parts = looked.len();
+    Ok(())
+}
+
+// The same, where no part is looked at yet. Each part of the term is looked at once.
+fn look_at_parts(
+    heap: &Heap,
+    found: &mut IndexSet<Ref>,
+    looked: &mut IndexSet<Part>,
+    term: Ref,
+    work: &mut Work,
+) -> Result<(), Memory>
+    requires within { IsIn heap.now.objects term }
+    requires none_found { found.old.keys ≡ [] }
+    requires none_looked { looked.old.keys ≡ [] }
+    ensures symbols { OnOk result (AreSymbols heap.now.objects found.new.keys) }
+    ensures names { OnOk result (names_at heap.now.objects found.new.keys ≡ object_variables (object_at heap.now.objects term)) }
+{
     let mut waiting = Vec::new(work.alloc);
     waiting.push(Part::Term(term))?;
     while let Some(part) = waiting.pop() {
@@ -58,10 +93,9 @@ pub(crate) fn variables_in(heap: &Heap, term: Ref, work: &mut Work) -> Result<In
         if !looked.insert(part)? {
             continue;
         }
-        look(heap, &mut found, &mut waiting, part)?;
+        look(heap, found, &mut waiting, part)?;
     }
-    work.parts = looked.len();
-    Ok(found)
+    Ok(())
 }
 
 // Finds the variable that a part is, or has its parts wait, the first of them last.

@@ -1,7 +1,7 @@
 -- Formals are read one by one.
 use Rattle.std.proofs.Common.{◌∷◌, [], ◌++◌, sym, ap, ◌∙◌, if◌then◌else◌}
 use Rattle.mw_term.proofs.FormalList.{before-step, before-refused}
-use Rattle.mw_term.proofs.formals.formal_set.Goals as goal
+use Rattle.mw_term.proofs.formals.add_formals.Goals as goal
 
 pub returns-then-not-branch-clause-formals : goal.returns-then-not-branch-clause-formals
 returns-then-not-branch-clause-formals c =

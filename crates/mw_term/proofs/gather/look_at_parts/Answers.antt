@@ -7,10 +7,10 @@ use Rattle.mw_term.specs.declared.part.Part.{Part}
 use Rattle.mw_term.specs.declared.part.Part.TheVariants.{Term}
 use Rattle.mw_term.proofs.PartSet.{few_parts, put-before, put-cases}
 use Rattle.mw_term.proofs.Gathering.{IsGathering, gathering-start, gathering-step, looked_before}
-use Rattle.mw_term.proofs.gather.variables_in.Goals as goal
+use Rattle.mw_term.proofs.gather.look_at_parts.Goals as goal
 
 pub loop-part-init : goal.loop-part-init
-loop-part-init c = gathering-start c.args.heap.now.objects c.args.term _ _ _ c.requires c.new-found.ensures.empty c.in_ok-looked.ensures.empty (c.in_ok-push.ensures.items ∙ ap (λ l. l ++ Term c.args.term ∷ []) c.new-waiting.ensures.items)
+loop-part-init c = gathering-start c.args.heap.now.objects c.args.term _ _ _ c.requires.within c.requires.none_found c.requires.none_looked (c.in_ok-push.ensures.items ∙ ap (λ l. l ++ Term c.args.term ∷ []) c.new-waiting.ensures.items)
 
 pub loop-part-preserved-then-not-branch : goal.loop-part-preserved-then-not-branch
 loop-part-preserved-then-not-branch c =

@@ -1,7 +1,7 @@
 -- What was found, what was looked at and what waits.
 use Rattle.std.proofs.Common.{◌+◌, ◌*◌, ◌-◌, length}
 use Rattle.mw_term.proofs.Gathering.{IsGathering}
-use Rattle.mw_term.proofs.gather.variables_in.Given as goal
+use Rattle.mw_term.proofs.gather.look_at_parts.Given as goal
 
 abbrev pub invariant-loop-part : goal.invariant-loop-part
 invariant-loop-part l = IsGathering l.heap.objects l.fn.term l.found.keys l.looked.keys l.waiting.items
