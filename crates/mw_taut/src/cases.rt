@@ -128,11 +128,34 @@ pub(crate) fn by_cases(
         return Ok(Outcome::Proof(p));
     }
     let table = table_of(heap, f)?;
-    let without = branch(heap, proved, equations, chosen, f, &table, false, arity)?;
+    let outcome = by_both(heap, proved, equations, chosen, f, &table, arity)?;
+    keep(proved, f, outcome)
+}
+
+// What comes of the formula f, with this table, by both values of the next equation.
+#[cycle(cases)]
+fn by_both(
+    heap: &mut Heap,
+    proved: &mut IndexMap<Ref, Ref>,
+    equations: &[Ref],
+    chosen: &[bool],
+    f: Ref,
+    table: &Table,
+    arity: &Arity,
+) -> Result<Outcome, Memory>
+    requires f_in { IsIn heap.old.objects f }
+    requires equations_in { All (IsIn heap.old.objects) equations.now }
+    requires proved { AreProved arity.now heap.old.objects proved.old }
+    requires posed { (F : Formula) × (before : List Formula) × (E : Formula) × (rest : List Formula) × IsPosed arity.now heap.old.objects equations.now chosen.now f F before (E ∷ rest) × IsTableOf heap.old.objects F table.now }
+    ensures grows { Grows heap.old.objects heap.new.objects }
+    ensures within { IfOk result (λ o. IsOutcomeIn heap.new.objects o) }
+    ensures proved { OnOk result (AreProved arity.now heap.new.objects proved.new) }
+    ensures decides { IfOk result (λ o. (F : Formula) (before : List Formula) (E : Formula) (rest : List Formula) → IsPosed arity.now heap.old.objects equations.now chosen.now f F before (E ∷ rest) → IsTableOf heap.old.objects F table.now → Decides arity.now (choice_of before chosen.now) (E ∷ rest) F (answer_at heap.new.objects o)) }
+{
+    let without = branch(heap, proved, equations, chosen, f, table, false, arity)?;
     let Outcome::Proof(without) = without else {
         return Ok(without);
     };
-    let with = branch(heap, proved, equations, chosen, f, &table, true, arity)?;
-    let outcome = joined(heap, f, without, with)?;
-    keep(proved, f, outcome)
+    let with = branch(heap, proved, equations, chosen, f, table, true, arity)?;
+    joined(heap, f, without, with)
 }

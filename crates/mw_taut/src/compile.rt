@@ -100,11 +100,43 @@ pub(crate) fn table_of(heap: &Heap, f: Ref) -> Result<Table, Memory>
     let mut parts = IndexSet::new(heap.alloc());
     let mut nodes = Vec::new(heap.alloc());
     let mut equations = Vec::new(heap.alloc());
+    put_parts(heap, f, &mut parts, &mut nodes, &mut equations)?;
+    table_with(heap, &parts, nodes, equations)
+}
+
+// Puts the parts of the formula into the table, where there are none yet.
+fn put_parts(
+    heap: &Heap,
+    f: Ref,
+    parts: &mut IndexSet<Ref>,
+    nodes: &mut Vec<Node>,
+    equations: &mut Vec<Ref>,
+) -> Result<(), Memory>
+    requires within { IsIn heap.now.objects f }
+    requires formula { (A : ArityTable) × (F : Formula) × (object_at heap.now.objects f ≡ formula_object F) × (is_formula A F ≡ true) }
+    requires no_parts { parts.old.keys ≡ [] }
+    requires no_nodes { nodes.old.items ≡ [] }
+    requires no_equations { equations.old.items ≡ [] }
+    ensures { OnOk result ((A : ArityTable) → (F : Formula) → object_at heap.now.objects f ≡ formula_object F → is_formula A F ≡ true → IsBuilt A heap.now.objects F parts.new.keys nodes.new.items equations.new.items []) }
+{
     let mut path = Vec::new(heap.alloc());
     path.push(f)?;
     while let Some(x) = path.pop() {
-        advance(heap, &mut parts, &mut nodes, &mut equations, &mut path, x)?;
+        advance(heap, parts, nodes, equations, &mut path, x)?;
     }
+    Ok(())
+}
+
+// The table of the formula whose parts these are.
+fn table_with(
+    heap: &Heap,
+    parts: &IndexSet<Ref>,
+    nodes: Vec<Node>,
+    equations: Vec<Ref>,
+) -> Result<Table, Memory>
+    requires { (A : ArityTable) × (F : Formula) × IsBuilt A heap.now.objects F parts.now.keys nodes.items equations.items [] }
+    ensures { IfOk result (λ t. (A : ArityTable) → (F : Formula) → IsBuilt A heap.now.objects F parts.now.keys nodes.items equations.items [] → IsTableOf heap.now.objects F t) }
+{
     let root = nodes.len() - 1;
     let formulas = Vec::from_slice(heap.alloc(), parts.as_slice())?;
     Ok(Table {

@@ -2,7 +2,7 @@
 ghost use Rattle.std.specs.Prelude.{◌≡◌, true, IfOk};
 ghost use Rattle.mw_heap.specs.Objects.{object_at, IsIn, Grows};
 ghost use Rattle.mw_taut.specs.Steps.{left, right};
-ghost use Rattle.mw_taut.specs.Reducing.{settled_at, other_at, form_at, IsOtherIn, IsFormIn, either_value, either_after, either_before, either};
+ghost use Rattle.mw_taut.specs.Reducing.{Fixed, settled_at, other_at, form_at, IsOtherIn, IsFormIn, either_value, either_after, either_before, either};
 
 use crate::both::{either_both, either_first_kept, either_second_kept};
 use crate::derived::{left, right};
@@ -14,31 +14,31 @@ use crate::unchanged::kept;
 use mw_heap::{Heap, Memory, Ref};
 
 // Where x holds.
-fn either_left(heap: &mut Heap, d: Ref, x: Ref, y: Ref, p: Ref) -> Result<Settled, Memory>
+fn either_left(heap: &mut Heap, d: Ref, x: Ref, y: Ref, p: Ref) -> Result<Reduced, Memory>
     requires d_in { IsIn heap.old.objects d }
     requires x_in { IsIn heap.old.objects x }
     requires y_in { IsIn heap.old.objects y }
     requires p_in { IsIn heap.old.objects p }
     ensures grows { Grows heap.old.objects heap.new.objects }
-    ensures within { IfOk result (λ r. IsIn heap.new.objects r.proof) }
-    ensures made { IfOk result (λ r. settled_at heap.new.objects r ≡ (true, left (object_at heap.old.objects x) (object_at heap.old.objects y) (object_at heap.old.objects d) (object_at heap.old.objects p))) }
+    ensures within { IfOk result (λ r. IsFormIn heap.new.objects r) }
+    ensures made { IfOk result (λ r. form_at heap.new.objects r ≡ Fixed (true, left (object_at heap.old.objects x) (object_at heap.old.objects y) (object_at heap.old.objects d) (object_at heap.old.objects p))) }
 {
     let proof = left(heap, x, y, d, p)?;
-    Ok(Settled { value: true, proof })
+    Ok(Reduced::Fixed(Settled { value: true, proof }))
 }
 
 // Where y holds.
-fn either_right(heap: &mut Heap, d: Ref, x: Ref, y: Ref, p: Ref) -> Result<Settled, Memory>
+fn either_right(heap: &mut Heap, d: Ref, x: Ref, y: Ref, p: Ref) -> Result<Reduced, Memory>
     requires d_in { IsIn heap.old.objects d }
     requires x_in { IsIn heap.old.objects x }
     requires y_in { IsIn heap.old.objects y }
     requires p_in { IsIn heap.old.objects p }
     ensures grows { Grows heap.old.objects heap.new.objects }
-    ensures within { IfOk result (λ r. IsIn heap.new.objects r.proof) }
-    ensures made { IfOk result (λ r. settled_at heap.new.objects r ≡ (true, right (object_at heap.old.objects x) (object_at heap.old.objects y) (object_at heap.old.objects d) (object_at heap.old.objects p))) }
+    ensures within { IfOk result (λ r. IsFormIn heap.new.objects r) }
+    ensures made { IfOk result (λ r. form_at heap.new.objects r ≡ Fixed (true, right (object_at heap.old.objects x) (object_at heap.old.objects y) (object_at heap.old.objects d) (object_at heap.old.objects p))) }
 {
     let proof = right(heap, x, y, d, p)?;
-    Ok(Settled { value: true, proof })
+    Ok(Reduced::Fixed(Settled { value: true, proof }))
 }
 
 // Where the values of both are fixed.
@@ -49,15 +49,15 @@ fn either_value(
     y: Ref,
     s: Settled,
     t: Settled,
-) -> Result<Settled, Memory>
+) -> Result<Reduced, Memory>
     requires d_in { IsIn heap.old.objects d }
     requires x_in { IsIn heap.old.objects x }
     requires y_in { IsIn heap.old.objects y }
     requires s_in { IsIn heap.old.objects s.proof }
     requires t_in { IsIn heap.old.objects t.proof }
     ensures grows { Grows heap.old.objects heap.new.objects }
-    ensures within { IfOk result (λ r. IsIn heap.new.objects r.proof) }
-    ensures made { IfOk result (λ r. settled_at heap.new.objects r ≡ either_value (object_at heap.old.objects d) (object_at heap.old.objects x) (object_at heap.old.objects y) (settled_at heap.old.objects s) (settled_at heap.old.objects t)) }
+    ensures within { IfOk result (λ r. IsFormIn heap.new.objects r) }
+    ensures made { IfOk result (λ r. form_at heap.new.objects r ≡ Fixed (either_value (object_at heap.old.objects d) (object_at heap.old.objects x) (object_at heap.old.objects y) (settled_at heap.old.objects s) (settled_at heap.old.objects t))) }
 {
     if s.value {
         return either_left(heap, d, x, y, s.proof);
@@ -66,10 +66,10 @@ fn either_value(
         return either_right(heap, d, x, y, t.proof);
     }
     let proof = neither(heap, x, y, d, s.proof, t.proof)?;
-    Ok(Settled {
+    Ok(Reduced::Fixed(Settled {
         value: false,
         proof,
-    })
+    }))
 }
 
 // Where the value of x is fixed, and y comes to another formula.
@@ -91,11 +91,9 @@ fn either_after(
     ensures made { IfOk result (λ r. form_at heap.new.objects r ≡ either_after (object_at heap.old.objects d) (object_at heap.old.objects x) (object_at heap.old.objects y) (settled_at heap.old.objects s) (other_at heap.old.objects t)) }
 {
     if s.value {
-        let s = either_left(heap, d, x, y, s.proof)?;
-        return Ok(Reduced::Fixed(s));
+        return either_left(heap, d, x, y, s.proof);
     }
-    let t = either_second(heap, d, x, y, s.proof, t)?;
-    Ok(Reduced::Changed(t))
+    either_second(heap, d, x, y, s.proof, t)
 }
 
 // Where x comes to another formula, and the value of y is fixed.
@@ -117,11 +115,9 @@ fn either_before(
     ensures made { IfOk result (λ r. form_at heap.new.objects r ≡ either_before (object_at heap.old.objects d) (object_at heap.old.objects x) (object_at heap.old.objects y) (other_at heap.old.objects s) (settled_at heap.old.objects t)) }
 {
     if t.value {
-        let t = either_right(heap, d, x, y, t.proof)?;
-        return Ok(Reduced::Fixed(t));
+        return either_right(heap, d, x, y, t.proof);
     }
-    let s = either_first(heap, d, x, y, s, t.proof)?;
-    Ok(Reduced::Changed(s))
+    either_first(heap, d, x, y, s, t.proof)
 }
 
 /// The disjunction of x and y, in the context d.
@@ -143,10 +139,7 @@ pub(crate) fn either(
     ensures made { IfOk result (λ o. form_at heap.new.objects o ≡ either (object_at heap.old.objects d) (object_at heap.old.objects x) (object_at heap.old.objects y) (form_at heap.old.objects r) (form_at heap.old.objects s)) }
 {
     match (r, s) {
-        (Reduced::Fixed(s), Reduced::Fixed(t)) => {
-            let value = either_value(heap, d, x, y, s, t)?;
-            Ok(Reduced::Fixed(value))
-        }
+        (Reduced::Fixed(s), Reduced::Fixed(t)) => either_value(heap, d, x, y, s, t),
         (Reduced::Fixed(s), Reduced::Kept) => {
             let t = kept(heap, d, y)?;
             either_after(heap, d, x, y, s, t)
@@ -157,18 +150,9 @@ pub(crate) fn either(
             either_before(heap, d, x, y, s, t)
         }
         (Reduced::Kept, Reduced::Kept) => Ok(Reduced::Kept),
-        (Reduced::Kept, Reduced::Changed(t)) => {
-            let both = either_first_kept(heap, d, x, y, t)?;
-            Ok(Reduced::Changed(both))
-        }
+        (Reduced::Kept, Reduced::Changed(t)) => either_first_kept(heap, d, x, y, t),
         (Reduced::Changed(s), Reduced::Fixed(t)) => either_before(heap, d, x, y, s, t),
-        (Reduced::Changed(s), Reduced::Kept) => {
-            let both = either_second_kept(heap, d, x, y, s)?;
-            Ok(Reduced::Changed(both))
-        }
-        (Reduced::Changed(s), Reduced::Changed(t)) => {
-            let both = either_both(heap, d, x, y, s, t)?;
-            Ok(Reduced::Changed(both))
-        }
+        (Reduced::Changed(s), Reduced::Kept) => either_second_kept(heap, d, x, y, s),
+        (Reduced::Changed(s), Reduced::Changed(t)) => either_both(heap, d, x, y, s, t),
     }
 }

@@ -1,14 +1,14 @@
 //! What the disjunction of two formulas comes to, where one of them is false.
 ghost use Rattle.std.specs.Prelude.{◌≡◌, IfOk};
 ghost use Rattle.mw_heap.specs.Objects.{object_at, IsIn, Grows};
-ghost use Rattle.mw_taut.specs.Reducing.{other_at, IsOtherIn, first_from, first_to_start, first_to, second_from, alone_end, second_to_start, second_to_end, second_to, either_first, either_second};
+ghost use Rattle.mw_taut.specs.Reducing.{Changed, other_at, form_at, IsOtherIn, IsFormIn, first_from, first_to_start, first_to, second_from, alone_end, second_to_start, second_to_end, second_to, either_first, either_second};
 
 use crate::derived::commuted;
 use crate::formulas::{not, or, or_then};
 use crate::gaining::{gained_left, gained_right};
 use crate::neither::{without_first, without_second};
 use crate::owing::owed_alone;
-use crate::reduced::Change;
+use crate::reduced::{Change, Reduced};
 use crate::turning::{gathered, replaced, turned};
 use mw_heap::{Heap, Memory, Ref};
 
@@ -193,24 +193,24 @@ pub(crate) fn either_first(
     y: Ref,
     s: Change,
     q: Ref,
-) -> Result<Change, Memory>
+) -> Result<Reduced, Memory>
     requires d_in { IsIn heap.old.objects d }
     requires x_in { IsIn heap.old.objects x }
     requires y_in { IsIn heap.old.objects y }
     requires s_in { IsOtherIn heap.old.objects s }
     requires q_in { IsIn heap.old.objects q }
     ensures grows { Grows heap.old.objects heap.new.objects }
-    ensures within { IfOk result (λ r. IsOtherIn heap.new.objects r) }
-    ensures made { IfOk result (λ r. other_at heap.new.objects r ≡ either_first (object_at heap.old.objects d) (object_at heap.old.objects x) (object_at heap.old.objects y) (other_at heap.old.objects s) (object_at heap.old.objects q)) }
+    ensures within { IfOk result (λ r. IsFormIn heap.new.objects r) }
+    ensures made { IfOk result (λ r. form_at heap.new.objects r ≡ Changed (either_first (object_at heap.old.objects d) (object_at heap.old.objects x) (object_at heap.old.objects y) (other_at heap.old.objects s) (object_at heap.old.objects q))) }
 {
     let from = first_from(heap, d, x, y, s.formula, s.from)?;
     let to = first_to(heap, d, x, y, s.formula, s.to, q)?;
-    Ok(Change {
+    Ok(Reduced::Changed(Change {
         formula: s.formula,
         denied: s.denied,
         from,
         to,
-    })
+    }))
 }
 
 /// Where x is false, by p.
@@ -221,22 +221,22 @@ pub(crate) fn either_second(
     y: Ref,
     p: Ref,
     t: Change,
-) -> Result<Change, Memory>
+) -> Result<Reduced, Memory>
     requires d_in { IsIn heap.old.objects d }
     requires x_in { IsIn heap.old.objects x }
     requires y_in { IsIn heap.old.objects y }
     requires p_in { IsIn heap.old.objects p }
     requires t_in { IsOtherIn heap.old.objects t }
     ensures grows { Grows heap.old.objects heap.new.objects }
-    ensures within { IfOk result (λ r. IsOtherIn heap.new.objects r) }
-    ensures made { IfOk result (λ r. other_at heap.new.objects r ≡ either_second (object_at heap.old.objects d) (object_at heap.old.objects x) (object_at heap.old.objects y) (object_at heap.old.objects p) (other_at heap.old.objects t)) }
+    ensures within { IfOk result (λ r. IsFormIn heap.new.objects r) }
+    ensures made { IfOk result (λ r. form_at heap.new.objects r ≡ Changed (either_second (object_at heap.old.objects d) (object_at heap.old.objects x) (object_at heap.old.objects y) (object_at heap.old.objects p) (other_at heap.old.objects t))) }
 {
     let from = second_from(heap, d, x, y, t.formula, t.from)?;
     let to = second_to(heap, d, x, y, t.formula, p, t.to)?;
-    Ok(Change {
+    Ok(Reduced::Changed(Change {
         formula: t.formula,
         denied: t.denied,
         from,
         to,
-    })
+    }))
 }

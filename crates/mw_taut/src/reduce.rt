@@ -1,5 +1,5 @@
 //! What the parts of a formula come to where an equation has a value.
-ghost use Rattle.std.specs.Prelude.{◌≡◌, ℕ, ◌<◌, ◌≤◌, [], All, length, map, IfOk};
+ghost use Rattle.std.specs.Prelude.{◌≡◌, ℕ, ◌<◌, ◌≤◌, [], All, length, map, IfOk, OnOk};
 ghost use Rattle.mw_heap.specs.Objects.{object_at, IsIn, Grows};
 ghost use Rattle.mw_taut.specs.Nodes.{IsNode, AreNodes};
 ghost use Rattle.mw_taut.specs.Reducing.{reduce_equation, reduce, reduce_all, form_at, each_at, IsFormIn};
@@ -99,11 +99,36 @@ pub(crate) fn reduce_all(
     ensures made { IfOk result (λ v. each_at heap.new.objects v.items ≡ reduce_all (object_at heap.old.objects d) (object_at heap.old.objects e) value (map (object_at heap.old.objects) formulas.now) [] nodes.now) }
 {
     let mut done = Vec::new(heap.alloc());
+    reduce_each(heap, d, e, value, formulas, nodes, &mut done)?;
+    Ok(done)
+}
+
+// Adds what each node comes to, in order, where none is done yet.
+fn reduce_each(
+    heap: &mut Heap,
+    d: Ref,
+    e: Ref,
+    value: bool,
+    formulas: &[Ref],
+    nodes: &[Node],
+    done: &mut Vec<Reduced>,
+) -> Result<(), Memory>
+    requires d_in { IsIn heap.old.objects d }
+    requires e_in { IsIn heap.old.objects e }
+    requires formulas_in { All (IsIn heap.old.objects) formulas.now }
+    requires nodes { (m : ℕ) × AreNodes m 0 nodes.now }
+    requires parts { length nodes.now ≤ length formulas.now }
+    requires none { done.old.items ≡ [] }
+    ensures grows { Grows heap.old.objects heap.new.objects }
+    ensures within { OnOk result (All (IsFormIn heap.new.objects) done.new.items) }
+    ensures all { OnOk result (length done.new.items ≡ length nodes.now) }
+    ensures made { OnOk result (each_at heap.new.objects done.new.items ≡ reduce_all (object_at heap.old.objects d) (object_at heap.old.objects e) value (map (object_at heap.old.objects) formulas.now) [] nodes.now) }
+{
     for node in nodes {
         let had = heap.mark();
         let reduced = reduce(heap, d, e, value, formulas, done.as_slice(), *node)?;
         take_looks_at(heap, had, &reduced)?;
         done.push(reduced)?;
     }
-    Ok(done)
+    Ok(())
 }

@@ -1,7 +1,7 @@
 -- Each reference means in the grown heaps what it meant in the heap in which it was made.
 use Rattle.std.proofs.Common.{None, ◌∙◌}
 use Rattle.mw_heap.proofs.Objects.{IsIn-Grows, object_at-Grows, Grows-trans}
-use Rattle.mw_taut.specs.Reducing.{second_kept_from, second_kept_to}
+use Rattle.mw_taut.specs.Reducing.{Changed, second_kept_from, second_kept_to}
 use Rattle.mw_taut.proofs.EqualParts.{ap₅}
 use Rattle.mw_taut.proofs.both.either_second_kept.Goals as goal
 
@@ -51,9 +51,9 @@ returns-clause-made c =
     let to_first_proof = Grows-trans _ _ _ c.or.ensures.grows c.second_kept_from.ensures.grows in
     let second_proof = c.in_ok-to.ensures.made ∙ ap₅ second_kept_to (object_at-Grows _ _ to_first_proof _ c.requires.d_in) (object_at-Grows _ _ to_first_proof _ c.requires.x_in) (object_at-Grows _ _ to_first_proof _ c.requires.y_in) (object_at-Grows _ _ to_first_proof _ c.requires.s_in.formula) (object_at-Grows _ _ to_first_proof _ c.requires.s_in.to) in
     let formula_to_second_proof = Grows-trans _ _ _ c.second_kept_from.ensures.grows c.second_kept_to.ensures.grows in
-    λ i. record {
+    λ i. Changed (record {
       formula = (object_at-Grows _ _ formula_to_second_proof _ c.in_ok-formula.ensures.within ∙ c.in_ok-formula.ensures.made) i;
       denied = None;
       from = (object_at-Grows _ _ c.second_kept_to.ensures.grows _ c.in_ok-from.ensures.within ∙ first_proof) i;
       to = second_proof i;
-    }
+    })

@@ -1,6 +1,6 @@
 -- What comes of a case is what is due, and what is kept is proved.
-use Rattle.std.proofs.Common.{ℕ, List, ◌++◌, [], ◌∷◌, length, sym, ap, ap₂, ◌∙◌, subst, arith, false, length-append}
-use Rattle.mw_model.specs.Terms.Term.{Formula, formula_object}
+use Rattle.std.proofs.Common.{◌++◌, [], ◌∷◌, length, sym, ap, ap₂, ◌∙◌, subst, arith, false, length-append}
+use Rattle.mw_model.specs.Terms.Term.{formula_object}
 use Rattle.mw_heap.specs.Objects.{object_at}
 use Rattle.mw_heap.proofs.Objects.{Grows-trans, object_at-Grows, IsIn-Grows}
 use Rattle.mw_taut.specs.Meaning.{IsEquation}
@@ -10,6 +10,33 @@ use Rattle.mw_taut.proofs.Entering.{if_ok, both_ok, middle}
 use Rattle.mw_taut.proofs.Kept.{in_kept}
 use Rattle.mw_taut.proofs.Posed.{on_ok, on_ok_from, posed_kept, table_kept, proved_kept, next_posed, has_next, proof_kept}
 use Rattle.mw_taut.proofs.cases.+cases.Goals as goal
+
+pub branch-enter-requires : goal.branch-enter-requires
+branch-enter-requires t c =
+    let w = c.requires.posed in
+    record {
+      f_in = c.requires.f_in;
+      equations_in = c.requires.equations_in;
+      table_in = w.5.inside;
+      next = (has_next c.args.arity.now c.args.heap.now.objects c.args.equations.now c.args.chosen.now c.args.f w.0 w.1 (w.2 ∷ w.3) w.4).fewer;
+    }
+
+pub branch-returns-in-Ended-clause-grows : goal.branch-returns-in-Ended-clause-grows
+branch-returns-in-Ended-clause-grows t c = c.in_ok-outcome.ensures.grows
+
+pub branch-returns-in-Ended-clause-within : goal.branch-returns-in-Ended-clause-within
+branch-returns-in-Ended-clause-within t c = subst (IsEnteredIn c.enter.new.heap.objects) c.in-Ended.is c.in_ok-outcome.ensures.within
+
+pub branch-returns-in-Ended-clause-proved : goal.branch-returns-in-Ended-clause-proved
+branch-returns-in-Ended-clause-proved t c = proved_kept c.args.arity.now c.args.heap.now.objects c.enter.new.heap.objects c.in_ok-outcome.ensures.grows c.args.proved.now c.requires.proved
+
+pub branch-returns-in-Ended-clause-decides : goal.branch-returns-in-Ended-clause-decides
+branch-returns-in-Ended-clause-decides t c = λ F before E rest p table.
+    subst (λ r. IsEntered c.args.arity.now (choice_of before c.args.chosen.now) E c.args.value rest F (step_at c.enter.new.heap.objects r)) c.in-Ended.is (c.in_ok-outcome.ensures.entered c.args.arity.now F before E rest p table)
+
+pub branch-returns-in_err-longer-in-Goes-clause-grows :
+    goal.branch-returns-in_err-longer-in-Goes-clause-grows
+branch-returns-in_err-longer-in-Goes-clause-grows t c = c.in_ok-outcome.ensures.grows
 
 pub branch-by_cases-requires : goal.branch-by_cases-requires
 branch-by_cases-requires t c =
@@ -38,6 +65,31 @@ branch-by_cases-requires t c =
         ),
       ),
     )
+
+pub branch-returns-in_err-outcome-in-Goes-clause-grows :
+    goal.branch-returns-in_err-outcome-in-Goes-clause-grows
+branch-returns-in_err-outcome-in-Goes-clause-grows t c = Grows-trans _ _ _ c.in_ok-outcome.ensures.grows c.by_cases.ensures.grows
+
+pub branch-carried-requires : goal.branch-carried-requires
+branch-carried-requires t c =
+    let h1 = c.enter.new.heap.objects in
+    let h2 = c.by_cases.new.heap.objects in
+    let g2 = c.in_ok-outcome-in-Goes.ensures.grows in
+    let s = c.in-Goes.s in
+    let within = subst (IsEnteredIn h1) c.in-Goes.is c.in_ok-outcome.ensures.within in
+    record {
+      f_in = IsIn-Grows c.args.heap.now.objects h2 (Grows-trans _ h1 h2 c.in_ok-outcome.ensures.grows g2) c.args.f c.requires.f_in;
+      s_in = record { context = IsIn-Grows h1 h2 g2 s.context within.context; formula = IsIn-Grows h1 h2 g2 s.formula within.formula; from = IsIn-Grows h1 h2 g2 s.from within.from };
+      outcome_in = c.in_ok-outcome-in-Goes.ensures.within;
+    }
+
+pub branch-returns-in_ok-outcome-in-Goes-clause-grows :
+    goal.branch-returns-in_ok-outcome-in-Goes-clause-grows
+branch-returns-in_ok-outcome-in-Goes-clause-grows t c = Grows-trans _ _ _ (Grows-trans _ _ _ c.in_ok-outcome.ensures.grows c.in_ok-outcome-in-Goes.ensures.grows) c.carried.ensures.grows
+
+pub branch-returns-in_ok-outcome-in-Goes-clause-within :
+    goal.branch-returns-in_ok-outcome-in-Goes-clause-within
+branch-returns-in_ok-outcome-in-Goes-clause-within t c = c.carried.ensures.within
 
 pub branch-returns-in_ok-outcome-in-Goes-clause-proved :
     goal.branch-returns-in_ok-outcome-in-Goes-clause-proved
@@ -74,35 +126,84 @@ branch-returns-in_ok-outcome-in-Goes-clause-decides t c =
     let same = made ∙ carried_same (object_at h2 s.context) (object_at h1 s.context) (object_at h2 c.args.f) (formula_object F) (object_at h2 s.formula) (object_at h1 s.formula) (object_at h2 s.from) (object_at h1 s.from) (answer_at h2 o) at_d (at_f ∙ p.object) at_y at_q in
     subst (DecidesWhere A (choice_of before chosen) E b rest F) (sym same) done)
 
-pub by_cases-branch-heap-requires : goal.by_cases-branch-heap-requires
-by_cases-branch-heap-requires t c =
-    let A = c.args.arity.now in
-    let old = c.args.heap.now.objects in
+pub by_cases-returns-in-Some-clause-within : goal.by_cases-returns-in-Some-clause-within
+by_cases-returns-in-Some-clause-within t c = (c.requires.proved c.args.f c.in-Some.p (sym c.in-Some.ensures)).1
+
+pub by_cases-returns-in-Some-clause-decides : goal.by_cases-returns-in-Some-clause-decides
+by_cases-returns-in-Some-clause-decides t c = λ F before rest p. (c.requires.proved c.args.f c.in-Some.p (sym c.in-Some.ensures)).2 F p.object p.formed
+
+pub by_cases-table_of-requires : goal.by_cases-table_of-requires
+by_cases-table_of-requires t c =
     let w = c.requires.posed in
-    let next = has_next A old c.args.equations.now c.args.chosen.now c.args.f w.0 w.1 w.2 w.3 in
-    let table = c.in_ok-table.ensures A w.0 w.3.object w.3.formed in
+    record { within = c.requires.f_in; formula = (c.args.arity.now, w.0, w.3.object, w.3.formed) }
+
+pub by_cases-by_both-requires : goal.by_cases-by_both-requires
+by_cases-by_both-requires t c =
+    let w = c.requires.posed in
+    let next = has_next c.args.arity.now c.args.heap.now.objects c.args.equations.now c.args.chosen.now c.args.f w.0 w.1 w.2 w.3 in
+    let table = c.in_ok-table.ensures c.args.arity.now w.0 w.3.object w.3.formed in
     (omega (arith, c.decreases), (c.requires.f_in, (c.requires.equations_in, (c.requires.proved, (w.0, w.1, next.first, next.others, next.posed, table)))))
 
-pub by_cases-returns-in_default-without-clause-decides :
-    goal.by_cases-returns-in_default-without-clause-decides
-by_cases-returns-in_default-without-clause-decides t c = λ F before rest p.
-    let A = c.args.arity.now in
-    let h1 = c.branch-heap.new.heap.objects in
-    let o = c.in_ok-without.without in
-    let choice = choice_of before c.args.chosen.now in
-    let next = has_next A c.args.heap.now.objects c.args.equations.now c.args.chosen.now c.args.f F before rest p in
-    let table = c.in_ok-table.ensures A F p.object p.formed in
-    subst (λ es. Decides A choice es F (answer_at h1 o)) (sym next.is) (decided_first A F choice next.first next.others h1 o c.in_default-without.not-Proof (c.in_ok-without.ensures.decides F before next.first next.others next.posed table))
+pub by_cases-returns-in_err-outcome-clause-grows : goal.by_cases-returns-in_err-outcome-clause-grows
+by_cases-returns-in_err-outcome-clause-grows t c = c.by_both.ensures.grows
 
-pub by_cases-branch-heap-requires-2 : goal.by_cases-branch-heap-requires-2
-by_cases-branch-heap-requires-2 t c =
+pub by_cases-returns-clause-grows : goal.by_cases-returns-clause-grows
+by_cases-returns-clause-grows t c = c.in_ok-outcome.ensures.grows
+
+pub by_cases-returns-clause-within : goal.by_cases-returns-clause-within
+by_cases-returns-clause-within t c =
+    if_ok _ _ c.keep.result c.keep.ensures.same (λ r same. subst (IsOutcomeIn c.by_both.new.heap.objects) (sym same) c.in_ok-outcome.ensures.within)
+
+pub by_cases-returns-clause-proved : goal.by_cases-returns-clause-proved
+by_cases-returns-clause-proved t c =
+    let old = c.args.heap.now.objects in
+    let h1 = c.by_both.new.heap.objects in
+    let g1 = c.in_ok-outcome.ensures.grows in
+    let f = c.args.f in
+    let w = c.requires.posed in
+    let had = c.by_both.new.proved in
+    let next = has_next c.args.arity.now old c.args.equations.now c.args.chosen.now f w.0 w.1 w.2 w.3 in
+    let table = c.in_ok-table.ensures c.args.arity.now w.0 w.3.object w.3.formed in
+    let due = subst (λ es. Decides c.args.arity.now (choice_of w.1 c.args.chosen.now) es w.0 (answer_at h1 c.in_ok-outcome.outcome)) (sym next.is) (c.in_ok-outcome.ensures.decides w.0 w.1 next.first next.others next.posed table) in
+    on_ok_from _ c.keep.result (both_ok _ _ c.keep.result c.keep.ensures.same c.keep.ensures.keeps) (λ r h.
+    proof_kept c.args.arity.now h1 had c.keep.new.proved c.args.equations.now c.args.chosen.now f w.0 w.1 w.2 c.in_ok-outcome.outcome c.in_ok-outcome.ensures.proved (subst (Keeps had c.keep.new.proved f) h.0 h.1)
+    (IsIn-Grows old h1 g1 f c.requires.f_in) c.in_ok-outcome.ensures.within (object_at-Grows old h1 g1 f c.requires.f_in ∙ w.3.object) w.3.formed due)
+
+pub by_cases-returns-clause-decides : goal.by_cases-returns-clause-decides
+by_cases-returns-clause-decides t c =
+    let A = c.args.arity.now in
+    let h1 = c.by_both.new.heap.objects in
+    let chosen = c.args.chosen.now in
+    if_ok _ _ c.keep.result c.keep.ensures.same (λ r same F before rest p.
+    let next = has_next A c.args.heap.now.objects c.args.equations.now chosen c.args.f F before rest p in
+    let table = c.in_ok-table.ensures A F p.object p.formed in
+    let due = subst (λ es. Decides A (choice_of before chosen) es F (answer_at h1 c.in_ok-outcome.outcome)) (sym next.is) (c.in_ok-outcome.ensures.decides F before next.first next.others next.posed table) in
+    subst (λ o. Decides A (choice_of before chosen) rest F (answer_at h1 o)) (sym same) due)
+
+pub by_both-branch-heap-requires : goal.by_both-branch-heap-requires
+by_both-branch-heap-requires t c = (omega (arith, c.decreases), (c.requires.f_in, (c.requires.equations_in, (c.requires.proved, c.requires.posed))))
+
+pub by_both-returns-in_default-clause-grows : goal.by_both-returns-in_default-clause-grows
+by_both-returns-in_default-clause-grows t c = c.in_ok-without.ensures.grows
+
+pub by_both-returns-in_default-clause-within : goal.by_both-returns-in_default-clause-within
+by_both-returns-in_default-clause-within t c = c.in_ok-without.ensures.within
+
+pub by_both-returns-in_default-clause-proved : goal.by_both-returns-in_default-clause-proved
+by_both-returns-in_default-clause-proved t c = c.in_ok-without.ensures.proved
+
+pub by_both-returns-in_default-clause-decides :
+    goal.by_both-returns-in_default-clause-decides
+by_both-returns-in_default-clause-decides t c = λ F before E rest p table.
+    decided_first c.args.arity.now F (choice_of before c.args.chosen.now) E rest c.branch-heap.new.heap.objects c.in_ok-without.without c.in_default.not-Proof (c.in_ok-without.ensures.decides F before E rest p table)
+
+pub by_both-branch-heap-requires-2 : goal.by_both-branch-heap-requires-2
+by_both-branch-heap-requires-2 t c =
     let A = c.args.arity.now in
     let old = c.args.heap.now.objects in
     let h1 = c.branch-heap.new.heap.objects in
     let g1 = c.in_ok-without.ensures.grows in
-    let w = c.requires.posed in
-    let next = has_next A old c.args.equations.now c.args.chosen.now c.args.f w.0 w.1 w.2 w.3 in
-    let table = c.in_ok-table.ensures A w.0 w.3.object w.3.formed in (
+    let w = c.requires.posed in (
       omega (arith, c.decreases),
       (
         IsIn-Grows old h1 g1 c.args.f c.requires.f_in,
@@ -110,16 +211,38 @@ by_cases-branch-heap-requires-2 t c =
           in_kept old h1 g1 c.args.equations.now c.requires.equations_in,
           (
             c.in_ok-without.ensures.proved,
-            (w.0, w.1, next.first, next.others, posed_kept A old h1 g1 c.args.equations.now c.args.chosen.now c.args.f w.0 w.1 (next.first ∷ next.others) c.requires.f_in c.requires.equations_in next.posed, table_kept A old h1 g1 w.0 c.in_ok-table.table table),
+            (w.0, w.1, w.2, w.3, posed_kept A old h1 g1 c.args.equations.now c.args.chosen.now c.args.f w.0 w.1 (w.2 ∷ w.3) c.requires.f_in c.requires.equations_in w.4, table_kept A old h1 g1 w.0 c.args.table.now w.5),
           ),
         ),
       ),
     )
 
--- what comes of both cases, before it is kept
-both_decided : (t : ℕ) (c : goal.by_cases-After-drop-table-4 t) (F : Formula) (before rest : List Formula) → IsPosed c.args.arity.now c.args.heap.now.objects c.args.equations.now c.args.chosen.now c.args.f F before rest →
-    Decides c.args.arity.now (choice_of before c.args.chosen.now) rest F (answer_at c.joined.new.heap.objects c.in_ok-outcome.outcome)
-both_decided t c F before rest p =
+pub by_both-returns-in_err-with-clause-grows : goal.by_both-returns-in_err-with-clause-grows
+by_both-returns-in_err-with-clause-grows t c = Grows-trans _ _ _ c.in_ok-without.ensures.grows c.branch-heap-2.ensures.grows
+
+pub by_both-joined-requires : goal.by_both-joined-requires
+by_both-joined-requires t c =
+    let h1 = c.branch-heap.new.heap.objects in
+    let h2 = c.branch-heap-2.new.heap.objects in
+    let g2 = c.in_ok-with.ensures.grows in
+    record {
+      f_in = IsIn-Grows c.args.heap.now.objects h2 (Grows-trans _ h1 h2 c.in_ok-without.ensures.grows g2) c.args.f c.requires.f_in;
+      p_in = IsIn-Grows h1 h2 g2 c.in-Proof.without (subst (IsOutcomeIn h1) c.in-Proof.is c.in_ok-without.ensures.within);
+      with_in = c.in_ok-with.ensures.within;
+    }
+
+pub by_both-returns-clause-grows : goal.by_both-returns-clause-grows
+by_both-returns-clause-grows t c = Grows-trans _ _ _ (Grows-trans _ _ _ c.in_ok-without.ensures.grows c.in_ok-with.ensures.grows) c.joined.ensures.grows
+
+pub by_both-returns-clause-within : goal.by_both-returns-clause-within
+by_both-returns-clause-within t c = c.joined.ensures.within
+
+pub by_both-returns-clause-proved : goal.by_both-returns-clause-proved
+by_both-returns-clause-proved t c =
+    on_ok c.joined.result (proved_kept c.args.arity.now c.branch-heap-2.new.heap.objects c.joined.new.heap.objects c.joined.ensures.grows c.branch-heap-2.new.proved c.in_ok-with.ensures.proved)
+
+pub by_both-returns-clause-decides : goal.by_both-returns-clause-decides
+by_both-returns-clause-decides t c =
     let A = c.args.arity.now in
     let old = c.args.heap.now.objects in
     let h1 = c.branch-heap.new.heap.objects in
@@ -129,37 +252,14 @@ both_decided t c F before rest p =
     let f = c.args.f in
     let equations = c.args.equations.now in
     let chosen = c.args.chosen.now in
-    let choice = choice_of before chosen in
     let q = c.in-Proof.without in
     let with = c.in_ok-with.with in
-    let next = has_next A old equations chosen f F before rest p in
-    let E = next.first in
-    let others = next.others in
-    let table = c.in_ok-table.ensures A F p.object p.formed in
-    let first = subst (λ o. DecidesWhere A choice E false others F (answer_at h1 o)) c.in-Proof.is (c.in_ok-without.ensures.decides F before E others next.posed table) in
-    let second = c.in_ok-with.ensures.decides F before E others (posed_kept A old h1 g1 equations chosen f F before (E ∷ others) c.requires.f_in c.requires.equations_in next.posed) (table_kept A old h1 g1 F c.in_ok-table.table table) in
-    let at_f = object_at-Grows old h2 (Grows-trans old h1 h2 g1 g2) f c.requires.f_in ∙ p.object in
     let at_q = object_at-Grows h1 h2 g2 q (subst (IsOutcomeIn h1) c.in-Proof.is c.in_ok-without.ensures.within) in
-    let same = c.in_ok-outcome.ensures.made ∙ ap₂ (λ x y. joined x y (answer_at h2 with)) at_f at_q in
-    let done = decided_joined A F choice E others (λ d. apart_at before E others chosen false d next.posed.apart) (object_at h1 q) (answer_at h2 with) first second in
-    subst (λ es. Decides A choice es F (answer_at c.joined.new.heap.objects c.in_ok-outcome.outcome)) (sym next.is) (subst (Decides A choice (E ∷ others) F) (sym same) done)
-
-pub by_cases-returns-clause-proved : goal.by_cases-returns-clause-proved
-by_cases-returns-clause-proved t c =
-    let A = c.args.arity.now in
-    let old = c.args.heap.now.objects in
-    let h2 = c.branch-heap-2.new.heap.objects in
-    let h3 = c.joined.new.heap.objects in
-    let g3 = c.in_ok-outcome.ensures.grows in
-    let all = Grows-trans old h2 h3 (Grows-trans old c.branch-heap.new.heap.objects h2 c.in_ok-without.ensures.grows c.in_ok-with.ensures.grows) g3 in
-    let f = c.args.f in
-    let w = c.requires.posed in
-    let o = c.in_ok-outcome.outcome in
-    let proved = proved_kept A h2 h3 g3 c.branch-heap-2.new.proved c.in_ok-with.ensures.proved in
-    on_ok_from _ c.keep.result (both_ok _ _ c.keep.result c.keep.ensures.same c.keep.ensures.keeps) (λ r h.
-    proof_kept A h3 c.branch-heap-2.new.proved c.keep.new.proved c.args.equations.now c.args.chosen.now f w.0 w.1 w.2 o proved (subst (Keeps c.branch-heap-2.new.proved c.keep.new.proved f) h.0 h.1)
-    (IsIn-Grows old h3 all f c.requires.f_in) c.in_ok-outcome.ensures.within (object_at-Grows old h3 all f c.requires.f_in ∙ w.3.object) w.3.formed (both_decided t c w.0 w.1 w.2 w.3))
-
-pub by_cases-returns-clause-decides : goal.by_cases-returns-clause-decides
-by_cases-returns-clause-decides t c =
-    if_ok _ _ c.keep.result c.keep.ensures.same (λ r same F before rest p. subst (λ o. Decides c.args.arity.now (choice_of before c.args.chosen.now) rest F (answer_at c.joined.new.heap.objects o)) (sym same) (both_decided t c F before rest p))
+    if_ok _ _ c.joined.result c.joined.ensures.made (λ r made F before E rest p table.
+    let choice = choice_of before chosen in
+    let first = subst (λ o. DecidesWhere A choice E false rest F (answer_at h1 o)) c.in-Proof.is (c.in_ok-without.ensures.decides F before E rest p table) in
+    let second = c.in_ok-with.ensures.decides F before E rest (posed_kept A old h1 g1 equations chosen f F before (E ∷ rest) c.requires.f_in c.requires.equations_in p) (table_kept A old h1 g1 F c.args.table.now table) in
+    let at_f = object_at-Grows old h2 (Grows-trans old h1 h2 g1 g2) f c.requires.f_in ∙ p.object in
+    let same = made ∙ ap₂ (λ x y. joined x y (answer_at h2 with)) at_f at_q in
+    let done = decided_joined A F choice E rest (λ d. apart_at before E rest chosen false d p.apart) (object_at h1 q) (answer_at h2 with) first second in
+    subst (Decides A choice (E ∷ rest) F) (sym same) done)

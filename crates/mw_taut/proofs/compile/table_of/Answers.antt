@@ -1,64 +1,16 @@
--- Of the whole that waits at first nothing is left to do at last.
-use Rattle.std.proofs.Common.{◌≡◌, ◌<◌, [], ◌∷◌, ◌++◌, length, sym, ap, ◌∙◌, subst, arith}
-use Rattle.std.proofs.lemmas.List.{append-nil}
-use Rattle.mw_taut.specs.Building.{IsBuilt, IsHere, IsNew, left_over}
-use Rattle.mw_taut.proofs.Building.{built_first}
-use Rattle.mw_taut.proofs.Elements.{each_front}
-use Rattle.mw_taut.proofs.Compiling.{table_built, built_some, empty_list}
+-- What is built of the parts is the table.
+use Rattle.mw_taut.proofs.Compiling.{empty_list}
+use Rattle.mw_taut.proofs.Entering.{if_ok}
 use Rattle.mw_taut.proofs.compile.table_of.Goals as goal
 
-pub loop-x-init : goal.loop-x-init
-loop-x-init c = λ A F e f.
-    let first = built_first A c.args.heap.now.objects F c.args.f c.requires.within e f in
-    let B = IsBuilt A c.args.heap.now.objects F in
-    subst (λ l. B c.new-parts.result.keys c.new-nodes.result.items c.new-equations.result.items l) (sym (c.in_ok-push.ensures.items ∙ ap (λ l. l ++ c.args.f ∷ []) c.new-path.ensures.items))
-    (subst (λ l. B c.new-parts.result.keys c.new-nodes.result.items l (c.args.f ∷ [])) (sym c.new-equations.ensures.items)
-    (subst (λ l. B c.new-parts.result.keys l [] (c.args.f ∷ [])) (sym c.new-nodes.ensures.items)
-    (subst (λ l. B l [] [] (c.args.f ∷ [])) (sym (empty_list c.new-parts.result.keys c.new-parts.ensures.len)) first)))
+pub put_parts-requires-clause-no_parts : goal.put_parts-requires-clause-no_parts
+put_parts-requires-clause-no_parts c = empty_list c.new-parts.result.keys c.new-parts.ensures.len
 
-pub advance-requires-clause-built : goal.advance-requires-clause-built
-advance-requires-clause-built c =
+pub table_with-requires : goal.table_with-requires
+table_with-requires c =
     let w = c.requires.formula in
-    (w.0, w.1, subst (IsBuilt w.0 c.args.heap.now.objects w.1 c.loop-x.parts.keys c.loop-x.nodes.items c.loop-x.equations.items) c.in-Some.ensures.items (c.loop-x.invariant w.0 w.1 w.2 w.3))
-
-pub advance-requires-clause-within : goal.advance-requires-clause-within
-advance-requires-clause-within c =
-    let b = advance-requires-clause-built c in
-    (each_front (IsHere b.0 c.args.heap.now.objects) c.pop.new.self.items c.in-Some.x b.2.path_here).1.within
-
-pub advance-requires-clause-new : goal.advance-requires-clause-new
-advance-requires-clause-new c =
-    let b = advance-requires-clause-built c in
-    (each_front (IsNew c.loop-x.parts.keys) c.pop.new.self.items c.in-Some.x b.2.new).1
-
-pub loop-x-preserved : goal.loop-x-preserved
-loop-x-preserved c = λ A F e f.
-    c.in_ok-advance.ensures.built A F (subst (IsBuilt A c.args.heap.now.objects F c.loop-x.parts.keys c.loop-x.nodes.items c.loop-x.equations.items) c.in-Some.ensures.items (c.loop-x.invariant A F e f))
-
-pub loop-x-smaller : goal.loop-x-smaller
-loop-x-smaller c =
-    let w = c.requires.formula in
-    let b = subst (IsBuilt w.0 c.args.heap.now.objects w.1 c.loop-x.parts.keys c.loop-x.nodes.items c.loop-x.equations.items) c.in-Some.ensures.items (c.loop-x.invariant w.0 w.1 w.2 w.3) in
-    subst (λ l. left_over c.args.heap.now.objects c.args.f c.advance.new.parts.keys c.advance.new.path.items < left_over c.args.heap.now.objects c.args.f c.loop-x.parts.keys l) (sym c.in-Some.ensures.items) (c.in_ok-advance.ensures.falls c.args.f w.0 w.1 w.2 b)
-
-pub overflow_sub-root : goal.overflow_sub-root
-overflow_sub-root c =
-    let w = c.requires.formula in
-    let rest = c.pop.new.self.items in
-    let gone : length rest ≡ 0 = omega (arith, c.in_default.ensures.cases.1, c.pop.new.self.ok.0) in
-    let none : c.loop-x.path.items ≡ [] = c.in_default.ensures.items ∙ (append-nil rest ∙ empty_list rest gone) in
-    let some = built_some w.0 c.args.heap.now.objects w.1 c.loop-x.parts.keys c.loop-x.nodes.items c.loop-x.equations.items (subst (IsBuilt w.0 c.args.heap.now.objects w.1 c.loop-x.parts.keys c.loop-x.nodes.items c.loop-x.equations.items) none (c.loop-x.invariant w.0 w.1 w.2 w.3)) in
-    omega (arith, some, c.len-root.ensures, c.loop-x.nodes.ok.0)
+    (w.0, w.1, c.in_ok-put_parts.ensures w.0 w.1 w.2 w.3)
 
 pub returns : goal.returns
-returns c = λ A F e f.
-    let os = c.args.heap.now.objects in
-    let rest = c.pop.new.self.items in
-    let nodes = c.loop-x.nodes.items in
-    let es = c.loop-x.equations.items in
-    let gone : length rest ≡ 0 = omega (arith, c.in_default.ensures.cases.1, c.pop.new.self.ok.0) in
-    let none : c.loop-x.path.items ≡ [] = c.in_default.ensures.items ∙ (append-nil rest ∙ empty_list rest gone) in
-    let built = subst (IsBuilt A os F c.loop-x.parts.keys nodes es) none (c.loop-x.invariant A F e f) in
-    let some = built_some A os F c.loop-x.parts.keys nodes es built in
-    let keys = c.in_ok-formulas.ensures.items ∙ c.as_slice.ensures.keys in
-    table_built A os F _ (subst (λ ks. IsBuilt A os F ks nodes es []) (sym keys) built) (omega (arith, some, c.len-root.ensures, c.loop-x.nodes.ok.0))
+returns c =
+    if_ok _ _ c.table_with.result c.table_with.ensures (λ t h A F e f. h A F (c.in_ok-put_parts.ensures A F e f))

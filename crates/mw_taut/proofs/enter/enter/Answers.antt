@@ -1,16 +1,63 @@
 -- What the formula of the table comes to is what is said of the case.
-use Rattle.std.proofs.Common.{◌≡◌, ◌<◌, [], not, length, map, get_or, sym, ap, ap₂, ◌∙◌, subst, arith}
+use Rattle.std.proofs.Common.{◌≡◌, ℕ, ◌<◌, [], not, length, map, get_or, sym, ap, ap₂, ◌∙◌, subst, arith}
+use Rattle.std.specs.Prelude.{All}
 use Rattle.std.proofs.lemmas.List.{get_or-map}
 use Rattle.mw_model.specs.Terms.Term.{formula_object}
 use Rattle.mw_heap.specs.Objects.{object_at, IsIn}
-use Rattle.mw_heap.proofs.Objects.{Grows-trans, object_at-Grows}
-use Rattle.mw_taut.specs.Reducing.{form_at, nothing, literal_object, reduce_all}
+use Rattle.mw_heap.proofs.Objects.{Grows-trans, object_at-Grows, IsIn-Grows}
+use Rattle.mw_taut.specs.Reducing.{form_at, IsFormIn, nothing, literal_object, reduce_all}
+use Rattle.mw_taut.specs.Nodes.{AreNodes}
 use Rattle.mw_taut.specs.Meaning.{literal}
 use Rattle.mw_taut.specs.Cases.{step_at}
-use Rattle.mw_taut.proofs.Kept.{map_kept}
+use Rattle.mw_taut.proofs.Kept.{in_kept, map_kept}
 use Rattle.mw_taut.proofs.Reduces.{literal_is}
 use Rattle.mw_taut.proofs.Entering.{if_ok, next_equation, case_entered}
 use Rattle.mw_taut.proofs.enter.enter.Goals as goal
+
+pub reduce_all-requires : goal.reduce_all-requires
+reduce_all-requires c =
+    let old = c.args.heap.now.objects in
+    let h1 = c.literal.new.heap.objects in
+    let g1 = c.in_ok-d.ensures.grows in
+    let e = c.index-equations-chosen.result in
+    let table = c.args.table.now in
+    let h = c.requires.table_in in
+    let nodes : (m : ℕ) × AreNodes m 0 table.nodes.items = (length table.equations.items, h.nodes) in
+    record {
+      d_in = c.in_ok-d.ensures.within;
+      e_in = IsIn-Grows old h1 g1 e (subst (IsIn old) (sym c.index-equations-chosen.is) (c.requires.equations_in (length c.args.chosen.now) e c.requires.next));
+      formulas_in = subst (All (IsIn h1)) (sym c.as_slice-formulas.ensures.value) (in_kept old h1 g1 table.formulas.items h.formulas);
+      nodes = subst (λ l. (m : ℕ) × AreNodes m 0 l) (sym c.as_slice.ensures.value) nodes;
+      parts = omega (arith, h.parts, ap length c.as_slice.ensures.value, ap length c.as_slice-formulas.ensures.value);
+    }
+
+pub entered-requires : goal.entered-requires
+entered-requires c =
+    let old = c.args.heap.now.objects in
+    let h1 = c.literal.new.heap.objects in
+    let h2 = c.reduce_all.new.heap.objects in
+    let g2 = c.in_ok-reduced.ensures.grows in
+    let to_here = Grows-trans old h1 h2 c.in_ok-d.ensures.grows g2 in
+    let table = c.args.table.now in
+    let inside : table.root < length c.in_ok-reduced.reduced.items = omega (arith, c.in_ok-reduced.ensures.all, c.requires.table_in.root, ap length c.as_slice.ensures.value) in
+    record {
+      d_in = IsIn-Grows h1 h2 g2 c.in_ok-d.d c.in_ok-d.ensures.within;
+      f_in = IsIn-Grows old h2 to_here c.args.f c.requires.f_in;
+      equations_in = in_kept old h2 to_here c.args.equations.now c.requires.equations_in;
+      r_in = subst (IsFormIn h2) (sym c.index.ensures) (c.in_ok-reduced.ensures.within table.root c.index.result.now inside);
+    }
+
+pub returns-in_err-reduced-clause-grows : goal.returns-in_err-reduced-clause-grows
+returns-in_err-reduced-clause-grows c = Grows-trans _ _ _ c.in_ok-d.ensures.grows c.reduce_all.ensures.grows
+
+pub returns-in_err-longer-clause-grows : goal.returns-in_err-longer-clause-grows
+returns-in_err-longer-clause-grows c = Grows-trans _ _ _ c.in_ok-d.ensures.grows c.in_ok-reduced.ensures.grows
+
+pub returns-clause-grows : goal.returns-clause-grows
+returns-clause-grows c = Grows-trans _ _ _ (Grows-trans _ _ _ c.in_ok-d.ensures.grows c.in_ok-reduced.ensures.grows) c.entered.ensures.grows
+
+pub returns-clause-within : goal.returns-clause-within
+returns-clause-within c = c.entered.ensures.within
 
 pub returns-clause-entered : goal.returns-clause-entered
 returns-clause-entered c =
