@@ -1,12 +1,13 @@
 //! The events that a theorem rests on.
-ghost use Rattle.std.specs.Prelude.{◌≡◌, ℕ, ◌<◌, suc, cond, true, ◌||◌, ◌∷◌, [], ◌++◌, length, reverse, Some, None, IfOk, IfSome, OnOk, MatchOption};
+ghost use Rattle.std.specs.Prelude.{◌≡◌, ℕ, ◌<◌, suc, cond, true, false, ◌||◌, ◌∷◌, [], ◌++◌, length, reverse, Some, None, IfOk, IfSome, OnOk, MatchOption};
 ghost use Rattle.mw_model.specs.Terms.Object.{Object, is_name, name_of_bytes};
 ghost use Rattle.mw_model.specs.Commands.Slice.{begins_with, some_passes, target, first_proof, is_idle, IsSlice};
 ghost use Rattle.mw_model.proofs.SlicePlaces.{is_wanted, changes, collected, slice_places};
 ghost use Rattle.mw_heap.specs.Objects.{object_at, IsIn, Grows};
 ghost use Rattle.mw_slice.specs.Events.{AreIn, objects_of};
 ghost use Rattle.mw_slice.specs.Firsts.{AreFirsts, IsIndex};
-ghost use Rattle.mw_slice.specs.Supports.{Support, notes, event_asks, is_asked_for, IsInside, IsBasis};
+ghost use Rattle.mw_slice.specs.Supports.{Support, has, notes, event_asks, is_asked_for, IsInside, IsBasis};
+ghost use Rattle.mw_slice.specs.declared.part.Part.{Part};
 
 use crate::Copies;
 use crate::added::Added;
@@ -100,6 +101,27 @@ fn is_asked_for(
     adds_met(from, event, to, copies, basis)
 }
 
+// Copies an event to the heap `to`, and gathers there what it asks for.
+fn gather_copied(
+    from: &Heap,
+    event: Ref,
+    to: &mut Heap,
+    copies: &mut Copies,
+    firsts: &IndexMap<Ref, u64>,
+    basis: &mut Basis,
+) -> Result<(), Memory>
+    requires within { IsIn from.now.objects event }
+    requires firsts { AreFirsts to.old.objects firsts.now.entries }
+    requires basis { IsBasis to.old.objects firsts.now.entries basis.old }
+    ensures grows { Grows to.old.objects to.new.objects }
+    ensures basis { OnOk result (IsBasis to.new.objects firsts.now.entries basis.new) }
+    ensures supports { OnOk result ((s : Support) → notes to.new.objects basis.new s ≡ (notes to.new.objects basis.old s || event_asks to.new.objects firsts.now.entries s (object_at from.now.objects event))) }
+{
+    let nil = to.nil()?;
+    let copied = copy(from, event, to, copies)?;
+    gather_event(to, nil, firsts, copied, basis)
+}
+
 // Keeps an event, if it is asked for: it is copied to the heap `to`, and what it asks for is gathered there.
 fn keep(
     from: &Heap,
@@ -121,15 +143,50 @@ fn keep(
     ensures places { OnOk result (places.new.items ≡ cond (is_asked_for to.new.objects basis.old goal (object_at from.now.objects event) place) (places.old.items ++ place ∷ []) places.old.items) }
 {
     if is_asked_for(from, event, place, goal, to, copies, basis)? {
-        let nil = to.nil()?;
-        let kept = copy(from, event, to, copies)?;
-        gather_event(to, nil, firsts, kept, basis)?;
+        gather_copied(from, event, to, copies, firsts, basis)?;
         places.push(place)?;
     }
     Ok(())
 }
 
-// Up to the goal, the places from the last one down of the events that it rests on, over the places where formulas are first proved.
+// Up to the goal, the places from the last one down of the events that it rests on, over the places where formulas are first proved and a
+// basis that has nothing yet.
+fn needed_from(
+    heaps: &Heaps,
+    added: &[Added],
+    goal: usize,
+    to: &mut Heap,
+    copies: &mut Copies,
+    firsts: &IndexMap<Ref, u64>,
+    basis: &mut Basis,
+) -> Result<Vec<u64>, Memory>
+    requires within { AreIn heaps.now added.now }
+    requires firsts { AreFirsts to.old.objects firsts.now.entries }
+    requires index { IsIndex to.old.objects firsts.now.entries (objects_of heaps.now added.now) }
+    requires goal { goal < length added.now }
+    requires no_parts { (p : Part) → has basis.old p ≡ false }
+    requires no_supports { (s : Support) → notes to.old.objects basis.old s ≡ false }
+    ensures { IfOk result (λ v. reverse v.items ≡ collected (is_wanted (objects_of heaps.now added.now) goal) (suc goal) []) }
+{
+    let mut places = Vec::new(heaps.alloc());
+    for place in (0..goal + 1).rev() {
+        let event = added[place];
+        keep(
+            heaps.get(event.heap),
+            event.event,
+            place as u64,
+            goal as u64,
+            to,
+            copies,
+            firsts,
+            basis,
+            &mut places,
+        )?;
+    }
+    Ok(places)
+}
+
+// The same, where the basis is made.
 fn needed_over(
     heaps: &Heaps,
     added: &[Added],
@@ -145,22 +202,7 @@ fn needed_over(
     ensures { IfOk result (λ v. reverse v.items ≡ collected (is_wanted (objects_of heaps.now added.now) goal) (suc goal) []) }
 {
     let mut basis = Basis::new(heaps.alloc());
-    let mut places = Vec::new(heaps.alloc());
-    for place in (0..goal + 1).rev() {
-        let event = added[place];
-        keep(
-            heaps.get(event.heap),
-            event.event,
-            place as u64,
-            goal as u64,
-            to,
-            copies,
-            firsts,
-            &mut basis,
-            &mut places,
-        )?;
-    }
-    Ok(places)
+    needed_from(heaps, added, goal, to, copies, firsts, &mut basis)
 }
 
 // The same, where formulas and the events that are kept are copied to the heap `to`.

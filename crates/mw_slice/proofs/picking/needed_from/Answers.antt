@@ -8,13 +8,13 @@ use Rattle.mw_slice.specs.Heaps.{object_in}
 use Rattle.mw_slice.specs.Events.{objects_of}
 use Rattle.mw_slice.proofs.Growing.{firsts_grow, index_grows}
 use Rattle.mw_slice.proofs.Keeping.{event_at-objects_of, all_collected, keeping_starts, keeping_grows, keeping_goes}
-use Rattle.mw_slice.proofs.picking.needed_over.Goals as goal
+use Rattle.mw_slice.proofs.picking.needed_from.Goals as goal
 
 pub loop-place-init : goal.loop-place-init
 loop-place-init c =
     let os = c.args.to.now.objects in (
       ([], sym (append-nil os)),
-      keeping_starts os c.args.firsts.now.entries (objects_of c.args.heaps.now c.args.added.now) c.args.goal (c.args.goal + 1) c.new-places.result.items c.new-basis.result (omega arith) c.new-places.ensures.items c.new-basis.ensures.parts (c.new-basis.ensures.supports os),
+      keeping_starts os c.args.firsts.now.entries (objects_of c.args.heaps.now c.args.added.now) c.args.goal (c.args.goal + 1) c.new-places.result.items c.args.basis.now (omega arith) c.new-places.ensures.items c.requires.no_parts c.requires.no_supports,
     )
 
 pub keep-requires-clause-firsts : goal.keep-requires-clause-firsts
