@@ -1,9 +1,9 @@
 //! The lines of a derivation.
-ghost use Rattle.std.specs.Prelude.{◌≡◌, All, map, get_or, IfOk};
+ghost use Rattle.std.specs.Prelude.{◌≡◌, All, map, get_or, IfOk, OnOk};
 ghost use Rattle.mw_model.specs.Terms.Object.{NIL};
 ghost use Rattle.mw_heap.specs.Objects.{object_at, IsIn, Grows};
 ghost use Rattle.mw_axioms.specs.Stacks.{AreIn};
-ghost use Rattle.mw_lower.specs.Lines.{line_of, of_two, of_four, last_line};
+ghost use Rattle.mw_lower.specs.Lines.{line_of, of_two, of_four, all_lines, last_line};
 
 use crate::machine::{make, take};
 use crate::piece::Piece;
@@ -96,18 +96,29 @@ fn make_four(
     make(heap, scheme, &[first, second, third, fourth])
 }
 
+// Puts what each line says after what is made already, in order.
+fn make_lines(heap: &mut Heap, lines: &[Line], made: &mut Vec<Ref>) -> Result<(), Memory>
+    requires { AreIn heap.old.objects made.old.items }
+    ensures grows { Grows heap.old.objects heap.new.objects }
+    ensures within { OnOk result (AreIn heap.new.objects made.new.items) }
+    ensures made { OnOk result (map (object_at heap.new.objects) made.new.items ≡ all_lines (map (object_at heap.old.objects) made.old.items) lines.now) }
+{
+    let nil = heap.nil()?;
+    for line in lines {
+        let next = make_line(heap, made.as_slice(), *line, nil)?;
+        made.push(next)?;
+    }
+    Ok(())
+}
+
 /// The last of the lines, in order, after the given ones.
 pub(crate) fn derive(heap: &mut Heap, lines: &[Line], given: &[Ref]) -> Result<Ref, Memory>
     requires { All (IsIn heap.old.objects) given.now }
     ensures grows { Grows heap.old.objects heap.new.objects }
     ensures made { IfOk result (λ r. IsIn heap.new.objects r × (object_at heap.new.objects r ≡ last_line lines.now (map (object_at heap.old.objects) given.now))) }
 {
-    let nil = heap.nil()?;
     let mut made = Vec::new(heap.alloc());
     made.extend_from_slice(given)?;
-    for line in lines {
-        let next = make_line(heap, made.as_slice(), *line, nil)?;
-        made.push(next)?;
-    }
+    make_lines(heap, lines, &mut made)?;
     take(heap, &mut made)
 }

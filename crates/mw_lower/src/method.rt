@@ -10,7 +10,7 @@ ghost use Rattle.mw_model.specs.Laws.Rules.{is_formula_object};
 ghost use Rattle.mw_rules.specs.Step.{rule_holds};
 ghost use Rattle.mw_proof.specs.Judging.{basis};
 ghost use Rattle.mw_heap.specs.Lists.{list_object};
-ghost use Rattle.mw_lower.specs.Methods.{ProvesSome, IsMethodStep, AreConclusions, WithProofs};
+ghost use Rattle.mw_lower.specs.Methods.{ProvesSome, method_follows, IsMethodStep, AreConclusions, WithProofs};
 
 use crate::machine::make;
 use crate::scheme::STEP;
@@ -45,8 +45,36 @@ pub(crate) fn method_step(
     ensures grows { Grows heap.old.objects heap.new.objects }
     ensures answer { IfOk result (λ o. (A : ArityTable) → AreMarks A heap.old.objects marks.now → IsMethodStep (basis heap.old.objects A axioms.now theorems.now (profile_of profile)) heap.old.objects p step (list_object heap.old.objects proofs.now) heap.new.objects o) }
 {
+    if !follows_from(heap, step, proofs, axioms, theorems, profile, marks)? {
+        return Ok(None);
+    }
+    Ok(Some(with_proofs(heap, p, step, proofs)?))
+}
+
+// Whether the conclusion of a step follows by its method from what the proofs prove.
+fn follows_from(
+    heap: &mut Heap,
+    step: Members,
+    proofs: &[Ref],
+    axioms: &Known,
+    theorems: &Known,
+    profile: Profile,
+    marks: &Marks,
+) -> Result<bool, Memory>
+    requires marks { (A : ArityTable) × AreMarks A heap.old.objects marks.now }
+    requires method { IsIn heap.old.objects step.method }
+    requires conclusion { step.conclusion < length marks.now }
+    requires formula { (A : ArityTable) × (is_formula_object A (object_at heap.old.objects step.conclusion) ≡ true) }
+    requires extras { step.extras < length marks.now }
+    requires within { All (IsIn heap.old.objects) proofs.now }
+    requires axioms { All (IsIn heap.old.objects) axioms.now }
+    requires theorems { All (IsIn heap.old.objects) theorems.now }
+    requires proofs { (A : ArityTable) → AreMarks A heap.old.objects marks.now → ProvesSome (basis heap.old.objects A axioms.now theorems.now (profile_of profile)) (list_object heap.old.objects proofs.now) }
+    ensures grows { Grows heap.old.objects heap.new.objects }
+    ensures answer { IfOk result (λ b. (A : ArityTable) → AreMarks A heap.old.objects marks.now → method_follows (basis heap.old.objects A axioms.now theorems.now (profile_of profile)) heap.old.objects step (list_object heap.old.objects proofs.now) ≡ b) }
+{
     let conclusions = each_conclusion(heap, proofs)?;
-    let follows = step_follows(
+    step_follows(
         heap,
         step,
         conclusions.as_slice(),
@@ -54,11 +82,7 @@ pub(crate) fn method_step(
         theorems,
         profile,
         marks,
-    )?;
-    if !follows {
-        return Ok(None);
-    }
-    Ok(Some(with_proofs(heap, p, step, proofs)?))
+    )
 }
 
 // Whether the conclusion of a step follows from those of its subproofs by its method, which may be none.

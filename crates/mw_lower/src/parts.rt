@@ -1,5 +1,5 @@
 //! What a derivation is made of.
-ghost use Rattle.std.specs.Prelude.{◌≡◌, ◌<◌, true, false, None, length, IfOk, MatchOption};
+ghost use Rattle.std.specs.Prelude.{◌≡◌, ◌<◌, [], true, false, None, length, IfOk, MatchOption};
 ghost use Rattle.mw_model.specs.Terms.Term.{ArityTable};
 ghost use Rattle.mw_heap.specs.Objects.{object_at, IsIn};
 ghost use Rattle.mw_term.specs.Marking.{AreMarks};
@@ -44,6 +44,34 @@ fn add_subproofs(
     Ok(true)
 }
 
+// Adds the proof, its subproofs, theirs and so on to a set that has nothing yet, each once and after its own; or it is no derivation.
+fn add_parts(
+    heap: &mut Heap,
+    proof: Ref,
+    found: &mut IndexSet<Ref>,
+    marks: &Marks,
+) -> Result<bool, Memory>
+    requires marks { (A : ArityTable) × AreMarks A heap.old.objects marks.now }
+    requires all { length marks.now ≡ length heap.old.objects }
+    requires within { IsIn heap.old.objects proof }
+    requires empty { found.old.keys ≡ [] }
+    ensures same { heap.new.objects ≡ heap.old.objects }
+    ensures none { IfOk result (λ t. t ≡ false → (b : Basis) → AreMarks b.table heap.old.objects marks.now → derived_on b (object_at heap.old.objects proof) ≡ None) }
+    ensures parts { IfOk result (λ t. t ≡ true → AreParts heap.old.objects proof found.new.keys) }
+{
+    found.insert(proof)?;
+    let mut next = 0;
+    while next < found.len() {
+        let p = found.as_slice()[next];
+        if !add_subproofs(heap, p, found, marks)? {
+            return Ok(false);
+        }
+        next += 1;
+    }
+    found.sort_unstable()?;
+    Ok(true)
+}
+
 /// The proof, its subproofs, theirs and so on, each once and after its own; nothing where it is no derivation.
 pub(crate) fn parts(
     heap: &mut Heap,
@@ -57,15 +85,8 @@ pub(crate) fn parts(
     ensures parts { IfOk result (λ o. MatchOption o ((b : Basis) → AreMarks b.table heap.old.objects marks.now → derived_on b (object_at heap.old.objects proof) ≡ None) (λ s. AreParts heap.old.objects proof s.keys)) }
 {
     let mut found = IndexSet::new(heap.alloc());
-    found.insert(proof)?;
-    let mut next = 0;
-    while next < found.len() {
-        let p = found.as_slice()[next];
-        if !add_subproofs(heap, p, &mut found, marks)? {
-            return Ok(None);
-        }
-        next += 1;
+    if !add_parts(heap, proof, &mut found, marks)? {
+        return Ok(None);
     }
-    found.sort_unstable()?;
     Ok(Some(found))
 }

@@ -35,9 +35,41 @@ pub(crate) fn turn_all(
     ensures turned { IfOk result (λ o. (A : ArityTable) → AreMarks A heap.old.objects marks.now → IsTurned (basis heap.old.objects A axioms.now theorems.now (profile_of profile)) heap.new.objects o (object_at heap.old.objects proof)) }
 {
     let mut turned = IndexMap::new(heap.alloc());
+    turn_each(
+        heap,
+        proof,
+        parts,
+        &mut turned,
+        axioms,
+        theorems,
+        profile,
+        marks,
+    )
+}
+
+// The same, with what each of the parts becomes noted in a map.
+fn turn_each(
+    heap: &mut Heap,
+    proof: Ref,
+    parts: &[Ref],
+    turned: &mut IndexMap<Ref, Ref>,
+    axioms: &Known,
+    theorems: &Known,
+    profile: Profile,
+    marks: &Marks,
+) -> Result<Option<Ref>, Memory>
+    requires marks { (A : ArityTable) × AreMarks A heap.old.objects marks.now }
+    requires all { length marks.now ≡ length heap.old.objects }
+    requires parts { AreParts heap.old.objects proof parts.now }
+    requires axioms { All (IsIn heap.old.objects) axioms.now }
+    requires theorems { All (IsIn heap.old.objects) theorems.now }
+    requires equality { (A : ArityTable) → HasEquality (basis heap.old.objects A axioms.now theorems.now (profile_of profile)) }
+    ensures grows { Grows heap.old.objects heap.new.objects }
+    ensures turned { IfOk result (λ o. (A : ArityTable) → AreMarks A heap.old.objects marks.now → IsTurned (basis heap.old.objects A axioms.now theorems.now (profile_of profile)) heap.new.objects o (object_at heap.old.objects proof)) }
+{
     for p in parts {
         heap.order();
-        let Some(q) = turn(heap, *p, &turned, axioms, theorems, profile, marks)? else {
+        let Some(q) = turn(heap, *p, turned, axioms, theorems, profile, marks)? else {
             return Ok(None);
         };
         turned.insert(*p, q)?;

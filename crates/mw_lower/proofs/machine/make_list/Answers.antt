@@ -1,6 +1,6 @@
 -- Each object taken goes to the front of the members.
 use Rattle.std.proofs.Common.{ap, ◌∙◌, subst, sym}
-use Rattle.mw_heap.proofs.Objects.{Grows-trans}
+use Rattle.mw_heap.proofs.Objects.{Grows-trans, IsIn-Grows}
 use Rattle.mw_axioms.specs.Stacks.{stack_of, AreIn}
 use Rattle.mw_axioms.proofs.OnStack.{AreIn-push}
 use Rattle.mw_lower.proofs.Gathers.{Gathers-first, Gathers-taken, Gathers-list}
@@ -16,6 +16,12 @@ loop-preserved c =
     let made = c.in_ok-members-2.ensures.made in
     let taken = c.in_ok-last.ensures.taken in
     Gathers-taken _ _ _ _ _ _ _ _ _ _ _ _ c.loop.invariant c.loop-test.true c.take.ensures.grows c.take.ensures.within taken.1 c.in_ok-last.ensures.left c.in_ok-members-2.ensures.grows made.0 made.1
+
+pub returns-in_err-last-clause-grows : goal.returns-in_err-last-clause-grows
+returns-in_err-last-clause-grows c = Grows-trans _ _ _ c.loop.invariant.grows c.take.ensures.grows
+
+pub cons-requires-clause-second_in : goal.cons-requires-clause-second_in
+cons-requires-clause-second_in c = IsIn-Grows _ _ c.take.ensures.grows _ c.loop.invariant.members_in
 
 pub returns-in_err-members-2-clause-grows : goal.returns-in_err-members-2-clause-grows
 returns-in_err-members-2-clause-grows c = Grows-trans _ _ _ c.loop.invariant.grows (Grows-trans _ _ _ c.take.ensures.grows c.in_err-members-2.ensures.grows)

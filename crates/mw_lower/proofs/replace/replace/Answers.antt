@@ -1,18 +1,36 @@
 -- The test of functional equality on the disjunction, and the premises that are detached from it.
-use Rattle.std.proofs.Common.{not, sym, ap, ◌∙◌, subst}
+use Rattle.std.proofs.Common.{[], not, sym, ap, ◌∙◌, subst, arith}
 use Rattle.mw_model.specs.Proofs.Proof.{ProveEach}
 use Rattle.mw_heap.specs.Objects.{object_at}
 use Rattle.mw_heap.specs.Lists.{list_object}
-use Rattle.mw_heap.proofs.Objects.{Grows-trans, object_at-Grows}
+use Rattle.mw_heap.proofs.Objects.{Grows-refl, Grows-trans, IsIn-Grows, object_at-Grows}
 use Rattle.mw_proof.proofs.Holding.{list_object-grows}
 use Rattle.mw_lower.specs.Schemes.{IsProof}
 use Rattle.mw_lower.specs.Unless.{unless_all}
-use Rattle.mw_axioms.proofs.OnStack.{AreIn-grows}
+use Rattle.mw_axioms.proofs.OnStack.{AreIn-grows, AreIn-push}
 use Rattle.mw_lower.proofs.Replaced.{not_headed, test_exact, functional_proves}
 use Rattle.mw_lower.proofs.replace.replace.Goals as goal
 
+pub make-requires : goal.make-requires
+make-requires c = AreIn-push _ [] _ (λ k d l. absurd (omega (arith, l))) c.in_ok-whole.ensures.within
+
+pub detach_all-requires-clause-whole : goal.detach_all-requires-clause-whole
+detach_all-requires-clause-whole c = IsIn-Grows _ _ c.make.ensures.grows _ c.in_ok-whole.ensures.within
+
 pub detach_all-requires-clause-proofs : goal.detach_all-requires-clause-proofs
 detach_all-requires-clause-proofs c = AreIn-grows _ _ _ (Grows-trans _ _ _ c.in_ok-whole.ensures.grows c.in_ok-step.ensures.grows) c.requires.proofs
+
+pub returns-then-is_none-clause-grows : goal.returns-then-is_none-clause-grows
+returns-then-is_none-clause-grows c = Grows-refl c.args.heap.now.objects
+
+pub returns-in_err-step-clause-grows : goal.returns-in_err-step-clause-grows
+returns-in_err-step-clause-grows c = Grows-trans _ _ _ c.unless.ensures.grows c.make.ensures.grows
+
+pub returns-in_err-detach_all-clause-grows : goal.returns-in_err-detach_all-clause-grows
+returns-in_err-detach_all-clause-grows c = Grows-trans _ _ _ (Grows-trans _ _ _ c.unless.ensures.grows c.make.ensures.grows) c.detach_all.ensures.grows
+
+pub returns-clause-grows : goal.returns-clause-grows
+returns-clause-grows c = Grows-trans _ _ _ (Grows-trans _ _ _ c.unless.ensures.grows c.make.ensures.grows) c.detach_all.ensures.grows
 
 pub returns-then-is_none-clause-answer : goal.returns-then-is_none-clause-answer
 returns-then-is_none-clause-answer c = λ b F Fs has i d hs. not_headed F Fs (object_at c.args.heap.now.objects c.args.c) d (c.equal_parts.ensures.equal ∙ (c.is_none.ensures ∙ ap not c.if-is_none.true))

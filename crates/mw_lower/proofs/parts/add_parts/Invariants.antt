@@ -1,7 +1,7 @@
 -- The subproofs of those before the next one are found.
 use Rattle.std.proofs.Common.{◌≡◌, ◌-◌, length}
 use Rattle.mw_proof.proofs.Gathering.{Gathers}
-use Rattle.mw_lower.proofs.parts.parts.Given as goal
+use Rattle.mw_lower.proofs.parts.add_parts.Given as goal
 
 abbrev pub invariant-loop-next : goal.invariant-loop-next
 invariant-loop-next l = record {

@@ -14,7 +14,7 @@ use Rattle.mw_lower.specs.Schemes.{HasEquality}
 use Rattle.mw_lower.specs.Turned.{AreSubproofsTurned, IsTurned}
 use Rattle.mw_lower.proofs.DerivationSteps.{no_derivation}
 use Rattle.mw_lower.proofs.Walking.{AreMarks-older, subproofs_turned, turned_more}
-use Rattle.mw_lower.proofs.walk.turn_all.Goals as goal
+use Rattle.mw_lower.proofs.walk.turn_each.Goals as goal
 
 pub turn-requires-clause-marks : goal.turn-requires-clause-marks
 turn-requires-clause-marks c = (c.requires.marks.0, AreMarks-grows c.requires.marks.0 c.args.heap.now.objects c.loop-p.heap.objects c.args.marks.now c.loop-p.invariant.grows c.requires.marks.1)

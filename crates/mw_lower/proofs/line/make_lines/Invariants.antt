@@ -4,7 +4,7 @@ use Rattle.mw_model.specs.Terms.Object.{NIL}
 use Rattle.mw_heap.specs.Objects.{object_at, IsIn, Grows}
 use Rattle.mw_axioms.specs.Stacks.{AreIn}
 use Rattle.mw_lower.specs.Lines.{all_lines}
-use Rattle.mw_lower.proofs.line.derive.Given as goal
+use Rattle.mw_lower.proofs.line.make_lines.Given as goal
 
 abbrev pub invariant-loop-line : goal.invariant-loop-line
 invariant-loop-line l = record {
@@ -12,5 +12,5 @@ invariant-loop-line l = record {
   nil_in : IsIn l.heap.objects l.nil;
   nil_is : object_at l.heap.objects l.nil ≡ NIL;
   grows : Grows l.fn.heap.objects l.heap.objects;
-  led : all_lines (map (object_at l.heap.objects) l.made.items) (drop l.line-index l.lines) ≡ all_lines (map (object_at l.fn.heap.objects) l.given) l.lines;
+  led : all_lines (map (object_at l.heap.objects) l.made.items) (drop l.line-index l.lines) ≡ all_lines (map (object_at l.fn.heap.objects) l.fn.made.items) l.lines;
 }

@@ -6,7 +6,7 @@ use Rattle.mw_heap.specs.Variants.{profile_of}
 use Rattle.mw_term.specs.Marking.{AreMarks}
 use Rattle.mw_proof.specs.Judging.{basis}
 use Rattle.mw_lower.proofs.Walking.{AreTurned}
-use Rattle.mw_lower.proofs.walk.turn_all.Given as goal
+use Rattle.mw_lower.proofs.walk.turn_each.Given as goal
 
 abbrev pub invariant-loop-p : goal.invariant-loop-p
 invariant-loop-p l = record {

@@ -9,12 +9,12 @@ use Rattle.mw_proof.proofs.Gathering.{gathers_starts, gathers_more, gathered, re
 use Rattle.mw_lower.specs.Turned.{derived_on}
 use Rattle.mw_lower.proofs.DerivationSteps.{no_derivation}
 use Rattle.mw_lower.proofs.SortedParts.{sorted_parts}
-use Rattle.mw_lower.proofs.parts.parts.Goals as goal
+use Rattle.mw_lower.proofs.parts.add_parts.Goals as goal
 
 pub loop-next-init : goal.loop-next-init
 loop-next-init c = record {
   same = refl;
-  gathers = gathers_starts c.args.heap.now.objects c.insert.new.self.keys c.new-found.result.keys c.args.proof c.requires.within c.new-found.ensures.empty c.in_ok-insert.ensures.updates.1 c.in_ok-insert.ensures.updates.0;
+  gathers = gathers_starts c.args.heap.now.objects c.insert.new.self.keys c.args.found.now.keys c.args.proof c.requires.within c.requires.empty c.in_ok-insert.ensures.updates.1 c.in_ok-insert.ensures.updates.0;
 }
 
 pub add_subproofs-requires-clause-marks : goal.add_subproofs-requires-clause-marks
@@ -32,8 +32,8 @@ add_subproofs-requires-clause-within c =
 pub add_subproofs-requires-clause-all_within : goal.add_subproofs-requires-clause-all_within
 add_subproofs-requires-clause-all_within c = subst (λ os. AreIn os c.loop-next.found.keys) (sym c.loop-next.invariant.same) c.loop-next.invariant.gathers.within
 
-pub returns-then-not-branch-clause-parts : goal.returns-then-not-branch-clause-parts
-returns-then-not-branch-clause-parts c = λ b k.
+pub returns-then-not-branch-clause-none : goal.returns-then-not-branch-clause-none
+returns-then-not-branch-clause-none c = λ e b k.
     let os = c.args.heap.now.objects in
     let keys = c.loop-next.found.keys in
     let next = c.loop-next.next in
@@ -66,7 +66,7 @@ loop-next-preserved c =
     }
 
 pub returns-clause-parts : goal.returns-clause-parts
-returns-clause-parts c =
+returns-clause-parts c = λ e.
     let os = c.args.heap.now.objects in
     let keys = c.loop-next.found.keys in
     let end : length keys ≤ c.loop-next.next = omega (arith, c.loop-next-test.false, c.len.ensures.len) in
