@@ -1,5 +1,5 @@
 -- Meanings from the meanings of parts, which are there where those are.
-use Rattle.std.proofs.Common.{◌≡◌, ℕ, ◌<◌, ◌≤◌, arith, Bool, true, false, cond, List, [], ◌∷◌, Option, Some, None, ◌⊎◌, inl, inr, refl, sym, ap, ap₂, ◌∙◌, subst}
+use Rattle.std.proofs.Common.{◌≡◌, ℕ, ◌<◌, ◌≤◌, arith, Bool, true, false, cond, List, [], ◌∷◌, Option, Some, None, Result, Ok, Err, IfOk, ◌⊎◌, inl, inr, refl, sym, ap, ap₂, ◌∙◌, subst}
 use Rattle.std.proofs.Common.{eqb, eqb-true, eq-eqb, rules}
 use denote.Enum.Bare.{same_true}
 use Rattle.mw_translate.specs.contracts.part.Kind.{the_type}
@@ -149,6 +149,10 @@ module _ (A : ArityTable) (old new : List Object) (es : Entries) where
   step_same goal same cell later (progress.Made m) e l h = (h.0, e ∙ h.1)
   step_same goal same cell later (progress.Wants p) e l h = (omega (arith, h.0, l), h.1, λ n. e ∙ h.2 n)
   step_same goal same cell later progress.Fails e l h = e ∙ h
+
+  pub result_same : {E : Type 0} (goal same : Option Meaning) (cell later : ℕ) (r : Result Progress E) → goal ≡ same → cell ≤ later → IfOk r (IsStep A old new es same cell) → IfOk r (IsStep A old new es goal later)
+  result_same goal same cell later (Ok s) e l h = step_same goal same cell later s e l h
+  result_same goal same cell later (Err x) e l h = h
 
 pub forward-step : (A : ArityTable) (os : List Object) (es : Entries) (goal : Option Meaning) (cell : ℕ) (p : Part) (s : Progress) → AreMade A os es → goal ≡ meaning_at A os p → p.cell < cell → IsForward es p s → IsStep A os os es goal cell s
 forward-step A os es goal cell p (progress.Made m) made e less h = let f = made_found A os es p m made h in (f.object_in, e ∙ f.is)

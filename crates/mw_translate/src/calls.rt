@@ -1,11 +1,12 @@
 //! Calls of functions and of lambdas.
-ghost use Rattle.std.specs.Prelude.{◌≡◌, ◌<◌, ◌+◌, ◌++◌, ◌&&◌, ◌||◌, not, eqb, true, false, Some, IfOk};
-ghost use Rattle.mw_model.specs.Terms.Object.{Pair, named, same_name};
-ghost use Rattle.mw_model.specs.Terms.Term.{Term, ArityTable};
+ghost use Rattle.std.specs.Prelude.{◌≡◌, ◌<◌, ◌+◌, ◌++◌, ◌&&◌, ◌||◌, not, eqb, true, false, cond, length, Some, None, option_map, IfOk};
+ghost use Rattle.mw_model.specs.Terms.Object.{Object, Pair, named, same_name, list3};
+ghost use Rattle.mw_model.specs.Terms.Term.{Term, ArityTable, is_closed};
 ghost use Rattle.mw_model.specs.Terms.Reading.{term_of};
 ghost use Rattle.mw_model.specs.Values.Primitive.{is_pair, is_symbol, name_of};
 ghost use Rattle.mw_model.specs.Events.Expansion.{Other, form_with, expanded, expanded_each};
 ghost use Rattle.mw_heap.specs.Objects.{object_at, IsIn, Grows};
+ghost use Rattle.mw_term.specs.Parts.{names_at, AreSymbols};
 ghost use Rattle.mw_translate.specs.Checked.{takes as takes_count, call_made, head_made, IsMade};
 ghost use Rattle.mw_translate.specs.Meaning.{of_term};
 ghost use Rattle.mw_translate.specs.Memo.{AreMade, IsStep, IsStepOf};
@@ -122,8 +123,42 @@ pub(crate) fn step_lambda(
     }
 }
 
-// The head (lambda xs body), where xs is a list of formals, and the body has no other variables. Many heads may share their formals or
-// their body, which are walked for each.
+// The number of formals, where they close a term. The heap's looks pay for what was looked at, here and for the formals.
+fn closing_count(
+    heap: &mut Heap,
+    formals: &Formals,
+    term: Ref,
+    looks_left: u64,
+) -> Result<Option<u64>, Memory>
+    requires within { IsIn heap.old.objects term }
+    requires symbols { AreSymbols heap.old.objects formals.now }
+    ensures same { heap.new.objects ≡ heap.old.objects }
+    ensures count { (t : Term) → term_of (object_at heap.old.objects term) ≡ Some t → IfOk result (λ o. o ≡ cond (is_closed (names_at heap.old.objects formals.now) t) (Some (length formals.now)) None) }
+{
+    let mut looks_left = looks_left;
+    if !formals.closes_counted(heap, term, &mut looks_left)? {
+        return Ok(None);
+    }
+    take_searches(heap, u64::MAX.saturating_sub(looks_left))?;
+    Ok(Some(formals.len() as u64))
+}
+
+// The number of formals in a list of them, where the body has no other variables. Many heads may share their formals or their body, which
+// are walked for each.
+fn closing_formals(heap: &mut Heap, list: Ref, body: Ref) -> Result<Option<u64>, Memory>
+    requires list_in { IsIn heap.old.objects list }
+    requires body_in { IsIn heap.old.objects body }
+    ensures same { heap.new.objects ≡ heap.old.objects }
+    ensures count { (lambda : Object) (t : Term) → term_of (object_at heap.old.objects body) ≡ Some t → IfOk result (λ o. head_made lambda (object_at heap.old.objects list) (object_at heap.old.objects body) t ≡ option_map (λ n. (list3 lambda (object_at heap.old.objects list) (object_at heap.old.objects body), n)) o) }
+{
+    let mut looks_left = u64::MAX;
+    match Formals::of_list_counted(heap, list, &mut looks_left)? {
+        Some(formals) => closing_count(heap, &formals, body, looks_left),
+        None => Ok(None),
+    }
+}
+
+// The head (lambda xs body), where xs is a list of formals, and the body has no other variables.
 fn closed_head(heap: &mut Heap, lambda: Ref, list: Ref, body: Ref) -> Result<Progress, Memory>
     requires lambda_in { IsIn heap.old.objects lambda }
     requires list_in { IsIn heap.old.objects list }
@@ -131,17 +166,12 @@ fn closed_head(heap: &mut Heap, lambda: Ref, list: Ref, body: Ref) -> Result<Pro
     ensures grows { Grows heap.old.objects heap.new.objects }
     ensures head { (t : Term) → term_of (object_at heap.old.objects body) ≡ Some t → IfOk result (IsMade heap.new.objects (head_made (object_at heap.old.objects lambda) (object_at heap.old.objects list) (object_at heap.old.objects body) t)) }
 {
-    let mut looks_left = u64::MAX;
-    let Some(formals) = Formals::of_list_counted(heap, list, &mut looks_left)? else {
+    let Some(count) = closing_formals(heap, list, body)? else {
         return Ok(Progress::Fails);
     };
-    if !formals.closes_counted(heap, body, &mut looks_left)? {
-        return Ok(Progress::Fails);
-    }
-    take_searches(heap, u64::MAX.saturating_sub(looks_left))?;
     Ok(Progress::Made(Made {
         object: list_of_three(heap, lambda, list, body)?,
-        count: formals.len() as u64,
+        count,
     }))
 }
 

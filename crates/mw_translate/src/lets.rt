@@ -1,7 +1,7 @@
 //! Calls of lambdas that LET and LET* stand for.
-ghost use Rattle.std.specs.Prelude.{◌≡◌, ◌<◌, ◌+◌, List, length, true, Some, IfOk, IfSome, OnOk};
+ghost use Rattle.std.specs.Prelude.{◌≡◌, ◌<◌, ◌+◌, List, length, true, false, Some, IfOk, IfSome, OnOk, MatchOption};
 ghost use Rattle.mw_model.specs.Terms.Object.{Name, NIL};
-ghost use Rattle.mw_model.specs.Terms.Term.{Term, Terms, ArityTable, variables, is_term, are_terms, names_object, term_object, terms_object};
+ghost use Rattle.mw_model.specs.Terms.Term.{Term, Terms, ArityTable, variables, are_formals, is_term, are_terms, names_object, term_object, terms_object};
 ghost use Rattle.mw_model.specs.Values.Primitive.{is_symbol};
 ghost use Rattle.mw_model.specs.Terms.Reading.{term_of};
 ghost use Rattle.mw_model.specs.Events.Expansion.{without};
@@ -133,8 +133,49 @@ fn extended_call(
 // The looks that a binding takes, and the LET itself, besides what is walked: the name and the value are copied.
 const LOOKS_FOR_A_BINDING: u64 = 8;
 
-// The call of a lambda whose formals are the names, and the other variables of the body, where the names are formals. Many calls may
-// share their names or their body, which are walked for each.
+// The free variables of a term that are no formals. The heap's looks pay for what was looked at, here and for the formals, and for the
+// bindings.
+fn counted_others(
+    heap: &mut Heap,
+    formals: &Formals,
+    term: Ref,
+    looks_left: u64,
+) -> Result<Vec<Ref>, Memory>
+    requires within { IsIn heap.old.objects term }
+    requires symbols { AreSymbols heap.old.objects formals.now }
+    ensures same { heap.new.objects ≡ heap.old.objects }
+    ensures symbols { IfOk result (λ v. AreSymbols heap.old.objects v.items) }
+    ensures others { IfOk result (λ v. (t : Term) → term_of (object_at heap.old.objects term) ≡ Some t → names_at heap.old.objects v.items ≡ without (variables t) (names_at heap.old.objects formals.now)) }
+{
+    let mut looks_left = looks_left;
+    let others = other_variables(heap, formals, term, &mut looks_left)?;
+    let copies = (formals.len() as u64)
+        .saturating_add(1)
+        .saturating_mul(LOOKS_FOR_A_BINDING);
+    take_searches(
+        heap,
+        u64::MAX.saturating_sub(looks_left).saturating_add(copies),
+    )?;
+    Ok(others)
+}
+
+// The free variables of the body besides the names, where these are formals. Many calls may share their names or their body, which are
+// walked for each.
+fn variables_besides(heap: &mut Heap, names: Ref, body: Ref) -> Result<Option<Vec<Ref>>, Memory>
+    requires names_in { IsIn heap.old.objects names }
+    requires body_in { IsIn heap.old.objects body }
+    ensures same { heap.new.objects ≡ heap.old.objects }
+    ensures symbols { IfOk result (λ o. IfSome o (λ v. AreSymbols heap.old.objects v.items)) }
+    ensures others { (xs : List Name) (b : Term) → object_at heap.old.objects names ≡ names_object xs → term_of (object_at heap.old.objects body) ≡ Some b → IfOk result (λ o. MatchOption o (are_formals xs ≡ false) (λ v. (are_formals xs ≡ true) × (names_at heap.old.objects v.items ≡ without (variables b) xs))) }
+{
+    let mut looks_left = u64::MAX;
+    let Some(formals) = Formals::of_list_counted(heap, names, &mut looks_left)? else {
+        return Ok(None);
+    };
+    Ok(Some(counted_others(heap, &formals, body, looks_left)?))
+}
+
+// The call of a lambda whose formals are the names, and the other variables of the body, where the names are formals.
 pub(crate) fn let_call(
     heap: &mut Heap,
     names: Ref,
@@ -148,17 +189,8 @@ pub(crate) fn let_call(
     ensures within { IfOk result (λ o. IfSome o (IsIn heap.new.objects)) }
     ensures made { (A : ArityTable) (xs : List Name) (ts : Terms) (b : Term) → object_at heap.old.objects names ≡ names_object xs → object_at heap.old.objects values ≡ terms_object ts → object_at heap.old.objects body ≡ term_object b → is_term A b ≡ true → IfOk result (IsLet heap.new.objects xs ts b) }
 {
-    let mut looks_left = u64::MAX;
-    let Some(formals) = Formals::of_list_counted(heap, names, &mut looks_left)? else {
+    let Some(others) = variables_besides(heap, names, body)? else {
         return Ok(None);
     };
-    let others = other_variables(heap, &formals, body, &mut looks_left)?;
-    let copies = (formals.len() as u64)
-        .saturating_add(1)
-        .saturating_mul(LOOKS_FOR_A_BINDING);
-    take_searches(
-        heap,
-        u64::MAX.saturating_sub(looks_left).saturating_add(copies),
-    )?;
     Ok(Some(extended_call(heap, names, values, others, body)?))
 }

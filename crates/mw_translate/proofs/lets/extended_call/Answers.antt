@@ -2,13 +2,31 @@
 use Rattle.std.proofs.Common.{◌≡◌, ap, ap₂, ◌∙◌}
 use Rattle.mw_model.specs.Terms.Object.{NIL}
 use Rattle.mw_heap.specs.Objects.{object_at}
-use Rattle.mw_heap.proofs.Objects.{object_at-Grows, Grows-trans}
+use Rattle.mw_heap.proofs.Objects.{IsIn-Grows, object_at-Grows, Grows-trans}
 use Rattle.mw_translate.specs.Lets.{prepend, extended_object}
 use Rattle.mw_translate.proofs.Appended.{all_in-Grows, prepend-Grows}
 use Rattle.mw_translate.proofs.lets.extended_call.Goals as goal
 
 pub put_before-requires-clause-front_in : goal.put_before-requires-clause-front_in
 put_before-requires-clause-front_in c = all_in-Grows c.args.heap.now.objects c.nil.new.self.objects c.args.others.items c.in_ok-nil.ensures.grows c.requires.others_in
+
+pub returns-in_err-list-clause-grows : goal.returns-in_err-list-clause-grows
+returns-in_err-list-clause-grows c = Grows-trans _ _ _ c.nil.ensures.grows c.put_before.ensures.grows
+
+pub joined_call-requires-clause-names_in : goal.joined_call-requires-clause-names_in
+joined_call-requires-clause-names_in c = IsIn-Grows _ _ (Grows-trans _ _ _ c.nil.ensures.grows c.put_before.ensures.grows) _ c.requires.names_in
+
+pub joined_call-requires-clause-values_in : goal.joined_call-requires-clause-values_in
+joined_call-requires-clause-values_in c = IsIn-Grows _ _ (Grows-trans _ _ _ c.nil.ensures.grows c.put_before.ensures.grows) _ c.requires.values_in
+
+pub joined_call-requires-clause-body_in : goal.joined_call-requires-clause-body_in
+joined_call-requires-clause-body_in c = IsIn-Grows _ _ (Grows-trans _ _ _ c.nil.ensures.grows c.put_before.ensures.grows) _ c.requires.body_in
+
+pub returns-in_err-joined_call-clause-grows : goal.returns-in_err-joined_call-clause-grows
+returns-in_err-joined_call-clause-grows c = Grows-trans _ _ _ (Grows-trans _ _ _ c.nil.ensures.grows c.put_before.ensures.grows) c.joined_call.ensures.grows
+
+pub returns-clause-grows : goal.returns-clause-grows
+returns-clause-grows c = Grows-trans _ _ _ (Grows-trans _ _ _ c.nil.ensures.grows c.put_before.ensures.grows) c.joined_call.ensures.grows
 
 pub returns-clause-made : goal.returns-clause-made
 returns-clause-made c =

@@ -1,9 +1,36 @@
 -- The formals, the actuals, and the call.
 use Rattle.std.proofs.Common.{ap₂, ◌∙◌}
 use Rattle.mw_model.specs.Terms.Object.{Pair, symbol, list3}
-use Rattle.mw_heap.proofs.Objects.{object_at-Grows, IsIn-Grows}
+use Rattle.mw_heap.proofs.Objects.{Grows-trans, object_at-Grows, IsIn-Grows}
 use Rattle.mw_translate.specs.Lets.{append_object}
 use Rattle.mw_translate.proofs.lets.joined_call.Goals as goal
+
+pub append-requires-2-clause-front_in : goal.append-requires-2-clause-front_in
+append-requires-2-clause-front_in c = IsIn-Grows _ _ c.append.ensures.grows _ c.requires.values_in
+
+pub append-requires-2-clause-back_in : goal.append-requires-2-clause-back_in
+append-requires-2-clause-back_in c = IsIn-Grows _ _ c.append.ensures.grows _ c.requires.others_in
+
+pub returns-in_err-actuals-clause-grows : goal.returns-in_err-actuals-clause-grows
+returns-in_err-actuals-clause-grows c = Grows-trans _ _ _ c.append.ensures.grows c.append-2.ensures.grows
+
+pub call_of_two-requires-clause-first_in : goal.call_of_two-requires-clause-first_in
+call_of_two-requires-clause-first_in c = IsIn-Grows _ _ c.append-2.ensures.grows _ c.in_ok-formals.ensures.made.0
+
+pub call_of_two-requires-clause-second_in : goal.call_of_two-requires-clause-second_in
+call_of_two-requires-clause-second_in c = IsIn-Grows _ _ c.append-2.ensures.grows _ (IsIn-Grows _ _ c.append.ensures.grows _ c.requires.body_in)
+
+pub returns-in_err-head-clause-grows : goal.returns-in_err-head-clause-grows
+returns-in_err-head-clause-grows c = Grows-trans _ _ _ (Grows-trans _ _ _ c.append.ensures.grows c.append-2.ensures.grows) c.call_of_two.ensures.grows
+
+pub cons-requires-clause-second_in : goal.cons-requires-clause-second_in
+cons-requires-clause-second_in c = IsIn-Grows _ _ c.call_of_two.ensures.grows _ c.in_ok-actuals.ensures.made.0
+
+pub returns-in_err-cons-clause-grows : goal.returns-in_err-cons-clause-grows
+returns-in_err-cons-clause-grows c = Grows-trans _ _ _ (Grows-trans _ _ _ (Grows-trans _ _ _ c.append.ensures.grows c.append-2.ensures.grows) c.call_of_two.ensures.grows) c.cons.ensures.grows
+
+pub returns-clause-grows : goal.returns-clause-grows
+returns-clause-grows c = Grows-trans _ _ _ (Grows-trans _ _ _ (Grows-trans _ _ _ c.append.ensures.grows c.append-2.ensures.grows) c.call_of_two.ensures.grows) c.cons.ensures.grows
 
 pub returns-clause-made : goal.returns-clause-made
 returns-clause-made c =

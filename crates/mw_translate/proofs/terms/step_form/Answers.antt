@@ -4,12 +4,13 @@ use Rattle.mw_model.specs.Terms.Object.{Pair}
 use Rattle.mw_model.specs.Values.Primitive.{name_of}
 use Rattle.mw_model.specs.Events.Expansion.{abbreviation_of, AND, OR, COND, LIST, LET, LETSTAR, FIRST, SECOND, THIRD, FOURTH, FIFTH, QUOTE, Other, form_with, expanded_each}
 use Rattle.mw_heap.specs.Objects.{object_at}
+use Rattle.mw_heap.proofs.Objects.{Grows-refl}
 use Rattle.mw_term.proofs.Symbols.{symbol_is}
 use Rattle.mw_translate.specs.Words.{abbreviation}
 use Rattle.mw_translate.specs.Forms.{with_terms, place_of, let_form, let_star_form}
 use Rattle.mw_translate.specs.Meaning.{meaning, of_term}
 use Rattle.mw_translate.specs.declared.part.Kind.TheVariants as kind
-use Rattle.mw_translate.proofs.Combine.{at, forward-step, step_same}
+use Rattle.mw_translate.proofs.Combine.{at, forward-step, result_same}
 use Rattle.mw_translate.proofs.Forms.{form_meaning, and_part, or_part, list_part, first_part, second_part, third_part, fourth_part, fifth_part, no_quote, quote_is, quote-step}
 use Rattle.mw_translate.proofs.terms.step_form.Goals as goal
 
@@ -22,6 +23,21 @@ step_call-requires-clause-no_quote c =
     let r = object_at os c.args.rest in
     let name = name_of f in
     no_quote name (sym c.abbreviation_named.ensures ∙ ap abbreviation c.in-Other.is)
+
+pub returns-in-Quote-clause-grows : goal.returns-in-Quote-clause-grows
+returns-in-Quote-clause-grows c = Grows-refl c.args.heap.now.objects
+
+pub returns-in-And-clause-grows : goal.returns-in-And-clause-grows
+returns-in-And-clause-grows c = Grows-refl c.args.heap.now.objects
+
+pub returns-in-Or-clause-grows : goal.returns-in-Or-clause-grows
+returns-in-Or-clause-grows c = Grows-refl c.args.heap.now.objects
+
+pub returns-in-List-clause-grows : goal.returns-in-List-clause-grows
+returns-in-List-clause-grows c = Grows-refl c.args.heap.now.objects
+
+pub returns-in-Cond-clause-grows : goal.returns-in-Cond-clause-grows
+returns-in-Cond-clause-grows c = Grows-refl c.args.heap.now.objects
 
 pub returns-in-Quote-clause-step : goal.returns-in-Quote-clause-step
 returns-in-Quote-clause-step c =
@@ -83,8 +99,8 @@ returns-in-Cond-clause-step c =
     let e = form_meaning A (object_at os c.args.x) f r name (symbol_is f c.requires.symbol) c.requires.form COND w in
     forward-step A os es (meaning A kind.Term (object_at os c.args.x)) c.args.x (at kind.Cond c.args.rest) c.forward_to-in-Cond.result c.requires.made e c.requires.rest_before c.forward_to-in-Cond.ensures
 
-pub returns-in_ok-step_let-in-Let-clause-step : goal.returns-in_ok-step_let-in-Let-clause-step
-returns-in_ok-step_let-in-Let-clause-step c =
+pub returns-in-Let-clause-step : goal.returns-in-Let-clause-step
+returns-in-Let-clause-step c =
     let os = c.args.heap.now.objects in
     let A = c.args.newer.now ++ c.args.older.now in
     let es = c.args.memo.now.made.entries in
@@ -93,10 +109,10 @@ returns-in_ok-step_let-in-Let-clause-step c =
     let name = name_of f in
     let w : abbreviation_of name ≡ LET = sym c.abbreviation_named.ensures ∙ ap abbreviation c.in-Let.is in
     let e = form_meaning A (object_at os c.args.x) f r name (symbol_is f c.requires.symbol) c.requires.form LET w in
-    step_same A os c.step_let.new.heap.objects es (meaning A kind.Term (object_at os c.args.x)) (of_term A (let_form r)) (c.args.rest + 1) c.args.x c.in_ok-step_let-in-Let.field-0 e (omega (arith, c.requires.rest_before)) (c.in_ok-step_let-in-Let.ensures.step A c.requires.made)
+    result_same A os c.step_let.new.heap.objects es (meaning A kind.Term (object_at os c.args.x)) (of_term A (let_form r)) (c.args.rest + 1) c.args.x c.step_let.result e (omega (arith, c.requires.rest_before)) (c.step_let.ensures.step A c.requires.made)
 
-pub returns-in_ok-step_let_star-in-LetStar-clause-step : goal.returns-in_ok-step_let_star-in-LetStar-clause-step
-returns-in_ok-step_let_star-in-LetStar-clause-step c =
+pub returns-in-LetStar-clause-step : goal.returns-in-LetStar-clause-step
+returns-in-LetStar-clause-step c =
     let os = c.args.heap.now.objects in
     let A = c.args.newer.now ++ c.args.older.now in
     let es = c.args.memo.now.made.entries in
@@ -105,10 +121,10 @@ returns-in_ok-step_let_star-in-LetStar-clause-step c =
     let name = name_of f in
     let w : abbreviation_of name ≡ LETSTAR = sym c.abbreviation_named.ensures ∙ ap abbreviation c.in-LetStar.is in
     let e = form_meaning A (object_at os c.args.x) f r name (symbol_is f c.requires.symbol) c.requires.form LETSTAR w in
-    step_same A os c.step_let_star.new.heap.objects es (meaning A kind.Term (object_at os c.args.x)) (of_term A (let_star_form r)) (c.args.rest + 1) c.args.x c.in_ok-step_let_star-in-LetStar.field-0 e (omega (arith, c.requires.rest_before)) (c.in_ok-step_let_star-in-LetStar.ensures.step A c.requires.made)
+    result_same A os c.step_let_star.new.heap.objects es (meaning A kind.Term (object_at os c.args.x)) (of_term A (let_star_form r)) (c.args.rest + 1) c.args.x c.step_let_star.result e (omega (arith, c.requires.rest_before)) (c.step_let_star.ensures.step A c.requires.made)
 
-pub returns-in_ok-step_place-in-First-clause-step : goal.returns-in_ok-step_place-in-First-clause-step
-returns-in_ok-step_place-in-First-clause-step c =
+pub returns-in-First-clause-step : goal.returns-in-First-clause-step
+returns-in-First-clause-step c =
     let os = c.args.heap.now.objects in
     let A = c.args.newer.now ++ c.args.older.now in
     let es = c.args.memo.now.made.entries in
@@ -117,10 +133,10 @@ returns-in_ok-step_place-in-First-clause-step c =
     let name = name_of f in
     let w : abbreviation_of name ≡ FIRST = sym c.abbreviation_named.ensures ∙ ap abbreviation c.in-First.is in
     let e = form_meaning A (object_at os c.args.x) f r name (symbol_is f c.requires.symbol) c.requires.form FIRST w in
-    step_same A os c.step_place.new.heap.objects es (meaning A kind.Term (object_at os c.args.x)) (of_term A (with_terms (place_of 0) (expanded_each r))) (c.args.rest + 1) c.args.x c.in_ok-step_place-in-First.field-0 (e ∙ first_part A name r) (omega (arith, c.requires.rest_before)) c.in_ok-step_place-in-First.ensures.step
+    result_same A os c.step_place.new.heap.objects es (meaning A kind.Term (object_at os c.args.x)) (of_term A (with_terms (place_of 0) (expanded_each r))) (c.args.rest + 1) c.args.x c.step_place.result (e ∙ first_part A name r) (omega (arith, c.requires.rest_before)) c.step_place.ensures.step
 
-pub returns-in_ok-step_place-in-Second-clause-step : goal.returns-in_ok-step_place-in-Second-clause-step
-returns-in_ok-step_place-in-Second-clause-step c =
+pub returns-in-Second-clause-step : goal.returns-in-Second-clause-step
+returns-in-Second-clause-step c =
     let os = c.args.heap.now.objects in
     let A = c.args.newer.now ++ c.args.older.now in
     let es = c.args.memo.now.made.entries in
@@ -129,10 +145,10 @@ returns-in_ok-step_place-in-Second-clause-step c =
     let name = name_of f in
     let w : abbreviation_of name ≡ SECOND = sym c.abbreviation_named.ensures ∙ ap abbreviation c.in-Second.is in
     let e = form_meaning A (object_at os c.args.x) f r name (symbol_is f c.requires.symbol) c.requires.form SECOND w in
-    step_same A os c.step_place-in-Second.new.heap.objects es (meaning A kind.Term (object_at os c.args.x)) (of_term A (with_terms (place_of 1) (expanded_each r))) (c.args.rest + 1) c.args.x c.in_ok-step_place-in-Second.field-0 (e ∙ second_part A name r) (omega (arith, c.requires.rest_before)) c.in_ok-step_place-in-Second.ensures.step
+    result_same A os c.step_place-in-Second.new.heap.objects es (meaning A kind.Term (object_at os c.args.x)) (of_term A (with_terms (place_of 1) (expanded_each r))) (c.args.rest + 1) c.args.x c.step_place-in-Second.result (e ∙ second_part A name r) (omega (arith, c.requires.rest_before)) c.step_place-in-Second.ensures.step
 
-pub returns-in_ok-step_place-in-Third-clause-step : goal.returns-in_ok-step_place-in-Third-clause-step
-returns-in_ok-step_place-in-Third-clause-step c =
+pub returns-in-Third-clause-step : goal.returns-in-Third-clause-step
+returns-in-Third-clause-step c =
     let os = c.args.heap.now.objects in
     let A = c.args.newer.now ++ c.args.older.now in
     let es = c.args.memo.now.made.entries in
@@ -141,10 +157,10 @@ returns-in_ok-step_place-in-Third-clause-step c =
     let name = name_of f in
     let w : abbreviation_of name ≡ THIRD = sym c.abbreviation_named.ensures ∙ ap abbreviation c.in-Third.is in
     let e = form_meaning A (object_at os c.args.x) f r name (symbol_is f c.requires.symbol) c.requires.form THIRD w in
-    step_same A os c.step_place-in-Third.new.heap.objects es (meaning A kind.Term (object_at os c.args.x)) (of_term A (with_terms (place_of 2) (expanded_each r))) (c.args.rest + 1) c.args.x c.in_ok-step_place-in-Third.field-0 (e ∙ third_part A name r) (omega (arith, c.requires.rest_before)) c.in_ok-step_place-in-Third.ensures.step
+    result_same A os c.step_place-in-Third.new.heap.objects es (meaning A kind.Term (object_at os c.args.x)) (of_term A (with_terms (place_of 2) (expanded_each r))) (c.args.rest + 1) c.args.x c.step_place-in-Third.result (e ∙ third_part A name r) (omega (arith, c.requires.rest_before)) c.step_place-in-Third.ensures.step
 
-pub returns-in_ok-step_place-in-Fourth-clause-step : goal.returns-in_ok-step_place-in-Fourth-clause-step
-returns-in_ok-step_place-in-Fourth-clause-step c =
+pub returns-in-Fourth-clause-step : goal.returns-in-Fourth-clause-step
+returns-in-Fourth-clause-step c =
     let os = c.args.heap.now.objects in
     let A = c.args.newer.now ++ c.args.older.now in
     let es = c.args.memo.now.made.entries in
@@ -153,10 +169,10 @@ returns-in_ok-step_place-in-Fourth-clause-step c =
     let name = name_of f in
     let w : abbreviation_of name ≡ FOURTH = sym c.abbreviation_named.ensures ∙ ap abbreviation c.in-Fourth.is in
     let e = form_meaning A (object_at os c.args.x) f r name (symbol_is f c.requires.symbol) c.requires.form FOURTH w in
-    step_same A os c.step_place-in-Fourth.new.heap.objects es (meaning A kind.Term (object_at os c.args.x)) (of_term A (with_terms (place_of 3) (expanded_each r))) (c.args.rest + 1) c.args.x c.in_ok-step_place-in-Fourth.field-0 (e ∙ fourth_part A name r) (omega (arith, c.requires.rest_before)) c.in_ok-step_place-in-Fourth.ensures.step
+    result_same A os c.step_place-in-Fourth.new.heap.objects es (meaning A kind.Term (object_at os c.args.x)) (of_term A (with_terms (place_of 3) (expanded_each r))) (c.args.rest + 1) c.args.x c.step_place-in-Fourth.result (e ∙ fourth_part A name r) (omega (arith, c.requires.rest_before)) c.step_place-in-Fourth.ensures.step
 
-pub returns-in_ok-step_place-in-Fifth-clause-step : goal.returns-in_ok-step_place-in-Fifth-clause-step
-returns-in_ok-step_place-in-Fifth-clause-step c =
+pub returns-in-Fifth-clause-step : goal.returns-in-Fifth-clause-step
+returns-in-Fifth-clause-step c =
     let os = c.args.heap.now.objects in
     let A = c.args.newer.now ++ c.args.older.now in
     let es = c.args.memo.now.made.entries in
@@ -165,10 +181,10 @@ returns-in_ok-step_place-in-Fifth-clause-step c =
     let name = name_of f in
     let w : abbreviation_of name ≡ FIFTH = sym c.abbreviation_named.ensures ∙ ap abbreviation c.in-Fifth.is in
     let e = form_meaning A (object_at os c.args.x) f r name (symbol_is f c.requires.symbol) c.requires.form FIFTH w in
-    step_same A os c.step_place-in-Fifth.new.heap.objects es (meaning A kind.Term (object_at os c.args.x)) (of_term A (with_terms (place_of 4) (expanded_each r))) (c.args.rest + 1) c.args.x c.in_ok-step_place-in-Fifth.field-0 (e ∙ fifth_part A name r) (omega (arith, c.requires.rest_before)) c.in_ok-step_place-in-Fifth.ensures.step
+    result_same A os c.step_place-in-Fifth.new.heap.objects es (meaning A kind.Term (object_at os c.args.x)) (of_term A (with_terms (place_of 4) (expanded_each r))) (c.args.rest + 1) c.args.x c.step_place-in-Fifth.result (e ∙ fifth_part A name r) (omega (arith, c.requires.rest_before)) c.step_place-in-Fifth.ensures.step
 
-pub returns-in_ok-step_call-in-Other-clause-step : goal.returns-in_ok-step_call-in-Other-clause-step
-returns-in_ok-step_call-in-Other-clause-step c =
+pub returns-in-Other-clause-step : goal.returns-in-Other-clause-step
+returns-in-Other-clause-step c =
     let os = c.args.heap.now.objects in
     let A = c.args.newer.now ++ c.args.older.now in
     let es = c.args.memo.now.made.entries in
@@ -177,4 +193,4 @@ returns-in_ok-step_call-in-Other-clause-step c =
     let name = name_of f in
     let w : abbreviation_of name ≡ Other = sym c.abbreviation_named.ensures ∙ ap abbreviation c.in-Other.is in
     let e = form_meaning A (object_at os c.args.x) f r name (symbol_is f c.requires.symbol) c.requires.form Other w in
-    step_same A os c.step_call.new.heap.objects es (meaning A kind.Term (object_at os c.args.x)) (of_term A (form_with Other name (expanded_each r))) (c.args.rest + 1) c.args.x c.in_ok-step_call-in-Other.field-0 e (omega (arith, c.requires.rest_before)) c.in_ok-step_call-in-Other.ensures.step
+    result_same A os c.step_call.new.heap.objects es (meaning A kind.Term (object_at os c.args.x)) (of_term A (form_with Other name (expanded_each r))) (c.args.rest + 1) c.args.x c.step_call.result e (omega (arith, c.requires.rest_before)) c.step_call.ensures.step

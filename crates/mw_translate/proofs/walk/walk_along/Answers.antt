@@ -2,15 +2,20 @@
 use Rattle.std.proofs.Common.{◌++◌, ◌∷◌, [], inl, inr, sym, ap, ap₂, ◌∙◌, subst, append_assoc, arith}
 use Rattle.mw_model.specs.Events.Expansion.{expanded}
 use Rattle.mw_heap.specs.Objects.{object_at, IsIn}
-use Rattle.mw_heap.proofs.Objects.{object_at-Grows, length-Grows}
+use Rattle.mw_heap.proofs.Objects.{Grows-refl, object_at-Grows, length-Grows}
 use Rattle.mw_translate.specs.Meaning.{meaning}
 use Rattle.mw_translate.specs.Memo.{part_at, AreUnique}
 use Rattle.mw_translate.specs.Walk.{Advances}
 use Rattle.mw_translate.specs.declared.part.Kind.TheVariants as kind
 use Rattle.mw_translate.proofs.Combine.{made_found, expand-none, expand-some}
 use Rattle.mw_translate.proofs.Called.{body_of}
-use Rattle.mw_translate.proofs.Path.{IsPath, left, last_below, last_needed, path-wants, path-made, left-made, left-wants}
-use Rattle.mw_translate.proofs.walk.walk.Goals as goal
+use Rattle.mw_translate.proofs.Path.{IsPath, path-start, left, last_below, last_needed, path-wants, path-made, left-made, left-wants}
+use Rattle.mw_translate.proofs.walk.walk_along.Goals as goal
+
+pub loop-part-init : goal.loop-part-init
+loop-part-init c =
+    let os = c.args.heap.now.objects in
+    path-start (c.args.newer.now ++ c.args.older.now) os c.args.raw c.args.memo.now.made.entries c.push.new.self.items (Grows-refl os) c.requires.none_made (c.in_ok-push.ensures.items ∙ ap (λ ps. ps ++ part_at kind.Term c.args.raw ∷ []) c.requires.none_waits)
 
 pub loop-part-preserved : goal.loop-part-preserved
 loop-part-preserved c =
@@ -27,7 +32,7 @@ loop-part-preserved c =
     let path = subst (IsPath A h0 h x es) c.in-Some.ensures.items c.loop-part.invariant in
     let small = last_below A h0 h new x es rest part path in
     let g = c.in_ok-advance.ensures.grows in
-    let within : IsIn h part.cell = omega (arith, small, c.requires, length-Grows h0 h path.grows) in
+    let within : IsIn h part.cell = omega (arith, small, c.requires.within, length-Grows h0 h path.grows) in
     let advances = subst (Advances A h new es more rest longer part) c.if-not-branch.false c.in_ok-advance.ensures.advanced in
     elim advances [
       | inl m ↦
@@ -36,8 +41,8 @@ loop-part-preserved c =
           (path-made A h0 h new x es rest part path m.0 g within m.1 m.2 (subst AreUnique m.3 c.in_ok-advance.ensures.unique)))
       | inr w ↦
           let inner = w.0 in
-          let inner_in : IsIn h0 inner.cell = omega (arith, w.1, small, c.requires) in
-          let part_in : IsIn h0 part.cell = omega (arith, small, c.requires) in
+          let inner_in : IsIn h0 inner.cell = omega (arith, w.1, small, c.requires.within) in
+          let part_in : IsIn h0 part.cell = omega (arith, small, c.requires.within) in
           subst (λ l. IsPath A h0 new x l longer) (sym w.4)
           (subst (IsPath A h0 new x es) (append_assoc rest (part ∷ []) (inner ∷ []) ∙ sym w.5)
           (path-wants A h0 h new x es rest part path inner g w.1 w.2
@@ -82,7 +87,7 @@ returns-then-not-branch-clause-answer c =
     let part = c.in-Some.part in
     let path = subst (IsPath A h0 h x es) c.in-Some.ensures.items c.loop-part.invariant in
     let small = last_below A h0 h new x es rest part path in
-    let part_in : IsIn h0 part.cell = omega (arith, small, c.requires) in
+    let part_in : IsIn h0 part.cell = omega (arith, small, c.requires.within) in
     let fails = subst (Advances A h new es c.advance.new.memo.made.entries rest c.advance.new.path.items part) c.if-not-branch.true c.in_ok-advance.ensures.advanced in
     expand-none A (object_at h0 x) (last_needed A h0 h new x es rest part path (ap (meaning A part.kind) (sym (object_at-Grows h0 h path.grows part.cell part_in)) ∙ fails))
 
@@ -96,4 +101,4 @@ returns-clause-answer c =
     let path = c.loop-part.invariant in
     let found = made_found A h es (part_at kind.Term x) c.in-Some-find.made path.made (sym c.find.ensures ∙ c.in-Some-find.is) in
     let t = body_of A (expanded (object_at h x)) (object_at h c.in-Some-find.made.object, c.in-Some-find.made.count) found.is in
-    (t.0, expand-some A (object_at h0 x) t.0 (ap expanded (sym (object_at-Grows h0 h path.grows x c.requires)) ∙ t.1) t.2, found.object_in, sym t.3)
+    (t.0, expand-some A (object_at h0 x) t.0 (ap expanded (sym (object_at-Grows h0 h path.grows x c.requires.within)) ∙ t.1) t.2, found.object_in, sym t.3)
