@@ -1,0 +1,60 @@
+-- The last job is laid out, and what is left is asked of the code that is there then.
+use Rattle.std.proofs.Common.{◌≡◌, List, [], ◌∷◌, ◌++◌, length, sym, ap, ◌∙◌, subst, arith, rules}
+use Rattle.mw_heap.specs.Variants.{profile_of}
+use Rattle.mw_code.specs.declared.job.Job.{Job}
+use Rattle.mw_code.specs.declared.job.Job.TheVariants.{Value as TheValue}
+use Rattle.mw_code.specs.Jobs.{Extends}
+use Rattle.mw_code.specs.Loads.{load}
+use Rattle.mw_code.proofs.Forms.{extends-same}
+use Rattle.mw_code.proofs.Laying.{AreLaying, laying-starts, last-fits, laying-goes, laying-ends, laid-extends, load-falls}
+use Rattle.mw_code.proofs.compile.lay_jobs.Goals as goal
+
+pub loop-job-init : goal.loop-job-init
+loop-job-init c =
+    let P = profile_of c.args.profile in
+    let code = c.args.code.now.items in
+    let first = c.in_ok-push.ensures.items ∙ ap (λ (l : List Job). l ++ TheValue c.args.task ∷ []) c.new-jobs.ensures.items in
+    (extends-same code, subst (λ js. AreLaying P c.args.heap.now.objects c.args.signature.now code code js c.args.task) (sym first) (laying-starts P c.args.heap.now.objects c.args.signature.now c.args.task code), c.requires.places)
+
+pub returns-clause-laid : goal.returns-clause-laid
+returns-clause-laid c =
+    let P = profile_of c.args.profile in
+    let none : c.loop-job.jobs.items ≡ [] = search rules in
+    laying-ends P c.args.heap.now.objects c.args.signature.now c.args.task c.args.code.now.items c.loop-job.code.items (subst (λ js. AreLaying P c.args.heap.now.objects c.args.signature.now c.args.code.now.items c.loop-job.code.items js c.args.task) none c.loop-job.invariant.1)
+
+pub lay_job-requires : goal.lay_job-requires
+lay_job-requires c =
+    let P = profile_of c.args.profile in
+    let a = subst (λ js. AreLaying P c.args.heap.now.objects c.args.signature.now c.args.code.now.items c.loop-job.code.items js c.args.task) c.in-Some.ensures.items c.loop-job.invariant.1 in
+    record { job = last-fits P c.args.heap.now.objects c.args.signature.now c.args.task c.args.code.now.items c.loop-job.code.items c.pop.new.self.items c.in-Some.job c.requires.task a; places = c.loop-job.invariant.2 }
+
+pub loop-job-preserved : goal.loop-job-preserved
+loop-job-preserved c =
+    let P = profile_of c.args.profile in
+    let os = c.args.heap.now.objects in
+    let S = c.args.signature.now in
+    let old = c.args.code.now.items in
+    let now = c.loop-job.code.items in
+    let jobs = c.lay_job.new.jobs.items in
+    let a = subst (λ js. AreLaying P os S old now js c.args.task) c.in-Some.ensures.items c.loop-job.invariant.1 in
+    let n : length now ≡ c.in_ok-place.place = search rules in
+    let p = c.in_ok-piece.ensures.piece now n in
+    let laid = sym c.in_ok-lay.ensures.laid in (
+      subst (Extends old) laid (laid-extends P os S c.args.task old now c.pop.new.self.items jobs c.in-Some.job c.in_ok-piece.piece c.requires.task c.loop-job.invariant.0 p),
+      subst (λ code. AreLaying P os S old code jobs c.args.task) laid (laying-goes P os S c.args.task old now c.pop.new.self.items jobs c.in-Some.job c.in_ok-piece.piece a p),
+      c.in_ok-piece.ensures.places,
+    )
+
+pub loop-job-smaller : goal.loop-job-smaller
+loop-job-smaller c =
+    let P = profile_of c.args.profile in
+    let os = c.args.heap.now.objects in
+    let S = c.args.signature.now in
+    let old = c.args.code.now.items in
+    let now = c.loop-job.code.items in
+    let rest = c.pop.new.self.items in
+    let a = subst (λ js. AreLaying P os S old now js c.args.task) c.in-Some.ensures.items c.loop-job.invariant.1 in
+    let n : length now ≡ c.in_ok-place.place = search rules in
+    let less = load-falls P os S c.args.task now rest c.lay_job.new.jobs.items c.in-Some.job c.in_ok-piece.piece c.requires.task (last-fits P os S c.args.task old now rest c.in-Some.job c.requires.task a) (c.in_ok-piece.ensures.piece now n) in
+    let before = ap (load os) c.in-Some.ensures.items in
+    omega (arith, less, before)
