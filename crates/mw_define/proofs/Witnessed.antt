@@ -9,6 +9,7 @@ use Rattle.mw_model.specs.Events.Expansion.{expand, expanded}
 use Rattle.mw_model.specs.Events.Admission.{new_name, formals_of}
 use Rattle.mw_model.proofs.ReadBack.{some_one, names_back, when_some, and_more-back}
 use Rattle.mw_heap.specs.Objects.{object_at, IsIn, Grows}
+use Rattle.mw_heap.specs.declared.refusal.Refusal.TheVariants as reason
 use Rattle.mw_heap.specs.Variants.{refusal_of}
 use Rattle.mw_heap.proofs.Objects.{object_at-Grows, IsIn-Grows}
 use Rattle.mw_term.specs.Parts.{names_at, AreSymbols}
@@ -16,7 +17,7 @@ use Rattle.mw_term.specs.Parts as parts
 use Rattle.mw_define.specs.declared.admitted.Admitted.{Admitted}
 use Rattle.mw_define.specs.declared.admitted.Admitted.TheVariants as admitted
 use Rattle.mw_define.specs.Axioms.{choice_object}
-use Rattle.mw_define.specs.Tests.{FailsWitness, by_variables, PassesWitness, IsClosedWitness}
+use Rattle.mw_define.specs.Tests.{FailsWitness, by_term, by_variables, PassesWitness, IsClosedWitness, IsFormedWitness, no_term, a_term}
 
 -- one test of formals in two spellings
 pub formals-same : (x : Object) → formals_of x ≡ parts.formals_of x
@@ -135,3 +136,11 @@ module _ (A : ArityTable) (name bound free body : Object) (passed : new_name A n
     }
     last-test (admitted.Refused r) h = subst (FailsWitness A name bound free body) (sym h.0) (by_variables (name_of name) (names_at h2 formals) t passed are expands h.1)
     last-test admitted.Memory h = tt
+
+  -- the test of the body, and the last one
+  module _ (h1 h3 : List Object) (ref list free_ref body_ref : ℕ) (formals : List ℕ) (symbols : AreSymbols h1 formals) (are : formals_of (Pair bound free) ≡ Some (names_at h1 formals)) (ref_in : IsIn h1 ref) (list_in : IsIn h1 list) (free_in : IsIn h1 free_ref) (n : object_at h1 ref ≡ name) (l : object_at h1 list ≡ Pair bound free) (f : object_at h1 free_ref ≡ free) (b : object_at h1 body_ref ≡ body) where
+    pub last-tests : (o : Admitted) → IsFormedWitness A h1 h3 ref list free_ref body_ref formals o → Outcome h3 ref o
+    last-tests (admitted.Refused reason.Term) (no_term e) = by_term (name_of name) (names_at h1 formals) passed are (ap (expand A) (sym b) ∙ e)
+    last-tests _ (a_term h2 term t o g1 g2 within is e last) =
+        last-test h2 h3 ref list free_ref term formals t g2 within (IsIn-Grows h1 h2 g1 list list_in) (are ∙ ap Some (sym (names-Grows h1 h2 formals g1 symbols))) (ap (expand A) (sym b) ∙ e)
+        (object_at-Grows h1 h2 g1 ref ref_in ∙ n) (object_at-Grows h1 h2 g1 list list_in ∙ l) (object_at-Grows h1 h2 g1 free_ref free_in ∙ f) is o last

@@ -6,7 +6,8 @@ use Rattle.mw_model.specs.Values.Definition.{choice_axiom}
 use Rattle.mw_model.specs.Events.Expansion.{expand}
 use Rattle.mw_model.specs.Events.Refusal.{Refusal, NAME, FORMALS, TERM, VARIABLES}
 use Rattle.mw_model.specs.Events.Admission.{new_name, formals_of}
-use Rattle.mw_heap.specs.Objects.{object_at, IsIn}
+use Rattle.mw_heap.specs.Objects.{object_at, IsIn, Grows}
+use Rattle.mw_heap.specs.declared.refusal.Refusal.TheVariants as reason
 use Rattle.mw_heap.specs.Variants.{refusal_of}
 use Rattle.mw_term.specs.Parts.{names_at}
 use Rattle.mw_define.specs.declared.admitted.Admitted.{Admitted}
@@ -69,3 +70,8 @@ abbrev pub IsClosedWitness : List Object → List Object → ℕ → ℕ → ℕ
 IsClosedWitness old new name list free formals term t (admitted.Obligations owed) = (is_closed (names_at old formals) t ≡ true) × OwedWitness old new name list free term owed
 IsClosedWitness old new name list free formals term t (admitted.Refused r) = (refusal_of r ≡ VARIABLES) × (is_closed (names_at old formals) t ≡ false)
 IsClosedWitness old new name list free formals term t admitted.Memory = ⊥
+
+-- the test of the body, and the last test of the term that it expands to in a heap between
+pub data IsFormedWitness (A : ArityTable) (old new : List Object) (name list free body : ℕ) (formals : List ℕ) : Admitted → Type 0 where
+  no_term : expand A (object_at old body) ≡ None → IsFormedWitness A old new name list free body formals (admitted.Refused reason.Term)
+  a_term : (between : List Object) (term : ℕ) (t : Term) (o : Admitted) → Grows old between → Grows between new → IsIn between term → object_at between term ≡ term_object t → expand A (object_at old body) ≡ Some t → IsClosedWitness between new name list free formals term t o → IsFormedWitness A old new name list free body formals o

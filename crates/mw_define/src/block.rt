@@ -178,7 +178,7 @@ pub(crate) fn expand_all(
     }
 }
 
-// Whether the body and the measure have no variables but the formals.
+// Whether the body and the measure have no variables but these formals.
 fn closes_both(heap: &Heap, formals: &Formals, expanded: Draft) -> Result<bool, Memory>
     requires expanded { IsExpanded heap.now.objects expanded }
     requires symbols { AreSymbols heap.now.objects formals.now }
@@ -191,15 +191,23 @@ fn closes_both(heap: &Heap, formals: &Formals, expanded: Draft) -> Result<bool, 
     Ok(formals.closes(heap, expanded.measure)?)
 }
 
+// Whether the body and the measure have no variables but the formals of the draft.
+fn is_closed(heap: &Heap, expanded: Draft) -> Result<bool, Memory>
+    requires { IsExpanded heap.now.objects expanded }
+    ensures { IfOk result (λ b. b ≡ is_closed_at heap.now.objects expanded) }
+{
+    let Some(formals) = Formals::of_list(heap, expanded.formals)? else {
+        unreachable!()
+    };
+    closes_both(heap, &formals, expanded)
+}
+
 // The entry of an expanded draft, where it is closed.
 fn close(heap: &Heap, expanded: Draft) -> Result<Option<Entry>, Memory>
     requires { IsExpanded heap.now.objects expanded }
     ensures { IfOk result (λ o. MatchOption o (is_closed_at heap.now.objects expanded ≡ false) (IsClosedEntry heap.now.objects expanded)) }
 {
-    let Some(formals) = Formals::of_list(heap, expanded.formals)? else {
-        unreachable!()
-    };
-    if !closes_both(heap, &formals, expanded)? {
+    if !is_closed(heap, expanded)? {
         return Ok(None);
     }
     Ok(Some(Entry {

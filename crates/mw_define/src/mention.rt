@@ -1,5 +1,5 @@
 //! Whether a term mentions a function of a block.
-ghost use Rattle.std.specs.Prelude.{◌≡◌, ◌<◌, List, true, false, Some, IfOk};
+ghost use Rattle.std.specs.Prelude.{◌≡◌, ◌<◌, List, [], true, false, Some, IfOk};
 ghost use Rattle.mw_model.specs.Terms.Object.{Pair, symbol};
 ghost use Rattle.mw_model.specs.Terms.Term.{Term, Terms, Call};
 ghost use Rattle.mw_model.specs.Terms.Reading.{term_of, terms_of};
@@ -145,6 +145,22 @@ pub(crate) fn mentions_some(
     ensures { IfOk result (λ b. (B : List Function) → HasNames B (names_at heap.now.objects names.now.keys) → b ≡ piece_mentions B heap.now.objects root) }
 {
     let mut looked = IndexSet::new(heap.alloc());
+    finds_mention(heap, names, root, &mut looked, looks_left)
+}
+
+// The same, where no piece was looked at yet.
+fn finds_mention(
+    heap: &Heap,
+    names: &IndexSet<Ref>,
+    root: Piece,
+    looked: &mut IndexSet<Piece>,
+    looks_left: &mut u64,
+) -> Result<bool, Memory>
+    requires within { IsPiece heap.now.objects root }
+    requires symbols { AreSymbols heap.now.objects names.now.keys }
+    requires none { looked.old.keys ≡ [] }
+    ensures { IfOk result (λ b. (B : List Function) → HasNames B (names_at heap.now.objects names.now.keys) → b ≡ piece_mentions B heap.now.objects root) }
+{
     let mut waiting = Vec::new(heap.alloc());
     waiting.push(root)?;
     while let Some(piece) = waiting.pop() {

@@ -5,7 +5,7 @@ ghost use Rattle.mw_model.specs.Terms.Term.{Term, IsTerm, term_object};
 ghost use Rattle.mw_model.specs.Terms.Reading.{term_of};
 ghost use Rattle.mw_heap.specs.Objects.{object_at, IsIn, Grows};
 ghost use Rattle.mw_term.specs.Parts.{AreSymbols, names_at};
-ghost use Rattle.mw_define.specs.Tests.{IsWitness, IsClosedWitness};
+ghost use Rattle.mw_define.specs.Tests.{IsWitness, IsFormedWitness, IsClosedWitness};
 
 use crate::admitted::{Admitted, Entry, Owed};
 use crate::axioms::choice_axiom;
@@ -50,6 +50,31 @@ fn closed_witness(
     }))
 }
 
+// The witness whose name and formals passed their tests: its body has to expand to a term, and then comes the last test.
+fn formed_witness(
+    heap: &mut Heap,
+    name: Ref,
+    list: Ref,
+    free: Ref,
+    body: Ref,
+    formals: &Formals,
+    arity: &Arity,
+) -> Result<Admitted, Memory>
+    requires name_in { IsIn heap.old.objects name }
+    requires list_in { IsIn heap.old.objects list }
+    requires free_in { IsIn heap.old.objects free }
+    requires body_in { IsIn heap.old.objects body }
+    requires formals { AreSymbols heap.old.objects formals.now }
+    ensures grows { Grows heap.old.objects heap.new.objects }
+    ensures admitted { IfOk result (IsFormedWitness arity.now heap.old.objects heap.new.objects name list free body formals.now) }
+{
+    match expand(heap, body, arity, &[]) {
+        Expanded::Term(term) => closed_witness(heap, name, list, free, formals, term),
+        Expanded::NotTerm => Ok(Admitted::Refused(Refusal::Term)),
+        Expanded::Memory => Err(Memory),
+    }
+}
+
 // The tests of a witness, one after another.
 fn tested_witness(
     heap: &mut Heap,
@@ -73,11 +98,7 @@ fn tested_witness(
     let Some(formals) = Formals::of_list(heap, list)? else {
         return Ok(Admitted::Refused(Refusal::Formals));
     };
-    match expand(heap, body, arity, &[]) {
-        Expanded::Term(term) => Ok(closed_witness(heap, name, list, free, &formals, term)?),
-        Expanded::NotTerm => Ok(Admitted::Refused(Refusal::Term)),
-        Expanded::Memory => Err(Memory),
-    }
+    formed_witness(heap, name, list, free, body, &formals, arity)
 }
 
 /// Tests the witness of this name, whose value is to be put for the bound variable in the body, which may have the free variables of

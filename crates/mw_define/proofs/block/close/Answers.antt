@@ -11,7 +11,7 @@ returns c =
     let os = c.args.heap.now.objects in
     let list = object_at os c.args.expanded.formals in
     let h = function_at os c.args.expanded in (
-      sym c.in_ok-closes_both.ensures ∙ c.if-not-branch.false,
+      sym c.in_ok-is_closed.ensures ∙ c.if-not-branch.false,
       record {
         name = refl;
         formals_in = c.requires.within.1;

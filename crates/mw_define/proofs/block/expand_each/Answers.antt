@@ -22,6 +22,12 @@ loop-draft-preserved c =
     (draft-in c.args.heap.now.objects c.args.drafts.now c.loop-draft.draft-index c.draft-item.result c.requires c.loop-draft-test.true c.draft-item.is)
     c.loop-draft.expanded.items c.push.new.self.items c.in-Some.next c.loop-draft.invariant c.in_ok-next.ensures.grows (rw c.in-Some.is at c.in_ok-next.ensures.expanded) c.in_ok-push.ensures.items
 
+pub returns-in_err-next-clause-grows : goal.returns-in_err-next-clause-grows
+returns-in_err-next-clause-grows c = Grows-trans c.args.heap.now.objects c.loop-draft.heap.objects c.expand_draft.new.heap.objects c.loop-draft.invariant.grows c.expand_draft.ensures.grows
+
+pub returns-in_err-push-clause-grows : goal.returns-in_err-push-clause-grows
+returns-in_err-push-clause-grows c = Grows-trans c.args.heap.now.objects c.loop-draft.heap.objects c.expand_draft.new.heap.objects c.loop-draft.invariant.grows c.expand_draft.ensures.grows
+
 pub returns-in_default-clause-grows : goal.returns-in_default-clause-grows
 returns-in_default-clause-grows c = Grows-trans c.args.heap.now.objects c.loop-draft.heap.objects c.expand_draft.new.heap.objects c.loop-draft.invariant.grows c.in_ok-next.ensures.grows
 

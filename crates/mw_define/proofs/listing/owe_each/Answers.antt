@@ -22,6 +22,12 @@ owe_function-requires-clause-named c =
     named-Grows os c.loop-function.heap.objects c.loop-function.invariant.grows es e.name e c.requires.expanded (expanded-at os es i e c.requires.expanded c.loop-function-test.true c.function-item.is).within.0
     (named-at os es c.args.names.now.keys i e c.requires c.loop-function-test.true c.function-item.is)
 
+pub returns-in_err-next-clause-grows : goal.returns-in_err-next-clause-grows
+returns-in_err-next-clause-grows c = Grows-trans c.args.heap.now.objects c.loop-function.heap.objects c.owe_function.new.heap.objects c.loop-function.invariant.grows c.owe_function.ensures.grows
+
+pub returns-in-Nested-clause-grows : goal.returns-in-Nested-clause-grows
+returns-in-Nested-clause-grows c = Grows-trans c.args.heap.now.objects c.loop-function.heap.objects c.owe_function.new.heap.objects c.loop-function.invariant.grows c.owe_function.ensures.grows
+
 pub returns-in-Nested-clause-owed : goal.returns-in-Nested-clause-owed
 returns-in-Nested-clause-owed c =
     let os = c.args.heap.now.objects in

@@ -1,6 +1,8 @@
 -- The calls that were found are all.
 use Rattle.std.proofs.Common.{List, sym, ap, ◌∙◌, subst}
 use Rattle.mw_model.specs.Terms.Object.{Object}
+use Rattle.mw_heap.specs.Objects.{Grows}
+use Rattle.mw_heap.proofs.Objects.{Grows-trans}
 use Rattle.mw_term.specs.Parts.{names_at}
 use Rattle.mw_define.specs.Collecting.{AreFoundCalls, found_calls}
 use Rattle.mw_define.specs.Blocks.{functions_at, function_at}
@@ -46,6 +48,15 @@ owe_found-requires-clause-all c =
     ∙ (ap (λ B. found_calls B new c.in_ok-calls.calls.items) (functions-Grows os new g es b.expanded)
     ∙ (c.in_ok-calls.ensures.calls (functions_at os es) (function_at os e).body (has-names os es c.args.names.now.keys b.refs) c.requires.named.expanded.body
     ∙ sym (kept-calls os new new g es e c.args.names.now.keys c.args.names.now.keys b.expanded c.requires.named.expanded.within)))
+
+pub returns-in_err-recursion-clause-grows : goal.returns-in_err-recursion-clause-grows
+returns-in_err-recursion-clause-grows c = Grows-trans c.args.heap.now.objects c.find_calls.new.heap.objects c.owe_found.new.heap.objects c.find_calls.ensures.grows c.owe_found.ensures.grows
+
+pub returns-in_err-take_searches-clause-grows : goal.returns-in_err-take_searches-clause-grows
+returns-in_err-take_searches-clause-grows c = subst (Grows c.args.heap.now.objects) (sym c.take_searches.ensures) (Grows-trans c.args.heap.now.objects c.find_calls.new.heap.objects c.owe_found.new.heap.objects c.find_calls.ensures.grows c.owe_found.ensures.grows)
+
+pub returns-clause-grows : goal.returns-clause-grows
+returns-clause-grows c = subst (Grows c.args.heap.now.objects) (sym c.take_searches.ensures) (Grows-trans c.args.heap.now.objects c.find_calls.new.heap.objects c.owe_found.new.heap.objects c.find_calls.ensures.grows c.owe_found.ensures.grows)
 
 pub returns-clause-owed : goal.returns-clause-owed
 returns-clause-owed c = subst (λ (h : List Object). OwesOne c.args.heap.now.objects h c.args.block.now c.args.function.now c.args.owed.now.keys c.owe_found.new.owed.keys c.in_ok-recursion.recursion) (sym c.in_ok-take_searches.ensures) (one-later c.args.heap.now.objects c.find_calls.new.heap.objects c.owe_found.new.heap.objects c.in_ok-calls.ensures.grows c.args.block.now c.args.function.now c.args.owed.now.keys c.owe_found.new.owed.keys c.requires.block.expanded c.requires.named.expanded.within c.in_ok-recursion.recursion c.in_ok-recursion.ensures.owed)
