@@ -1,5 +1,5 @@
 //! A lambda call equals its body with the arguments for the formals.
-ghost use Rattle.std.specs.Prelude.{◌≡◌, IfOk};
+ghost use Rattle.std.specs.Prelude.{◌≡◌, [], IfOk, OnOk};
 ghost use Rattle.mw_model.specs.Terms.Object.{Pair, same_object, second_of};
 ghost use Rattle.mw_model.specs.Laws.Rules.{beta_object, actuals_object, object_is_beta};
 ghost use Rattle.mw_heap.specs.Objects.{object_at, IsIn, Grows};
@@ -67,10 +67,61 @@ fn actuals_of(heap: &mut Heap, function: Ref, arguments: Ref) -> Result<Sigma, M
     ensures within { IfOk result (λ s. AreIn heap.old.objects s) }
     ensures actuals { IfOk result (λ s. sigma_object heap.old.objects s ≡ actuals_object (second_of (object_at heap.old.objects function)) (object_at heap.old.objects arguments)) }
 {
-    let mut looks_left = u64::MAX;
-    let sigma = actuals(heap, heap.second_of(function), arguments, &mut looks_left)?;
-    take_searches(heap, u64::MAX.saturating_sub(looks_left))?;
+    let mut sigma = Sigma::new(heap.alloc());
+    put_actuals(heap, function, arguments, &mut sigma)?;
     Ok(sigma)
+}
+
+// Puts the arguments for the formals of the function of a lambda call into a substitution of nothing.
+fn put_actuals(
+    heap: &mut Heap,
+    function: Ref,
+    arguments: Ref,
+    sigma: &mut Sigma,
+) -> Result<(), Memory>
+    requires within { IsIn heap.old.objects function }
+    requires arguments_within { IsIn heap.old.objects arguments }
+    requires empty { sigma.old ≡ [] }
+    ensures objects { heap.new.objects ≡ heap.old.objects }
+    ensures within { OnOk result (AreIn heap.old.objects sigma.new) }
+    ensures actuals { OnOk result (sigma_object heap.old.objects sigma.new ≡ actuals_object (second_of (object_at heap.old.objects function)) (object_at heap.old.objects arguments)) }
+{
+    let mut looks_left = u64::MAX;
+    put_each(
+        heap,
+        heap.second_of(function),
+        arguments,
+        sigma,
+        &mut looks_left,
+    )?;
+    take_searches(heap, u64::MAX.saturating_sub(looks_left))
+}
+
+// Puts the arguments for these formals into a substitution of nothing. Each takes a look: many calls may share them.
+fn put_each(
+    heap: &Heap,
+    formals: Option<Ref>,
+    arguments: Ref,
+    sigma: &mut Sigma,
+    looks_left: &mut u64,
+) -> Result<(), Memory>
+    requires within { IsPart heap.now.objects formals }
+    requires arguments_within { IsIn heap.now.objects arguments }
+    requires empty { sigma.old ≡ [] }
+    ensures within { OnOk result (AreIn heap.now.objects sigma.new) }
+    ensures actuals { OnOk result (sigma_object heap.now.objects sigma.new ≡ actuals_object (part_at heap.now.objects formals) (object_at heap.now.objects arguments)) }
+{
+    let Some(mut formals) = formals else {
+        return Ok(());
+    };
+    let mut arguments = arguments;
+    while let Some(((x, more_formals), (t, more_arguments))) = members(heap, formals, arguments) {
+        take_look(looks_left)?;
+        sigma.put(x, t)?;
+        formals = more_formals;
+        arguments = more_arguments;
+    }
+    Ok(())
 }
 
 // A part as an object of the heap: NIL where there is none.
@@ -83,30 +134,4 @@ fn present(heap: &mut Heap, x: Option<Ref>) -> Result<Ref, Memory>
         Some(x) => Ok(x),
         None => heap.nil(),
     }
-}
-
-// The arguments for the formals. Each takes a look: many calls may share them.
-fn actuals(
-    heap: &Heap,
-    formals: Option<Ref>,
-    arguments: Ref,
-    looks_left: &mut u64,
-) -> Result<Sigma, Memory>
-    requires within { IsPart heap.now.objects formals }
-    requires arguments_within { IsIn heap.now.objects arguments }
-    ensures within { IfOk result (λ s. AreIn heap.now.objects s) }
-    ensures actuals { IfOk result (λ s. sigma_object heap.now.objects s ≡ actuals_object (part_at heap.now.objects formals) (object_at heap.now.objects arguments)) }
-{
-    let mut sigma = Sigma::new(heap.alloc());
-    let Some(mut formals) = formals else {
-        return Ok(sigma);
-    };
-    let mut arguments = arguments;
-    while let Some(((x, more_formals), (t, more_arguments))) = members(heap, formals, arguments) {
-        take_look(looks_left)?;
-        sigma.put(x, t)?;
-        formals = more_formals;
-        arguments = more_arguments;
-    }
-    Ok(sigma)
 }

@@ -3,7 +3,7 @@ use Rattle.std.proofs.Common.{sym, ap, ◌∙◌}
 use Rattle.mw_heap.specs.Objects.{object_at}
 use Rattle.mw_subst.proofs.PairLists.{pairs_before, sigma_object-before, AreIn-push}
 use Rattle.mw_equal.proofs.Actuals.{actuals_next, actuals_end}
-use Rattle.mw_equal.proofs.reduction.actuals.Goals as goal
+use Rattle.mw_equal.proofs.reduction.put_each.Goals as goal
 
 pub loop-x-preserved : goal.loop-x-preserved
 loop-x-preserved c =

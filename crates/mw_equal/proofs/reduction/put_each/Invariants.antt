@@ -5,7 +5,7 @@ use Rattle.mw_heap.specs.Objects.{object_at, IsIn}
 use Rattle.mw_heap.specs.Parts.{part_at}
 use Rattle.mw_subst.specs.Sigma.{AreIn}
 use Rattle.mw_subst.proofs.PairLists.{pairs_before}
-use Rattle.mw_equal.proofs.reduction.actuals.Given as goal
+use Rattle.mw_equal.proofs.reduction.put_each.Given as goal
 
 abbrev pub invariant-loop-x : goal.invariant-loop-x
 invariant-loop-x l =
