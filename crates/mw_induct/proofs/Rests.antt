@@ -54,6 +54,9 @@ some_conclusion (x ∷ xs) h = omega arith
 pub slice_from : (n : ℕ) (xs : List ℕ) → take (length xs - n) (drop n xs) ≡ drop n xs
 slice_from n xs = ap (λ k. take k (drop n xs)) (sym (length-drop n xs)) ∙ take-length (drop n xs)
 
+pub All-from : (P : ℕ → Type 0) (n : ℕ) (xs : List ℕ) → All P xs → All P (take (length xs - n) (drop n xs))
+All-from P n xs h = subst (All P) (sym (slice_from n xs)) (All-drop P n xs h)
+
 pub Takes-from : (premises : Object → Object) (os : List Object) (n : ℕ) (xs : List ℕ) (o : Option ℕ) → Takes premises os (take (length xs - n) (drop n xs)) o → Takes premises os (drop n xs) o
 Takes-from premises os n xs o t = subst (λ l. Takes premises os l o) (slice_from n xs) t
 

@@ -1,13 +1,14 @@
 -- One case after another, over the heap at the start.
-use Rattle.std.proofs.Common.{◌≡◌, false, drop, sym, ap, ◌∙◌, subst, arith, length-drop}
+use Rattle.std.proofs.Common.{◌≡◌, true, false, All, length, take, ◌-◌, drop, sym, ap, ◌∙◌, subst, arith, length-drop}
 use Rattle.mw_model.specs.Terms.Object.{same_object}
 use Rattle.mw_model.specs.Values.Primitive.{is_pair}
-use Rattle.mw_heap.specs.Objects.{object_at}
+use Rattle.mw_heap.specs.Objects.{object_at, IsIn}
 use Rattle.mw_heap.proofs.NoPair.{shown_no_pair}
 use Rattle.mw_induct.specs.Conclusions.{conclusions_object}
+use Rattle.mw_induct.specs.Pairs.{are_lists_of_pairs}
 use Rattle.mw_induct.proofs.Forms.{all_falls_end}
 use Rattle.mw_induct.proofs.NextCases.{next_case, as_many_left, pairs_left, falls_taken, falls_refused}
-use Rattle.mw_induct.proofs.Rests.{all_taken}
+use Rattle.mw_induct.proofs.Rests.{all_taken, All-from}
 use Rattle.mw_induct.proofs.falls.are_all_falls.Goals as goal
 
 pub returns-in-None-clause-falls : goal.returns-in-None-clause-falls
@@ -43,3 +44,18 @@ returns c =
     let ps = c.args.conclusions.now in
     let end = subst (λ h. is_pair (object_at h c.loop-condition.conditions) ≡ false) i.0 (shown_no_pair c.loop-condition.heap.objects c.view.result _ c.view.ensures.shows c.in_default.not-Pair) in
     record { objects = i.0; falls = all_taken os ps taken i.5 ∙ (ap (same_object (conclusions_object os (drop taken ps))) (sym (all_falls_end (o c.args.measure) (o c.loop-condition.conditions) (o c.loop-condition.cases) end)) ∙ sym i.6) }
+
+pub take_falls-requires-clause-conclusions_within : goal.take_falls-requires-clause-conclusions_within
+take_falls-requires-clause-conclusions_within c =
+    let os = c.args.heap.now.objects in
+    let ps = c.args.conclusions.now in
+    let n = c.loop-condition.taken in
+    subst (λ h. All (IsIn h) (take (length ps - n) (drop n ps))) (sym c.loop-condition.invariant.0) (All-from (IsIn os) n ps c.requires.conclusions_within)
+
+pub take_falls-requires-clause-pairs : goal.take_falls-requires-clause-pairs
+take_falls-requires-clause-pairs c =
+    let i = c.loop-condition.invariant in
+    let next = next_case c.args.heap.now.objects c.loop-condition.heap.objects i.0 c.loop-condition.conditions c.loop-condition.cases c.in-Pair.condition c.in-Pair.more c.in-Pair-view.substitutions c.in-Pair-view.others in
+    let n = next c.in-Pair.ensures.shows c.in-Pair-view.ensures.shows in
+    let pairs = pairs_left c.args.heap.now.objects c.loop-condition.heap.objects i.0 _ _ _ _ _ _ n i.4 in
+    subst (λ h. are_lists_of_pairs (object_at h c.in-Pair-view.substitutions) ≡ true) (sym i.0) pairs.0

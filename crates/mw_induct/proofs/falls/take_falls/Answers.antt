@@ -1,5 +1,5 @@
 -- One fall after another, over the heap at the start.
-use Rattle.std.proofs.Common.{◌<◌, length, sym, ap, ◌∙◌, arith}
+use Rattle.std.proofs.Common.{◌≡◌, ◌<◌, true, length, sym, ap, ◌∙◌, subst, arith}
 use Rattle.std.proofs.lemmas.Bool.{and_parts}
 use Rattle.mw_heap.specs.Objects.{object_at}
 use Rattle.mw_model.specs.Terms.Object.{same_object}
@@ -28,3 +28,13 @@ loop-s-preserved c =
       omega arith,
       λ rest. i.4 rest ∙ falls_next (o c.args.measure) (o c.args.condition) (o x) _ (o s) (o c.in-Pair.more) _ (o c.loop-s.substitutions) rest (next_conclusion os c.args.conclusions.now c.loop-s.taken x within c.index-conclusions-taken.is) member.2 fall,
     )
+
+pub is_fall-requires-clause-pairs : goal.is_fall-requires-clause-pairs
+is_fall-requires-clause-pairs c =
+    let os = c.args.heap.now.objects in
+    let o = object_at os in
+    let i = c.loop-s.invariant in
+    let s = c.in-Pair.s in
+    let member = same_pair os c.loop-s.heap.objects c.loop-s.substitutions s c.in-Pair.more i.0 c.in-Pair.ensures.shows in
+    let pairs = and_parts (is_list_of_pairs (o s)) (are_lists_of_pairs (o c.in-Pair.more)) (ap are_lists_of_pairs (sym member.2) ∙ i.2) in
+    subst (λ h. is_list_of_pairs (object_at h s) ≡ true) (sym i.0) pairs.0

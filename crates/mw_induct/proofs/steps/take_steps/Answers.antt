@@ -1,6 +1,7 @@
 -- One step premise after another, over the heap at the start.
-use Rattle.std.proofs.Common.{◌<◌, ◌≤◌, length, ◌∙◌, arith}
+use Rattle.std.proofs.Common.{◌≡◌, ◌<◌, ◌≤◌, true, length, sym, ◌∙◌, subst, arith}
 use Rattle.mw_heap.specs.Objects.{object_at}
+use Rattle.mw_induct.specs.Pairs.{are_lists_of_pairs, IsLikeFormula}
 use Rattle.mw_induct.proofs.Forms.{steps_none}
 use Rattle.mw_induct.proofs.NextCases.{next_case, as_many_left, pairs_left, step_taken, step_refused}
 use Rattle.mw_induct.proofs.Rests.{same_pair, no_conclusion}
@@ -40,3 +41,14 @@ returns-then-not-branch-clause-steps c =
     let n = next c.in-Pair.ensures.shows c.in-Pair-view.ensures.shows in
     let within : c.loop-condition.taken < length c.args.conclusions.now = omega arith in
     λ rest. i.6 rest ∙ step_refused c.args.heap.now.objects c.loop-condition.heap.objects i.0 _ _ _ _ _ _ n c.args.a c.args.conclusions.now c.loop-condition.taken c.index-conclusions-taken.result within c.index-conclusions-taken.is _ c.in_ok-is_step.ensures.step c.if-not-branch.true rest
+
+pub is_step-requires-clause-pairs : goal.is_step-requires-clause-pairs
+is_step-requires-clause-pairs c =
+    let i = c.loop-condition.invariant in
+    let next = next_case c.args.heap.now.objects c.loop-condition.heap.objects i.0 c.loop-condition.conditions c.loop-condition.cases c.in-Pair.condition c.in-Pair.more c.in-Pair-view.substitutions c.in-Pair-view.others in
+    let n = next c.in-Pair.ensures.shows c.in-Pair-view.ensures.shows in
+    let pairs = pairs_left c.args.heap.now.objects c.loop-condition.heap.objects i.0 _ _ _ _ _ _ n i.4 in
+    subst (λ h. are_lists_of_pairs (object_at h c.in-Pair-view.substitutions) ≡ true) (sym i.0) pairs.0
+
+pub is_step-requires-clause-formula : goal.is_step-requires-clause-formula
+is_step-requires-clause-formula c = subst (λ h. IsLikeFormula (object_at h c.args.a)) (sym c.loop-condition.invariant.0) c.requires.formula
