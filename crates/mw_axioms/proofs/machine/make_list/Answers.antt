@@ -1,9 +1,9 @@
 -- Each object taken goes to the front of the members, and the list takes the place of all.
 use Rattle.std.proofs.Common.{◌≡◌, ◌+◌, length, sym, ap, ap₂, ◌∙◌, subst, arith, append-nil}
 use Rattle.mw_model.specs.Terms.Object.{Symbol, Pair, name_of_bytes}
-use Rattle.mw_heap.proofs.Objects.{Grows-trans, object_at-Grows}
+use Rattle.mw_heap.proofs.Objects.{Grows-trans, IsIn-Grows, object_at-Grows}
 use Rattle.mw_axioms.specs.Stacks.{stack_of, AreIn}
-use Rattle.mw_axioms.proofs.OnStack.{AreIn-grows, AreIn-push}
+use Rattle.mw_axioms.proofs.OnStack.{AreIn-grows, AreIn-push, IsIn-newest}
 use Rattle.mw_axioms.proofs.Gathers.{Gathers, Gathers-first, Gathers-taken, Gathers-none, Gathers-list}
 use Rattle.mw_axioms.proofs.machine.make_list.Goals as goal
 use Rattle.mw_axioms.proofs.machine.make_list.Goals.{in-Some+in_ok-members-2, in_default}
@@ -49,3 +49,27 @@ returns-clause-made c =
     let parts = list.1 ∙ ap₂ Pair (head.1 ∙ name) (object_at-Grows _ _ first _ c.loop.invariant.members_in) in
     ap (stack_of c.cons-2.new.self.objects) c.in_ok-push.ensures.items
     ∙ Gathers-list _ _ _ _ _ _ _ _ _ _ c.loop.invariant c.loop-test.false (Grows-trans _ _ _ first c.in_ok-list.ensures.grows) parts
+
+pub cons-requires-clause-first_in : goal.cons-requires-clause-first_in
+cons-requires-clause-first_in c = IsIn-newest _ _ _ (subst (AreIn c.loop.heap.objects) c.in-Some.ensures.items c.loop.invariant.within)
+
+pub cons-requires-clause-second_in : goal.cons-requires-clause-second_in
+cons-requires-clause-second_in c = c.loop.invariant.members_in
+
+pub returns-in_err-members-2-clause-grows : goal.returns-in_err-members-2-clause-grows
+returns-in_err-members-2-clause-grows c = Grows-trans _ _ _ c.loop.invariant.grows c.in_err-members-2.ensures.grows
+
+pub returns-in_err-head-clause-grows : goal.returns-in_err-head-clause-grows
+returns-in_err-head-clause-grows c = Grows-trans _ _ _ c.loop.invariant.grows c.in_err-head.ensures.grows
+
+pub cons-requires-2-clause-first_in : goal.cons-requires-2-clause-first_in
+cons-requires-2-clause-first_in c = c.in_ok-head.ensures.made.0
+
+pub cons-requires-2-clause-second_in : goal.cons-requires-2-clause-second_in
+cons-requires-2-clause-second_in c = IsIn-Grows _ _ c.in_ok-head.ensures.grows _ c.loop.invariant.members_in
+
+pub returns-in_err-push-clause-grows : goal.returns-in_err-push-clause-grows
+returns-in_err-push-clause-grows c = Grows-trans _ _ _ c.loop.invariant.grows (Grows-trans _ _ _ c.in_ok-head.ensures.grows c.in_ok-list.ensures.grows)
+
+pub returns-clause-grows : goal.returns-clause-grows
+returns-clause-grows c = Grows-trans _ _ _ c.loop.invariant.grows (Grows-trans _ _ _ c.in_ok-head.ensures.grows c.in_ok-list.ensures.grows)
