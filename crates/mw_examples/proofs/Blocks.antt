@@ -2,7 +2,7 @@
 use Rattle.std.proofs.Common.{◌≡◌, [], ◌∷◌, refl}
 use Rattle.mw_model.specs.Events.Refusal.{need, must, unless}
 use Rattle.mw_model.specs.Reports.Report.{SomeRefused}
-use Rattle.mw_examples.proofs.Examples.{check, says}
+use Rattle.mw_examples.proofs.Reports.{check, says}
 
 block_with_recursion_owes_proofs : check "(define-all ((ev (x) (if (consp x) (od (cdr x)) t) (rank x)) (od (x) (if (consp x) (ev (cdr x)) nil) (rank x))) ())" ≡ says ("1 DEFINE-ALL - refused COUNT" ∷ "events 1 accepted 0 refused 1 level 1" ∷ []) SomeRefused
 unfolding need must unless

@@ -2,7 +2,7 @@
 use Rattle.std.proofs.Common.{◌≡◌, [], ◌∷◌, refl}
 use Rattle.mw_model.specs.Events.Refusal.{need, must, unless}
 use Rattle.mw_model.specs.Reports.Report.{Done, SomeRefused}
-use Rattle.mw_examples.proofs.Examples.{check, check_lines, check_lines_within, says}
+use Rattle.mw_examples.proofs.Reports.{check, check_lines, check_lines_within, says}
 
 defined_function_has_an_axiom_and_keeps_its_name : check_lines ("(define twice (x) (+ x x) nil ())" ∷ "(verify use (pequal* (twice x) (+ x x)) (axiom (pequal* (twice x) (+ x x))))" ∷ "(define twice (x) x nil ())" ∷ "(eval (twice 4))" ∷ []) ≡ says ("1 DEFINE TWICE accepted" ∷ "2 VERIFY USE accepted" ∷ "3 DEFINE TWICE refused NAME" ∷ "4 EVAL - accepted 8" ∷ "events 4 accepted 3 refused 1 level 1" ∷ []) SomeRefused
 unfolding need must unless

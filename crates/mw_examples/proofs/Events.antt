@@ -2,7 +2,7 @@
 use Rattle.std.proofs.Common.{◌≡◌, [], ◌∷◌, refl}
 use Rattle.mw_model.specs.Events.Refusal.{need, must, unless}
 use Rattle.mw_model.specs.Reports.Report.{Done, SomeRefused}
-use Rattle.mw_examples.proofs.Examples.{check, says}
+use Rattle.mw_examples.proofs.Reports.{check, says}
 
 empty_book_has_no_event : check "" ≡ says ("events 0 accepted 0 refused 0 level 1" ∷ []) Done
 unfolding need must unless

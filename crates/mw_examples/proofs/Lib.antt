@@ -1,4 +1,4 @@
-pub mod Examples
+mod Reports
 mod Proofs
 mod Definitions
 mod Obligations

@@ -2,7 +2,7 @@
 use Rattle.std.proofs.Common.{◌≡◌, [], ◌∷◌, refl}
 use Rattle.mw_model.specs.Events.Refusal.{need, must, unless}
 use Rattle.mw_model.specs.Reports.Report.{Done, SomeRefused}
-use Rattle.mw_examples.proofs.Examples.{check, says}
+use Rattle.mw_examples.proofs.Reports.{check, says}
 
 products_are_cut_at_the_same_bound_as_sums : check "(profile 2) (eval (* 18446744073709551615 18446744073709551617)) (eval (* 18446744073709551616 18446744073709551616)) (eval (* 3 (* 'a 5)))" ≡ says ("1 PROFILE - accepted" ∷ "2 EVAL - accepted 340282366920938463463374607431768211455" ∷ "3 EVAL - refused OVERFLOW" ∷ "4 EVAL - accepted 0" ∷ "events 4 accepted 3 refused 1 level 1" ∷ []) SomeRefused
 unfolding need must unless

@@ -2,7 +2,7 @@
 use Rattle.std.proofs.Common.{◌≡◌, [], ◌∷◌, refl}
 use Rattle.mw_model.specs.Events.Refusal.{need, must, unless}
 use Rattle.mw_model.specs.Reports.Report.{Done, SomeRefused}
-use Rattle.mw_examples.proofs.Examples.{check, check_lines, says}
+use Rattle.mw_examples.proofs.Reports.{check, check_lines, says}
 
 verify_by_an_axiom_is_accepted : check "(verify refl (pequal* x x) (axiom (pequal* x x)))" ≡ says ("1 VERIFY REFL accepted" ∷ "events 1 accepted 1 refused 0 level 1" ∷ []) Done
 unfolding need must unless

@@ -2,7 +2,7 @@
 use Rattle.std.proofs.Common.{◌≡◌, [], ◌∷◌, refl}
 use Rattle.mw_model.specs.Events.Refusal.{need, must, unless}
 use Rattle.mw_model.specs.Reports.Report.{Done, SomeRefused}
-use Rattle.mw_examples.proofs.Examples.{check, check_lines_within, check_within, says}
+use Rattle.mw_examples.proofs.Reports.{check, check_lines_within, check_within, says}
 
 sum_past_range_overflows : check "(eval (+ 340282366920938463463374607431768211455 1))" ≡ says ("1 EVAL - refused OVERFLOW" ∷ "events 1 accepted 0 refused 1 level 1" ∷ []) SomeRefused
 unfolding need must unless

@@ -2,7 +2,7 @@
 use Rattle.std.proofs.Common.{◌≡◌, [], ◌∷◌, refl}
 use Rattle.mw_model.specs.Events.Refusal.{need, must, unless}
 use Rattle.mw_model.specs.Reports.Report.{Done, SomeRefused}
-use Rattle.mw_examples.proofs.Examples.{check, check_lines, says}
+use Rattle.mw_examples.proofs.Reports.{check, check_lines, says}
 
 checker_that_accepts_nothing_is_switched_to : check_lines ("(define never (x axioms thms atbl) nil nil ())" ∷ "(verify claim" ∷ "#1=(por* #2=(pequal* (never x axioms thms atbl) 'nil)" ∷ "#3=(pnot* (pequal* (logic.provablep (logic.conclusion x) axioms thms atbl) 'nil)))" ∷ "(cut #1# ((expansion (por* #3# #2#) ((axiom #2#)))" ∷ "(propositional-schema (por* (pnot* #3#) #3#)))))" ∷ "(switch never)" ∷ "(verify refl (pequal* x x) (axiom (pequal* x x)))" ∷ []) ≡ says ("1 DEFINE NEVER accepted" ∷ "2 VERIFY CLAIM accepted" ∷ "3 SWITCH NEVER accepted" ∷ "4 VERIFY REFL refused NIL" ∷ "events 4 accepted 3 refused 1 level 2" ∷ []) SomeRefused
 unfolding need must unless

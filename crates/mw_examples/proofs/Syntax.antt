@@ -3,7 +3,7 @@ use Rattle.std.proofs.Common.{◌≡◌, [], ◌∷◌, ◌++◌, refl, codes}
 use Rattle.mw_model.specs.Texts.Lexemes.{BYTE, CLOSE, DOT, END, LABEL, TOKEN}
 use Rattle.mw_model.specs.Events.Refusal.{need, must, unless}
 use Rattle.mw_model.specs.Reports.Report.{report, Syntax}
-use Rattle.mw_examples.proofs.Examples.{check, says}
+use Rattle.mw_examples.proofs.Reports.{check, says}
 
 end_inside_a_list_is_a_fault : check "(print 1) (print" ≡ says ("1 PRINT - accepted 1" ∷ "syntax END at 16" ∷ []) (Syntax END 16)
 unfolding need must unless

@@ -2,7 +2,7 @@
 use Rattle.std.proofs.Common.{◌≡◌, [], ◌∷◌, refl}
 use Rattle.mw_model.specs.Events.Refusal.{need, must, unless}
 use Rattle.mw_model.specs.Reports.Report.{Done, SomeRefused}
-use Rattle.mw_examples.proofs.Examples.{check, says}
+use Rattle.mw_examples.proofs.Reports.{check, says}
 
 greatest_natural_in_range_is_printed : check "(print 340282366920938463463374607431768211455)" ≡ says ("1 PRINT - accepted 340282366920938463463374607431768211455" ∷ "events 1 accepted 1 refused 0 level 1" ∷ []) Done
 unfolding need must unless

@@ -1,3 +1,2 @@
-//! Books that compute, inside the prover, from their bytes to the text of their report: the definitions, tried on rows that a person can
-//! check by hand.
+//! Worked books: the prover computes, from the bytes of each, the text of its report, and a person can check both by hand.
 #![tactic(auto)]

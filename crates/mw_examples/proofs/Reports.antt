@@ -1,4 +1,4 @@
--- Examples are books whose report is computed from their bytes.
+-- The report on a book from its bytes, and the report that is due.
 use Rattle.std.proofs.Common.{ℕ, List, codes}
 use Prim.Native.String.{String}
 use Rattle.mw_model.specs.Laws.BuiltInText.{joined}
