@@ -5,7 +5,7 @@ ghost use Rattle.mw_heap.specs.Packed.{packed};
 use std::hash::{Hash, Hasher};
 
 /// A cell. A large natural and a name stand in sets of their own, and the cell has their index there.
-#[derive(Clone, Copy, Debug, PartialEq, Eq)]
+#[derive(Clone, Copy, PartialEq, Eq)]
 pub(crate) enum Cell {
     Small(u32),
     Large(u32),

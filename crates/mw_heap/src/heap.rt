@@ -12,8 +12,8 @@ use crate::cell::Cell;
 use crate::lengths::{Length, text_told};
 use crate::looks::take_look;
 use crate::sets::{
-    Naturals, can_number, cell_at, counts_from, find_name, insert_measured, insert_name,
-    insert_natural, is_place, note_place,
+    Naturals, can_number, cell_at, counts_from, find_place, insert_measured, insert_name,
+    insert_natural, note_place,
 };
 use crate::word::{WORDS, are_kept};
 use crate::{Mark, Memory, Notes, Ref, View, Word};
@@ -230,13 +230,7 @@ impl Heap {
         requires { is_name name.now ≡ true }
         ensures { IfSome result (λ r. IsIn self.now.objects r × (object_at self.now.objects r ≡ Symbol (name_of_bytes name.now))) }
     {
-        let index = find_name(&self.names, name)?;
-        let place = *self.places.get(index)?;
-        if is_place(&self.cells, place, index) {
-            Some(place)
-        } else {
-            None
-        }
+        find_place(&self.cells, &self.names, self.places.as_slice(), name)
     }
 
     // The symbol of this name, which is searched for, and added if it is new.

@@ -95,19 +95,37 @@ pub(crate) fn insert_natural(naturals: &mut Naturals, n: u128) -> Result<usize, 
 }
 
 // The index of the name, where it is listed.
-pub(crate) fn find_name(names: &IndexSet<Vec<u8>>, name: &[u8]) -> Option<usize>
+fn find_name(names: &IndexSet<Vec<u8>>, name: &[u8]) -> Option<usize>
     ensures { IfSome result (λ i. slice_get (bytes_of names.now.keys) i ≡ Some name.now) }
 {
     names.get_index_of(name)
 }
 
 // Whether the symbol with the name of this index stands in this place.
-pub(crate) fn is_place(cells: &IndexSet<Cell>, place: Ref, index: usize) -> bool
+fn is_place(cells: &IndexSet<Cell>, place: Ref, index: usize) -> bool
     ensures { result ≡ true → slice_get cells.now.keys place ≡ Some (Cell.Symbol index) }
 {
     match cells.as_slice().get(place.index()) {
         Some(Cell::Symbol(i)) => *i as usize == index,
         _ => false,
+    }
+}
+
+// The noted place of the symbol of this name, where its cell stands there.
+pub(crate) fn find_place(
+    cells: &IndexSet<Cell>,
+    names: &IndexSet<Vec<u8>>,
+    places: &[Ref],
+    name: &[u8],
+) -> Option<Ref>
+    ensures { IfSome result (λ place. (i : ℕ) × (slice_get (bytes_of names.now.keys) i ≡ Some name.now) × (slice_get cells.now.keys place ≡ Some (Cell.Symbol i))) }
+{
+    let index = find_name(names, name)?;
+    let place = *places.get(index)?;
+    if is_place(cells, place, index) {
+        Some(place)
+    } else {
+        None
     }
 }
 
