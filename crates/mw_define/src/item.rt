@@ -18,7 +18,7 @@ pub(crate) struct Item {
 
 /// A call of a function of the block: its name, the list of its actuals, and the list of the tests that it stands under, the innermost
 /// first. A test is a pair (T . term), where the term is not to be NIL, or (NIL . term), where it is to be.
-#[derive(Clone, Copy, Debug, PartialEq, Eq)]
+#[derive(Clone, Copy)]
 pub(crate) struct FoundCall {
     pub name: Ref,
     pub actuals: Ref,

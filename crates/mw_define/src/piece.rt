@@ -2,7 +2,7 @@
 use mw_heap::Ref;
 
 /// A term, or a list of terms.
-#[derive(Clone, Copy, Debug, PartialEq, Eq, Hash)]
+#[derive(Clone, Copy, PartialEq, Eq, Hash)]
 pub(crate) enum Piece {
     Term(Ref),
     Terms(Ref),

@@ -56,7 +56,7 @@ pub fn few_digits(digits: &[u8]) -> u32
 }
 
 /// What a token is, by its bytes.
-#[derive(Clone, Copy, Debug, PartialEq, Eq)]
+#[derive(Clone, Copy)]
 enum Form {
     /// A natural, in decimal digits.
     Digits,

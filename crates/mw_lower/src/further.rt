@@ -8,7 +8,7 @@ use mw_heap::{Heap, Ref, Word};
 use mw_rules::Method;
 
 /// A rule of derivations that is no method of proof.
-#[derive(Clone, Copy, Debug, PartialEq, Eq)]
+#[derive(Clone, Copy)]
 pub(crate) enum Further {
     CommuteOr,
     ModusPonens,

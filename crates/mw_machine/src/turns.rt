@@ -5,7 +5,7 @@ ghost use Rattle.mw_machine.specs.Turns.{AreTaken, AreFewer, AreEarned};
 use mw_heap::Memory;
 
 /// The turns that are left to a run, which takes one for each instruction, a round of them at a time.
-#[derive(Clone, Copy, Debug, PartialEq, Eq)]
+#[derive(Clone, Copy)]
 pub(crate) enum Turns {
     Limited(u64),
     Unlimited,

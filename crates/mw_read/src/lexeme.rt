@@ -2,7 +2,7 @@
 use mw_heap::Ref;
 
 /// A lexeme, its atom or its label known.
-#[derive(Clone, Copy, Debug, PartialEq, Eq)]
+#[derive(Clone, Copy)]
 pub(crate) enum Lexeme {
     Open,
     Close,

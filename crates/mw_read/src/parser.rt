@@ -18,7 +18,7 @@ use mw_lex::{Atoms, Class, Slots, classify, glued_to_bar, glued_to_token, white}
 use std::alloc::Global;
 
 /// The piece of text that has begun and not ended, or what stands directly before.
-#[derive(Clone, Copy, Debug, PartialEq, Eq)]
+#[derive(Clone, Copy)]
 pub(crate) enum Begun {
     Nothing,
     Comment,

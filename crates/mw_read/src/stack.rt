@@ -19,7 +19,7 @@ use mw_heap::{Heap, Memory, Ref, Word};
 use mw_lex::Slots;
 
 /// A part of what is open.
-#[derive(Clone, Copy, Debug, PartialEq, Eq)]
+#[derive(Clone, Copy)]
 pub(crate) enum Layer {
     /// A list begins.
     Opening,

@@ -24,14 +24,14 @@ pub enum SyntaxKind {
 }
 
 /// A fault, and the offset where it lies.
-#[derive(Clone, Copy, Debug, PartialEq, Eq)]
+#[derive(Clone, Copy)]
 pub(crate) struct Fault {
     pub(crate) kind: SyntaxKind,
     pub(crate) offset: u64,
 }
 
 /// What a lexeme comes to.
-#[derive(Clone, Copy, Debug, PartialEq, Eq)]
+#[derive(Clone, Copy)]
 pub(crate) enum Outcome {
     /// No datum is complete.
     Pending,

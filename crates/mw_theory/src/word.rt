@@ -6,7 +6,7 @@ ghost use Rattle.mw_theory.specs.EventWords.{word_at, word_symbol};
 use mw_heap::{Heap, Ref};
 
 /// The word that an event begins with.
-#[derive(Clone, Copy, Debug, PartialEq, Eq)]
+#[derive(Clone, Copy)]
 pub(crate) enum Word {
     Verify,
     Define,
