@@ -1,8 +1,9 @@
 //! The claim of a checker.
-ghost use Rattle.std.specs.Prelude.{◌≡◌, true, IfOk};
-ghost use Rattle.mw_model.specs.Terms.Object.{Name, Symbol, NIL, symbol, list2};
-ghost use Rattle.mw_model.specs.Terms.Term.{Term, Constant, Equal, term_object, formula_object};
+ghost use Rattle.std.specs.Prelude.{◌≡◌, true, [], ◌∷◌, IfOk};
+ghost use Rattle.mw_model.specs.Terms.Object.{Name, Symbol, NIL, named};
+ghost use Rattle.mw_model.specs.Terms.Term.{Term, Constant, Equal, Not, term_object, formula_object};
 ghost use Rattle.mw_model.specs.Values.Primitive.{is_symbol, name_of};
+ghost use Rattle.mw_model.specs.Events.Writing.{var, call};
 ghost use Rattle.mw_model.specs.Events.Theory.{on_the_theory, claim};
 ghost use Rattle.mw_heap.specs.Objects.{object_at, IsIn, Grows};
 
@@ -17,21 +18,29 @@ pub(crate) fn claim(heap: &mut Heap, name: Ref) -> Result<Ref, Memory>
     ensures claim { IfOk result (λ r. IsIn heap.new.objects r × (object_at heap.new.objects r ≡ formula_object (claim (name_of (object_at heap.old.objects name))))) }
 {
     let x = heap.symbol(b"X")?;
-    let conclusion = conclusion_of(heap, x)?;
-    let provable = heap.symbol(b"LOGIC.PROVABLEP")?;
     let refuses = answers_nil(heap, name, x)?;
-    let unproved = answers_nil(heap, provable, conclusion)?;
-    let proved = form_of(heap, Word::Pnot, &[unproved])?;
+    let proved = has_proof(heap)?;
     form_of(heap, Word::Por, &[refuses, proved])
 }
 
-// The term (logic.conclusion x).
-fn conclusion_of(heap: &mut Heap, x: Ref) -> Result<Ref, Memory>
-    requires { IsIn heap.old.objects x }
+// The formula (pnot* (pequal* (logic.provablep (logic.conclusion x) axioms thms atbl) 'nil)).
+fn has_proof(heap: &mut Heap) -> Result<Ref, Memory>
     ensures grows { Grows heap.old.objects heap.new.objects }
-    ensures made { IfOk result (λ r. IsIn heap.new.objects r × (object_at heap.new.objects r ≡ list2 (symbol "LOGIC.CONCLUSION") (object_at heap.old.objects x))) }
+    ensures made { IfOk result (λ r. IsIn heap.new.objects r × (object_at heap.new.objects r ≡ formula_object (Not (Equal (on_the_theory (named "LOGIC.PROVABLEP") (call "LOGIC.CONCLUSION" (var "X" ∷ []))) (Constant NIL))))) }
+{
+    let conclusion = conclusion(heap)?;
+    let provable = heap.symbol(b"LOGIC.PROVABLEP")?;
+    let unproved = answers_nil(heap, provable, conclusion)?;
+    form_of(heap, Word::Pnot, &[unproved])
+}
+
+// The term (logic.conclusion x).
+fn conclusion(heap: &mut Heap) -> Result<Ref, Memory>
+    ensures grows { Grows heap.old.objects heap.new.objects }
+    ensures made { IfOk result (λ r. IsIn heap.new.objects r × (object_at heap.new.objects r ≡ term_object (call "LOGIC.CONCLUSION" (var "X" ∷ [])))) }
 {
     let function = heap.symbol(b"LOGIC.CONCLUSION")?;
+    let x = heap.symbol(b"X")?;
     list_of(heap, &[function, x])
 }
 
