@@ -29,8 +29,8 @@ list_of-requires c =
     let theorems = c.in_ok-theorems.ensures in
     let arities = c.in_ok-arities.ensures in
     let later = Grows-trans _ _ _ theorems.grows arities.grows in
-    AreIn-four _ c.args.argument c.in_ok-axioms.axioms (IsIn-Grows _ _ (Grows-trans _ _ _ axioms.grows later) _ c.requires.argument) (IsIn-Grows _ _ later _ axioms.made.0)
-    c.in_ok-theorems.theorems c.in_ok-arities.arities (IsIn-Grows _ _ arities.grows _ theorems.made.0) arities.made.0
+    AreIn-four _ c.args.argument c.in_ok-axioms.axioms c.in_ok-theorems.theorems c.in_ok-arities.arities
+    (IsIn-Grows _ _ (Grows-trans _ _ _ axioms.grows later) _ c.requires.argument) (IsIn-Grows _ _ later _ axioms.made.0) (IsIn-Grows _ _ arities.grows _ theorems.made.0) arities.made.0
 
 pub cons-requires-clause-first_in : goal.cons-requires-clause-first_in
 cons-requires-clause-first_in c =

@@ -2,9 +2,27 @@
 use Rattle.std.proofs.Common.{refl, ap, ap₂, ◌∙◌}
 use Rattle.mw_model.specs.Terms.Object.{Pair, symbol}
 use Rattle.mw_heap.specs.Objects.{object_at}
-use Rattle.mw_heap.proofs.Objects.{object_at-Grows}
+use Rattle.mw_heap.proofs.Objects.{Grows-trans, IsIn-Grows, object_at-Grows}
+use Rattle.mw_term.proofs.CallerLemmas.{AreMarks-grows}
 use Rattle.mw_theory.proofs.CallerLemmas.{IfOk-map}
+use Rattle.mw_kernel.proofs.Parts.{AreIn-five}
 use Rattle.mw_kernel.proofs.rewriting.with_proofs.Goals as goal
+
+pub form_of-requires : goal.form_of-requires
+form_of-requires g c =
+    let draft = c.args.draft in
+    let within = c.requires.draft in
+    let later = IsIn-Grows _ _ c.in_ok-turned.ensures.grows in
+    AreIn-five _ draft.name draft.formals draft.body draft.measure c.in_ok-turned.turned (later _ within.0) (later _ within.1) (later _ within.2) (later _ within.3) c.in_ok-turned.ensures.within
+
+pub returns-clause-grows : goal.returns-clause-grows
+returns-clause-grows g c = Grows-trans _ _ _ c.rewritten_list.ensures.grows c.form_of.ensures.grows
+
+pub returns-clause-marked : goal.returns-clause-marked
+returns-clause-marked g c = AreMarks-grows _ _ _ _ c.form_of.ensures.grows c.rewritten_list.ensures.marked
+
+pub returns-clause-within : goal.returns-clause-within
+returns-clause-within g c = IfOk-map c.form_of.result _ _ (λ r made. made.0) c.form_of.ensures.made
 
 pub returns-clause-rewritten : goal.returns-clause-rewritten
 returns-clause-rewritten g c =

@@ -20,6 +20,9 @@ invariant_of-self c = grown _ _ _ _ c.self.invariant c.refusal_of_switch.new.hea
 pub invariant_of-self-in-Some : goal.invariant_of-self-in-Some
 invariant_of-self-in-Some c = grown _ _ _ _ c.self.invariant c.refusal_of_switch.new.heap.objects c.refusal_of_switch.ensures.grows
 
+pub invariant_of-self-in_default-checked_add : goal.invariant_of-self-in_default-checked_add
+invariant_of-self-in_default-checked_add c = grown _ _ _ _ c.self.invariant c.refusal_of_switch.new.heap.objects c.refusal_of_switch.ensures.grows
+
 pub invariant_of-self-2 : goal.invariant_of-self-2
 invariant_of-self-2 c = grown _ _ _ _ c.self.invariant c.refusal_of_switch.new.heap.objects c.refusal_of_switch.ensures.grows
 
