@@ -2,7 +2,7 @@
 use Rattle.std.proofs.Common.{refl, inr, ap, ◌∙◌}
 use Rattle.mw_model.specs.Values.Definition.{function_axioms}
 use Rattle.mw_model.specs.Laws.RulesInduction.{formulas_object}
-use Rattle.mw_heap.proofs.Objects.{object_at-Grows, IsIn-Grows}
+use Rattle.mw_heap.proofs.Objects.{object_at-Grows, IsIn-Grows, Grows-trans}
 use Rattle.mw_define.proofs.Expanding.{each-expanded-Grows, functions-Grows}
 use Rattle.mw_define.proofs.BlockRead.{closed-all}
 use Rattle.mw_define.proofs.admission.admit_expanded.Goals as goal
@@ -32,3 +32,9 @@ returns-clause-admitted c =
       axioms = c.in_ok-axioms.ensures.made.1 ∙ ap (λ B. formulas_object (function_axioms B)) (functions-Grows os mid c.in_ok-obligations.ensures.grows c.args.block.now c.requires.expanded);
       entries = rw c.in-Some.is at c.in_ok-entries.ensures;
     }
+
+pub returns-in_err-axioms-clause-grows : goal.returns-in_err-axioms-clause-grows
+returns-in_err-axioms-clause-grows c = Grows-trans _ _ _ c.in_ok-obligations.ensures.grows c.in_err-axioms.ensures.grows
+
+pub returns-clause-grows : goal.returns-clause-grows
+returns-clause-grows c = Grows-trans _ _ _ c.in_ok-obligations.ensures.grows c.in_ok-axioms.ensures.grows

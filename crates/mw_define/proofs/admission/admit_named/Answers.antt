@@ -8,6 +8,7 @@ use Rattle.mw_define.specs.Owed.{AreBlock}
 use Rattle.mw_define.specs.BlockTests.{IsExpandedBlock}
 use Rattle.mw_define.proofs.BlockRead.{counted, pairs-symbols}
 use Rattle.mw_define.proofs.BlockTested.{fails-formals, fails-terms, is-block, block-tested}
+use Rattle.mw_heap.proofs.Objects.{Grows-trans}
 use Rattle.mw_define.proofs.admission.admit_named.Goals as goal
 
 pub returns-in_default-clause-admitted : goal.returns-in_default-clause-admitted
@@ -58,3 +59,9 @@ returns-clause-admitted c =
     (subst (λ l. Each2 (Expands (with_pairs os l A) A os mid) ds es) c.as_slice.ensures.value (rw c.in-Some-2.is at c.in_ok-block.ensures.expanded))
     new c.in_ok-admit_expanded.ensures.grows o
     (subst (λ l. IsExpandedBlock mid new l o) c.as_slice-2.ensures.value c.in_ok-admit_expanded.ensures.admitted)
+
+pub returns-in_err-admit_expanded-clause-grows : goal.returns-in_err-admit_expanded-clause-grows
+returns-in_err-admit_expanded-clause-grows c = Grows-trans _ _ _ c.in_ok-block.ensures.grows c.in_err-admit_expanded.ensures.grows
+
+pub returns-clause-grows : goal.returns-clause-grows
+returns-clause-grows c = Grows-trans _ _ _ c.in_ok-block.ensures.grows c.in_ok-admit_expanded.ensures.grows

@@ -29,3 +29,6 @@ returns-clause-made c = axioms-end c.args.heap.now.objects c.loop-function.heap.
 
 pub returns-in_err-push-clause-grows : goal.returns-in_err-push-clause-grows
 returns-in_err-push-clause-grows c = Grows-trans c.args.heap.now.objects c.loop-function.heap.objects c.function_axiom.new.heap.objects c.loop-function.invariant.grows c.in_ok-axiom.ensures.grows
+
+pub returns-in_err-axiom-clause-grows : goal.returns-in_err-axiom-clause-grows
+returns-in_err-axiom-clause-grows c = Grows-trans _ _ _ c.loop-function.invariant.grows c.in_err-axiom.ensures.grows

@@ -4,6 +4,7 @@ use Rattle.mw_model.specs.Terms.Object.{NIL}
 use Rattle.mw_translate.specs.Lets.{prepend}
 use Rattle.mw_translate.proofs.Appended.{all_in-Grows, prepend-Grows}
 use Rattle.mw_define.proofs.BlockAxioms.{axioms-in, listed-axioms}
+use Rattle.mw_heap.proofs.Objects.{Grows-trans}
 use Rattle.mw_define.proofs.listing.list_axioms.Goals as goal
 
 pub put_before-requires-clause-front_in : goal.put_before-requires-clause-front_in
@@ -23,3 +24,12 @@ returns-clause-made c =
           ∙ (ap (prepend new rs) c.in_ok-nil.ensures.made.1
           ∙ (prepend-Grows mid new rs NIL c.in_ok-nil.ensures.grows (axioms-in os mid c.args.block.now rs c.in_ok-axioms.ensures.made) ∙ listed-axioms os mid c.args.block.now rs c.in_ok-axioms.ensures.made)),
     )
+
+pub returns-in_err-nil-clause-grows : goal.returns-in_err-nil-clause-grows
+returns-in_err-nil-clause-grows c = Grows-trans _ _ _ c.in_ok-axioms.ensures.grows c.in_err-nil.ensures.grows
+
+pub returns-in_err-put_before-clause-grows : goal.returns-in_err-put_before-clause-grows
+returns-in_err-put_before-clause-grows c = Grows-trans _ _ _ c.in_ok-axioms.ensures.grows (Grows-trans _ _ _ c.in_ok-nil.ensures.grows c.in_err-put_before.ensures.grows)
+
+pub returns-clause-grows : goal.returns-clause-grows
+returns-clause-grows c = Grows-trans _ _ _ c.in_ok-axioms.ensures.grows (Grows-trans _ _ _ c.in_ok-nil.ensures.grows c.in_ok-put_before.ensures.grows)

@@ -3,6 +3,7 @@ use Rattle.std.proofs.Common.{sym, ap₂, ◌∙◌, subst}
 use Rattle.mw_model.specs.Terms.Object.{NIL}
 use Rattle.mw_translate.specs.Lets.{prepend, AreAllIn}
 use Rattle.mw_translate.proofs.Appended.{all_in-Grows, prepend-Grows}
+use Rattle.mw_heap.proofs.Objects.{Grows-trans}
 use Rattle.mw_define.proofs.listing.list_of.Goals as goal
 
 pub put_before-requires-clause-front_in : goal.put_before-requires-clause-front_in
@@ -14,3 +15,9 @@ returns-clause-made c =
     let mid = c.nil.new.self.objects in
     let k = c.in_ok-put_before.ensures.made in
     (k.0, k.1 ∙ (ap₂ (prepend mid) c.in_ok-copy.ensures.items c.in_ok-nil.ensures.made.1 ∙ prepend-Grows os mid c.args.formulas.now NIL c.in_ok-nil.ensures.grows c.requires))
+
+pub returns-in_err-put_before-clause-grows : goal.returns-in_err-put_before-clause-grows
+returns-in_err-put_before-clause-grows c = Grows-trans _ _ _ c.in_ok-nil.ensures.grows c.in_err-put_before.ensures.grows
+
+pub returns-clause-grows : goal.returns-clause-grows
+returns-clause-grows c = Grows-trans _ _ _ c.in_ok-nil.ensures.grows c.in_ok-put_before.ensures.grows
