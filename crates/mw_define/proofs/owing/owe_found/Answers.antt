@@ -29,3 +29,6 @@ returns-else-is_empty-clause-owed c =
       empty = ap is_empty (sym c.requires.all) ∙ found-empty B os (names_at os rs) c.args.calls.now n c.requires.calls (sym c.is_empty.ensures ∙ c.if-is_empty.false);
       adds = subst (λ cs. Adds os c.owe_flat.new.heap.objects c.args.owed.now.keys c.owe_flat.new.owed.keys (ordinal_formula (measure_of (measures_at os es) (name_of (object_at os e.name))) ∷ owed_at os es e cs)) c.requires.all c.in_ok-owe_flat.ensures.owed;
     }
+
+pub are_nested-requires-clause-symbols : goal.are_nested-requires-clause-symbols
+are_nested-requires-clause-symbols c = c.requires.block.symbols
