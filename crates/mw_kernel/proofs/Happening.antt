@@ -1,5 +1,5 @@
 -- What happens by an event, whose object is told.
-use Rattle.std.proofs.Common.{◌≡◌, ℕ, Bool, true, false, cond, ltb, List, [], ◌∷◌, length, Option, Some, None, refl, sym, ap, ◌∙◌, subst}
+use Rattle.std.proofs.Common.{◌≡◌, ℕ, Bool, true, false, cond, ltb, List, [], ◌∷◌, length, Option, Some, None, Result, IfOk, OnOk, refl, sym, ap, ◌∙◌, subst}
 use Rattle.mw_model.specs.Terms.Object.{Object, symbol, second_of, car, cdr, has_members}
 use Rattle.mw_model.specs.Terms.Term.{Term, Formula, is_closed}
 use Rattle.mw_model.specs.Terms.Reading.{when}
@@ -14,7 +14,7 @@ use Rattle.mw_model.specs.Events.Admission.{Draft}
 use Rattle.mw_model.specs.Commands.Demand.{Demand, Denied, Wants, wants_some, define_demand, each_judged, settled}
 use Rattle.mw_model.proofs.Demands.{by_word as judged_by_word}
 use Rattle.mw_model.specs.Reports.Keeping.{EventKeeps}
-use Rattle.mw_model.specs.Events.Fate.{EventWord, SetProfile, is_out_of_range, event_word, longest, happens, happens_by, show, show_outcome, eval, profile}
+use Rattle.mw_model.specs.Events.Fate.{EventWord, SetProfile, is_out_of_range, event_word, longest, happens, happens_by, fate, next, show, show_outcome, eval, profile}
 use Rattle.mw_model.specs.Events.Fate as word
 use Rattle.mw_heap.specs.Objects.{object_at}
 use Rattle.mw_kernel.specs.Knowledge.{Knowledge, theory_of}
@@ -27,7 +27,7 @@ use Rattle.mw_kernel.specs.Proofs.{judged_for}
 use Rattle.mw_kernel.specs.Switching.{switched}
 use Rattle.mw_theory.specs.declared.event.Event.{Event}
 use Rattle.mw_theory.specs.declared.event.Event.TheVariants.{Verify, Define, Skolem, Switch, Eval, Print, DefineAll, Profile}
-use Rattle.mw_theory.proofs.CallerLemmas.{none_happens, word_happens}
+use Rattle.mw_theory.proofs.CallerLemmas.{none_happens, word_happens, IfOk-map, OnOk-map}
 use Rattle.mw_kernel.proofs.Refusing.{verify_is}
 use Rattle.mw_kernel.proofs.Switching.{switch-is}
 
@@ -118,11 +118,17 @@ comes-by os t N (Profile n) = refl
 
 -- what a kernel holds, told of the heap before
 module _ (k old : Knowledge) (is : k ≡ old) (x : ℕ) (in_range : is_out_of_range (object_at k.objects x) ≡ false) where
-  pub no-event : event_word (object_at k.objects x) ≡ None → refuse (theory_of old) EVENT ≡ happens (theory_of old) old.steps (object_at old.objects x)
+  no-event : event_word (object_at k.objects x) ≡ None → refuse (theory_of old) EVENT ≡ happens (theory_of old) old.steps (object_at old.objects x)
   no-event none = subst (λ v. refuse (theory_of v) EVENT ≡ happens (theory_of v) v.steps (object_at v.objects x)) is (none_happens (theory_of k) k.steps (object_at k.objects x) in_range none)
 
+  pub no-event-fate : event_word (object_at k.objects x) ≡ None → (refuse (theory_of old) EVENT).0 ≡ fate (theory_of old) (object_at old.objects x) old.steps
+  no-event-fate none = ap (λ r. r.0) (no-event none)
+
+  pub no-event-theory : event_word (object_at k.objects x) ≡ None → (refuse (theory_of old) EVENT).1 ≡ next (theory_of old) (object_at old.objects x) old.steps
+  no-event-theory none = ap (λ r. r.1) (no-event none)
+
   module _ (e : Event) (event : IsEvent k.objects x e) where
-    pub event-happens : comes_to old.objects (theory_of old) old.steps e ≡ happens (theory_of old) old.steps (object_at old.objects x)
+    event-happens : comes_to old.objects (theory_of old) old.steps e ≡ happens (theory_of old) old.steps (object_at old.objects x)
     event-happens =
         subst (λ v. comes_to v.objects (theory_of v) v.steps e ≡ happens (theory_of v) v.steps (object_at v.objects x)) is
         (comes-by k.objects (theory_of k) k.steps e
@@ -131,3 +137,11 @@ module _ (k old : Knowledge) (is : k ≡ old) (x : ℕ) (in_range : is_out_of_ra
     -- the theory after it is sound
     pub sound-after : EventKeeps (theory_of old) old.steps (object_at old.objects x) → IsSound (comes_to old.objects (theory_of old) old.steps e).1
     sound-after keeps = subst (λ r. IsSound r.1) (sym event-happens) keeps.sound
+
+    -- What a step that brings the event about answers, and the theory that it leaves, are those of the event.
+    module _ {X E : Type 0} (r : Result X E) where
+      pub fate-after : (told : X → Fate) → IfOk r (λ f. told f ≡ (comes_to old.objects (theory_of old) old.steps e).0) → IfOk r (λ f. told f ≡ fate (theory_of old) (object_at old.objects x) old.steps)
+      fate-after told h = IfOk-map r _ _ (λ f is. is ∙ ap (λ o. o.0) event-happens) h
+
+      pub theory-after : (t : Theory) → OnOk r (t ≡ (comes_to old.objects (theory_of old) old.steps e).1) → OnOk r (t ≡ next (theory_of old) (object_at old.objects x) old.steps)
+      theory-after t h = OnOk-map r _ _ (λ is. is ∙ ap (λ o. o.1) event-happens) h

@@ -5,114 +5,104 @@ use Rattle.mw_model.specs.Texts.Printing.{text_of}
 use Rattle.mw_model.specs.Events.Theory.{IsSound}
 use Rattle.mw_heap.specs.Objects.{object_at}
 use Rattle.mw_kernel.specs.Knowledge.{theory_of}
-use Rattle.mw_theory.proofs.CallerLemmas.{held, IfOk-map, OnOk-map, OnOk-from}
-use Rattle.mw_kernel.proofs.Happening.{show_stays, eval_stays, no-event, event-happens, sound-after}
+use Rattle.mw_kernel.specs.Fates.{fate_of}
+use Rattle.mw_theory.proofs.CallerLemmas.{held, IfOk-map, OnOk-from}
+use Rattle.mw_kernel.proofs.Happening.{show_stays, eval_stays, no-event-fate, no-event-theory, fate-after, theory-after, sound-after}
 use Rattle.mw_theory.specs.Words.{IsEvent, eval_event}
 use Rattle.mw_theory.specs.declared.event.Event.TheVariants.{Verify, Define, Skolem, Switch, Eval, Print, DefineAll, Profile}
 use Rattle.mw_kernel.proofs.kernel.Kernel.happens.Goals as goal
 
 pub returns-in_default-clause-fate : goal.returns-in_default-clause-fate
-returns-in_default-clause-fate c = ap (λ r. r.0) (no-event _ _ c.self.view_is c.args.event c.event_of.ensures.in_range c.in_default.ensures.event)
+returns-in_default-clause-fate c = no-event-fate _ _ c.self.view_is c.args.event c.event_of.ensures.in_range c.in_default.ensures.event
 
 pub returns-in_default-clause-theory : goal.returns-in_default-clause-theory
-returns-in_default-clause-theory c = ap (λ r. r.1) (no-event _ _ c.self.view_is c.args.event c.event_of.ensures.in_range c.in_default.ensures.event)
+returns-in_default-clause-theory c = no-event-theory _ _ c.self.view_is c.args.event c.event_of.ensures.in_range c.in_default.ensures.event
 
 pub returns-in-Print-clause-fate : goal.returns-in-Print-clause-fate
 returns-in-Print-clause-fate c =
     let m = c.in-Print in
-    let happens = event-happens _ _ c.self.view_is c.args.event c.event_of.ensures.in_range (Print m.x) (subst (IsEvent c.self.inside.world.heap.objects c.args.event) m.is c.in-Some.ensures.event) in
-    IfOk-map c.shown.result _ _ (λ f h. h (theory_of c.args.self.now) ∙ (ap (λ v. (show (theory_of c.args.self.now) (text_of (object_at v.objects m.x))).0) c.self.view_is ∙ ap (λ r. r.0) happens)) c.shown.ensures
+    let t = theory_of c.args.self.now in
+    let shown = IfOk-map c.shown.result _ _ (λ f h. h t ∙ ap (λ v. (show t (text_of (object_at v.objects m.x))).0) c.self.view_is) c.shown.ensures in
+    fate-after _ _ c.self.view_is c.args.event c.event_of.ensures.in_range (Print m.x) (subst (IsEvent c.self.inside.world.heap.objects c.args.event) m.is c.in-Some.ensures.event) c.shown.result fate_of shown
 
 pub returns-in-Print-clause-theory : goal.returns-in-Print-clause-theory
 returns-in-Print-clause-theory c =
     let m = c.in-Print in
-    let happens = event-happens _ _ c.self.view_is c.args.event c.event_of.ensures.in_range (Print m.x) (subst (IsEvent c.self.inside.world.heap.objects c.args.event) m.is c.in-Some.ensures.event) in
-    OnOk-from c.shown.result _ (show_stays (theory_of c.args.self.now) (text_of (object_at c.args.self.now.objects m.x)) ∙ ap (λ r. r.1) happens)
+    let old = c.args.self.now in
+    let stays = OnOk-from c.shown.result _ (show_stays (theory_of old) (text_of (object_at old.objects m.x))) in
+    theory-after _ _ c.self.view_is c.args.event c.event_of.ensures.in_range (Print m.x) (subst (IsEvent c.self.inside.world.heap.objects c.args.event) m.is c.in-Some.ensures.event) c.shown.result (theory_of old) stays
 
 pub returns-in-Verify-clause-fate : goal.returns-in-Verify-clause-fate
 returns-in-Verify-clause-fate c =
     let m = c.in-Verify in
-    let happens = event-happens _ _ c.self.view_is c.args.event c.event_of.ensures.in_range (Verify m.name m.formula m.proof) (subst (IsEvent c.self.inside.world.heap.objects c.args.event) m.is c.in-Some.ensures.event) in
-    IfOk-map c.verify.result _ _ (λ f h. h ∙ ap (λ r. r.0) happens) c.verify.ensures.fate
+    fate-after _ _ c.self.view_is c.args.event c.event_of.ensures.in_range (Verify m.name m.formula m.proof) (subst (IsEvent c.self.inside.world.heap.objects c.args.event) m.is c.in-Some.ensures.event) c.verify.result fate_of c.verify.ensures.fate
 
 pub returns-in-Verify-clause-theory : goal.returns-in-Verify-clause-theory
 returns-in-Verify-clause-theory c =
     let m = c.in-Verify in
-    let happens = event-happens _ _ c.self.view_is c.args.event c.event_of.ensures.in_range (Verify m.name m.formula m.proof) (subst (IsEvent c.self.inside.world.heap.objects c.args.event) m.is c.in-Some.ensures.event) in
-    OnOk-map c.verify.result _ _ (λ h. h ∙ ap (λ r. r.1) happens) c.verify.ensures.theory
+    theory-after _ _ c.self.view_is c.args.event c.event_of.ensures.in_range (Verify m.name m.formula m.proof) (subst (IsEvent c.self.inside.world.heap.objects c.args.event) m.is c.in-Some.ensures.event) c.verify.result _ c.verify.ensures.theory
 
 pub returns-in-Eval-clause-fate : goal.returns-in-Eval-clause-fate
 returns-in-Eval-clause-fate c =
     let m = c.in-Eval in
-    let happens = event-happens _ _ c.self.view_is c.args.event c.event_of.ensures.in_range (Eval m.term) (subst (IsEvent c.self.inside.world.heap.objects c.args.event) m.is c.in-Some.ensures.event) in
-    IfOk-map c.eval.result _ _ (λ f h. h ∙ ap (λ r. r.0) happens) c.eval.ensures.fate
+    fate-after _ _ c.self.view_is c.args.event c.event_of.ensures.in_range (Eval m.term) (subst (IsEvent c.self.inside.world.heap.objects c.args.event) m.is c.in-Some.ensures.event) c.eval.result fate_of c.eval.ensures.fate
 
 pub returns-in-Eval-clause-theory : goal.returns-in-Eval-clause-theory
 returns-in-Eval-clause-theory c =
     let m = c.in-Eval in
     let old = c.args.self.now in
-    let happens = event-happens _ _ c.self.view_is c.args.event c.event_of.ensures.in_range (Eval m.term) (subst (IsEvent c.self.inside.world.heap.objects c.args.event) m.is c.in-Some.ensures.event) in
-    OnOk-from c.eval.result _ (c.eval.ensures.theory ∙ (eval_stays (theory_of old) old.steps (eval_event (object_at old.objects m.term)) ∙ ap (λ r. r.1) happens))
+    let stays = OnOk-from c.eval.result _ (c.eval.ensures.theory ∙ eval_stays (theory_of old) old.steps (eval_event (object_at old.objects m.term))) in
+    theory-after _ _ c.self.view_is c.args.event c.event_of.ensures.in_range (Eval m.term) (subst (IsEvent c.self.inside.world.heap.objects c.args.event) m.is c.in-Some.ensures.event) c.eval.result _ stays
 
 pub returns-in-Skolem-clause-fate : goal.returns-in-Skolem-clause-fate
 returns-in-Skolem-clause-fate c =
     let m = c.in-Skolem in
-    let happens = event-happens _ _ c.self.view_is c.args.event c.event_of.ensures.in_range (Skolem m.name m.bound m.free m.body) (subst (IsEvent c.self.inside.world.heap.objects c.args.event) m.is c.in-Some.ensures.event) in
-    IfOk-map c.skolem.result _ _ (λ f h. h ∙ ap (λ r. r.0) happens) c.skolem.ensures.fate
+    fate-after _ _ c.self.view_is c.args.event c.event_of.ensures.in_range (Skolem m.name m.bound m.free m.body) (subst (IsEvent c.self.inside.world.heap.objects c.args.event) m.is c.in-Some.ensures.event) c.skolem.result fate_of c.skolem.ensures.fate
 
 pub returns-in-Skolem-clause-theory : goal.returns-in-Skolem-clause-theory
 returns-in-Skolem-clause-theory c =
     let m = c.in-Skolem in
-    let happens = event-happens _ _ c.self.view_is c.args.event c.event_of.ensures.in_range (Skolem m.name m.bound m.free m.body) (subst (IsEvent c.self.inside.world.heap.objects c.args.event) m.is c.in-Some.ensures.event) in
-    OnOk-map c.skolem.result _ _ (λ h. h ∙ ap (λ r. r.1) happens) c.skolem.ensures.theory
+    theory-after _ _ c.self.view_is c.args.event c.event_of.ensures.in_range (Skolem m.name m.bound m.free m.body) (subst (IsEvent c.self.inside.world.heap.objects c.args.event) m.is c.in-Some.ensures.event) c.skolem.result _ c.skolem.ensures.theory
 
 pub returns-in-Define-clause-fate : goal.returns-in-Define-clause-fate
 returns-in-Define-clause-fate c =
     let m = c.in-Define in
-    let happens = event-happens _ _ c.self.view_is c.args.event c.event_of.ensures.in_range (Define m.name m.formals m.body m.measure m.proofs) (subst (IsEvent c.self.inside.world.heap.objects c.args.event) m.is c.in-Some.ensures.event) in
-    IfOk-map c.define.result _ _ (λ f h. h ∙ ap (λ r. r.0) happens) c.define.ensures.fate
+    fate-after _ _ c.self.view_is c.args.event c.event_of.ensures.in_range (Define m.name m.formals m.body m.measure m.proofs) (subst (IsEvent c.self.inside.world.heap.objects c.args.event) m.is c.in-Some.ensures.event) c.define.result fate_of c.define.ensures.fate
 
 pub returns-in-Define-clause-theory : goal.returns-in-Define-clause-theory
 returns-in-Define-clause-theory c =
     let m = c.in-Define in
-    let happens = event-happens _ _ c.self.view_is c.args.event c.event_of.ensures.in_range (Define m.name m.formals m.body m.measure m.proofs) (subst (IsEvent c.self.inside.world.heap.objects c.args.event) m.is c.in-Some.ensures.event) in
-    OnOk-map c.define.result _ _ (λ h. h ∙ ap (λ r. r.1) happens) c.define.ensures.theory
+    theory-after _ _ c.self.view_is c.args.event c.event_of.ensures.in_range (Define m.name m.formals m.body m.measure m.proofs) (subst (IsEvent c.self.inside.world.heap.objects c.args.event) m.is c.in-Some.ensures.event) c.define.result _ c.define.ensures.theory
 
 pub returns-in-DefineAll-clause-fate : goal.returns-in-DefineAll-clause-fate
 returns-in-DefineAll-clause-fate c =
     let m = c.in-DefineAll in
-    let happens = event-happens _ _ c.self.view_is c.args.event c.event_of.ensures.in_range (DefineAll m.definitions m.proofs) (subst (IsEvent c.self.inside.world.heap.objects c.args.event) m.is c.in-Some.ensures.event) in
-    IfOk-map c.define-in-DefineAll.result _ _ (λ f h. h ∙ ap (λ r. r.0) happens) c.define-in-DefineAll.ensures.fate
+    fate-after _ _ c.self.view_is c.args.event c.event_of.ensures.in_range (DefineAll m.definitions m.proofs) (subst (IsEvent c.self.inside.world.heap.objects c.args.event) m.is c.in-Some.ensures.event) c.define-in-DefineAll.result fate_of c.define-in-DefineAll.ensures.fate
 
 pub returns-in-DefineAll-clause-theory : goal.returns-in-DefineAll-clause-theory
 returns-in-DefineAll-clause-theory c =
     let m = c.in-DefineAll in
-    let happens = event-happens _ _ c.self.view_is c.args.event c.event_of.ensures.in_range (DefineAll m.definitions m.proofs) (subst (IsEvent c.self.inside.world.heap.objects c.args.event) m.is c.in-Some.ensures.event) in
-    OnOk-map c.define-in-DefineAll.result _ _ (λ h. h ∙ ap (λ r. r.1) happens) c.define-in-DefineAll.ensures.theory
+    theory-after _ _ c.self.view_is c.args.event c.event_of.ensures.in_range (DefineAll m.definitions m.proofs) (subst (IsEvent c.self.inside.world.heap.objects c.args.event) m.is c.in-Some.ensures.event) c.define-in-DefineAll.result _ c.define-in-DefineAll.ensures.theory
 
 pub returns-in-Switch-clause-fate : goal.returns-in-Switch-clause-fate
 returns-in-Switch-clause-fate c =
     let m = c.in-Switch in
-    let happens = event-happens _ _ c.self.view_is c.args.event c.event_of.ensures.in_range (Switch m.name) (subst (IsEvent c.self.inside.world.heap.objects c.args.event) m.is c.in-Some.ensures.event) in
-    IfOk-map c.switch.result _ _ (λ f h. h ∙ ap (λ r. r.0) happens) c.switch.ensures.fate
+    fate-after _ _ c.self.view_is c.args.event c.event_of.ensures.in_range (Switch m.name) (subst (IsEvent c.self.inside.world.heap.objects c.args.event) m.is c.in-Some.ensures.event) c.switch.result fate_of c.switch.ensures.fate
 
 pub returns-in-Switch-clause-theory : goal.returns-in-Switch-clause-theory
 returns-in-Switch-clause-theory c =
     let m = c.in-Switch in
-    let happens = event-happens _ _ c.self.view_is c.args.event c.event_of.ensures.in_range (Switch m.name) (subst (IsEvent c.self.inside.world.heap.objects c.args.event) m.is c.in-Some.ensures.event) in
-    OnOk-map c.switch.result _ _ (λ h. h ∙ ap (λ r. r.1) happens) c.switch.ensures.theory
+    theory-after _ _ c.self.view_is c.args.event c.event_of.ensures.in_range (Switch m.name) (subst (IsEvent c.self.inside.world.heap.objects c.args.event) m.is c.in-Some.ensures.event) c.switch.result _ c.switch.ensures.theory
 
 pub returns-in-Profile-clause-fate : goal.returns-in-Profile-clause-fate
 returns-in-Profile-clause-fate c =
     let m = c.in-Profile in
-    let happens = event-happens _ _ c.self.view_is c.args.event c.event_of.ensures.in_range (Profile m.number) (subst (IsEvent c.self.inside.world.heap.objects c.args.event) m.is c.in-Some.ensures.event) in
-    IfOk-map c.set_profile.result _ _ (λ f h. h ∙ ap (λ r. r.0) happens) c.set_profile.ensures.fate
+    fate-after _ _ c.self.view_is c.args.event c.event_of.ensures.in_range (Profile m.number) (subst (IsEvent c.self.inside.world.heap.objects c.args.event) m.is c.in-Some.ensures.event) c.set_profile.result fate_of c.set_profile.ensures.fate
 
 pub returns-in-Profile-clause-theory : goal.returns-in-Profile-clause-theory
 returns-in-Profile-clause-theory c =
     let m = c.in-Profile in
-    let happens = event-happens _ _ c.self.view_is c.args.event c.event_of.ensures.in_range (Profile m.number) (subst (IsEvent c.self.inside.world.heap.objects c.args.event) m.is c.in-Some.ensures.event) in
-    OnOk-map c.set_profile.result _ _ (λ h. h ∙ ap (λ r. r.1) happens) c.set_profile.ensures.theory
+    theory-after _ _ c.self.view_is c.args.event c.event_of.ensures.in_range (Profile m.number) (subst (IsEvent c.self.inside.world.heap.objects c.args.event) m.is c.in-Some.ensures.event) c.set_profile.result _ c.set_profile.ensures.theory
 
 pub verify-requires-clause-sound : goal.verify-requires-clause-sound
 verify-requires-clause-sound c =
