@@ -1,6 +1,7 @@
 pub mod BlockAdded
 pub mod BlockPairs
 pub mod CallerLemmas
+pub mod CutBack
 pub mod Defining
 pub mod Drafting
 pub mod Entered

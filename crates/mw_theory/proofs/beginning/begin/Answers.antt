@@ -8,6 +8,7 @@ use Rattle.mw_preamble.specs.Entries.{AreEntries}
 use Rattle.mw_preamble.proofs.CallerLemmas.{AreEntries-grows}
 use Rattle.mw_theory.specs.declared.theory.Theory.{Theory as Kept}
 use Rattle.mw_theory.proofs.Initial.{begun_theory, begins, begun_initial}
+use Rattle.mw_heap.proofs.Objects.{Grows-trans}
 use Rattle.mw_theory.proofs.beginning.begin.Goals as goal
 
 pub first_lists-requires-clause-none : goal.first_lists-requires-clause-none
@@ -58,3 +59,15 @@ returns-clause-held c =
     c.in_ok-preamble.ensures.arity
     (stands-grows c.admit_all.new.heap.objects q c.first_lists.ensures.grows code.signature code.profile code.functions.items code.code.items code.kept (definitions_of P) c.in_ok-preamble.ensures.table)
     c.is_first.ensures
+
+pub first_lists-requires-clause-within : goal.first_lists-requires-clause-within
+first_lists-requires-clause-within c = c.in_ok-preamble.ensures.within
+
+pub first_lists-requires-clause-definitions : goal.first_lists-requires-clause-definitions
+first_lists-requires-clause-definitions c = c.in_ok-preamble.ensures.axioms
+
+pub returns-in_err-lists-clause-grows : goal.returns-in_err-lists-clause-grows
+returns-in_err-lists-clause-grows c = Grows-trans _ _ _ c.in_ok-preamble.ensures.grows c.first_lists.ensures.grows
+
+pub returns-clause-grows : goal.returns-clause-grows
+returns-clause-grows c = Grows-trans _ _ _ c.in_ok-preamble.ensures.grows c.first_lists.ensures.grows

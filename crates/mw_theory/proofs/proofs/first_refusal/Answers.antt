@@ -78,3 +78,6 @@ pub returns-then-is_some-clause-grows : goal.returns-then-is_some-clause-grows
 returns-then-is_some-clause-grows g c =
     let (os, grows, ready) = c.requires.ready in
     Grows-trans c.args.heap.now.objects c.loop-formula.heap.objects c.refusal.new.heap.objects (c.loop-formula.invariant.0 os grows ready).grows c.refusal.ensures.grows
+
+pub refusal-requires-clause-marked : goal.refusal-requires-clause-marked
+refusal-requires-clause-marked g c = let (os, grows, ready) = c.requires.ready in (c.loop-formula.invariant.0 os grows ready).marked

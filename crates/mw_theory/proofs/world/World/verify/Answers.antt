@@ -2,7 +2,7 @@
 use Rattle.std.proofs.Common.{sym, ap, ap₂, ◌∙◌, subst}
 use Rattle.mw_model.specs.Events.Theory.{IsSound}
 use Rattle.mw_heap.specs.Objects.{object_at}
-use Rattle.mw_heap.proofs.Objects.{object_at-Grows, Grows-refl}
+use Rattle.mw_heap.proofs.Objects.{object_at-Grows, Grows-refl, IsIn-Grows}
 use Rattle.mw_theory.specs.Knowledge.{with_theorem}
 use Rattle.mw_theory.specs.Worlds.{theory_in}
 use Rattle.mw_theory.specs.Settling.{by_refusal}
@@ -68,3 +68,6 @@ returns-clause-theory g c =
 
 pub refusal-requires-clause-ready : goal.refusal-requires-clause-ready
 refusal-requires-clause-ready g c = let os = c.args.self.now.heap.objects in (os, Grows-refl os, c.requires.ready)
+
+pub add_theorem-requires-clause-within : goal.add_theorem-requires-clause-within
+add_theorem-requires-clause-within g c = IsIn-Grows _ _ c.refusal.ensures.grows _ c.requires.formula
