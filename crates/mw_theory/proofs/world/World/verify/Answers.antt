@@ -71,3 +71,9 @@ refusal-requires-clause-ready g c = let os = c.args.self.now.heap.objects in (os
 
 pub add_theorem-requires-clause-within : goal.add_theorem-requires-clause-within
 add_theorem-requires-clause-within g c = IsIn-Grows _ _ c.refusal.ensures.grows _ c.requires.formula
+
+pub returns-in_err-add_theorem-clause-world : goal.returns-in_err-add_theorem-clause-world
+returns-in_err-add_theorem-clause-world g c = c.in_err-add_theorem.ensures.world
+
+pub returns-clause-world : goal.returns-clause-world
+returns-clause-world g c = c.in_ok-add_theorem.ensures.world
