@@ -111,10 +111,19 @@ impl World {
         ensures err { OnErr result (theory_in self.new ≡ theory_in self.old) }
     {
         let theory = begin(&mut self.heap, Profile::Two)?;
+        self.go_on_with(theory);
+        Ok(())
+    }
+
+    // Puts a theory in the place of the one that there is. All that the heap holds is needed then, and no object has a mark.
+    fn go_on_with(&mut self, theory: Theory)
+        requires { IsHeld self.old.heap.objects theory }
+        ensures world { IsWorld self.new }
+        ensures theory { theory_in self.new ≡ meant self.old.heap.objects (parts_of theory) }
+    {
         self.theory = theory;
         self.marks = Marks::new(self.heap.alloc());
         self.needed = self.heap.mark();
-        Ok(())
     }
 
     /// Forgets the objects that the theory does not need.
