@@ -2,7 +2,7 @@
 use crate::Ref;
 
 /// An object's outermost form.
-#[derive(Clone, Copy, Debug, PartialEq, Eq)]
+#[derive(Clone, Copy, PartialEq, Eq)]
 pub enum View {
     /// A natural number.
     Nat(u128),

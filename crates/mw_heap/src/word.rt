@@ -5,7 +5,7 @@ ghost use Rattle.mw_heap.specs.Words.{word_bytes, place_of, word_count};
 use crate::Ref;
 
 /// A symbol that the logic, its proofs or its events speak of. In a heap that keeps the words they are the first objects, in this order.
-#[derive(Clone, Copy, Debug, PartialEq, Eq)]
+#[derive(Clone, Copy)]
 pub enum Word {
     /// NIL
     Nil,

@@ -6,7 +6,7 @@ ghost use Rattle.mw_lex.specs.Codes.{class_of};
 ghost use Rattle.mw_lex.specs.Runs.{IsRun};
 
 /// What a byte is outside bars and comments.
-#[derive(Clone, Copy, Debug, PartialEq, Eq)]
+#[derive(Clone, Copy)]
 pub enum Class {
     White,
     Semicolon,

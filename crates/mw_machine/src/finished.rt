@@ -7,7 +7,7 @@ use crate::Outcome;
 use mw_heap::Ref;
 
 /// What a run comes to for which room was made: it asks for no memory.
-#[derive(Clone, Copy, Debug, PartialEq, Eq)]
+#[derive(Clone, Copy)]
 pub enum Finished {
     /// The value, and the units that are left.
     Value(Ref, u64),

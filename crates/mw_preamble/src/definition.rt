@@ -6,7 +6,7 @@ use mw_heap::Ref;
 
 /// A function or a witness of a theory, by the objects of its parts in a heap. Formals, and the free variables of a witness, are a
 /// list of symbols.
-#[derive(Clone, Copy, Debug, PartialEq, Eq)]
+#[derive(Clone, Copy)]
 pub enum Definition {
     /// A function.
     Function {

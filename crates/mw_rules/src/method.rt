@@ -11,7 +11,7 @@ ghost use Rattle.mw_rules.specs.Counted.{most_subproofs};
 use mw_heap::{Heap, Ref, Word};
 
 /// One of the twelve methods of proof: how a conclusion follows.
-#[derive(Clone, Copy, Debug, PartialEq, Eq)]
+#[derive(Clone, Copy)]
 pub enum Method {
     Axiom,
     Theorem,
