@@ -8,7 +8,10 @@ ghost use Rattle.mw_model.specs.Laws.Rules.{equal_object, or_object, not_object}
 ghost use Rattle.mw_heap.specs.Objects.{object_at, IsIn, Grows};
 ghost use Rattle.mw_heap.specs.Lists.{list_object};
 
+mod reading;
+
 use mw_heap::{Heap, Memory, Ref, list_of};
+pub use reading::{read, read_four, read_three, read_two};
 use std::alloc::Global;
 
 /// A heap with no objects, in a box. The error is memory that is refused.
