@@ -1,11 +1,10 @@
 //! Each primitive function once, and the rule that computes them where it holds and where it does not.
-ghost use Rattle.std.specs.Prelude.{◌≡◌, true, length, All};
+ghost use Rattle.std.specs.Prelude.{◌≡◌, length, All};
 ghost use Rattle.mw_heap.specs.Objects.{IsIn};
-ghost use Rattle.mw_model.specs.Terms.Object.{is_name};
 ghost use Rattle.mw_base.specs.Answers.{arity};
 
 use mw_base::{Applied, Truths, apply, base_eval};
-use mw_forms::{boxed, equation, form, is_in, pair, quoted};
+use mw_forms::{boxed, is_in, read, read_four, read_three, read_two};
 use mw_heap::{Heap, Memory, Primitive, Profile, Ref};
 use std::test::Fail;
 
@@ -50,10 +49,8 @@ fn chooses(heap: &mut Heap, a: Ref, b: Ref, c: Ref, v: Ref) -> bool {
 }
 
 // Whether CONS, CAR, CDR and CONSP have the values that are due.
-fn computes_pairs(heap: &mut Heap) -> Result<[bool; 4], Memory> {
-    let nil = heap.nil()?;
-    let a = heap.nat(2)?;
-    let both = pair(heap, a, nil)?;
+fn takes_pairs_apart(heap: &mut Heap) -> Result<[bool; 4], Memory> {
+    let (nil, a, both) = read_three(heap, b"(NIL 2 (2))")?;
     Ok([
         two(heap, Primitive::Cons, a, nil, both),
         one(heap, Primitive::Car, both, a),
@@ -63,9 +60,8 @@ fn computes_pairs(heap: &mut Heap) -> Result<[bool; 4], Memory> {
 }
 
 // Whether SYMBOLP, SYMBOL-<, EQUAL and IF have the values that are due.
-fn computes_symbols(heap: &mut Heap) -> Result<[bool; 4], Memory> {
-    let t = heap.symbol(b"T")?;
-    let nil = heap.nil()?;
+fn tells_symbols(heap: &mut Heap) -> Result<[bool; 4], Memory> {
+    let (t, nil) = read_two(heap, b"(T NIL)")?;
     Ok([
         one(heap, Primitive::Symbolp, t, t),
         two(heap, Primitive::SymbolLess, nil, t, t),
@@ -74,93 +70,48 @@ fn computes_symbols(heap: &mut Heap) -> Result<[bool; 4], Memory> {
     ])
 }
 
-// Whether NATP and < have the values that are due.
-fn compares_numbers(heap: &mut Heap) -> Result<[bool; 2], Memory> {
-    let t = heap.symbol(b"T")?;
-    let a = heap.nat(2)?;
+// Whether NATP, <, + and - have the values that are due.
+fn computes_numbers(heap: &mut Heap) -> Result<[bool; 4], Memory> {
+    let (t, zero, a, four) = read_four(heap, b"(T 0 2 4)")?;
     Ok([
         one(heap, Primitive::Natp, a, t),
         two(heap, Primitive::Less, t, a, t),
-    ])
-}
-
-// Whether +, - and * have the values that are due.
-fn computes_numbers(heap: &mut Heap) -> Result<[bool; 4], Memory> {
-    let zero = heap.nat(0)?;
-    let a = heap.nat(2)?;
-    let four = heap.nat(4)?;
-    let most = heap.nat(u128::MAX)?;
-    Ok([
         two(heap, Primitive::Plus, a, a, four),
         two(heap, Primitive::Minus, a, four, zero),
+    ])
+}
+
+// What the rule says of the formula of a text.
+fn holds(heap: &mut Heap, formula: &[u8], profile: Profile) -> Result<bool, Memory> {
+    let c = read(heap, formula)?;
+    base_eval(heap, c, profile)
+}
+
+// Whether * has the value that is due, and none where it would be too large; and whether the rule gives (* '2 '2) = '4 in profile Two, but
+// not in profile One, and not (* '2 '2) = '2.
+fn computes_products(heap: &mut Heap) -> Result<[bool; 4], Memory> {
+    let (a, four, most) = read_three(heap, b"(2 4 340282366920938463463374607431768211455)")?;
+    Ok([
         two(heap, Primitive::Times, a, a, four),
         overflows(heap, Primitive::Times, most, a),
+        holds(heap, b"(PEQUAL* (* '2 '2) '4)", Profile::Two)?
+            && !holds(heap, b"(PEQUAL* (* '2 '2) '4)", Profile::One)?,
+        !holds(heap, b"(PEQUAL* (* '2 '2) '2)", Profile::Two)?,
     ])
 }
 
-// The formula (name 'a 'a) = 'v.
-fn value_equation(heap: &mut Heap, name: &[u8], a: Ref, v: Ref) -> Result<Ref, Memory>
-    requires { is_name name.now ≡ true }
-{
-    let argument = quoted(heap, a)?;
-    let value = quoted(heap, v)?;
-    let call = form(heap, name, &[argument, argument])?;
-    equation(heap, call, value)
-}
-
-// What the rule says of an object.
-fn holds(heap: &mut Heap, c: Ref, profile: Profile) -> Result<bool, Memory> {
-    if is_in(heap, c) {
-        base_eval(heap, c, profile)
-    } else {
-        Err(Memory)
-    }
-}
-
-// (* '2 '2) = '4 in profile Two and in profile One, and (* '2 '2) = '2 in profile Two.
-fn products(heap: &mut Heap) -> Result<[bool; 3], Memory> {
-    let a = heap.nat(2)?;
-    let four = heap.nat(4)?;
-    let right = value_equation(heap, b"*", a, four)?;
-    let wrong = value_equation(heap, b"*", a, a)?;
+fn primitives(heap: &mut Heap) -> Result<[[bool; 4]; 4], Memory> {
     Ok([
-        holds(heap, right, Profile::Two)?,
-        holds(heap, right, Profile::One)?,
-        holds(heap, wrong, Profile::Two)?,
+        takes_pairs_apart(heap)?,
+        tells_symbols(heap)?,
+        computes_numbers(heap)?,
+        computes_products(heap)?,
     ])
 }
 
 #[test]
-fn pairs_are_made_and_taken_apart(rt: HostRuntime) -> Result<(), Fail> {
+fn primitive_functions_have_the_values_that_are_due(rt: HostRuntime) -> Result<(), Fail> {
     let mut heap = boxed(rt.alloc())?;
-    assert_eq!(rt; computes_pairs(&mut heap)?, [true; 4]);
-    Ok(())
-}
-
-#[test]
-fn symbols_are_told_and_chosen_by(rt: HostRuntime) -> Result<(), Fail> {
-    let mut heap = boxed(rt.alloc())?;
-    assert_eq!(rt; computes_symbols(&mut heap)?, [true; 4]);
-    Ok(())
-}
-
-#[test]
-fn numbers_are_compared(rt: HostRuntime) -> Result<(), Fail> {
-    let mut heap = boxed(rt.alloc())?;
-    assert_eq!(rt; compares_numbers(&mut heap)?, [true; 2]);
-    Ok(())
-}
-
-#[test]
-fn numbers_are_computed(rt: HostRuntime) -> Result<(), Fail> {
-    let mut heap = boxed(rt.alloc())?;
-    assert_eq!(rt; computes_numbers(&mut heap)?, [true; 4]);
-    Ok(())
-}
-
-#[test]
-fn products_are_computed_in_profile_two(rt: HostRuntime) -> Result<(), Fail> {
-    let mut heap = boxed(rt.alloc())?;
-    assert_eq!(rt; products(&mut heap)?, [true, false, false]);
+    assert_eq!(rt; primitives(&mut heap)?, [[true; 4]; 4]);
     Ok(())
 }

@@ -1,45 +1,38 @@
 //! Premises of an induction that hold, and premises that do not.
-use mw_forms::{boxed, equation, form, is_in, list, quoted};
+ghost use Rattle.mw_heap.specs.Objects.{IsIn};
+
+use crate::marked::marks_of;
+use mw_forms::{boxed, read_three};
 use mw_heap::{Heap, Memory, Ref};
 use mw_induct::premises_hold;
-use mw_term::{Arity, is_formula, mark_terms};
+use mw_term::is_formula;
 use std::test::Fail;
 
 // Whether these two are the premises of an induction that concludes the first.
-fn hold(heap: &mut Heap, extras: Ref, f: Ref, second: Ref) -> Result<bool, Memory> {
-    let arity = Arity::new(heap.alloc());
-    let marks = mark_terms(heap.alloc(), heap, &arity, heap.mark())?;
-    let within = is_in(heap, f) && is_in(heap, second) && is_in(heap, extras);
-    if !within || !is_formula(&marks, f) {
+fn hold(heap: &mut Heap, extras: Ref, f: Ref, second: Ref) -> Result<bool, Memory>
+    requires extras { IsIn heap.old.objects extras }
+    requires first { IsIn heap.old.objects f }
+    requires second { IsIn heap.old.objects second }
+{
+    let marks = marks_of(heap)?;
+    if !is_formula(&marks, f) {
         return Err(Memory);
     }
     premises_hold(heap, f, extras, &[f, second], &marks)
 }
 
-// A measure, no conditions and no cases.
-fn extras_of(heap: &mut Heap, measure: Ref) -> Result<Ref, Memory> {
-    let none = list(heap, &[])?;
-    list(heap, &[measure, none, none])
-}
-
-// The formula (ORDP measure) = 'T.
-fn ordinal_premise(heap: &mut Heap, measure: Ref) -> Result<Ref, Memory> {
-    let t = heap.symbol(b"T")?;
-    let t = quoted(heap, t)?;
-    let is_ordinal = form(heap, b"ORDP", &[measure])?;
-    equation(heap, is_ordinal, t)
+// Whether of these objects, which are a measure, conditions and cases, and two formulas, the formulas are the premises.
+fn are_premises(heap: &mut Heap, objects: &[u8]) -> Result<bool, Memory> {
+    let (extras, f, second) = read_three(heap, objects)?;
+    hold(heap, extras, f, second)
 }
 
 // By the measure '0 and no cases the premises are: X = X, and '0 is an ordinal. The second may not be another.
 fn hold_with_and_without_ordinal(heap: &mut Heap) -> Result<(bool, bool), Memory> {
-    let x = heap.symbol(b"X")?;
-    let f = equation(heap, x, x)?;
-    let zero = heap.nat(0)?;
-    let measure = quoted(heap, zero)?;
-    let extras = extras_of(heap, measure)?;
-    let ordinal = ordinal_premise(heap, measure)?;
-    let with = hold(heap, extras, f, ordinal)?;
-    Ok((with, hold(heap, extras, f, f)?))
+    Ok((
+        are_premises(heap, b"(('0 () ()) (PEQUAL* X X) (PEQUAL* (ORDP '0) 'T))")?,
+        are_premises(heap, b"(('0 () ()) (PEQUAL* X X) (PEQUAL* X X))")?,
+    ))
 }
 
 #[test]

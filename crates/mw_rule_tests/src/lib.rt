@@ -12,6 +12,8 @@ mod lower;
 #[cfg(test)]
 mod machine;
 #[cfg(test)]
+mod marked;
+#[cfg(test)]
 mod preamble;
 #[cfg(test)]
 mod proof;

@@ -1,13 +1,13 @@
 //! Derivations that are turned to proofs, by each derived rule once, and wrong uses of the rules, which turn to nothing.
-ghost use Rattle.std.specs.Prelude.{◌≡◌, true, All, IfOk};
-ghost use Rattle.mw_model.specs.Terms.Object.{Member, is_name};
+ghost use Rattle.std.specs.Prelude.{◌≡◌, [], ◌∷◌, All, IfOk};
+ghost use Rattle.mw_model.specs.Terms.Object.{Member};
 ghost use Rattle.mw_model.specs.Terms.Term.{formula_object};
 ghost use Rattle.mw_model.specs.Proofs.Axioms.{axiom_1, axiom_2};
 ghost use Rattle.mw_heap.specs.Objects.{IsIn, Grows};
 ghost use Rattle.mw_heap.specs.Lists.{list_object};
 
 use mw_axioms::build;
-use mw_forms::{boxed, equation, form, is_in, list, not, or};
+use mw_forms::{boxed, is_in, read, read_two};
 use mw_heap::{Heap, Memory, Profile, Ref};
 use mw_lower::Lower;
 use mw_proof::{Judged, Rewriter, Rewritten, judge};
@@ -15,6 +15,17 @@ use mw_rules::Known;
 use mw_term::{Arity, Marks};
 use std::alloc::Global;
 use std::test::Fail;
+
+// These three formulas.
+fn known_of(alloc: Global, first: Ref, second: Ref, third: Ref) -> Result<Known, Memory>
+    ensures { IfOk result (λ k. k ≡ first ∷ second ∷ third ∷ []) }
+{
+    let mut known = Known::new(alloc);
+    known.add(third)?;
+    known.add(second)?;
+    known.add(first)?;
+    Ok(known)
+}
 
 // The axioms of equality, and one more.
 fn axioms(heap: &mut Heap, more: Ref) -> Result<Known, Memory>
@@ -30,21 +41,8 @@ fn axioms(heap: &mut Heap, more: Ref) -> Result<Known, Memory>
     if !is_in(heap, more) {
         return Err(Memory);
     }
-    let mut known = Known::new(heap.alloc());
-    known.add(more)?;
-    known.add(*second)?;
-    known.add(*first)?;
+    let known = known_of(heap.alloc(), *first, *second, more)?;
     Ok(known)
-}
-
-// The equation of two variables.
-fn equated(heap: &mut Heap, a: &[u8], b: &[u8]) -> Result<Ref, Memory>
-    requires left { is_name a.now ≡ true }
-    requires right { is_name b.now ≡ true }
-{
-    let a = heap.symbol(a)?;
-    let b = heap.symbol(b)?;
-    equation(heap, a, b)
 }
 
 // The arity of IF.
@@ -54,43 +52,85 @@ fn arities(alloc: Global) -> Result<Arity, Memory> {
     Ok(arity)
 }
 
-// What a derivation turns to, from X = Y and the axioms of equality.
-fn lowered(heap: &mut Heap, p: Ref) -> Result<Rewritten, Memory> {
-    let more = equated(heap, b"X", b"Y")?;
-    let known = axioms(heap, more)?;
+// X = Y and the axioms of equality.
+fn given(heap: &mut Heap) -> Result<Known, Memory>
+    ensures within { IfOk result (λ k. All (IsIn heap.new.objects) k) }
+    ensures first { IfOk result (λ k. Member (formula_object axiom_1) (list_object heap.new.objects k)) }
+    ensures second { IfOk result (λ k. Member (formula_object axiom_2) (list_object heap.new.objects k)) }
+{
+    let more = read(heap, b"(PEQUAL* X Y)")?;
+    axioms(heap, more)
+}
+
+// What a derivation turns to, from these axioms.
+fn lowered_from(heap: &mut Heap, p: Ref, known: &Known, arity: &Arity) -> Rewritten
+    requires within { All (IsIn heap.old.objects) known.now }
+    requires first { Member (formula_object axiom_1) (list_object heap.old.objects known.now) }
+    requires second { Member (formula_object axiom_2) (list_object heap.old.objects known.now) }
+{
     if !is_in(heap, p) {
-        return Err(Memory);
+        return Rewritten::Memory;
     }
     let alloc = heap.alloc();
     let mut lower = Lower;
-    Ok(lower.rewrite(
+    lower.rewrite(
         heap,
         p,
-        &known,
+        known,
         &Known::new(alloc),
         &mut Marks::new(alloc),
-        &arities(alloc)?,
+        arity,
         Profile::One,
-    ))
+    )
+}
+
+// The same, where IF has its arity.
+fn lowered_by(heap: &mut Heap, p: Ref, known: &Known) -> Result<Rewritten, Memory>
+    requires within { All (IsIn heap.old.objects) known.now }
+    requires first { Member (formula_object axiom_1) (list_object heap.old.objects known.now) }
+    requires second { Member (formula_object axiom_2) (list_object heap.old.objects known.now) }
+{
+    let arity = arities(heap.alloc())?;
+    Ok(lowered_from(heap, p, known, &arity))
+}
+
+// What a derivation turns to, from X = Y and the axioms of equality.
+fn lowered(heap: &mut Heap, p: Ref) -> Result<Rewritten, Memory> {
+    let known = given(heap)?;
+    lowered_by(heap, p, &known)
+}
+
+// What a proof from these axioms is judged.
+fn judged_from(heap: &mut Heap, p: Ref, known: &Known, arity: &Arity) -> Judged
+    requires { All (IsIn heap.old.objects) known.now }
+{
+    if !is_in(heap, p) {
+        return Judged::Memory;
+    }
+    let alloc = heap.alloc();
+    judge(
+        heap,
+        p,
+        known,
+        &Known::new(alloc),
+        arity,
+        Profile::One,
+        &mut Marks::new(alloc),
+    )
+}
+
+// The same, where IF has its arity.
+fn judged_by(heap: &mut Heap, p: Ref, known: &Known) -> Result<Judged, Memory>
+    requires { All (IsIn heap.old.objects) known.now }
+{
+    let arity = arities(heap.alloc())?;
+    Ok(judged_from(heap, p, known, &arity))
 }
 
 // What a proof from the same axioms is judged.
 fn judged(heap: &mut Heap, p: Ref) -> Result<Judged, Memory> {
-    let more = equated(heap, b"X", b"Y")?;
-    let known = axioms(heap, more)?;
-    if !is_in(heap, p) {
-        return Err(Memory);
-    }
-    let alloc = heap.alloc();
-    Ok(judge(
-        heap,
-        p,
-        &known,
-        &Known::new(alloc),
-        &arities(alloc)?,
-        Profile::One,
-        &mut Marks::new(alloc),
-    ))
+    let known = given(heap)?;
+    judged_by(heap, p, &known)
 }
 
 // Whether two proofs have one conclusion.
@@ -106,168 +146,83 @@ fn is_turned(heap: &mut Heap, p: Ref) -> Result<bool, Memory> {
     Ok(q != p && judged(heap, q)? == Judged::Good && conclude_alike(heap, p, q))
 }
 
-// A step by this rule.
-fn step(heap: &mut Heap, rule: &[u8], conclusion: Ref, premises: &[Ref]) -> Result<Ref, Memory>
-    requires { is_name rule.now ≡ true }
-{
-    let premises = list(heap, premises)?;
-    form(heap, rule, &[conclusion, premises])
+// From Y = Y or X = Y: X = Y or Y = Y, or else the same again.
+const COMMUTE_OR: &[u8] = b"(\
+    (COMMUTE-OR (POR* (PEQUAL* X Y) (PEQUAL* Y Y)) \
+        ((EXPANSION (POR* (PEQUAL* Y Y) (PEQUAL* X Y)) ((AXIOM (PEQUAL* X Y)))))) \
+    (COMMUTE-OR (POR* (PEQUAL* Y Y) (PEQUAL* X Y)) \
+        ((EXPANSION (POR* (PEQUAL* Y Y) (PEQUAL* X Y)) ((AXIOM (PEQUAL* X Y)))))))";
+
+// X = Y, from itself and not itself or itself, or from these the other way round.
+const MODUS_PONENS: &[u8] = b"(\
+    (MODUS-PONENS (PEQUAL* X Y) \
+        ((AXIOM (PEQUAL* X Y)) \
+         (PROPOSITIONAL-SCHEMA (POR* (PNOT* (PEQUAL* X Y)) (PEQUAL* X Y)) ()))) \
+    (MODUS-PONENS (PEQUAL* X Y) \
+        ((PROPOSITIONAL-SCHEMA (POR* (PNOT* (PEQUAL* X Y)) (PEQUAL* X Y)) ()) \
+         (AXIOM (PEQUAL* X Y)))))";
+
+// From X = Y: Y = X, or else the same again.
+const SYMMETRY: &[u8] = b"(\
+    (SYMMETRY (PEQUAL* Y X) ((AXIOM (PEQUAL* X Y)))) \
+    (SYMMETRY (PEQUAL* X Y) ((AXIOM (PEQUAL* X Y)))))";
+
+// From X = Y and Y = X, which is by SYMMETRY: X = X, or else Y = Y.
+const TRANSITIVITY: &[u8] = b"(\
+    (TRANSITIVITY (PEQUAL* X X) \
+        ((AXIOM (PEQUAL* X Y)) (SYMMETRY (PEQUAL* Y X) ((AXIOM (PEQUAL* X Y)))))) \
+    (TRANSITIVITY (PEQUAL* Y Y) \
+        ((AXIOM (PEQUAL* X Y)) (SYMMETRY (PEQUAL* Y X) ((AXIOM (PEQUAL* X Y)))))))";
+
+// From three times X = Y, or else from twice: (if x x x) = (if y y y).
+const REPLACE: &[u8] = b"(\
+    (REPLACE (PEQUAL* (IF X X X) (IF Y Y Y)) \
+        ((AXIOM (PEQUAL* X Y)) (AXIOM (PEQUAL* X Y)) (AXIOM (PEQUAL* X Y)))) \
+    (REPLACE (PEQUAL* (IF X X X) (IF Y Y Y)) \
+        ((AXIOM (PEQUAL* X Y)) (AXIOM (PEQUAL* X Y)))))";
+
+// Whether the right one of two uses of a rule turns to a proof, and the wrong one stays.
+fn is_right_turned(heap: &mut Heap, right_and_wrong: &[u8]) -> Result<bool, Memory> {
+    let (right, wrong) = read_two(heap, right_and_wrong)?;
+    Ok(is_turned(heap, right)? && lowered(heap, wrong)? == Rewritten::Keep)
 }
 
-// X = Y, as an axiom.
-fn x_is_y(heap: &mut Heap) -> Result<Ref, Memory> {
-    let f = equated(heap, b"X", b"Y")?;
-    form(heap, b"AXIOM", &[f])
+fn derived_rules(heap: &mut Heap) -> Result<[bool; 5], Memory> {
+    Ok([
+        is_right_turned(heap, COMMUTE_OR)?,
+        is_right_turned(heap, MODUS_PONENS)?,
+        is_right_turned(heap, SYMMETRY)?,
+        is_right_turned(heap, TRANSITIVITY)?,
+        is_right_turned(heap, REPLACE)?,
+    ])
 }
 
-// By COMMUTE-OR from Y = Y or X = Y: X = Y or Y = Y, or else the same again.
-fn commuted(heap: &mut Heap, rightly: bool) -> Result<Ref, Memory> {
-    let f = equated(heap, b"X", b"Y")?;
-    let g = equated(heap, b"Y", b"Y")?;
-    let p = x_is_y(heap)?;
-    let either = or(heap, g, f)?;
-    let premise = step(heap, b"EXPANSION", either, &[p])?;
-    let other = if rightly { or(heap, f, g)? } else { either };
-    step(heap, b"COMMUTE-OR", other, &[premise])
+// Whether a proof stays.
+fn is_proof_kept(heap: &mut Heap) -> Result<bool, Memory> {
+    let p = read(heap, b"(AXIOM (PEQUAL* X Y))")?;
+    Ok(lowered(heap, p)? == Rewritten::Proof(p))
 }
 
-// By MODUS-PONENS: X = Y, from itself and not itself or itself, or from these the other way round.
-fn detached(heap: &mut Heap, rightly: bool) -> Result<Ref, Memory> {
-    let f = equated(heap, b"X", b"Y")?;
-    let p = x_is_y(heap)?;
-    let denial = not(heap, f)?;
-    let implication = or(heap, denial, f)?;
-    let q = step(heap, b"PROPOSITIONAL-SCHEMA", implication, &[])?;
-    let premises = if rightly { [p, q] } else { [q, p] };
-    step(heap, b"MODUS-PONENS", f, &premises)
-}
-
-// By SYMMETRY from X = Y: Y = X, or else the same again.
-fn symmetric(heap: &mut Heap, rightly: bool) -> Result<Ref, Memory> {
-    let p = x_is_y(heap)?;
-    let (a, b): (&[u8], &[u8]) = if rightly { (b"Y", b"X") } else { (b"X", b"Y") };
-    let f = equated(heap, a, b)?;
-    step(heap, b"SYMMETRY", f, &[p])
-}
-
-// By TRANSITIVITY from X = Y and Y = X, which is by SYMMETRY: X = X, or else Y = Y.
-fn transitive(heap: &mut Heap, rightly: bool) -> Result<Ref, Memory> {
-    let p = x_is_y(heap)?;
-    let q = symmetric(heap, true)?;
-    let name: &[u8] = if rightly { b"X" } else { b"Y" };
-    let f = equated(heap, name, name)?;
-    step(heap, b"TRANSITIVITY", f, &[p, q])
-}
-
-// By REPLACE from three times X = Y, or else from twice: (if x x x) = (if y y y).
-fn replaced(heap: &mut Heap, rightly: bool) -> Result<Ref, Memory> {
-    let p = x_is_y(heap)?;
-    let x = heap.symbol(b"X")?;
-    let y = heap.symbol(b"Y")?;
-    let left = form(heap, b"IF", &[x, x, x])?;
-    let right = form(heap, b"IF", &[y, y, y])?;
-    let f = equation(heap, left, right)?;
-    let premises = [p, p, p];
-    let count = if rightly { 3 } else { 2 };
-    step(heap, b"REPLACE", f, &premises[..count])
-}
-
-// Whether a right use of a rule turns to a proof, and what a wrong one turns to.
-fn tried(heap: &mut Heap, right: Ref, wrong: Ref) -> Result<(bool, Rewritten), Memory> {
-    let turned = is_turned(heap, right)?;
-    Ok((turned, lowered(heap, wrong)?))
-}
-
-fn commuted_tried(heap: &mut Heap) -> Result<(bool, Rewritten), Memory> {
-    let right = commuted(heap, true)?;
-    let wrong = commuted(heap, false)?;
-    tried(heap, right, wrong)
-}
-
-#[test]
-fn commute_or_is_turned(rt: HostRuntime) -> Result<(), Fail> {
-    let mut heap = boxed(rt.alloc())?;
-    assert_eq!(rt; commuted_tried(&mut heap)?, (true, Rewritten::Keep));
-    Ok(())
-}
-
-fn detached_tried(heap: &mut Heap) -> Result<(bool, Rewritten), Memory> {
-    let right = detached(heap, true)?;
-    let wrong = detached(heap, false)?;
-    tried(heap, right, wrong)
-}
-
-#[test]
-fn modus_ponens_is_turned(rt: HostRuntime) -> Result<(), Fail> {
-    let mut heap = boxed(rt.alloc())?;
-    assert_eq!(rt; detached_tried(&mut heap)?, (true, Rewritten::Keep));
-    Ok(())
-}
-
-fn symmetric_tried(heap: &mut Heap) -> Result<(bool, Rewritten), Memory> {
-    let right = symmetric(heap, true)?;
-    let wrong = symmetric(heap, false)?;
-    tried(heap, right, wrong)
-}
-
-#[test]
-fn symmetry_is_turned(rt: HostRuntime) -> Result<(), Fail> {
-    let mut heap = boxed(rt.alloc())?;
-    assert_eq!(rt; symmetric_tried(&mut heap)?, (true, Rewritten::Keep));
-    Ok(())
-}
-
-fn transitive_tried(heap: &mut Heap) -> Result<(bool, Rewritten), Memory> {
-    let right = transitive(heap, true)?;
-    let wrong = transitive(heap, false)?;
-    tried(heap, right, wrong)
-}
-
-#[test]
-fn transitivity_is_turned(rt: HostRuntime) -> Result<(), Fail> {
-    let mut heap = boxed(rt.alloc())?;
-    assert_eq!(rt; transitive_tried(&mut heap)?, (true, Rewritten::Keep));
-    Ok(())
-}
-
-fn replaced_tried(heap: &mut Heap) -> Result<(bool, Rewritten), Memory> {
-    let right = replaced(heap, true)?;
-    let wrong = replaced(heap, false)?;
-    tried(heap, right, wrong)
-}
-
-#[test]
-fn replace_is_turned(rt: HostRuntime) -> Result<(), Fail> {
-    let mut heap = boxed(rt.alloc())?;
-    assert_eq!(rt; replaced_tried(&mut heap)?, (true, Rewritten::Keep));
-    Ok(())
-}
-
-// What a step with one premise turns to, where so many looks are allowed.
-fn symmetric_allowed(heap: &mut Heap, looks: u64) -> Result<Rewritten, Memory> {
-    let p = symmetric(heap, true)?;
+// Whether a step with one premise is out of memory where so many looks are allowed.
+fn lacks_looks(heap: &mut Heap, looks: u64) -> Result<bool, Memory> {
+    let p = read(heap, b"(SYMMETRY (PEQUAL* Y X) ((AXIOM (PEQUAL* X Y))))")?;
     heap.allow_looks(looks);
-    lowered(heap, p)
+    Ok(lowered(heap, p)? == Rewritten::Memory)
+}
+
+// Whether a proof stays, and whether a premise takes 128 looks.
+fn proofs_and_looks(heap: &mut Heap) -> Result<[bool; 3], Memory> {
+    Ok([
+        is_proof_kept(heap)?,
+        lacks_looks(heap, 127)?,
+        lacks_looks(heap, 128)?,
+    ])
 }
 
 #[test]
-fn premises_take_looks(rt: HostRuntime) -> Result<(), Fail> {
+fn derived_rules_are_turned_and_proofs_stay(rt: HostRuntime) -> Result<(), Fail> {
     let mut heap = boxed(rt.alloc())?;
-    assert_eq!(rt; symmetric_allowed(&mut heap, 127)?, Rewritten::Memory);
-    assert_ne!(rt; symmetric_allowed(&mut heap, 128)?, Rewritten::Memory);
-    Ok(())
-}
-
-// What a proof turns to, beside the proof.
-fn proof_lowered(heap: &mut Heap) -> Result<(Rewritten, Ref), Memory> {
-    let p = x_is_y(heap)?;
-    Ok((lowered(heap, p)?, p))
-}
-
-#[test]
-fn proofs_stay(rt: HostRuntime) -> Result<(), Fail> {
-    let mut heap = boxed(rt.alloc())?;
-    let (lowered, p) = proof_lowered(&mut heap)?;
-    assert_eq!(rt; lowered, Rewritten::Proof(p));
+    assert_eq!(rt; derived_rules(&mut heap)?, [true; 5]);
+    assert_eq!(rt; proofs_and_looks(&mut heap)?, [true, true, false]);
     Ok(())
 }

@@ -1,26 +1,17 @@
 //! Runs of built-in functions over a list of 1,000 naturals: a loop keeps one frame, and a recursion opens one for each member.
-ghost use Rattle.std.specs.Prelude.{◌≡◌, true, All};
+ghost use Rattle.std.specs.Prelude.{◌≡◌, true};
 ghost use Rattle.mw_model.specs.Terms.Object.{is_name};
-ghost use Rattle.mw_heap.specs.Objects.{IsIn};
 ghost use Rattle.mw_code.specs.Tables.{StandsFor};
 ghost use Rattle.mw_preamble.specs.Admitted.{first_definitions};
 
 use mw_code::Table;
-use mw_forms::{are_in, boxed, is_in, list};
-use mw_heap::{Heap, Memory, Profile, Ref, View};
+use mw_forms::{are_in, boxed, pair};
+use mw_heap::{Heap, Memory, Profile, Ref};
 use mw_machine::{Machine, Outcome};
 use mw_preamble::admit_all;
 use std::test::Fail;
 
 const MEMBERS: u64 = 1000;
-
-// What a run comes to: a natural, the units that are left, and the frames.
-#[derive(Clone, Copy, Debug, PartialEq, Eq)]
-struct Answer {
-    number: u128,
-    left: u64,
-    frames: u64,
-}
 
 // What a run of the function of this name on these values comes to, and the frames of the run; nothing where it has no code for so many.
 fn run_named(
@@ -45,82 +36,54 @@ fn run_named(
     Some((outcome, machine.frames()))
 }
 
+// The same, by the built-in definitions.
+fn run_built_in(
+    heap: &mut Heap,
+    name: &[u8],
+    values: &[Ref],
+    units: u64,
+) -> Result<Option<(Outcome, u64)>, Memory>
+    requires { is_name name.now ≡ true }
+{
+    let preamble = admit_all(heap, Profile::One)?;
+    Ok(run_named(heap, &preamble.table, name, values, units))
+}
+
 // The list of the naturals below MEMBERS.
 fn naturals(heap: &mut Heap) -> Result<Ref, Memory> {
-    let mut members = Vec::new(heap.alloc());
+    let mut members = heap.nil()?;
     for n in 0..MEMBERS {
-        members.push(heap.nat(u128::from(n))?)?;
+        let member = heap.nat(u128::from(MEMBERS - 1 - n))?;
+        members = pair(heap, member, members)?;
     }
-    list(heap, members.as_slice())
+    Ok(members)
 }
 
-// The frames of a walk that finds nothing.
-fn frames_of_walk(heap: &mut Heap) -> Result<Option<u64>, Memory> {
-    let members = naturals(heap)?;
+// Whether a walk over a list that finds nothing keeps one frame.
+fn loop_keeps_one_frame(heap: &mut Heap, members: Ref) -> Result<bool, Memory> {
     let absent = heap.symbol(b"ABSENT")?;
-    let preamble = admit_all(heap, Profile::One)?;
-    match run_named(
-        heap,
-        &preamble.table,
-        b"LOGIC.MEMBERP",
-        &[absent, members],
-        10_000,
-    ) {
-        Some((Outcome::Value(_, _), frames)) => Ok(Some(frames)),
-        _ => Ok(None),
-    }
+    let found = run_built_in(heap, b"LOGIC.MEMBERP", &[absent, members], 10_000)?;
+    Ok(matches!(found, Some((Outcome::Value(_, _), 1))))
 }
 
-// The number that an object of the heap is; nothing of what is none.
-fn number_at(heap: &Heap, x: Ref) -> Option<u128> {
-    if !is_in(heap, x) {
-        return None;
-    }
-    match heap.view(x) {
-        View::Nat(n) => Some(n),
-        _ => None,
-    }
+// Whether the length of a list is MEMBERS, with these units left, and opens a frame for each member.
+fn recursion_opens_a_frame_for_each_member(heap: &mut Heap, members: Ref) -> Result<bool, Memory> {
+    let count = heap.nat(u128::from(MEMBERS))?;
+    let found = run_built_in(heap, b"LOGIC.LEN", &[members], 10_000)?;
+    Ok(found == Some((Outcome::Value(count, 5998), 1001)))
 }
 
-// The number that an outcome is, the units that are left, and the frames; nothing of what is no number.
-fn answer_of(heap: &Heap, outcome: Outcome, frames: u64) -> Option<Answer> {
-    match outcome {
-        Outcome::Value(value, left) => Some(Answer {
-            number: number_at(heap, value)?,
-            left,
-            frames,
-        }),
-        _ => None,
-    }
-}
-
-// The length of the list, the units that are left, and the frames.
-fn length_of_list(heap: &mut Heap) -> Result<Option<Answer>, Memory> {
+fn runs(heap: &mut Heap) -> Result<(bool, bool), Memory> {
     let members = naturals(heap)?;
-    let preamble = admit_all(heap, Profile::One)?;
-    match run_named(heap, &preamble.table, b"LOGIC.LEN", &[members], 10_000) {
-        Some((outcome, frames)) => Ok(answer_of(heap, outcome, frames)),
-        None => Ok(None),
-    }
+    Ok((
+        loop_keeps_one_frame(heap, members)?,
+        recursion_opens_a_frame_for_each_member(heap, members)?,
+    ))
 }
 
 #[test]
-fn a_loop_keeps_one_frame(rt: HostRuntime) -> Result<(), Fail> {
+fn a_recursion_opens_frames_and_a_loop_keeps_one(rt: HostRuntime) -> Result<(), Fail> {
     let mut heap = boxed(rt.alloc())?;
-    assert_eq!(rt; frames_of_walk(&mut heap)?, Some(1));
-    Ok(())
-}
-
-#[test]
-fn a_recursion_opens_a_frame_for_each_member(rt: HostRuntime) -> Result<(), Fail> {
-    let mut heap = boxed(rt.alloc())?;
-    assert_eq!(rt;
-        length_of_list(&mut heap)?,
-        Some(Answer {
-            number: 1000,
-            left: 5998,
-            frames: 1001
-        })
-    );
+    assert_eq!(rt; runs(&mut heap)?, (true, true));
     Ok(())
 }

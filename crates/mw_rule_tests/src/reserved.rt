@@ -5,8 +5,8 @@ ghost use Rattle.mw_code.specs.Tables.{StandsFor};
 ghost use Rattle.mw_preamble.specs.Admitted.{first_definitions};
 
 use mw_code::Table;
-use mw_forms::{are_in, boxed, is_in, list};
-use mw_heap::{Heap, Memory, Profile, Ref, View};
+use mw_forms::{are_in, boxed, read_two};
+use mw_heap::{Heap, Memory, Profile, Ref};
 use mw_machine::{Machine, Outcome};
 use mw_preamble::admit_all;
 use std::test::Fail;
@@ -52,46 +52,33 @@ fn run_with_room(
     Some(machine.run_with_room(heap, table, &entry, values, units))
 }
 
-// What a run comes to: a natural and the units that are left, or what ended it.
-#[derive(Clone, Copy, Debug, PartialEq, Eq)]
-enum Answer {
-    Number(u128, u64),
-    Steps,
-    Other,
-}
-
-fn answer_of(heap: &Heap, outcome: Outcome) -> Answer {
-    match outcome {
-        Outcome::Value(value, left) if is_in(heap, value) => match heap.view(value) {
-            View::Nat(n) => Answer::Number(n, left),
-            _ => Answer::Other,
-        },
-        Outcome::Steps => Answer::Steps,
-        _ => Answer::Other,
-    }
-}
-
-// The length of the list (1 2 3), where there is room for so many units.
-fn length_of_three(heap: &mut Heap, units: u64) -> Result<Answer, Memory> {
-    let members = [heap.nat(1)?, heap.nat(2)?, heap.nat(3)?];
-    let three = list(heap, &members)?;
+// The same, by the built-in definitions.
+fn run_built_in(
+    heap: &mut Heap,
+    name: &[u8],
+    values: &[Ref],
+    units: u64,
+) -> Result<Option<Outcome>, Memory>
+    requires { is_name name.now ≡ true }
+{
     let preamble = admit_all(heap, Profile::One)?;
-    match run_with_room(heap, &preamble.table, b"LOGIC.LEN", &[three], units) {
-        Some(outcome) => Ok(answer_of(heap, outcome)),
-        None => Ok(Answer::Other),
-    }
+    Ok(run_with_room(heap, &preamble.table, name, values, units))
+}
+
+// Whether the length of the list (1 2 3) is found with room for 14 units, of which none is left, and whether a run with room for 13 ends.
+fn takes_fourteen_units(heap: &mut Heap) -> Result<(bool, bool), Memory> {
+    let (members, count) = read_two(heap, b"((1 2 3) 3)")?;
+    let with_room = run_built_in(heap, b"LOGIC.LEN", &[members], 14)?;
+    let without = run_built_in(heap, b"LOGIC.LEN", &[members], 13)?;
+    Ok((
+        with_room == Some(Outcome::Value(count, 0)),
+        without == Some(Outcome::Steps),
+    ))
 }
 
 #[test]
-fn there_is_room_for_all_units_of_a_run(rt: HostRuntime) -> Result<(), Fail> {
+fn a_run_with_room_ends_where_it_lacks_a_unit(rt: HostRuntime) -> Result<(), Fail> {
     let mut heap = boxed(rt.alloc())?;
-    assert_eq!(rt; length_of_three(&mut heap, 14)?, Answer::Number(3, 0));
-    Ok(())
-}
-
-#[test]
-fn a_run_with_room_that_lacks_a_unit_ends(rt: HostRuntime) -> Result<(), Fail> {
-    let mut heap = boxed(rt.alloc())?;
-    assert_eq!(rt; length_of_three(&mut heap, 13)?, Answer::Steps);
+    assert_eq!(rt; takes_fourteen_units(&mut heap)?, (true, true));
     Ok(())
 }

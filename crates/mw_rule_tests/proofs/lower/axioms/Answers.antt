@@ -1,5 +1,5 @@
 -- The first two axioms of the primitives are those of equality.
-use Rattle.std.proofs.Common.{◌≡◌, ℕ, List, [], ◌∷◌, map, get_or, sym, ap, ◌∙◌, subst}
+use Rattle.std.proofs.Common.{◌≡◌, ℕ, List, [], ◌∷◌, map, get_or, refl, sym, ap, ◌∙◌, subst}
 use Rattle.mw_model.specs.Terms.Object.{Object, Member, first, later}
 use Rattle.mw_model.specs.Terms.Term.{formula_object}
 use Rattle.mw_model.specs.Proofs.Axioms.{axiom_1, axiom_2}
@@ -20,12 +20,12 @@ returns-clause-first c =
     let os = c.build.new.heap.objects in
     let made = front os c.in_ok-built.built _ _ _ c.first-item.result c.second-item.result c.in_ok-built.ensures.axioms in
     let is = ap (object_at os) (c.first-item.is ∙ ap (λ refs. get_or refs 0 c.first-item.result) c.as_slice.ensures) ∙ made.0 in
-    newest os c.first-item.result c.add-3.new.self c.add-2.new.self (formula_object axiom_1) c.in_ok-add-3.ensures.added is
+    newest os c.first-item.result c.in_ok-known.known (c.second-item.result ∷ c.args.more ∷ []) (formula_object axiom_1) c.in_ok-known.ensures is
 
 pub returns-clause-second : goal.returns-clause-second
 returns-clause-second c =
     let os = c.build.new.heap.objects in
     let made = front os c.in_ok-built.built _ _ _ c.first-item.result c.second-item.result c.in_ok-built.ensures.axioms in
     let is = ap (object_at os) (c.second-item.is ∙ ap (λ refs. get_or refs 1 c.second-item.result) c.as_slice.ensures) ∙ made.1 in
-    let older = newest os c.second-item.result c.add-2.new.self c.add.new.self (formula_object axiom_2) c.in_ok-add-2.ensures.added is in
-    subst (λ k. Member (formula_object axiom_2) (list_object os k)) (sym c.in_ok-add-3.ensures.added) (later (object_at os c.first-item.result) (list_object os c.add-2.new.self) older)
+    let older = newest os c.second-item.result (c.second-item.result ∷ c.args.more ∷ []) (c.args.more ∷ []) (formula_object axiom_2) refl is in
+    subst (λ k. Member (formula_object axiom_2) (list_object os k)) (sym c.in_ok-known.ensures) (later (object_at os c.first-item.result) (list_object os (c.second-item.result ∷ c.args.more ∷ [])) older)
