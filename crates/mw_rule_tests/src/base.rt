@@ -1,61 +1,33 @@
 //! Each primitive function once, and the rule that computes them where it holds and where it does not.
-ghost use Rattle.std.specs.Prelude.{◌≡◌, length, All};
-ghost use Rattle.mw_heap.specs.Objects.{IsIn};
+ghost use Rattle.std.specs.Prelude.{◌≡◌, length};
 ghost use Rattle.mw_base.specs.Answers.{arity};
 
 use mw_base::{Applied, Truths, apply, base_eval};
-use mw_forms::{boxed, is_in, read, read_four, read_three, read_two};
+use mw_forms::{are_in, boxed, read, read_four, read_three, read_two};
 use mw_heap::{Heap, Memory, Primitive, Profile, Ref};
 use std::test::Fail;
 
 // The value of a primitive function at these arguments.
 fn value(heap: &mut Heap, p: Primitive, args: &[Ref]) -> Applied
-    requires count { length args.now ≡ arity p }
-    requires within { All (IsIn heap.old.objects) args.now }
+    requires { length args.now ≡ arity p }
 {
+    if !are_in(heap, args) {
+        return Applied::Memory;
+    }
     let Ok(truths) = Truths::new(heap) else {
         return Applied::Memory;
     };
     apply(heap, p, args, &truths)
 }
 
-// Whether the value at one argument is v.
-fn one(heap: &mut Heap, p: Primitive, a: Ref, v: Ref) -> bool
-    requires { arity p ≡ 1 }
-{
-    is_in(heap, a) && value(heap, p, &[a]) == Applied::Value(v)
-}
-
-// Whether the value at two arguments is v.
-fn two(heap: &mut Heap, p: Primitive, a: Ref, b: Ref, v: Ref) -> bool
-    requires { arity p ≡ 2 }
-{
-    is_in(heap, a) && is_in(heap, b) && value(heap, p, &[a, b]) == Applied::Value(v)
-}
-
-// Whether there is no value at two arguments, since it would be too large.
-fn overflows(heap: &mut Heap, p: Primitive, a: Ref, b: Ref) -> bool
-    requires { arity p ≡ 2 }
-{
-    is_in(heap, a) && is_in(heap, b) && value(heap, p, &[a, b]) == Applied::Overflow
-}
-
-// Whether IF chooses v.
-fn chooses(heap: &mut Heap, a: Ref, b: Ref, c: Ref, v: Ref) -> bool {
-    is_in(heap, a)
-        && is_in(heap, b)
-        && is_in(heap, c)
-        && value(heap, Primitive::If, &[a, b, c]) == Applied::Value(v)
-}
-
 // Whether CONS, CAR, CDR and CONSP have the values that are due.
 fn takes_pairs_apart(heap: &mut Heap) -> Result<[bool; 4], Memory> {
     let (nil, a, both) = read_three(heap, b"(NIL 2 (2))")?;
     Ok([
-        two(heap, Primitive::Cons, a, nil, both),
-        one(heap, Primitive::Car, both, a),
-        one(heap, Primitive::Cdr, both, nil),
-        one(heap, Primitive::Consp, a, nil),
+        value(heap, Primitive::Cons, &[a, nil]) == Applied::Value(both),
+        value(heap, Primitive::Car, &[both]) == Applied::Value(a),
+        value(heap, Primitive::Cdr, &[both]) == Applied::Value(nil),
+        value(heap, Primitive::Consp, &[a]) == Applied::Value(nil),
     ])
 }
 
@@ -63,10 +35,10 @@ fn takes_pairs_apart(heap: &mut Heap) -> Result<[bool; 4], Memory> {
 fn tells_symbols(heap: &mut Heap) -> Result<[bool; 4], Memory> {
     let (t, nil) = read_two(heap, b"(T NIL)")?;
     Ok([
-        one(heap, Primitive::Symbolp, t, t),
-        two(heap, Primitive::SymbolLess, nil, t, t),
-        two(heap, Primitive::Equal, t, nil, nil),
-        chooses(heap, nil, nil, t, t),
+        value(heap, Primitive::Symbolp, &[t]) == Applied::Value(t),
+        value(heap, Primitive::SymbolLess, &[nil, t]) == Applied::Value(t),
+        value(heap, Primitive::Equal, &[t, nil]) == Applied::Value(nil),
+        value(heap, Primitive::If, &[nil, nil, t]) == Applied::Value(t),
     ])
 }
 
@@ -74,10 +46,10 @@ fn tells_symbols(heap: &mut Heap) -> Result<[bool; 4], Memory> {
 fn computes_numbers(heap: &mut Heap) -> Result<[bool; 4], Memory> {
     let (t, zero, a, four) = read_four(heap, b"(T 0 2 4)")?;
     Ok([
-        one(heap, Primitive::Natp, a, t),
-        two(heap, Primitive::Less, t, a, t),
-        two(heap, Primitive::Plus, a, a, four),
-        two(heap, Primitive::Minus, a, four, zero),
+        value(heap, Primitive::Natp, &[a]) == Applied::Value(t),
+        value(heap, Primitive::Less, &[t, a]) == Applied::Value(t),
+        value(heap, Primitive::Plus, &[a, a]) == Applied::Value(four),
+        value(heap, Primitive::Minus, &[a, four]) == Applied::Value(zero),
     ])
 }
 
@@ -92,8 +64,8 @@ fn holds(heap: &mut Heap, formula: &[u8], profile: Profile) -> Result<bool, Memo
 fn computes_products(heap: &mut Heap) -> Result<[bool; 4], Memory> {
     let (a, four, most) = read_three(heap, b"(2 4 340282366920938463463374607431768211455)")?;
     Ok([
-        two(heap, Primitive::Times, a, a, four),
-        overflows(heap, Primitive::Times, most, a),
+        value(heap, Primitive::Times, &[a, a]) == Applied::Value(four),
+        value(heap, Primitive::Times, &[most, a]) == Applied::Overflow,
         holds(heap, b"(PEQUAL* (* '2 '2) '4)", Profile::Two)?
             && !holds(heap, b"(PEQUAL* (* '2 '2) '4)", Profile::One)?,
         !holds(heap, b"(PEQUAL* (* '2 '2) '2)", Profile::Two)?,

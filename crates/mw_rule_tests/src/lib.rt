@@ -20,6 +20,4 @@ mod proof;
 #[cfg(test)]
 mod prop;
 #[cfg(test)]
-mod reserved;
-#[cfg(test)]
 mod taut;

@@ -6,7 +6,7 @@ use Rattle.mw_model.specs.Terms.Term.{Call}
 use Rattle.mw_model.specs.Proofs.Proof.{constants}
 use Rattle.mw_heap.specs.Objects.{object_at}
 use Rattle.mw_preamble.specs.Admitted.{first_definitions}
-use Rattle.mw_rule_tests.proofs.reserved.run_with_room.Goals as goal
+use Rattle.mw_rule_tests.proofs.machine.run_with_room.Goals as goal
 
 pub run_with_room-requires-clause-entry : goal.run_with_room-requires-clause-entry
 run_with_room-requires-clause-entry c =
