@@ -1,48 +1,50 @@
 //! Blocks of functions and witnesses: what they owe and add, and why they are refused.
-use crate::shared::{arities, read};
+use crate::shared::{CALLS, arities, nested};
 use mw_define::{Admitted, Draft, admit_block, admit_function, admit_witness};
-use mw_forms::{boxed, is_in};
+use mw_forms::{boxed, read, read_four, read_two};
 use mw_heap::{Heap, Memory, Ref, Refusal};
 use mw_term::Arity;
 use std::alloc::{AllocError, Global};
 use std::test::Fail;
 
-// A list of definitions, the list of its obligations, and that of its axioms.
+// A list of definitions, and the lists of its obligations and of its axioms.
 struct Row {
     defs: &'static [u8],
-    obligations: &'static [u8],
-    axioms: &'static [u8],
+    due: &'static [u8],
 }
+
+// What walk owes and its axiom.
+const WALK_DUE: &[u8] =
+    b"(((pequal* (ordp (cdr x)) 't) (por* (pequal* x 'nil) (pequal* (ord< (cdr (cdr x)) (cdr x)) 't))) \
+    ((pequal* (walk x) (if x (walk (cdr x)) 'nil))))";
 
 const BLOCKS: [Row; 5] = [
     Row {
         defs: b"((swap (x y) (list y x) 0))",
-        obligations: b"()",
-        axioms: b"((pequal* (swap x y) (cons y (cons x 'nil))))",
+        due: b"(() ((pequal* (swap x y) (cons y (cons x 'nil)))))",
     },
     Row {
         defs: b"((walk (x) (and x (walk (cdr x))) (cdr x)))",
-        obligations: b"((pequal* (ordp (cdr x)) 't) (por* (pequal* x 'nil) (pequal* (ord< (cdr (cdr x)) (cdr x)) 't)))",
-        axioms: b"((pequal* (walk x) (if x (walk (cdr x)) 'nil)))",
+        due: WALK_DUE,
     },
     Row {
         defs: b"((even (x) (if (car x) (odd (cdr x)) t) x) (odd (y) (if (car y) (even (cdr y)) nil) (car y)))",
-        obligations: b"((pequal* (ordp x) 't) \
-            (por* (pequal* (car x) 'nil) (pequal* (ord< (car (cdr x)) x) 't)) \
-            (pequal* (ordp (car y)) 't) \
-            (por* (pequal* (car y) 'nil) (pequal* (ord< (cdr y) (car y)) 't)))",
-        axioms: b"((pequal* (even x) (if (car x) (odd (cdr x)) 't)) (pequal* (odd y) (if (car y) (even (cdr y)) 'nil)))",
+        due: b"(((pequal* (ordp x) 't) \
+             (por* (pequal* (car x) 'nil) (pequal* (ord< (car (cdr x)) x) 't)) \
+             (pequal* (ordp (car y)) 't) \
+             (por* (pequal* (car y) 'nil) (pequal* (ord< (cdr y) (car y)) 't))) \
+            ((pequal* (even x) (if (car x) (odd (cdr x)) 't)) (pequal* (odd y) (if (car y) (even (cdr y)) 'nil))))",
     },
     // equal obligations are owed once; a call in a test takes no part in what is owed under it
     Row {
         defs: b"((twice (x) (f (twice (cdr x)) (twice (cdr x))) x))",
-        obligations: b"((pequal* (ordp x) 't) (pequal* (ord< (cdr x) x) 't))",
-        axioms: b"((pequal* (twice x) (f (twice (cdr x)) (twice (cdr x)))))",
+        due: b"(((pequal* (ordp x) 't) (pequal* (ord< (cdr x) x) 't)) \
+            ((pequal* (twice x) (f (twice (cdr x)) (twice (cdr x))))))",
     },
     Row {
         defs: b"((bound (x) (let ((y (car x))) (if (bound y) y (bound (cdr x)))) x))",
-        obligations: b"((pequal* (ordp x) 't) (pequal* (ord< (car x) x) 't) (pequal* (ord< (cdr x) x) 't))",
-        axioms: b"((pequal* (bound x) ((lambda (y x) (if (bound y) y (bound (cdr x)))) (car x) x)))",
+        due: b"(((pequal* (ordp x) 't) (pequal* (ord< (car x) x) 't) (pequal* (ord< (cdr x) x) 't)) \
+            ((pequal* (bound x) ((lambda (y x) (if (bound y) y (bound (cdr x)))) (car x) x))))",
     },
 ];
 
@@ -103,12 +105,11 @@ const REFUSED: [RefusedRow; 12] = [
     },
 ];
 
-fn admitted(heap: &mut Heap, arity: &Arity, defs: &[u8]) -> Result<Admitted, Memory> {
-    let defs = read(heap, defs)?;
-    if is_in(heap, defs) {
-        Ok(admit_block(heap, defs, arity))
-    } else {
-        Err(Memory)
+// Whether an answer has these obligations.
+fn owes_as_obligations(admitted: &Admitted, obligations: Ref) -> bool {
+    match admitted {
+        Admitted::Obligations(owed) => owed.obligations == obligations,
+        _ => false,
     }
 }
 
@@ -120,11 +121,18 @@ fn owes(admitted: &Admitted, obligations: Ref, axioms: Ref) -> bool {
     }
 }
 
+// Whether an answer is this refusal.
+fn refuses(admitted: &Admitted, reason: Refusal) -> bool {
+    match admitted {
+        Admitted::Refused(found) => *found == reason,
+        _ => false,
+    }
+}
+
 fn is_row_right(heap: &mut Heap, arity: &Arity, row: &Row) -> Result<bool, Memory> {
-    let admitted = admitted(heap, arity, row.defs)?;
-    let obligations = read(heap, row.obligations)?;
-    let axioms = read(heap, row.axioms)?;
-    Ok(owes(&admitted, obligations, axioms))
+    let (obligations, axioms) = read_two(heap, row.due)?;
+    let defs = read(heap, row.defs)?;
+    Ok(owes(&admit_block(heap, defs, arity), obligations, axioms))
 }
 
 fn are_right(heap: &mut Heap, arity: &Arity) -> Result<bool, Memory> {
@@ -136,43 +144,27 @@ fn are_right(heap: &mut Heap, arity: &Arity) -> Result<bool, Memory> {
     Ok(true)
 }
 
+fn is_refused(heap: &mut Heap, arity: &Arity, row: &RefusedRow) -> Result<bool, Memory> {
+    let defs = read(heap, row.defs)?;
+    Ok(refuses(&admit_block(heap, defs, arity), row.reason))
+}
+
 fn are_refused(heap: &mut Heap, arity: &Arity) -> Result<bool, Memory> {
     for row in &REFUSED {
-        match admitted(heap, arity, row.defs)? {
-            Admitted::Refused(reason) if reason == row.reason => {}
-            _ => return Ok(false),
+        if !is_refused(heap, arity, row)? {
+            return Ok(false);
         }
     }
     Ok(true)
 }
 
-#[test]
-fn blocks_owe_ordinals_and_descents(rt: HostRuntime) -> Result<(), Fail> {
-    let mut heap = boxed(rt.alloc())?;
-    let arity = arities(rt.alloc())?;
-    assert!(rt; are_right(&mut heap, &arity)?);
-    Ok(())
-}
-
-#[test]
-fn the_first_test_that_fails_is_the_reason(rt: HostRuntime) -> Result<(), Fail> {
-    let mut heap = boxed(rt.alloc())?;
-    let arity = arities(rt.alloc())?;
-    assert!(rt; are_refused(&mut heap, &arity)?);
-    Ok(())
-}
-
 // Whether a function alone owes what its block of one does.
 fn is_function_right(heap: &mut Heap, arity: &Arity) -> Result<bool, Memory> {
-    let name = read(heap, b"walk ")?;
-    let formals = read(heap, b"(x)")?;
-    let body = read(heap, b"(and x (walk (cdr x)))")?;
-    let measure = read(heap, b"(cdr x)")?;
-    let obligations = read(heap, BLOCKS[1].obligations)?;
-    let axioms = read(heap, BLOCKS[1].axioms)?;
-    if !(is_in(heap, name) && is_in(heap, formals) && is_in(heap, body) && is_in(heap, measure)) {
-        return Err(Memory);
-    }
+    let (obligations, axioms) = read_two(heap, WALK_DUE)?;
+    let (name, formals, body, measure) = read_four(
+        heap,
+        b"(walk (x) (and x (walk (cdr x))) (cdr x))",
+    )?;
     let draft = Draft {
         name,
         formals,
@@ -184,62 +176,55 @@ fn is_function_right(heap: &mut Heap, arity: &Arity) -> Result<bool, Memory> {
 
 // Whether a witness owes nothing and has its axiom.
 fn is_witness_right(heap: &mut Heap, arity: &Arity) -> Result<bool, Memory> {
-    let name = read(heap, b"some ")?;
-    let bound = read(heap, b"y ")?;
-    let free = read(heap, b"(x)")?;
-    let body = read(heap, b"(f x y)")?;
-    let obligations = read(heap, b"()")?;
-    let axioms = read(
+    let (obligations, axioms) = read_two(
         heap,
-        b"((por* (pequal* (f x y) 'nil) (pnot* (pequal* ((lambda (y x) (f x y)) (some x) x) 'nil))))",
+        b"(() ((por* (pequal* (f x y) 'nil) (pnot* (pequal* ((lambda (y x) (f x y)) (some x) x) 'nil)))))",
     )?;
-    if !(is_in(heap, name) && is_in(heap, bound) && is_in(heap, free) && is_in(heap, body)) {
-        return Err(Memory);
-    }
+    let (name, bound, free, body) = read_four(heap, b"(some y (x) (f x y))")?;
     let admitted = admit_witness(heap, name, bound, free, body, arity);
     Ok(owes(&admitted, obligations, axioms))
 }
 
-#[test]
-fn a_function_is_a_block_of_one(rt: HostRuntime) -> Result<(), Fail> {
-    let mut heap = boxed(rt.alloc())?;
-    let arity = arities(rt.alloc())?;
-    assert!(rt; is_function_right(&mut heap, &arity)?);
-    Ok(())
-}
-
-#[test]
-fn a_witness_has_an_axiom(rt: HostRuntime) -> Result<(), Fail> {
-    let mut heap = boxed(rt.alloc())?;
-    let arity = arities(rt.alloc())?;
-    assert!(rt; is_witness_right(&mut heap, &arity)?);
-    Ok(())
-}
-
 // A function whose body has no call of it, though as a tree it has 2^60 calls.
 fn shared_body(alloc: Global) -> Result<String, AllocError> {
-    let mut body = String::from_str(alloc, "#1=(f x x)")?;
-    for k in 1..60 {
-        let next = k + 1;
-        body = format!(in alloc; "#{next}=(f {body} #{k}#)")?;
-    }
+    let body = nested(alloc, &CALLS)?;
     format!(in alloc; "((deep (x) {body} x))")
 }
 
-// Whether it is admitted and owes nothing.
-fn owes_nothing(heap: &mut Heap, arity: &Arity) -> Result<bool, Memory> {
+// Whether these definitions are admitted and owe nothing.
+fn owe_nothing(heap: &mut Heap, arity: &Arity, defs: &[u8]) -> Result<bool, Memory> {
+    let none = heap.nil()?;
+    let defs = read(heap, defs)?;
+    Ok(owes_as_obligations(&admit_block(heap, defs, arity), none))
+}
+
+// Whether a shared body is looked at once.
+fn is_shared_body_right(heap: &mut Heap, arity: &Arity) -> Result<bool, Memory> {
     let defs = shared_body(heap.alloc())?;
-    let none = read(heap, b"()")?;
-    match admitted(heap, arity, defs.as_bytes())? {
-        Admitted::Obligations(owed) => Ok(owed.obligations == none),
-        _ => Ok(false),
-    }
+    owe_nothing(heap, arity, defs.as_bytes())
+}
+
+// Whether blocks owe ordinals and descents, the first test that fails is the reason, a function is a block of one, a witness has an axiom, and
+// a shared body is looked at once.
+fn definitions_under(heap: &mut Heap, arity: &Arity) -> Result<[bool; 5], Memory> {
+    Ok([
+        are_right(heap, arity)?,
+        are_refused(heap, arity)?,
+        is_function_right(heap, arity)?,
+        is_witness_right(heap, arity)?,
+        is_shared_body_right(heap, arity)?,
+    ])
+}
+
+// The same, under the arities of some functions.
+fn definitions(heap: &mut Heap) -> Result<[bool; 5], Memory> {
+    let arity = arities(heap.alloc())?;
+    definitions_under(heap, &arity)
 }
 
 #[test]
-fn a_shared_body_is_looked_at_once(rt: HostRuntime) -> Result<(), Fail> {
+fn definitions_owe_or_are_refused(rt: HostRuntime) -> Result<(), Fail> {
     let mut heap = boxed(rt.alloc())?;
-    let arity = arities(rt.alloc())?;
-    assert!(rt; owes_nothing(&mut heap, &arity)?);
+    assert_eq!(rt; definitions(&mut heap)?, [true; 5]);
     Ok(())
 }

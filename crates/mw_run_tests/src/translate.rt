@@ -1,7 +1,7 @@
 //! Raw terms, and the terms that they expand to.
-use crate::shared::{add, arities, read};
-use mw_forms::{boxed, is_in};
-use mw_heap::{Heap, Memory, Ref};
+use crate::shared::{CALLS, Nest, add, arities, nested};
+use mw_forms::{boxed, read};
+use mw_heap::{Heap, Memory};
 use mw_term::Arity;
 use mw_translate::{Expanded, expand, expand_under};
 use std::alloc::{AllocError, Global};
@@ -138,19 +138,11 @@ const NO_TERMS: [&[u8]; 24] = [
     b"((lambda (x) (f x y)) x)",
 ];
 
-fn expanded(heap: &mut Heap, arity: &Arity, raw: Ref) -> Expanded {
-    if is_in(heap, raw) {
-        expand(heap, raw, arity, &[])
-    } else {
-        Expanded::Memory
-    }
-}
-
 // Whether one text expands to another.
 fn expands_to(heap: &mut Heap, arity: &Arity, raw: &[u8], term: &[u8]) -> Result<bool, Memory> {
-    let raw = read(heap, raw)?;
     let term = read(heap, term)?;
-    Ok(expanded(heap, arity, raw) == Expanded::Term(term))
+    let raw = read(heap, raw)?;
+    Ok(expand(heap, raw, arity, &[]) == Expanded::Term(term))
 }
 
 // Whether each raw text expands to its term.
@@ -167,43 +159,11 @@ fn are_right(heap: &mut Heap, arity: &Arity, rows: &[Row]) -> Result<bool, Memor
 fn are_no_terms(heap: &mut Heap, arity: &Arity, texts: &[&[u8]]) -> Result<bool, Memory> {
     for text in texts {
         let raw = read(heap, text)?;
-        if expanded(heap, arity, raw) != Expanded::NotTerm {
+        if expand(heap, raw, arity, &[]) != Expanded::NotTerm {
             return Ok(false);
         }
     }
     Ok(true)
-}
-
-#[test]
-fn connectives_are_conditionals(rt: HostRuntime) -> Result<(), Fail> {
-    let mut heap = boxed(rt.alloc())?;
-    let arity = arities(rt.alloc())?;
-    assert!(rt; are_right(&mut heap, &arity, &CONNECTIVES)?);
-    Ok(())
-}
-
-#[test]
-fn places_are_cars_of_cdrs(rt: HostRuntime) -> Result<(), Fail> {
-    let mut heap = boxed(rt.alloc())?;
-    let arity = arities(rt.alloc())?;
-    assert!(rt; are_right(&mut heap, &arity, &PLACES)?);
-    Ok(())
-}
-
-#[test]
-fn bindings_are_lambda_calls(rt: HostRuntime) -> Result<(), Fail> {
-    let mut heap = boxed(rt.alloc())?;
-    let arity = arities(rt.alloc())?;
-    assert!(rt; are_right(&mut heap, &arity, &BINDINGS)?);
-    Ok(())
-}
-
-#[test]
-fn wrong_shapes_are_no_terms(rt: HostRuntime) -> Result<(), Fail> {
-    let mut heap = boxed(rt.alloc())?;
-    let arity = arities(rt.alloc())?;
-    assert!(rt; are_no_terms(&mut heap, &arity, &NO_TERMS)?);
-    Ok(())
 }
 
 // A raw term with a part that comes many times, and the term that it expands to, whose middle has as many parts around it.
@@ -292,61 +252,31 @@ fn are_long_right(heap: &mut Heap, arity: &Arity) -> Result<bool, Memory> {
     Ok(true)
 }
 
-#[test]
-fn long_forms_are_expanded_in_time(rt: HostRuntime) -> Result<(), Fail> {
-    let mut heap = boxed(rt.alloc())?;
-    let arity = arities(rt.alloc())?;
-    assert!(rt; are_long_right(&mut heap, &arity)?);
-    Ok(())
-}
+// The lists of two, and the conses that they expand to.
+const LISTS: Nest = Nest {
+    innermost: "(list x x)",
+    before: "(list ",
+    between: " ",
+    after: ")",
+};
 
-// A call whose actuals are both the call before it, sixty deep: as a tree it has 2^60 variables.
-fn doubled(alloc: Global) -> Result<String, AllocError> {
-    let mut term = String::from_str(alloc, "#1=(f x x)")?;
-    for k in 1..60 {
-        let next = k + 1;
-        term = format!(in alloc; "#{next}=(f {term} #{k}#)")?;
-    }
-    Ok(term)
-}
+const CONSES: Nest = Nest {
+    innermost: "(cons x (cons x 'nil))",
+    before: "(cons ",
+    between: " (cons ",
+    after: " 'nil))",
+};
 
-// The same of lists of two, and the conses that they expand to.
-fn doubled_list(alloc: Global) -> Result<String, AllocError> {
-    let mut term = String::from_str(alloc, "#1=(list x x)")?;
-    for k in 1..60 {
-        let next = k + 1;
-        term = format!(in alloc; "#{next}=(list {term} #{k}#)")?;
-    }
-    Ok(term)
-}
-
-fn doubled_conses(alloc: Global) -> Result<String, AllocError> {
-    let mut term = String::from_str(alloc, "#1=(cons x (cons x 'nil))")?;
-    for k in 1..60 {
-        let next = k + 1;
-        term = format!(in alloc; "#{next}=(cons {term} (cons #{k}# 'nil))")?;
-    }
-    Ok(term)
-}
-
-fn is_doubled_kept(heap: &mut Heap, arity: &Arity) -> Result<bool, Memory> {
-    let term = doubled(heap.alloc())?;
-    expands_to(heap, arity, term.as_bytes(), term.as_bytes())
-}
-
-fn is_doubled_list_right(heap: &mut Heap, arity: &Arity) -> Result<bool, Memory> {
-    let raw = doubled_list(heap.alloc())?;
-    let term = doubled_conses(heap.alloc())?;
+// Whether a text with shared parts expands to another.
+fn is_nested_right(
+    heap: &mut Heap,
+    arity: &Arity,
+    raw: &Nest,
+    term: &Nest,
+) -> Result<bool, Memory> {
+    let raw = nested(heap.alloc(), raw)?;
+    let term = nested(heap.alloc(), term)?;
     expands_to(heap, arity, raw.as_bytes(), term.as_bytes())
-}
-
-#[test]
-fn shared_parts_are_expanded_once(rt: HostRuntime) -> Result<(), Fail> {
-    let mut heap = boxed(rt.alloc())?;
-    let arity = arities(rt.alloc())?;
-    assert!(rt; is_doubled_kept(&mut heap, &arity)?);
-    assert!(rt; is_doubled_list_right(&mut heap, &arity)?);
-    Ok(())
 }
 
 // Whether a text is a term under two tables.
@@ -357,26 +287,7 @@ fn is_term_under(
     text: &[u8],
 ) -> Result<bool, Memory> {
     let raw = read(heap, text)?;
-    if is_in(heap, raw) {
-        Ok(expand_under(heap, raw, newer, older) == Expanded::Term(raw))
-    } else {
-        Err(Memory)
-    }
-}
-
-// Whether F may be called with no argument, and with two.
-fn calls_under(heap: &mut Heap, newer: &Arity, older: &Arity) -> Result<(bool, bool), Memory> {
-    let none = is_term_under(heap, newer, older, b"(f)")?;
-    let two = is_term_under(heap, newer, older, b"(f x x)")?;
-    Ok((none, two))
-}
-
-// Whether (F) is a term where F is new and takes no argument.
-fn is_new_call(heap: &mut Heap, arity: &Arity) -> Result<bool, Memory> {
-    let f = heap.symbol(b"F")?;
-    let nil = heap.nil()?;
-    let call = heap.cons(f, nil)?;
-    Ok(expand(heap, call, arity, &[(f, 0)]) == Expanded::Term(call))
+    Ok(expand_under(heap, raw, newer, older) == Expanded::Term(raw))
 }
 
 // The arity of an F that takes no argument.
@@ -386,19 +297,59 @@ fn newer_arity(alloc: Global) -> Result<Box<Arity>, Memory> {
     Ok(arity)
 }
 
-#[test]
-fn newer_functions_count_first(rt: HostRuntime) -> Result<(), Fail> {
-    let mut heap = boxed(rt.alloc())?;
-    let newer = newer_arity(rt.alloc())?;
-    let older = arities(rt.alloc())?;
-    assert_eq!(rt; calls_under(&mut heap, &newer, &older)?, (true, false));
-    Ok(())
+// Whether newer functions count first: F may be called with no argument, and not with two.
+fn newer_count_first(heap: &mut Heap, newer: &Arity, older: &Arity) -> Result<bool, Memory> {
+    Ok(
+        is_term_under(heap, newer, older, b"(f)")?
+            && !is_term_under(heap, newer, older, b"(f x x)")?,
+    )
+}
+
+// The same of an F that takes no argument.
+fn is_newer_called(heap: &mut Heap, older: &Arity) -> Result<bool, Memory> {
+    let newer = newer_arity(heap.alloc())?;
+    newer_count_first(heap, &newer, older)
+}
+
+// Whether (F) is a term where F is new and takes no argument.
+fn is_new_called(heap: &mut Heap, arity: &Arity) -> Result<bool, Memory> {
+    let call = read(heap, b"(F)")?;
+    let f = heap.symbol(b"F")?;
+    Ok(expand(heap, call, arity, &[(f, 0)]) == Expanded::Term(call))
+}
+
+// Whether connectives are conditionals, places are cars of cdrs, bindings are lambda calls, and wrong shapes are no terms.
+fn short_forms(heap: &mut Heap, arity: &Arity) -> Result<[bool; 4], Memory> {
+    Ok([
+        are_right(heap, arity, &CONNECTIVES)?,
+        are_right(heap, arity, &PLACES)?,
+        are_right(heap, arity, &BINDINGS)?,
+        are_no_terms(heap, arity, &NO_TERMS)?,
+    ])
+}
+
+// Whether long forms are expanded in time, shared parts are expanded once, of calls and of lists, newer functions count first, and new
+// functions are called.
+fn other_forms(heap: &mut Heap, arity: &Arity) -> Result<[bool; 5], Memory> {
+    Ok([
+        are_long_right(heap, arity)?,
+        is_nested_right(heap, arity, &CALLS, &CALLS)?,
+        is_nested_right(heap, arity, &LISTS, &CONSES)?,
+        is_newer_called(heap, arity)?,
+        is_new_called(heap, arity)?,
+    ])
+}
+
+// All of these, under the arities of some functions.
+fn forms(heap: &mut Heap) -> Result<([bool; 4], [bool; 5]), Memory> {
+    let arity = arities(heap.alloc())?;
+    let short = short_forms(heap, &arity)?;
+    Ok((short, other_forms(heap, &arity)?))
 }
 
 #[test]
-fn new_functions_are_called(rt: HostRuntime) -> Result<(), Fail> {
+fn raw_terms_expand_to_terms(rt: HostRuntime) -> Result<(), Fail> {
     let mut heap = boxed(rt.alloc())?;
-    let arity = arities(rt.alloc())?;
-    assert!(rt; is_new_call(&mut heap, &arity)?);
+    assert_eq!(rt; forms(&mut heap)?, ([true; 4], [true; 5]));
     Ok(())
 }
