@@ -318,23 +318,45 @@ fn is_new_called(heap: &mut Heap, arity: &Arity) -> Result<bool, Memory> {
     Ok(expand(heap, call, arity, &[(f, 0)]) == Expanded::Term(call))
 }
 
-// Whether connectives are conditionals, places are cars of cdrs, bindings are lambda calls, and wrong shapes are no terms.
+fn connectives_are_conditionals(heap: &mut Heap, arity: &Arity) -> Result<bool, Memory> {
+    are_right(heap, arity, &CONNECTIVES)
+}
+
+fn places_are_cars_of_cdrs(heap: &mut Heap, arity: &Arity) -> Result<bool, Memory> {
+    are_right(heap, arity, &PLACES)
+}
+
+fn bindings_are_lambda_calls(heap: &mut Heap, arity: &Arity) -> Result<bool, Memory> {
+    are_right(heap, arity, &BINDINGS)
+}
+
+fn wrong_shapes_are_no_terms(heap: &mut Heap, arity: &Arity) -> Result<bool, Memory> {
+    are_no_terms(heap, arity, &NO_TERMS)
+}
+
 fn short_forms(heap: &mut Heap, arity: &Arity) -> Result<[bool; 4], Memory> {
     Ok([
-        are_right(heap, arity, &CONNECTIVES)?,
-        are_right(heap, arity, &PLACES)?,
-        are_right(heap, arity, &BINDINGS)?,
-        are_no_terms(heap, arity, &NO_TERMS)?,
+        connectives_are_conditionals(heap, arity)?,
+        places_are_cars_of_cdrs(heap, arity)?,
+        bindings_are_lambda_calls(heap, arity)?,
+        wrong_shapes_are_no_terms(heap, arity)?,
     ])
 }
 
-// Whether long forms are expanded in time, shared parts are expanded once, of calls and of lists, newer functions count first, and new
-// functions are called.
+fn shared_calls_are_kept(heap: &mut Heap, arity: &Arity) -> Result<bool, Memory> {
+    is_nested_right(heap, arity, &CALLS, &CALLS)
+}
+
+fn shared_lists_are_expanded_once(heap: &mut Heap, arity: &Arity) -> Result<bool, Memory> {
+    is_nested_right(heap, arity, &LISTS, &CONSES)
+}
+
+// Whether long forms are expanded in time, shared parts are expanded once, newer functions count first, and new functions are called.
 fn other_forms(heap: &mut Heap, arity: &Arity) -> Result<[bool; 5], Memory> {
     Ok([
         are_long_right(heap, arity)?,
-        is_nested_right(heap, arity, &CALLS, &CALLS)?,
-        is_nested_right(heap, arity, &LISTS, &CONSES)?,
+        shared_calls_are_kept(heap, arity)?,
+        shared_lists_are_expanded_once(heap, arity)?,
         is_newer_called(heap, arity)?,
         is_new_called(heap, arity)?,
     ])
