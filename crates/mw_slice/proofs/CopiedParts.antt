@@ -9,7 +9,7 @@ use Rattle.mw_heap.specs.Objects.{object_at, IsIn, Grows}
 use Rattle.mw_heap.proofs.Objects.{IsIn-Grows, object_at-Grows}
 use Rattle.mw_slice.specs.declared.copying.Job.{Job}
 use Rattle.mw_slice.specs.declared.copying.Job.TheVariants.{Copy, Join}
-use Rattle.mw_slice.specs.Copies.{copied_cell, copy_of, IsCopied, AreCopies, WillBeCopied, CanBeDone, AllCanBeDone, job_weight, jobs_weight, IsDone}
+use Rattle.mw_slice.specs.Copies.{copied_cell, copy_of, IsCopied, AreCopies, WillBeCopied, CanBeDone, AllCanBeDone, job_weight, jobs_weight, IsDone, GetsCopy}
 
 pub copies-Grows : (from old new : List Object) (copies : List (Option ℕ)) → Grows old new → AreCopies from old copies → AreCopies from new copies
 copies-Grows from old new copies g right x r h = let k = right x r h in (IsIn-Grows old new g r k.0, object_at-Grows old new g r k.0 ∙ k.1)
@@ -25,15 +25,15 @@ module _ (from to : List Object) (old new : List (Option ℕ)) (x made : ℕ) (p
           subst (λ q. IsIn to q × (object_at to q ≡ object_at from y)) is (within, same ∙ ap (object_at from) (eqb-true x y e))
       go false e f = right y r f
 
-  pub kept-put : (y : ℕ) → IsCopied old y → IsCopied new y
+  kept-put : (y : ℕ) → IsCopied old y → IsCopied new y
   kept-put y c = go (nat_eq x y) refl
     where
       go : (b : Bool) → nat_eq x y ≡ b → IsCopied new y
       go true e = (made, puts y ∙ ap (λ b. cond b (Some made) (copy_of old y)) e)
       go false e = (c.0, puts y ∙ (ap (λ b. cond b (Some made) (copy_of old y)) e ∙ c.1))
 
-  pub copied-put : IsCopied new x
-  copied-put = (made, puts x ∙ ap (λ b. cond b (Some made) (copy_of old x)) (eq-eqb x x refl))
+  pub gets-put : GetsCopy old new x
+  gets-put = record { kept = kept-put; copied = (made, puts x ∙ ap (λ b. cond b (Some made) (copy_of old x)) (eq-eqb x x refl)) }
 
 pub symbol_copied : (x : Object) (bytes : List ℕ) → is_symbol x ≡ true → (name_of x).bytes ≡ bytes → Symbol (name_of_bytes bytes) ≡ x
 symbol_copied (Natural n) bytes h e = cc

@@ -1,5 +1,5 @@
 -- What a part asks for is asked for by it itself or by a part of it.
-use Rattle.std.proofs.Common.{◌≡◌, ℕ, ◌<◌, Bool, true, false, ◌&&◌, ◌||◌, cond, List, [], ◌∷◌, ◌++◌, map, filter, Contains, ◌⊎◌, inl, inr, refl, sym, ap, ap₂, ◌∙◌, subst, append_assoc, append-nil, arith}
+use Rattle.std.proofs.Common.{◌≡◌, ℕ, ◌<◌, Bool, true, false, ◌&&◌, ◌||◌, cond, List, [], ◌∷◌, ◌++◌, map, filter, Contains, ◌⊎◌, inl, inr, refl, sym, ap, ap₂, ◌∙◌, subst, append-nil, arith}
 use Rattle.std.proofs.lemmas.Bool.{or_cases, or_left, or_right}
 use Rattle.std.proofs.lemmas.List.Elements.{Contains-push_cases}
 use Rattle.mw_model.specs.Terms.Object.{Object, Natural, Symbol, Pair, NIL, second_of, third_of}
@@ -24,7 +24,7 @@ two_in o p q m = elim (Contains-push_cases (o ∷ []) p q m) [ inl n ↦ inl (on
 
 -- ---- steps one after another
 
-or_assoc : (a b c : Bool) → (a || (b || c)) ≡ ((a || b) || c)
+pub or_assoc : (a b c : Bool) → (a || (b || c)) ≡ ((a || b) || c)
 or_assoc true b c = refl
 or_assoc false b c = refl
 
@@ -174,10 +174,6 @@ module _ (os : List Object) (firsts : List (ℕ × ℕ)) where
             let test = begins_with "THEOREM" in
             let passes = names_place os firsts j in
             ap (λ y. kept_passes test passes (each_within y)) pair ∙ kept_passes-append test passes (proofs_within (object_at os a)) (each_within (object_at os d))
-
--- two that are pushed one after the other
-pub pushed_two : (waited one waiting : List Part) (a d : Part) → one ≡ waited ++ d ∷ [] → waiting ≡ one ++ a ∷ [] → waiting ≡ waited ++ d ∷ a ∷ []
-pushed_two waited one waiting a d e f = f ∙ (ap (λ l. l ++ a ∷ []) e ∙ append_assoc waited (d ∷ []) (a ∷ []))
 
 pub entered_as : (os : List Object) (firsts : List (ℕ × ℕ)) (part p : Part) (waited waiting w : List Part) → part ≡ p → waiting ≡ w → IsEntered os firsts p waited w → IsEntered os firsts part waited waiting
 entered_as os firsts part p waited waiting w e f h = subst (λ q. IsEntered os firsts q waited waiting) (sym e) (subst (λ l. IsEntered os firsts p waited l) (sym f) h)

@@ -150,3 +150,12 @@ one_more hs h k l =
     same [] k m = absurd (omega arith)
     same (g ∷ hs) zero m = refl
     same (g ∷ hs) (suc k) m = same hs k (omega arith)
+
+pub one_pushed : (items more : List Contents) (h : Contents) (hs : List (List Object)) → objects_each items ≡ hs → more ≡ items ++ h ∷ [] → AllStay hs (objects_each more)
+one_pushed items more h hs view e = subst (λ l. AllStay l (objects_each more)) view (subst (λ l. AllStay (objects_each items) (objects_each l)) (sym e) (one_more items h))
+
+pub none_pushed : (items more : List Contents) (hs : List (List Object)) → objects_each items ≡ hs → more ≡ items → AllStay hs (objects_each more)
+none_pushed items more hs view e = subst (λ l. AllStay hs l) (sym view ∙ ap objects_each (sym e)) (λ k l. (l, refl))
+
+pub some_pushed : (items more : List Contents) (h : Contents) → more ≡ items ++ h ∷ [] → 0 < length (objects_each more)
+some_pushed items more h e = omega (arith, length-map more (λ (g : Contents). g.objects), ap length e, length-append items (h ∷ []))

@@ -29,6 +29,11 @@ copy_of copies x = get_or copies x None
 abbrev pub IsCopied : List (Option ℕ) → ℕ → Type 0
 IsCopied copies x = (r : ℕ) × (copy_of copies x ≡ Some r)
 
+-- the cell has a copy now, and each cell that had one
+pub record GetsCopy (old new : List (Option ℕ)) (x : ℕ) : Type 0 where
+  pub kept : (y : ℕ) → IsCopied old y → IsCopied new y
+  pub copied : IsCopied new x
+
 -- each copy is of the same object
 abbrev pub AreCopies : List Object → List Object → List (Option ℕ) → Type 0
 AreCopies from to copies = (x r : ℕ) → copy_of copies x ≡ Some r → IsIn to r × (object_at to r ≡ object_at from x)

@@ -35,9 +35,15 @@ impl Model for Heaps {
     ghost view = { λ h. objects_each h.heaps.items };
 }
 
+// An empty heap, in a box, so that the proofs of its owner are short.
+fn boxed(alloc: Global) -> Result<Box<Heap>, Memory> {
+    let heap = Heap::new(alloc)?;
+    Ok(Box::new(alloc, heap)?)
+}
+
 /// A heap that finds the words of events by their places.
-pub(crate) fn heap_with_words(alloc: Global) -> Result<Heap, Memory> {
-    let mut heap = Heap::new(alloc)?;
+pub(crate) fn heap_with_words(alloc: Global) -> Result<Box<Heap>, Memory> {
+    let mut heap = boxed(alloc)?;
     heap.keep_words()?;
     Ok(heap)
 }
@@ -90,7 +96,7 @@ impl Heaps {
     {
         let mut heap = heap_with_words(self.alloc)?;
         heap.make_room(MANY);
-        self.heaps.push(heap)?;
+        self.heaps.push(Box::into_inner(heap))?;
         Ok(())
     }
 

@@ -1,5 +1,5 @@
 //! A walk over a part of an event, each part of it once.
-ghost use Rattle.std.specs.Prelude.{◌≡◌, ℕ, ◌||◌, List, OnOk};
+ghost use Rattle.std.specs.Prelude.{◌≡◌, ℕ, ◌||◌, List, [], ◌∷◌, ◌++◌, OnOk};
 ghost use Rattle.mw_heap.specs.Objects.{object_at, IsIn};
 ghost use Rattle.mw_slice.specs.Parts.{cell_of};
 ghost use Rattle.mw_slice.specs.Firsts.{AreFirsts};
@@ -15,31 +15,37 @@ use crate::part::Part;
 use indexmap::IndexMap;
 use mw_heap::{Heap, Memory, Ref, View, Word};
 
+// Has two parts wait.
+fn push_two(waiting: &mut Vec<Part>, part: Part, next: Part) -> Result<(), Memory>
+    ensures { OnOk result (waiting.new.items ≡ waiting.old.items ++ part ∷ next ∷ []) }
+{
+    waiting.push(part)?;
+    waiting.push(next)?;
+    Ok(())
+}
+
 // Has the parts of a part wait: those of a pair, the subproofs of a proof, and the proofs of a list.
 fn enter(heap: &Heap, part: Part, waiting: &mut Vec<Part>) -> Result<(), Memory>
     requires { IsIn heap.now.objects (cell_of part) }
     ensures { OnOk result ((firsts : List (ℕ × ℕ)) → IsEntered heap.now.objects firsts part waiting.old.items waiting.new.items) }
 {
     match part {
-        Part::Cell(x) => {
-            if let View::Pair(first, rest) = heap.view(x) {
-                waiting.push(Part::Cell(rest))?;
-                waiting.push(Part::Cell(first))?;
-            }
-        }
-        Part::Proof(x) => {
-            if let Some(subproofs) = heap.third_of(x) {
+        Part::Cell(x) => match heap.view(x) {
+            View::Pair(first, rest) => push_two(waiting, Part::Cell(rest), Part::Cell(first)),
+            _ => Ok(()),
+        },
+        Part::Proof(x) => match heap.third_of(x) {
+            Some(subproofs) => {
                 waiting.push(Part::Proofs(subproofs))?;
+                Ok(())
             }
-        }
-        Part::Proofs(x) => {
-            if let View::Pair(first, rest) = heap.view(x) {
-                waiting.push(Part::Proofs(rest))?;
-                waiting.push(Part::Proof(first))?;
-            }
-        }
+            None => Ok(()),
+        },
+        Part::Proofs(x) => match heap.view(x) {
+            View::Pair(first, rest) => push_two(waiting, Part::Proofs(rest), Part::Proof(first)),
+            _ => Ok(()),
+        },
     }
-    Ok(())
 }
 
 // Notes where the theorem is first proved that a step by THEOREM names.

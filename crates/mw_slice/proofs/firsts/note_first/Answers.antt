@@ -9,6 +9,9 @@ use Rattle.mw_slice.proofs.FirstPlaces.{noted_new, noted_before, firsts-push, no
 use Rattle.mw_slice.proofs.Growing.{firsts_grow, first_by-grows}
 use Rattle.mw_slice.proofs.firsts.note_first.Goals as goal
 
+pub place_of-requires-clause-firsts : goal.place_of-requires-clause-firsts
+place_of-requires-clause-firsts c = firsts_grow c.args.to.now.objects c.copy_part.new.to.objects c.copy_part.ensures.grows c.args.firsts.now.entries c.requires.firsts
+
 pub returns-in_ok-insert-clause-firsts : goal.returns-in_ok-insert-clause-firsts
 returns-in_ok-insert-clause-firsts c =
     let new = c.copy_part.new.to.objects in

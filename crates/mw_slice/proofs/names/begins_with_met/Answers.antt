@@ -8,6 +8,15 @@ use Rattle.mw_slice.specs.Supports.{Named, notes}
 use Rattle.mw_slice.proofs.Growing.{inside_grows, names_met-grow}
 use Rattle.mw_slice.proofs.names.begins_with_met.Goals as goal
 
+pub is_met-requires-clause-inside : goal.is_met-requires-clause-inside
+is_met-requires-clause-inside c = inside_grows c.args.to.now.objects c.loop-member.to.objects c.loop-member.invariant.1 c.args.basis.now c.requires.inside
+
+pub returns-in_err-is_met-clause-grows : goal.returns-in_err-is_met-clause-grows
+returns-in_err-is_met-clause-grows c = Grows-trans c.args.to.now.objects c.loop-member.to.objects c.is_met.new.to.objects c.loop-member.invariant.1 c.is_met.ensures.grows
+
+pub returns-then-branch-clause-grows : goal.returns-then-branch-clause-grows
+returns-then-branch-clause-grows c = Grows-trans c.args.to.now.objects c.loop-member.to.objects c.is_met.new.to.objects c.loop-member.invariant.1 c.is_met.ensures.grows
+
 pub returns-then-branch-clause-met : goal.returns-then-branch-clause-met
 returns-then-branch-clause-met c =
     let from = c.args.from.now.objects in

@@ -1,9 +1,12 @@
 -- One job after another.
 use Rattle.std.proofs.Common.{subst, arith}
-use Rattle.mw_heap.proofs.Objects.{Grows-trans}
+use Rattle.mw_heap.proofs.Objects.{Grows-refl, Grows-trans}
 use Rattle.mw_slice.proofs.Walking.{nothing_left}
-use Rattle.mw_slice.proofs.CopiedParts.{IsCopying, jobs_fall, last_possible, copying_goes, copying_ends}
-use Rattle.mw_slice.proofs.copying.copy.Goals as goal
+use Rattle.mw_slice.proofs.CopiedParts.{IsCopying, copying_starts, jobs_fall, last_possible, copying_goes, copying_ends}
+use Rattle.mw_slice.proofs.copying.copy_cells.Goals as goal
+
+pub loop-job-init : goal.loop-job-init
+loop-job-init c = (Grows-refl c.args.to.now.objects, copying_starts c.args.from.now.objects c.args.to.now.objects c.args.x c.args.copies.now c.args.jobs.now.items c.requires.within c.requires.none c.requires.job)
 
 pub work-requires-clause-possible : goal.work-requires-clause-possible
 work-requires-clause-possible c =
