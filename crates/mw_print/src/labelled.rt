@@ -180,6 +180,28 @@ fn write_piece(
     }
 }
 
+// Writes the text with labels of an object, where no pair has a label and nothing was written.
+fn write_labelled(
+    heap: &Heap,
+    again: &IndexSet<Ref>,
+    x: Ref,
+    numbers: &mut Numbers,
+    out: &mut Vec<u8>,
+) -> Result<(), Memory>
+    requires within { IsIn heap.now.objects x }
+    requires none_given { numbers.old.given.entries ≡ [] }
+    requires empty { out.old.items ≡ [] }
+    ensures text { OnOk result (out.new.items ≡ labelled_text (is_one_of heap.now.objects again.now.keys) (object_at heap.now.objects x) numbers.old.next) }
+    ensures next { OnOk result (numbers.new.next ≡ labelled_next (is_one_of heap.now.objects again.now.keys) (object_at heap.now.objects x) numbers.old.next) }
+{
+    let mut pieces = Vec::new(heap.alloc());
+    pieces.push(Piece::Text(x))?;
+    while let Some(piece) = pieces.pop() {
+        write_piece(heap, again, piece, numbers, &mut pieces, out)?;
+    }
+    Ok(())
+}
+
 /// The text with labels of an object, and the first number that no label has then. Those pairs have labels that stand in `again`, as
 /// long as there are numbers for them.
 pub(crate) fn labelled(
@@ -196,11 +218,7 @@ pub(crate) fn labelled(
         given: IndexMap::new(heap.alloc()),
         next: first,
     };
-    let mut pieces = Vec::new(heap.alloc());
     let mut out = Vec::new(heap.alloc());
-    pieces.push(Piece::Text(x))?;
-    while let Some(piece) = pieces.pop() {
-        write_piece(heap, again, piece, &mut numbers, &mut pieces, &mut out)?;
-    }
+    write_labelled(heap, again, x, &mut numbers, &mut out)?;
     Ok((out, numbers.next))
 }

@@ -36,18 +36,34 @@ fn meet(
     Ok(())
 }
 
+// Notes the pairs that stand in an object, and apart those that stand in it more than once. Nothing was noted before.
+fn find_repeats(
+    heap: &Heap,
+    x: Ref,
+    seen: &mut IndexSet<Ref>,
+    again: &mut IndexSet<Ref>,
+) -> Result<(), Memory>
+    requires within { IsIn heap.now.objects x }
+    requires none_seen { seen.old.keys ≡ [] }
+    requires none_again { again.old.keys ≡ [] }
+    ensures { OnOk result (AreRepeats heap.now.objects (object_at heap.now.objects x) again.new.keys) }
+{
+    heap.order();
+    let mut path = Vec::new(heap.alloc());
+    path.push(x)?;
+    while let Some(y) = path.pop() {
+        meet(heap, y, seen, again, &mut path)?;
+    }
+    Ok(())
+}
+
 /// The pairs that stand more than once in an object: as itself, or as parts of its distinct pairs.
 pub(crate) fn repeats(heap: &Heap, x: Ref) -> Result<IndexSet<Ref>, Memory>
     requires { IsIn heap.now.objects x }
     ensures { IfOk result (λ again. AreRepeats heap.now.objects (object_at heap.now.objects x) again.keys) }
 {
-    heap.order();
     let mut seen = IndexSet::new(heap.alloc());
     let mut again = IndexSet::new(heap.alloc());
-    let mut path = Vec::new(heap.alloc());
-    path.push(x)?;
-    while let Some(y) = path.pop() {
-        meet(heap, y, &mut seen, &mut again, &mut path)?;
-    }
+    find_repeats(heap, x, &mut seen, &mut again)?;
     Ok(again)
 }

@@ -3,12 +3,12 @@ use Rattle.std.proofs.Common.{◌≡◌, [], ◌∷◌, ◌++◌, length, ap, �
 use Rattle.std.proofs.lemmas.List.{append-nil}
 use Rattle.mw_print.proofs.Waiting.{empty_list}
 use Rattle.mw_print.proofs.Meeting.{IsCounting, path_falls, counting_starts, counting_rest, counting_goes, counting_ends}
-use Rattle.mw_print.proofs.repeats.repeats.Goals as goal
+use Rattle.mw_print.proofs.repeats.find_repeats.Goals as goal
 
 pub loop-y-init : goal.loop-y-init
 loop-y-init c =
-    counting_starts c.args.heap.now.objects c.args.x c.push.new.self.items c.new-seen.result.keys c.new-again.result.keys c.requires
-    (c.in_ok-push.ensures.items ∙ ap (λ ps. ps ++ c.args.x ∷ []) c.new-path.ensures.items) c.new-seen.ensures.empty c.new-again.ensures.empty
+    counting_starts c.args.heap.now.objects c.args.x c.push.new.self.items c.args.seen.now.keys c.args.again.now.keys c.requires.within
+    (c.in_ok-push.ensures.items ∙ ap (λ ps. ps ++ c.args.x ∷ []) c.new-path.ensures.items) c.requires.none_seen c.requires.none_again
 
 pub meet-requires : goal.meet-requires
 meet-requires c =

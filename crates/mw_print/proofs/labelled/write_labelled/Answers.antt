@@ -4,29 +4,29 @@ use Rattle.std.proofs.lemmas.List.{append-nil}
 use Rattle.mw_print.specs.declared.piece.Piece.TheVariants.{Text}
 use Rattle.mw_print.specs.Waiting.{is_one_of}
 use Rattle.mw_print.proofs.Waiting.{IsUnderWay, writing_starts, writing_rest, writing_goes_on, pieces_fall, writing_ends, empty_list}
-use Rattle.mw_print.proofs.labelled.labelled.Goals as goal
+use Rattle.mw_print.proofs.labelled.write_labelled.Goals as goal
 
 pub loop-piece-init : goal.loop-piece-init
 loop-piece-init c =
     let os = c.args.heap.now.objects in
-    writing_starts (is_one_of os c.args.again.now.keys) os c.args.x c.args.first c.push.new.self.items c.new.result.entries c.new-out.result.items c.requires
-    (c.in_ok-push.ensures.items ∙ ap (λ ps. ps ++ Text c.args.x ∷ []) c.new-pieces.ensures.items) c.new.ensures.empty c.new-out.ensures.items
+    writing_starts (is_one_of os c.args.again.now.keys) os c.args.x c.args.numbers.now.next c.push.new.self.items c.args.numbers.now.given.entries c.args.out.now.items c.requires.within
+    (c.in_ok-push.ensures.items ∙ ap (λ ps. ps ++ Text c.args.x ∷ []) c.new-pieces.ensures.items) c.requires.none_given c.requires.empty
 
 pub write_piece-requires-clause-piece : goal.write_piece-requires-clause-piece
 write_piece-requires-clause-piece c =
     let os = c.args.heap.now.objects in
     let s = is_one_of os c.args.again.now.keys in
     let p = c.loop-piece in
-    (writing_rest s os c.args.x c.args.first c.pop.new.self.items c.in-Some.piece p.numbers.given.entries p.numbers.next p.out.items
-    (subst (λ ps. IsUnderWay s os c.args.x c.args.first ps p.numbers.given.entries p.numbers.next p.out.items) c.in-Some.ensures.items p.invariant)).1
+    (writing_rest s os c.args.x c.args.numbers.now.next c.pop.new.self.items c.in-Some.piece p.numbers.given.entries p.numbers.next p.out.items
+    (subst (λ ps. IsUnderWay s os c.args.x c.args.numbers.now.next ps p.numbers.given.entries p.numbers.next p.out.items) c.in-Some.ensures.items p.invariant)).1
 
 pub write_piece-requires-clause-pieces : goal.write_piece-requires-clause-pieces
 write_piece-requires-clause-pieces c =
     let os = c.args.heap.now.objects in
     let s = is_one_of os c.args.again.now.keys in
     let p = c.loop-piece in
-    (writing_rest s os c.args.x c.args.first c.pop.new.self.items c.in-Some.piece p.numbers.given.entries p.numbers.next p.out.items
-    (subst (λ ps. IsUnderWay s os c.args.x c.args.first ps p.numbers.given.entries p.numbers.next p.out.items) c.in-Some.ensures.items p.invariant)).0
+    (writing_rest s os c.args.x c.args.numbers.now.next c.pop.new.self.items c.in-Some.piece p.numbers.given.entries p.numbers.next p.out.items
+    (subst (λ ps. IsUnderWay s os c.args.x c.args.numbers.now.next ps p.numbers.given.entries p.numbers.next p.out.items) c.in-Some.ensures.items p.invariant)).0
 
 pub loop-piece-smaller : goal.loop-piece-smaller
 loop-piece-smaller c =
@@ -38,8 +38,8 @@ loop-piece-preserved c =
     let s = is_one_of os c.args.again.now.keys in
     let p = c.loop-piece in
     let w = c.write_piece.new in
-    writing_goes_on s os c.args.x c.args.first c.pop.new.self.items c.in-Some.piece p.numbers.given.entries p.numbers.next p.out.items
-    (subst (λ ps. IsUnderWay s os c.args.x c.args.first ps p.numbers.given.entries p.numbers.next p.out.items) c.in-Some.ensures.items p.invariant)
+    writing_goes_on s os c.args.x c.args.numbers.now.next c.pop.new.self.items c.in-Some.piece p.numbers.given.entries p.numbers.next p.out.items
+    (subst (λ ps. IsUnderWay s os c.args.x c.args.numbers.now.next ps p.numbers.given.entries p.numbers.next p.out.items) c.in-Some.ensures.items p.invariant)
     w.pieces.items w.numbers.given.entries w.numbers.next w.out.items c.in_ok-write_piece.ensures
 
 pub returns-clause-text : goal.returns-clause-text
@@ -50,7 +50,7 @@ returns-clause-text c =
     let rest = c.pop.new.self.items in
     let gone : length rest ≡ 0 = omega (arith, c.in_default.ensures.cases.1, c.pop.new.self.ok.0) in
     let none : p.pieces.items ≡ [] = c.in_default.ensures.items ∙ (append-nil rest ∙ empty_list rest gone) in
-    (writing_ends s os c.args.x c.args.first p.pieces.items p.numbers.given.entries p.numbers.next p.out.items none p.invariant).0
+    (writing_ends s os c.args.x c.args.numbers.now.next p.pieces.items p.numbers.given.entries p.numbers.next p.out.items none p.invariant).0
 
 pub returns-clause-next : goal.returns-clause-next
 returns-clause-next c =
@@ -60,4 +60,4 @@ returns-clause-next c =
     let rest = c.pop.new.self.items in
     let gone : length rest ≡ 0 = omega (arith, c.in_default.ensures.cases.1, c.pop.new.self.ok.0) in
     let none : p.pieces.items ≡ [] = c.in_default.ensures.items ∙ (append-nil rest ∙ empty_list rest gone) in
-    (writing_ends s os c.args.x c.args.first p.pieces.items p.numbers.given.entries p.numbers.next p.out.items none p.invariant).1
+    (writing_ends s os c.args.x c.args.numbers.now.next p.pieces.items p.numbers.given.entries p.numbers.next p.out.items none p.invariant).1
