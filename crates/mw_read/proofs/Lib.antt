@@ -20,3 +20,4 @@ pub mod Emptied
 pub mod Telling
 pub mod Feeding
 pub mod Prefixes
+pub mod Noting

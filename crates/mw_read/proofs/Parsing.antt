@@ -95,18 +95,19 @@ stray_breaks (Within (Marking n) s ls) f k = refl
 stray_breaks (Full xs x s ls) f k = refl
 stray_breaks (Broken g) f k = absurd k
 
+no_point : (number name : Object) (p q r s : Bool) → (if p then Whole number else (if q then Bad else (if r && false then Point else (if s then Bad else Whole name)))) ≡ Point → ⊥
+no_point number name true q r s e = cc
+no_point number name false true r s e = cc
+no_point number name false false true true e = cc
+no_point number name false false true false e = cc
+no_point number name false false false true e = cc
+no_point number name false false false false e = cc
+
 point_one : (t : List ℕ) → token_form t ≡ Point → length t ≡ 1
 point_one [] h = absurd cc
 point_one (b ∷ []) h = refl
-point_one (b ∷ c ∷ t) h = absurd (go (all_are is_digit (b ∷ c ∷ t)) (like_number (b ∷ c ∷ t)) (eqb b 46) (all_are is_dot (b ∷ c ∷ t)) h)
-  where
-    go : (p q r s : Bool) → (if p then Whole (Natural (decimal_value (b ∷ c ∷ t))) else (if q then Bad else (if r && false then Point else (if s then Bad else Whole (Symbol (name_of_bytes (map raised (b ∷ c ∷ t)))))))) ≡ Point → ⊥
-    go true q r s e = cc
-    go false true r s e = cc
-    go false false true true e = cc
-    go false false true false e = cc
-    go false false false true e = cc
-    go false false false false e = cc
+point_one (b ∷ c ∷ t) h =
+    absurd (no_point (Natural (decimal_value (b ∷ c ∷ t))) (Symbol (name_of_bytes (map raised (b ∷ c ∷ t)))) (all_are is_digit (b ∷ c ∷ t)) (like_number (b ∷ c ∷ t)) (eqb b 46) (all_are is_dot (b ∷ c ∷ t)) h)
 
 -- a dot that is taken, and whatever may follow it
 pub token_dot : (e : Ending) (s u : State) (o : ℕ) (t z : List ℕ) → 0 < length t → all_are is_constituent t ≡ true → token_form t ≡ Point → is_full s ≡ false → IsSound s → on s (Dot o) ≡ quiet u → IsSound u →

@@ -168,12 +168,8 @@ impl Parser {
         let start = self.start;
         self.begun = Begun::AfterBar;
         self.start += (self.token.len() + bytes.len()) as u64 + 2;
-        if self.token.is_empty() {
-            let x = heap.symbol(bytes)?;
-            return self.stack.take(heap, Lexeme::Atom(x), start);
-        }
-        self.token.extend_from_slice(bytes)?;
-        let x = heap.symbol(&self.token)?;
+        keep_after(&mut self.token, bytes)?;
+        let x = heap.symbol(whole_text(&self.token, bytes))?;
         self.stack.take(heap, Lexeme::Atom(x), start)
     }
 

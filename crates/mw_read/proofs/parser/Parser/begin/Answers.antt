@@ -1,12 +1,41 @@
-use Rattle.std.proofs.Common.{◌∙◌, ◌++◌, sym, ap, refl, subst}
+-- A text begins, unless none may.
+use Rattle.std.proofs.Common.{◌≡◌, ℕ, ◌∙◌, List, [], ◌++◌, sym, ap, refl, subst, arith}
 use Rattle.mw_read.specs.Resume.{resume}
-use Rattle.mw_read.specs.Parsing.{ahead, Begins, Moves, Advances}
+use Rattle.mw_read.specs.Parsing.{ahead, Begins, IsText, Moves, Advances}
+use Rattle.mw_read.specs.declared.parser.Begun.{Begun}
+use Rattle.mw_read.specs.declared.parser.Begun.TheVariants as begun
 use Rattle.mw_read.specs.declared.parser.Parser.{Parser}
 use Rattle.mw_read.specs.declared.step.SyntaxKind.TheVariants as kinds
 use Rattle.mw_read.proofs.Holding.{holds_full}
 use Rattle.mw_read.proofs.Advancing.{fault_advances}
 use Rattle.mw_read.proofs.Beginning.{rest_is, begun_full, bars_begin, hash_begin, token_begin, bars_offset, hash_offset, token_offset, moves_past, moves_on, is_token, if_ok_more, if_ok_both}
 use Rattle.mw_read.proofs.parser.Parser.begin.Goals as goal
+
+begins_empty : (m n : Begun) (t : List ℕ) → m ≡ n → t ≡ [] → IsText n [] → IsText m t
+begins_empty m n t e f h = subst (λ k. IsText k t) (sym e) (subst (IsText n) (sym f) h)
+
+pub in_bars-requires-clause-parser : goal.in_bars-requires-clause-parser
+in_bars-requires-clause-parser c = record {
+  stack = c.requires.parser.stack;
+  text = begins_empty c.args.begun begun.Bars c.clear.new.self.items c.in-Bars.is c.clear.ensures.items refl;
+  ready = λ _. sym (c.is_full.ensures c.args.heap.now.objects c.requires.parser.stack) ∙ c.if-is_full.false;
+}
+
+pub in_hash-requires-clause-parser : goal.in_hash-requires-clause-parser
+in_hash-requires-clause-parser c = record {
+  stack = c.requires.parser.stack;
+  text = begins_empty c.args.begun begun.Hash c.clear.new.self.items c.in-Hash.is c.clear.ensures.items (refl, omega arith);
+  ready = λ _. sym (c.is_full.ensures c.args.heap.now.objects c.requires.parser.stack) ∙ c.if-is_full.false;
+}
+
+pub in_token-requires-clause-parser : goal.in_token-requires-clause-parser
+in_token-requires-clause-parser c =
+    let k = is_token c.args.begun c.args.rest.now c.requires.begins c.in_default.not-Bars c.in_default.not-Hash in
+    record {
+      stack = c.requires.parser.stack;
+      text = begins_empty c.args.begun begun.Token c.clear.new.self.items k.0 c.clear.ensures.items refl;
+      ready = λ _. sym (c.is_full.ensures c.args.heap.now.objects c.requires.parser.stack) ∙ c.if-is_full.false;
+    }
 
 pub returns-then-is_full-clause-advances : goal.returns-then-is_full-clause-advances
 returns-then-is_full-clause-advances c t h =
