@@ -8,7 +8,27 @@ ghost use Rattle.mw_heap.specs.Lists.{list_object};
 use crate::number::numbers_of;
 use crate::steps::write_steps;
 use crate::walk::complete_proofs;
+use indexmap::IndexSet;
 use mw_heap::{Heap, Memory, Ref};
+
+// The same, over the distinct proofs that these are made of.
+fn write_complete(
+    heap: &Heap,
+    complete: &IndexSet<Ref>,
+    proofs: &[Ref],
+    out: &mut Vec<u8>,
+) -> Result<Vec<u64>, Memory>
+    requires proofs { All (IsIn heap.now.objects) proofs.now }
+    requires complete { All (IsIn heap.now.objects) complete.now.keys }
+    requires distinct { map (object_at heap.now.objects) complete.now.keys ≡ distinct_proofs (list_object heap.now.objects proofs.now) }
+    ensures steps { OnOk result ((text : List ℕ) × StepsWritten (list_object heap.now.objects proofs.now) text × (out.new.items ≡ out.old.items ++ text)) }
+    ensures numbers { IfOk result (λ v. v.items ≡ map (λ r. number_among (distinct_proofs (list_object heap.now.objects proofs.now)) (object_at heap.now.objects r)) proofs.now) }
+    ensures longer { (more : List ℕ) × (out.new.items ≡ out.old.items ++ more) }
+{
+    let numbers = numbers_of(heap, complete, proofs)?;
+    write_steps(heap, complete, out)?;
+    Ok(numbers)
+}
 
 // The same as `flatten`, where after an error part of the steps may stand.
 fn write_all(heap: &Heap, proofs: &[Ref], out: &mut Vec<u8>) -> Result<Vec<u64>, Memory>
@@ -18,9 +38,7 @@ fn write_all(heap: &Heap, proofs: &[Ref], out: &mut Vec<u8>) -> Result<Vec<u64>,
     ensures longer { (more : List ℕ) × (out.new.items ≡ out.old.items ++ more) }
 {
     let complete = complete_proofs(heap, proofs)?;
-    let numbers = numbers_of(heap, &complete, proofs)?;
-    write_steps(heap, &complete, out)?;
-    Ok(numbers)
+    write_complete(heap, &complete, proofs, out)
 }
 
 /// Writes one step for each distinct proof that these proofs are made of, after what `out` has, in the order in which they are complete,

@@ -1,5 +1,5 @@
 //! The walk over what proofs are made of.
-ghost use Rattle.std.specs.Prelude.{◌≡◌, map, All, IfOk, OnOk};
+ghost use Rattle.std.specs.Prelude.{◌≡◌, [], map, All, IfOk, OnOk};
 ghost use Rattle.mw_model.specs.Commands.Subproofs.{proofs_within, distinct_proofs};
 ghost use Rattle.mw_heap.specs.Objects.{object_at, IsIn};
 ghost use Rattle.mw_heap.specs.Lists.{list_object};
@@ -99,6 +99,25 @@ fn complete_proof(
     Ok(())
 }
 
+// Completes what these proofs are made of, where nothing was complete.
+fn complete_each(
+    heap: &Heap,
+    proofs: &[Ref],
+    complete: &mut IndexSet<Ref>,
+    lists: &mut IndexSet<Ref>,
+) -> Result<(), Memory>
+    requires proofs { All (IsIn heap.now.objects) proofs.now }
+    requires none_complete { complete.old.keys ≡ [] }
+    requires no_lists { lists.old.keys ≡ [] }
+    ensures within { OnOk result (All (IsIn heap.now.objects) complete.new.keys) }
+    ensures distinct { OnOk result (map (object_at heap.now.objects) complete.new.keys ≡ distinct_proofs (list_object heap.now.objects proofs.now)) }
+{
+    for p in proofs {
+        complete_proof(heap, *p, complete, lists)?;
+    }
+    Ok(())
+}
+
 /// The distinct proofs that these are made of, in the order in which they are complete. Each distinct proof is entered once, and so is
 /// each distinct cell of a list of proofs.
 pub(crate) fn complete_proofs(heap: &Heap, proofs: &[Ref]) -> Result<IndexSet<Ref>, Memory>
@@ -108,8 +127,6 @@ pub(crate) fn complete_proofs(heap: &Heap, proofs: &[Ref]) -> Result<IndexSet<Re
 {
     let mut complete = IndexSet::new(heap.alloc());
     let mut lists = IndexSet::new(heap.alloc());
-    for p in proofs {
-        complete_proof(heap, *p, &mut complete, &mut lists)?;
-    }
+    complete_each(heap, proofs, &mut complete, &mut lists)?;
     Ok(complete)
 }

@@ -6,6 +6,18 @@ use Rattle.mw_heap.specs.Objects.{object_at}
 use Rattle.mw_flat.proofs.Writing.{one_more}
 use Rattle.mw_flat.proofs.steps.write_steps.Goals as goal
 
+pub returns-in_err-write_step-clause-longer : goal.returns-in_err-write_step-clause-longer
+returns-in_err-write_step-clause-longer c = let h = c.loop-place.invariant in (h.0, h.2)
+
+pub returns-in_err-put_line-clause-longer : goal.returns-in_err-put_line-clause-longer
+returns-in_err-put_line-clause-longer c =
+    let h = c.loop-place.invariant in
+    let more = c.put_line.ensures.longer in
+    (h.0 ++ more.0, more.1 ∙ (ap (λ t. t ++ more.0) h.2 ∙ append_assoc c.args.out.now.items h.0 more.0))
+
+pub returns-clause-longer : goal.returns-clause-longer
+returns-clause-longer c = let h = c.loop-place.invariant in (h.0, h.2)
+
 pub loop-place-preserved : goal.loop-place-preserved
 loop-place-preserved c =
     let os = c.args.heap.now.objects in

@@ -9,7 +9,7 @@ use Rattle.mw_term.proofs.Gathered.{gather-append, gather-all}
 use Rattle.mw_flat.specs.Walk.{is_listed}
 use Rattle.mw_flat.proofs.Listed.{listing}
 use Rattle.mw_flat.proofs.Completing.{each_within-push}
-use Rattle.mw_flat.proofs.walk.complete_proofs.Goals as goal
+use Rattle.mw_flat.proofs.walk.complete_each.Goals as goal
 
 pub loop-p-preserved : goal.loop-p-preserved
 loop-p-preserved c =

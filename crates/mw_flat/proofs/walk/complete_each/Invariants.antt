@@ -5,7 +5,7 @@ use Rattle.mw_heap.specs.Objects.{object_at}
 use Rattle.mw_heap.specs.Lists.{list_object}
 use Rattle.mw_term.specs.Occurrences.{gather}
 use Rattle.mw_flat.specs.Walk.{is_listed, AreComplete}
-use Rattle.mw_flat.proofs.walk.complete_proofs.Given as goal
+use Rattle.mw_flat.proofs.walk.complete_each.Given as goal
 
 abbrev pub invariant-loop-p : goal.invariant-loop-p
 invariant-loop-p l = record {
