@@ -1,32 +1,36 @@
 //! The axioms of both profiles, counted, kept, and one looked at.
+use crate::shared::holds;
 use mw_axioms::{Axioms, build};
-use mw_forms::{boxed, is_in};
-use mw_heap::{Heap, Memory, Profile, Ref, Word};
-use std::test::Fail;
+use mw_forms::read;
+use mw_heap::{Heap, Memory, Profile, Ref};
 
-// Whether an object is X = X.
-fn is_reflexivity(heap: &mut Heap, formula: Ref) -> Result<bool, Memory> {
-    let x = heap.symbol(b"X")?;
-    Ok(is_in(heap, formula) && heap.is_list3(Some(formula), Word::Pequal, Some(x), Some(x)))
+// Whether the axioms of both profiles are as they are due, of which this formula is the first.
+fn are_as_due(one: &Axioms, two: &Axioms, formula: Ref) -> bool {
+    let one = one.as_slice();
+    let two = two.as_slice();
+    [
+        one.len() == 53,
+        two.len() == 60,
+        two.starts_with(one),
+        one.starts_with(&[formula]),
+    ] == [true; 4]
 }
 
-// How many axioms the profiles have, whether those of the first begin those of the second, and whether the first axiom is X = X.
-fn built(heap: &mut Heap) -> Result<(usize, usize, bool, bool), Memory> {
+// Whether the profiles have 53 and 60 axioms, those of the first begin those of the second, and the first axiom is X = X.
+fn builds_both(heap: &mut Heap) -> Result<bool, Memory> {
+    let formula = read(heap, b"(PEQUAL* X X)")?;
     let one = build(heap, Profile::One)?;
     let two = build(heap, Profile::Two)?;
-    let begins = two.as_slice().starts_with(one.as_slice());
-    let is_first = match one.as_slice().first() {
-        Some(formula) => is_reflexivity(heap, *formula)?,
-        None => false,
-    };
-    Ok((one.as_slice().len(), two.as_slice().len(), begins, is_first))
+    Ok(are_as_due(&one, &two, formula))
 }
 
 #[test]
-fn profiles_have_their_axioms(rt: HostRuntime) -> Result<(), Fail> {
-    let mut heap = boxed(rt.alloc())?;
-    assert_eq!(rt; built(&mut heap)?, (53, 60, true, true));
-    Ok(())
+fn profiles_have_their_axioms(rt: HostRuntime) {
+    assert!(rt; holds(rt.alloc(), builds_both));
+}
+
+fn are_kept(axioms: &Axioms, references: &[Ref]) -> bool {
+    axioms.as_slice() == references
 }
 
 // Whether axioms keep the references that they are made from.
@@ -34,12 +38,10 @@ fn keeps_references(heap: &mut Heap) -> Result<bool, Memory> {
     let x = heap.symbol(b"X")?;
     let references = [x, x];
     let axioms = Axioms::from_vec(references.to_vec(heap.alloc())?);
-    Ok(axioms.as_slice() == references.as_slice())
+    Ok(are_kept(&axioms, &references))
 }
 
 #[test]
-fn axioms_keep_their_references(rt: HostRuntime) -> Result<(), Fail> {
-    let mut heap = boxed(rt.alloc())?;
-    assert!(rt; keeps_references(&mut heap)?);
-    Ok(())
+fn axioms_keep_their_references(rt: HostRuntime) {
+    assert!(rt; holds(rt.alloc(), keeps_references));
 }

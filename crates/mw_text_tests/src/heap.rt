@@ -1,10 +1,9 @@
 //! Objects that are kept once, names in their order, and the words that the crates above share.
-use mw_forms::boxed;
+use crate::shared::holds;
 use mw_heap::{Heap, Mark, Memory, Refusal, View, Word, is_bare_name};
-use std::test::Fail;
 
-// What a natural over 2^32 and a pair of it are seen as, whether the pair is kept once, and how many objects stay without it.
-fn keeps_a_pair_once(heap: &mut Heap) -> Result<(bool, bool, bool, usize), Memory> {
+// What a natural over 2^32 and a pair of it are seen as, whether the pair is kept once, and whether one object stays without it.
+fn keeps_a_pair_once(heap: &mut Heap) -> Result<bool, Memory> {
     let large = heap.nat(1 << 100)?;
     let mark = heap.mark();
     let pair = heap.cons(large, large)?;
@@ -13,31 +12,33 @@ fn keeps_a_pair_once(heap: &mut Heap) -> Result<(bool, bool, bool, usize), Memor
     let is_pair = heap.view(pair) == View::Pair(large, large);
     let is_same = heap.same(pair, again);
     heap.cut_back(mark);
-    Ok((is_large, is_pair, is_same, heap.mark().cells()))
+    Ok([is_large, is_pair, is_same, heap.mark().cells() == 1] == [true; 4])
 }
 
 // Whether NIL is found by its name, and made anew after it was forgotten.
-fn has_one_nil(heap: &mut Heap) -> Result<[bool; 4], Memory> {
+fn has_one_nil(heap: &mut Heap) -> Result<bool, Memory> {
     let before = heap.symbol(b"BEFORE")?;
     let nil = heap.nil()?;
     let is_nil = heap.is_nil(Some(nil));
-    let is_named = heap.symbol(b"NIL")? == nil;
+    let is_named = heap.symbol(b"NIL") == Ok(nil);
     heap.cut_back(heap.mark_after(before));
     let other = heap.symbol(b"OTHER")?;
     let again = heap.nil()?;
-    Ok([
-        is_nil,
-        is_named,
-        heap.is_nil(Some(again)),
-        !heap.same(again, other),
-    ])
+    Ok(
+        [
+            is_nil,
+            is_named,
+            heap.is_nil(Some(again)),
+            !heap.same(again, other),
+        ] == [true; 4],
+    )
 }
 
 // Whether a word is found in its place, and by its name after a cut took it away; and whether a heap that has other objects first keeps none.
-fn keeps_the_words(heap: &mut Heap) -> Result<[bool; 6], Memory> {
+fn keeps_the_words(heap: &mut Heap) -> Result<bool, Memory> {
     heap.keep_words()?;
     let quote = heap.word(Word::Quote)?;
-    let is_named = heap.symbol(b"QUOTE")? == quote;
+    let is_named = heap.symbol(b"QUOTE") == Ok(quote);
     let is_word = heap.is_word(Some(quote), Word::Quote);
     let is_other = heap.is_word(Some(quote), Word::Nil);
     let is_nil = heap.is_word(None, Word::Nil);
@@ -46,57 +47,53 @@ fn keeps_the_words(heap: &mut Heap) -> Result<[bool; 6], Memory> {
     let is_again = heap.is_word(Some(again), Word::Quote);
     heap.cut_back(Mark::before(heap.nth(0)));
     heap.nat(1)?;
-    Ok([
-        is_named,
-        is_word,
-        !is_other,
-        is_nil,
-        is_again,
-        heap.keep_words().is_err(),
-    ])
+    Ok(
+        [
+            is_named,
+            is_word,
+            !is_other,
+            is_nil,
+            is_again,
+            heap.keep_words().is_err(),
+        ] == [true; 6],
+    )
 }
 
 // What is said of the symbols CAR and CDR, of which CAR came first.
-fn orders_names(heap: &mut Heap) -> Result<[bool; 7], Memory> {
+fn orders_names(heap: &mut Heap) -> Result<bool, Memory> {
     let car = heap.symbol(b"CAR")?;
     let cdr = heap.symbol(b"CDR")?;
-    Ok([
-        heap.name_of(car) == b"CAR".as_slice(),
-        heap.symbol_less(car, cdr),
-        !heap.symbol_less(car, car),
-        heap.nth(0) == car,
-        heap.text_length(car) == 3,
-        heap.mark_after(cdr) == heap.mark(),
-        Mark::before(cdr) == heap.mark_after(car),
-    ])
+    Ok(
+        [
+            heap.name_of(car) == b"CAR".as_slice(),
+            heap.symbol_less(car, cdr),
+            !heap.symbol_less(car, car),
+            heap.nth(0) == car,
+            heap.text_length(car) == 3,
+            heap.mark_after(cdr) == heap.mark(),
+            Mark::before(cdr) == heap.mark_after(car),
+        ] == [true; 7],
+    )
 }
 
 #[test]
-fn a_pair_is_kept_once(rt: HostRuntime) -> Result<(), Fail> {
-    let mut heap = boxed(rt.alloc())?;
-    assert_eq!(rt; keeps_a_pair_once(&mut heap)?, (true, true, true, 1));
-    Ok(())
+fn a_pair_is_kept_once(rt: HostRuntime) {
+    assert!(rt; holds(rt.alloc(), keeps_a_pair_once));
 }
 
 #[test]
-fn the_words_are_kept(rt: HostRuntime) -> Result<(), Fail> {
-    let mut heap = boxed(rt.alloc())?;
-    assert_eq!(rt; keeps_the_words(&mut heap)?, [true; 6]);
-    Ok(())
+fn the_words_are_kept(rt: HostRuntime) {
+    assert!(rt; holds(rt.alloc(), keeps_the_words));
 }
 
 #[test]
-fn there_is_one_nil(rt: HostRuntime) -> Result<(), Fail> {
-    let mut heap = boxed(rt.alloc())?;
-    assert_eq!(rt; has_one_nil(&mut heap)?, [true; 4]);
-    Ok(())
+fn there_is_one_nil(rt: HostRuntime) {
+    assert!(rt; holds(rt.alloc(), has_one_nil));
 }
 
 #[test]
-fn names_are_ordered(rt: HostRuntime) -> Result<(), Fail> {
-    let mut heap = boxed(rt.alloc())?;
-    assert_eq!(rt; orders_names(&mut heap)?, [true; 7]);
-    Ok(())
+fn names_are_ordered(rt: HostRuntime) {
+    assert!(rt; holds(rt.alloc(), orders_names));
 }
 
 #[test]
@@ -108,6 +105,6 @@ fn some_names_want_no_bars(rt: HostRuntime) {
 
 #[test]
 fn a_refusal_has_its_number_and_word(rt: HostRuntime) {
-    assert_eq!(rt; Refusal::Nil.number(), 12);
-    assert_eq!(rt; Refusal::Nil.word(), "NIL");
+    assert!(rt; Refusal::Nil.number() == 12);
+    assert!(rt; Refusal::Nil.word() == "NIL");
 }

@@ -4,10 +4,10 @@ ghost use Rattle.mw_read.specs.Standing.{IsStanding, IsFree};
 ghost use Rattle.mw_read.specs.Feeding.{IsAwaiting, UnreadFollows};
 ghost use Rattle.mw_read.specs.declared.step.Step.TheVariants as steps;
 
-use mw_forms::{boxed, form, is_in};
+use crate::shared::holds;
+use mw_forms::{read_three, read_two};
 use mw_heap::{Heap, Memory, Ref};
 use mw_read::{Reader, Step, SyntaxKind, shown};
-use std::test::Fail;
 
 const BOOK: &[u8] = b"(a . 1)'b |c d|; after this a label\n12 (#10=(x)#10#) last";
 
@@ -43,8 +43,8 @@ fn read_book(heap: &mut Heap, book: &[u8], size: usize) -> Result<(Vec<Ref>, Ste
     Ok((data, step))
 }
 
-// How many data the book has, the answer after them, and in pieces of how many sizes from 1 to 8 it gives other data or another answer.
-fn reads_in_pieces(heap: &mut Heap) -> Result<(usize, Step, usize), Memory> {
+// Whether the book has six data and then ends, and in pieces of no size from 1 to 8 it gives other data or another answer.
+fn reads_in_pieces(heap: &mut Heap) -> Result<bool, Memory> {
     let (whole, end) = read_book(heap, BOOK, BOOK.len())?;
     let mut others = 0usize;
     for size in 1..9 {
@@ -53,14 +53,12 @@ fn reads_in_pieces(heap: &mut Heap) -> Result<(usize, Step, usize), Memory> {
             others = others.saturating_add(1);
         }
     }
-    Ok((whole.len(), end, others))
+    Ok(whole.len() == 6 && end == Step::End && others == 0)
 }
 
 #[test]
-fn pieces_of_each_size_give_the_same_data(rt: HostRuntime) -> Result<(), Fail> {
-    let mut heap = boxed(rt.alloc())?;
-    assert_eq!(rt; reads_in_pieces(&mut heap)?, (6, Step::End, 0));
-    Ok(())
+fn pieces_of_each_size_give_the_same_data(rt: HostRuntime) {
+    assert!(rt; holds(rt.alloc(), reads_in_pieces));
 }
 
 // The answers to a book that has a fault after its first datum, the last where no more bytes come.
@@ -82,10 +80,8 @@ fn keeps_a_fault(heap: &mut Heap) -> Result<bool, Memory> {
 }
 
 #[test]
-fn a_fault_stays_the_answer(rt: HostRuntime) -> Result<(), Fail> {
-    let mut heap = boxed(rt.alloc())?;
-    assert!(rt; keeps_a_fault(&mut heap)?);
-    Ok(())
+fn a_fault_stays_the_answer(rt: HostRuntime) {
+    assert!(rt; holds(rt.alloc(), keeps_a_fault));
 }
 
 // Whether the first step is the datum AB, which takes two bytes.
@@ -96,34 +92,26 @@ fn takes_a_datum(heap: &mut Heap) -> Result<bool, Memory> {
 }
 
 #[test]
-fn a_step_takes_what_its_datum_takes(rt: HostRuntime) -> Result<(), Fail> {
-    let mut heap = boxed(rt.alloc())?;
-    assert!(rt; takes_a_datum(&mut heap)?);
-    Ok(())
-}
-
-// Whether an event's line shows these.
-fn shows(heap: &Heap, event: Ref, word: Option<Ref>, label: Option<Ref>) -> bool {
-    is_in(heap, event) && shown(heap, event) == (word, label)
+fn a_step_takes_what_its_datum_takes(rt: HostRuntime) {
+    assert!(rt; holds(rt.alloc(), takes_a_datum));
 }
 
 // Whether VERIFY and A are shown of (VERIFY A), PRINT alone of (PRINT A), and nothing of A.
-fn shows_events(heap: &mut Heap) -> Result<[bool; 3], Memory> {
-    let verify = heap.symbol(b"VERIFY")?;
-    let print = heap.symbol(b"PRINT")?;
-    let a = heap.symbol(b"A")?;
-    let labelled = form(heap, b"VERIFY", &[a])?;
-    let printed = form(heap, b"PRINT", &[a])?;
-    Ok([
-        shows(heap, labelled, Some(verify), Some(a)),
-        shows(heap, printed, Some(print), None),
-        shows(heap, a, None, None),
-    ])
+fn shows_events(heap: &mut Heap) -> Result<bool, Memory> {
+    let (labelled, verify, a) = read_three(heap, b"((VERIFY A) VERIFY A)")?;
+    let of_labelled = shown(heap, labelled);
+    let of_atom = shown(heap, a);
+    let (printed, print) = read_two(heap, b"((PRINT A) PRINT)")?;
+    Ok(
+        [
+            of_labelled == (Some(verify), Some(a)),
+            shown(heap, printed) == (Some(print), None),
+            of_atom == (None, None),
+        ] == [true; 3],
+    )
 }
 
 #[test]
-fn an_event_shows_its_word_and_label(rt: HostRuntime) -> Result<(), Fail> {
-    let mut heap = boxed(rt.alloc())?;
-    assert_eq!(rt; shows_events(&mut heap)?, [true; 3]);
-    Ok(())
+fn an_event_shows_its_word_and_label(rt: HostRuntime) {
+    assert!(rt; holds(rt.alloc(), shows_events));
 }

@@ -2,12 +2,10 @@
 ghost use Rattle.std.specs.Prelude.{◌≡◌, true};
 ghost use Rattle.mw_model.specs.Terms.Object.{is_name};
 
-use crate::shared::read;
-use mw_forms::boxed;
-use mw_heap::{Heap, Memory, Ref};
+use mw_forms::{boxed, read};
+use mw_heap::{Heap, Memory};
 use mw_slice::{Picked, Slicer};
 use std::alloc::Global;
-use std::test::Fail;
 
 // A theorem of the function F, another theorem with the same formula, and one whose proof names that formula.
 const EVENTS: [&[u8]; 5] = [
@@ -47,49 +45,54 @@ fn picks(slicer: &Slicer, name: &[u8], places: &[u64]) -> bool
     }
 }
 
-fn boxed_slicer(alloc: Global) -> Result<Box<Slicer>, Memory> {
-    let slicer = Slicer::new(alloc);
-    Ok(Box::new(alloc, slicer)?)
+// What a test answers on a new heap and a new slicer.
+fn on_a_slicer<F: FnOnce(&mut Heap, &mut Slicer) -> Result<bool, Memory>>(
+    alloc: Global,
+    test: F,
+) -> Result<bool, Memory>
+    requires { F.IsAlwaysCallable test }
+{
+    let mut heap = boxed(alloc)?;
+    let mut slicer = Box::new(alloc, Slicer::new(alloc))?;
+    test(&mut heap, &mut slicer)
 }
 
 // Whether each theorem is picked with what it rests on.
-fn picks_each(heap: &mut Heap, slicer: &mut Slicer) -> Result<[bool; 4], Memory> {
+fn picks_each(heap: &mut Heap, slicer: &mut Slicer) -> Result<bool, Memory> {
     add_events(heap, slicer, &EVENTS)?;
-    Ok([
-        picks(slicer, b"A", &[0, 1]),
-        picks(slicer, b"B", &[0, 3]),
-        picks(slicer, b"C", &[0, 1, 4]),
-        picks(slicer, b"F", &[]),
-    ])
+    Ok(
+        [
+            picks(slicer, b"A", &[0, 1]),
+            picks(slicer, b"B", &[0, 3]),
+            picks(slicer, b"C", &[0, 1, 4]),
+            picks(slicer, b"F", &[]),
+        ] == [true; 4],
+    )
 }
 
 #[test]
-fn a_theorem_is_picked_with_what_it_rests_on(rt: HostRuntime) -> Result<(), Fail> {
-    let mut heap = boxed(rt.alloc())?;
-    let mut slicer = boxed_slicer(rt.alloc())?;
-    assert_eq!(rt; picks_each(&mut heap, &mut slicer)?, [true; 4]);
-    Ok(())
+fn a_theorem_is_picked_with_what_it_rests_on(rt: HostRuntime) {
+    assert!(rt; on_a_slicer(rt.alloc(), picks_each) == Ok(true));
 }
 
 // Whether the second profile is picked with a theorem, and all that changes the theory with one after a switch.
-fn picks_switched(heap: &mut Heap, slicer: &mut Slicer) -> Result<[bool; 2], Memory> {
+fn picks_switched(heap: &mut Heap, slicer: &mut Slicer) -> Result<bool, Memory> {
     add_events(heap, slicer, &SWITCHED)?;
-    Ok([
-        picks(slicer, b"A", &[0, 1]),
-        picks(slicer, b"B", &[0, 1, 2, 4]),
-    ])
+    Ok(
+        [
+            picks(slicer, b"A", &[0, 1]),
+            picks(slicer, b"B", &[0, 1, 2, 4]),
+        ] == [true; 2],
+    )
 }
 
 #[test]
-fn after_a_switch_every_change_is_picked(rt: HostRuntime) -> Result<(), Fail> {
-    let mut heap = boxed(rt.alloc())?;
-    let mut slicer = boxed_slicer(rt.alloc())?;
-    assert_eq!(rt; picks_switched(&mut heap, &mut slicer)?, [true; 2]);
-    Ok(())
+fn after_a_switch_every_change_is_picked(rt: HostRuntime) {
+    assert!(rt; on_a_slicer(rt.alloc(), picks_switched) == Ok(true));
 }
 
 // Whether a theorem is there, whether it is gone once it is taken back, and whether the heap of the event before it is then as it was.
-fn takes_back(heap: &mut Heap, slicer: &mut Slicer) -> Result<[bool; 3], Memory> {
+fn takes_back(heap: &mut Heap, slicer: &mut Slicer) -> Result<bool, Memory> {
     let event = read(heap, SWITCHED[0])?;
     slicer.add(heap, event)?;
     let before = slicer.heap(0).mark();
@@ -97,17 +100,16 @@ fn takes_back(heap: &mut Heap, slicer: &mut Slicer) -> Result<[bool; 3], Memory>
     slicer.add(heap, event)?;
     let is_there = picks(slicer, b"A", &[0, 1]);
     slicer.take_back();
-    Ok([
-        is_there,
-        picks(slicer, b"A", &[]),
-        slicer.heap(0).mark() == before,
-    ])
+    Ok(
+        [
+            is_there,
+            picks(slicer, b"A", &[]),
+            slicer.heap(0).mark() == before,
+        ] == [true; 3],
+    )
 }
 
 #[test]
-fn an_event_is_taken_back(rt: HostRuntime) -> Result<(), Fail> {
-    let mut heap = boxed(rt.alloc())?;
-    let mut slicer = boxed_slicer(rt.alloc())?;
-    assert_eq!(rt; takes_back(&mut heap, &mut slicer)?, [true; 3]);
-    Ok(())
+fn an_event_is_taken_back(rt: HostRuntime) {
+    assert!(rt; on_a_slicer(rt.alloc(), takes_back) == Ok(true));
 }

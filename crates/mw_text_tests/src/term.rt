@@ -1,17 +1,26 @@
 //! Arities, marks of terms and formulas, variables, formals and substitutions.
-ghost use Rattle.std.specs.Prelude.{◌≡◌, true};
+ghost use Rattle.std.specs.Prelude.{◌≡◌, ◌≤◌, length, true};
 ghost use Rattle.mw_model.specs.Terms.Object.{is_name};
+ghost use Rattle.mw_heap.specs.Objects.{IsIn};
+ghost use Rattle.mw_term.specs.Marking.{AreMarks};
+ghost use Rattle.mw_term.specs.Parts.{AreSymbols};
 
-use mw_forms::{boxed, equation, form, is_in, list, pair, quoted};
+use crate::shared::holds;
+use mw_forms::{boxed, read_four, read_three, read_two};
 use mw_heap::{Heap, Mark, Memory, Ref, View};
 use mw_term::{Arity, Formals, Marks, is_formula, is_substitution, is_term, mark_terms, vars};
 use std::alloc::Global;
-use std::test::Fail;
 
-// A table of arities in a box, with no functions.
-fn boxed_arity(alloc: Global) -> Result<Box<Arity>, Memory> {
-    let arity = Arity::new(alloc);
-    Ok(Box::new(alloc, arity)?)
+// What a test answers on a new heap and a table of arities with no functions.
+fn on_a_table<F: FnOnce(&mut Heap, &mut Arity) -> Result<bool, Memory>>(
+    alloc: Global,
+    test: F,
+) -> Result<bool, Memory>
+    requires { F.IsAlwaysCallable test }
+{
+    let mut heap = boxed(alloc)?;
+    let mut arity = Box::new(alloc, Arity::new(alloc))?;
+    test(&mut heap, &mut arity)
 }
 
 // Adds a function that the table lacks. The error is memory that is refused, or a function that the table has.
@@ -29,91 +38,70 @@ fn seen(arity: &Arity) -> (usize, Option<u64>, Option<u64>) {
     (arity.len(), arity.lookup(b"CAR"), arity.lookup(b"CDR"))
 }
 
-// What is seen of an empty table after CAR was added, and after it was cut again.
-fn adds_and_cuts(arity: &mut Arity) -> Result<[(usize, Option<u64>, Option<u64>); 2], Memory> {
+// Whether an empty table has CAR alone after it was added, and none after it was cut again.
+fn adds_and_cuts(_: &mut Heap, arity: &mut Arity) -> Result<bool, Memory> {
     add(arity, b"CAR", 1)?;
     let added = seen(arity);
     arity.cut(0);
-    Ok([added, seen(arity)])
+    Ok([added == (1, Some(1), None), seen(arity) == (0, None, None)] == [true; 2])
 }
 
 // Whether the first functions of an empty table are CONS of two arguments and CAR of one, where they were added in this order.
-fn lists_the_oldest_first(arity: &mut Arity) -> Result<[bool; 2], Memory> {
+fn lists_the_oldest_first(_: &mut Heap, arity: &mut Arity) -> Result<bool, Memory> {
     add(arity, b"CONS", 2)?;
     add(arity, b"CAR", 1)?;
     if arity.len() != 2 {
         return Err(Memory);
     }
-    Ok([
-        arity.nth(0) == (b"CONS".as_slice(), 2),
-        arity.nth(1) == (b"CAR".as_slice(), 1),
-    ])
+    Ok(
+        [
+            arity.nth(0) == (b"CONS".as_slice(), 2),
+            arity.nth(1) == (b"CAR".as_slice(), 1),
+        ] == [true; 2],
+    )
 }
 
 #[test]
-fn arities_are_added_and_cut(rt: HostRuntime) -> Result<(), Fail> {
-    let mut arity = boxed_arity(rt.alloc())?;
-    assert_eq!(rt;
-        adds_and_cuts(&mut arity)?,
-        [(1, Some(1), None), (0, None, None)]
-    );
-    Ok(())
+fn arities_are_added_and_cut(rt: HostRuntime) {
+    assert!(rt; on_a_table(rt.alloc(), adds_and_cuts) == Ok(true));
 }
 
 #[test]
-fn arities_are_listed_the_oldest_first(rt: HostRuntime) -> Result<(), Fail> {
-    let mut arity = boxed_arity(rt.alloc())?;
-    assert_eq!(rt; lists_the_oldest_first(&mut arity)?, [true; 2]);
-    Ok(())
+fn arities_are_listed_the_oldest_first(rt: HostRuntime) {
+    assert!(rt; on_a_table(rt.alloc(), lists_the_oldest_first) == Ok(true));
 }
 
-// The table in which CAR takes one argument.
-fn car_arity(alloc: Global) -> Result<Box<Arity>, Memory> {
-    let mut arity = boxed_arity(alloc)?;
-    add(&mut arity, b"CAR", 1)?;
-    Ok(arity)
-}
-
-// The term (CAR X).
-fn call(heap: &mut Heap) -> Result<Ref, Memory> {
-    let x = heap.symbol(b"X")?;
-    form(heap, b"CAR", &[x])
-}
-
-// Whether an object is a term and whether it is a formula.
-fn marked(heap: &Heap, arity: &Arity, x: Ref) -> Result<(bool, bool), Memory> {
-    if !is_in(heap, x) {
-        return Err(Memory);
-    }
+// Whether (CAR X) is a term and no formula, and (CAR X) = (CAR X) a formula and no term, where CAR takes one argument.
+fn marks_both(heap: &mut Heap, arity: &mut Arity) -> Result<bool, Memory> {
+    add(arity, b"CAR", 1)?;
+    let (term, formula) = read_two(heap, b"((CAR X) (PEQUAL* (CAR X) (CAR X)))")?;
     let marks = mark_terms(heap.alloc(), heap, arity, heap.mark())?;
-    Ok((is_term(&marks, x), is_formula(&marks, x)))
-}
-
-// The marks of (CAR X), and of (CAR X) = (CAR X).
-fn marks_both(heap: &mut Heap, arity: &Arity) -> Result<[(bool, bool); 2], Memory> {
-    let term = call(heap)?;
-    let formula = equation(heap, term, term)?;
-    Ok([marked(heap, arity, term)?, marked(heap, arity, formula)?])
+    Ok(
+        [
+            is_term(&marks, term),
+            !is_formula(&marks, term),
+            !is_term(&marks, formula),
+            is_formula(&marks, formula),
+        ] == [true; 4],
+    )
 }
 
 #[test]
-fn terms_and_formulas_are_marked(rt: HostRuntime) -> Result<(), Fail> {
-    let mut heap = boxed(rt.alloc())?;
-    let arity = car_arity(rt.alloc())?;
-    assert_eq!(rt;
-        marks_both(&mut heap, &arity)?,
-        [(true, false), (false, true)]
-    );
-    Ok(())
+fn terms_and_formulas_are_marked(rt: HostRuntime) {
+    assert!(rt; on_a_table(rt.alloc(), marks_both) == Ok(true));
 }
 
-// How many objects are marked up to a mark, then up to the end, up to the mark again, anew up to the end, and with none cut.
-fn extends_and_cuts(heap: &Heap, arity: &Arity, to: Mark) -> Result<[usize; 5], Memory> {
-    if to.cells() > heap.mark().cells() {
-        return Err(Memory);
-    }
-    let mut marks = mark_terms(heap.alloc(), heap, arity, to)?;
-    let first = marks.len();
+// How many objects are marked up to the end, up to the mark again, anew up to the end, and with none cut, where those up to a mark are.
+fn extends_and_cuts(
+    heap: &Heap,
+    arity: &Arity,
+    marks: &mut Marks,
+    to: Mark,
+) -> Result<[usize; 4], Memory>
+    requires marked { AreMarks arity.now heap.now.objects marks.old }
+    requires to { length marks.old ≡ to }
+    requires within { to ≤ length heap.now.objects }
+{
     marks.extend(heap, arity, heap.mark())?;
     let all = marks.len();
     marks.forget(to);
@@ -121,146 +109,121 @@ fn extends_and_cuts(heap: &Heap, arity: &Arity, to: Mark) -> Result<[usize; 5], 
     marks.extend(heap, arity, heap.mark())?;
     let anew = marks.len();
     marks.cut(heap.mark());
-    Ok([first, all, fewer, anew, marks.len()])
+    Ok([all, fewer, anew, marks.len()])
 }
 
-// The same, where the mark is after the first of three objects.
-fn extends_after_the_first(heap: &mut Heap, arity: &Arity) -> Result<[usize; 5], Memory> {
+// Whether one object of three is marked up to a mark after it, and then as many as are due.
+fn extends_after_the_first(heap: &mut Heap, arity: &mut Arity) -> Result<bool, Memory> {
     let first = heap.symbol(b"X")?;
     let to = heap.mark_after(first);
     heap.symbol(b"Y")?;
     heap.symbol(b"Z")?;
-    extends_and_cuts(heap, arity, to)
+    if to.cells() > heap.mark().cells() {
+        return Err(Memory);
+    }
+    let mut marks = mark_terms(heap.alloc(), heap, arity, to)?;
+    Ok(
+        [
+            marks.len() == 1,
+            extends_and_cuts(heap, arity, &mut marks, to) == Ok([3, 1, 3, 3]),
+        ] == [true; 2],
+    )
 }
 
 #[test]
-fn marks_are_extended_and_cut(rt: HostRuntime) -> Result<(), Fail> {
-    let mut heap = boxed(rt.alloc())?;
-    let arity = boxed_arity(rt.alloc())?;
-    assert_eq!(rt;
-        extends_after_the_first(&mut heap, &arity)?,
-        [1, 3, 1, 3, 3]
-    );
-    Ok(())
+fn marks_are_extended_and_cut(rt: HostRuntime) {
+    assert!(rt; on_a_table(rt.alloc(), extends_after_the_first) == Ok(true));
 }
 
 #[test]
 fn no_objects_have_no_marks(rt: HostRuntime) {
-    assert_eq!(rt; Marks::new(rt.alloc()).len(), 0);
+    assert!(rt; Marks::new(rt.alloc()).len() == 0);
 }
 
-// ((LAMBDA (Z) Z) W).
-fn lambda_call(heap: &mut Heap) -> Result<Ref, Memory> {
-    let z = heap.symbol(b"Z")?;
-    let w = heap.symbol(b"W")?;
-    let formals = list(heap, &[z])?;
-    let function = form(heap, b"LAMBDA", &[formals, z])?;
-    list(heap, &[function, w])
-}
-
-// (CONS Y (F X Y (QUOTE 7) ((LAMBDA (Z) Z) W))).
-fn nested_term(heap: &mut Heap) -> Result<Ref, Memory> {
-    let x = heap.symbol(b"X")?;
-    let y = heap.symbol(b"Y")?;
-    let seven = heap.nat(7)?;
-    let constant = quoted(heap, seven)?;
-    let applied = lambda_call(heap)?;
-    let inner = form(heap, b"F", &[x, y, constant, applied])?;
-    form(heap, b"CONS", &[y, inner])
-}
-
-// Whether these are the variables of a term.
-fn has_variables(heap: &Heap, term: Ref, variables: &[Ref]) -> Result<bool, Memory> {
-    if !is_in(heap, term) {
-        return Err(Memory);
-    }
-    let found = vars(heap, term)?;
-    Ok(found.as_slice() == variables)
-}
-
-// Whether the variables of the nested term come in the order in which they first occur.
+// Whether the variables of a nested term come in the order in which they first occur.
 fn orders_variables(heap: &mut Heap) -> Result<bool, Memory> {
-    let term = nested_term(heap)?;
-    let y = heap.symbol(b"Y")?;
-    let x = heap.symbol(b"X")?;
-    let w = heap.symbol(b"W")?;
-    has_variables(heap, term, &[y, x, w])
+    let (term, y, x, w) = read_four(heap, b"((CONS Y (F X Y '7 ((LAMBDA (Z) Z) W))) Y X W)")?;
+    let found = vars(heap, term)?;
+    Ok(found.as_slice() == [y, x, w].as_slice())
 }
 
 #[test]
-fn variables_come_in_order_of_first_occurrence(rt: HostRuntime) -> Result<(), Fail> {
-    let mut heap = boxed(rt.alloc())?;
-    assert!(rt; orders_variables(&mut heap)?);
-    Ok(())
+fn variables_come_in_order_of_first_occurrence(rt: HostRuntime) {
+    assert!(rt; holds(rt.alloc(), orders_variables));
 }
 
-// What is said of the formals in a list: how many there are, whether the symbol x is one of them, and whether they close a term;
-// nothing where it is no list of formals.
-fn formals(
+// Whether this is due to be said of formals: how many there are, whether the symbol x is one of them, and whether they close a term.
+fn are_as_due(
     heap: &Heap,
-    list: Ref,
+    formals: &Formals,
     x: Ref,
     term: Ref,
-) -> Result<Option<(usize, bool, bool)>, Memory> {
-    if !is_in(heap, list) || !is_in(heap, x) || !is_in(heap, term) {
-        return Err(Memory);
-    }
-    let Some(formals) = Formals::of_list(heap, list)? else {
-        return Ok(None);
-    };
+    due: Option<(usize, bool, bool)>,
+) -> Result<bool, Memory>
+    requires x_in { IsIn heap.now.objects x }
+    requires term_in { IsIn heap.now.objects term }
+    requires symbols { AreSymbols heap.now.objects formals.now }
+{
     let is_one = matches!(heap.view(x), View::Symbol) && formals.contains(heap, x);
     let closes = formals.closes(heap, term)?;
-    Ok(Some((formals.as_slice().len(), is_one, closes)))
+    Ok(due == Some((formals.as_slice().len(), is_one, closes)))
 }
 
-// What is said of (X W Y), of (X Y) and of (X X), each with Y and with the nested term, whose variables are Y, X and W.
-fn tells_formals(heap: &mut Heap) -> Result<[Option<(usize, bool, bool)>; 3], Memory> {
-    let term = nested_term(heap)?;
-    let x = heap.symbol(b"X")?;
-    let y = heap.symbol(b"Y")?;
-    let w = heap.symbol(b"W")?;
-    let all = list(heap, &[x, w, y])?;
-    let some = list(heap, &[x, y])?;
-    let twice = list(heap, &[x, x])?;
-    Ok([
-        formals(heap, all, y, term)?,
-        formals(heap, some, y, term)?,
-        formals(heap, twice, y, term)?,
-    ])
-}
-
-#[test]
-fn formals_are_distinct_and_close_terms(rt: HostRuntime) -> Result<(), Fail> {
-    let mut heap = boxed(rt.alloc())?;
-    let due = [Some((3, true, true)), Some((2, true, false)), None];
-    assert_eq!(rt; tells_formals(&mut heap)?, due);
-    Ok(())
-}
-
-// Whether s is a substitution.
-fn is_one(heap: &Heap, arity: &Arity, s: Ref) -> Result<bool, Memory> {
-    if !is_in(heap, s) {
-        return Err(Memory);
+// The same of the formals in a list, where nothing is due of what is no list of formals; a text gives the list, x and the term.
+fn tells_list(
+    heap: &mut Heap,
+    text: &[u8],
+    due: Option<(usize, bool, bool)>,
+) -> Result<bool, Memory> {
+    let (list, x, term) = read_three(heap, text)?;
+    match Formals::of_list(heap, list)? {
+        Some(formals) => are_as_due(heap, &formals, x, term, due),
+        None => Ok(due.is_none()),
     }
-    let marks = mark_terms(heap.alloc(), heap, arity, heap.mark())?;
-    Ok(is_substitution(heap, &marks, s))
 }
 
-// Whether ((X . (CAR X))) is a substitution, and whether (((CAR X) . X)) is.
-fn tells_substitutions(heap: &mut Heap, arity: &Arity) -> Result<(bool, bool), Memory> {
-    let x = heap.symbol(b"X")?;
-    let term = call(heap)?;
-    let forward = pair(heap, x, term)?;
-    let backward = pair(heap, term, x)?;
-    let good = list(heap, &[forward])?;
-    let bad = list(heap, &[backward])?;
-    Ok((is_one(heap, arity, good)?, is_one(heap, arity, bad)?))
+// What is said of (X W Y), of (X Y) and of (X X), each with Y and with a nested term, whose variables are Y, X and W.
+fn tells_formals(heap: &mut Heap) -> Result<bool, Memory> {
+    Ok(
+        [
+            tells_list(
+                heap,
+                b"((X W Y) Y (CONS Y (F X Y '7 ((LAMBDA (Z) Z) W))))",
+                Some((3, true, true)),
+            ),
+            tells_list(
+                heap,
+                b"((X Y) Y (CONS Y (F X Y '7 ((LAMBDA (Z) Z) W))))",
+                Some((2, true, false)),
+            ),
+            tells_list(
+                heap,
+                b"((X X) Y (CONS Y (F X Y '7 ((LAMBDA (Z) Z) W))))",
+                None,
+            ),
+        ] == [Ok(true); 3],
+    )
 }
 
 #[test]
-fn substitutions_have_variables_in_front(rt: HostRuntime) -> Result<(), Fail> {
-    let mut heap = boxed(rt.alloc())?;
-    let arity = car_arity(rt.alloc())?;
-    assert_eq!(rt; tells_substitutions(&mut heap, &arity)?, (true, false));
-    Ok(())
+fn formals_are_distinct_and_close_terms(rt: HostRuntime) {
+    assert!(rt; holds(rt.alloc(), tells_formals));
+}
+
+// Whether ((X . (CAR X))) is a substitution, and (((CAR X) . X)) is none, where CAR takes one argument.
+fn tells_substitutions(heap: &mut Heap, arity: &mut Arity) -> Result<bool, Memory> {
+    add(arity, b"CAR", 1)?;
+    let (good, bad) = read_two(heap, b"(((X . (CAR X))) (((CAR X) . X)))")?;
+    let marks = mark_terms(heap.alloc(), heap, arity, heap.mark())?;
+    Ok(
+        [
+            is_substitution(heap, &marks, good),
+            !is_substitution(heap, &marks, bad),
+        ] == [true; 2],
+    )
+}
+
+#[test]
+fn substitutions_have_variables_in_front(rt: HostRuntime) {
+    assert!(rt; on_a_table(rt.alloc(), tells_substitutions) == Ok(true));
 }
