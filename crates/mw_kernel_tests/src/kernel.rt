@@ -1,51 +1,33 @@
 //! What a kernel shows: a new one, one after an event that is refused, one after a theorem, and one after a switch.
+ghost use Rattle.std.specs.Prelude.{IfOk};
+ghost use Rattle.mw_heap.specs.Objects.{IsIn};
+
 use mw_forms::is_in;
 use mw_heap::{Heap, Memory, Ref, Refusal, View, Word};
 use mw_kernel::{Fate, Kernel};
 use mw_read::{Reader, Step};
 use std::alloc::Global;
-use std::test::Fail;
-
-/// What a kernel shows: how long its lists are, how their newest members begin, and whether the claim of a checker is the one that is due.
-#[derive(Clone, Copy, Debug, PartialEq, Eq)]
-struct Shown {
-    level: u64,
-    has_checker: bool,
-    axioms: usize,
-    newest_axiom_equates: bool,
-    theorems: usize,
-    arities: usize,
-    newest_arity: Option<u128>,
-    claims: bool,
-}
-
-// What the initial theory shows.
-const INITIAL: Shown = Shown {
-    level: 1,
-    has_checker: false,
-    axioms: 53 + 54,
-    newest_axiom_equates: true,
-    theorems: 0,
-    arities: 12 + 54,
-    newest_arity: Some(4),
-    claims: true,
-};
 
 const CLAIM: &[u8] = b"(por* (pequal* (f x axioms thms atbl) 'nil) \
     (pnot* (pequal* (logic.provablep (logic.conclusion x) axioms thms atbl) 'nil)))";
 
-// A new kernel in a box.
-fn boxed_kernel(alloc: Global) -> Result<Box<Kernel>, Memory> {
+// What a test answers on a new kernel.
+fn on_a_kernel<F: FnOnce(&mut Kernel) -> bool>(alloc: Global, test: F) -> Result<bool, Memory>
+    requires { F.IsAlwaysCallable test }
+{
     let kernel = Kernel::new(alloc, 0)?;
-    Ok(Box::new(alloc, kernel)?)
+    let mut kernel = Box::new(alloc, kernel)?;
+    Ok(test(&mut kernel))
 }
 
 // The first datum of a text.
-fn read(kernel: &mut Kernel, text: &[u8]) -> Result<Ref, Memory> {
+fn read(kernel: &mut Kernel, text: &[u8]) -> Result<Ref, Memory>
+    ensures { IfOk result (λ x. IsIn kernel.new.objects x) }
+{
     let mut reader = Reader::new(kernel.heap().alloc());
     let (step, _) = kernel.step(&mut reader, text);
     match step {
-        Step::Datum(datum) => Ok(datum),
+        Step::Datum(datum) if is_in(kernel.heap(), datum) => Ok(datum),
         _ => Err(Memory),
     }
 }
@@ -94,71 +76,68 @@ fn first_number(heap: &Heap, list: Ref) -> Option<u128> {
 // Whether a checker of the name F claims what is due.
 fn claims(kernel: &mut Kernel) -> Result<bool, Memory> {
     let name = read(kernel, b"f ")?;
-    if !is_in(kernel.heap(), name) || !matches!(kernel.heap().view(name), View::Symbol) {
+    if !matches!(kernel.heap().view(name), View::Symbol) {
         return Err(Memory);
     }
     let claim = kernel.claim(name)?;
-    Ok(claim == read(kernel, CLAIM)?)
+    Ok(read(kernel, CLAIM) == Ok(claim))
 }
 
-fn shown_by(kernel: &mut Kernel) -> Result<Shown, Memory> {
+// Whether a kernel shows the initial theory with so many theorems: its level, that it has no checker, how long its lists are, how their
+// newest members begin, and that a checker claims what is due.
+fn shows(kernel: &mut Kernel, theorems: usize) -> Result<bool, Memory> {
     let claims = claims(kernel)?;
-    Ok(Shown {
-        level: kernel.level(),
-        has_checker: kernel.checker().is_some(),
-        axioms: count_members(kernel.heap(), kernel.axioms()),
-        newest_axiom_equates: first_equates(kernel.heap(), kernel.axioms()),
-        theorems: count_members(kernel.heap(), kernel.theorems()),
-        arities: count_members(kernel.heap(), kernel.arity()),
-        newest_arity: first_number(kernel.heap(), kernel.arity()),
-        claims,
-    })
+    let heap = kernel.heap();
+    Ok(
+        [
+            kernel.level() == 1,
+            kernel.checker().is_none(),
+            count_members(heap, kernel.axioms()) == 53 + 54,
+            first_equates(heap, kernel.axioms()),
+            count_members(heap, kernel.theorems()) == theorems,
+            count_members(heap, kernel.arity()) == 12 + 54,
+            first_number(heap, kernel.arity()) == Some(4),
+            claims,
+        ] == [true; 8],
+    )
 }
 
 // The reason for which an event is refused; nothing of one that is accepted.
 fn refusal(kernel: &mut Kernel, event: &[u8]) -> Result<Option<Refusal>, Memory> {
     let event = read(kernel, event)?;
-    if !is_in(kernel.heap(), event) {
-        return Err(Memory);
-    }
     match kernel.event(event)? {
         Fate::Accepted(_) => Ok(None),
         Fate::Refused(refusal) => Ok(Some(refusal)),
     }
 }
 
-// What a kernel shows before an event and after it, and the reason for which the event is refused.
-fn shown_around(
-    kernel: &mut Kernel,
-    event: &[u8],
-) -> Result<(Shown, Option<Refusal>, Shown), Memory> {
-    let before = shown_by(kernel)?;
-    let refusal = refusal(kernel, event)?;
-    Ok((before, refusal, shown_by(kernel)?))
+// Whether an event is refused for this reason, where a kernel shows the initial theory before it, and so many theorems with it after it.
+fn shows_around(kernel: &mut Kernel, event: &[u8], due: Option<Refusal>, theorems: usize) -> bool {
+    [
+        shows(kernel, 0) == Ok(true),
+        refusal(kernel, event) == Ok(due),
+        shows(kernel, theorems) == Ok(true),
+    ] == [true; 3]
+}
+
+fn shows_the_same(kernel: &mut Kernel) -> bool {
+    shows_around(kernel, b"(print)", Some(Refusal::Event), 0)
 }
 
 #[test]
-fn a_refused_event_changes_nothing_that_is_shown(rt: HostRuntime) -> Result<(), Fail> {
-    let mut kernel = boxed_kernel(rt.alloc())?;
-    let due = (INITIAL, Some(Refusal::Event), INITIAL);
-    assert_eq!(rt; shown_around(&mut kernel, b"(print)")?, due);
-    Ok(())
+fn a_refused_event_changes_nothing_that_is_shown(rt: HostRuntime) {
+    assert!(rt; on_a_kernel(rt.alloc(), shows_the_same) == Ok(true));
+}
+
+const REFL: &[u8] = b"(verify refl (pequal* x x) (axiom (pequal* x x)))";
+
+fn shows_a_theorem(kernel: &mut Kernel) -> bool {
+    shows_around(kernel, REFL, None, 1)
 }
 
 #[test]
-fn a_theorem_is_added_to_what_is_shown(rt: HostRuntime) -> Result<(), Fail> {
-    let mut kernel = boxed_kernel(rt.alloc())?;
-    let event = b"(verify refl (pequal* x x) (axiom (pequal* x x)))";
-    let due = (
-        INITIAL,
-        None,
-        Shown {
-            theorems: 1,
-            ..INITIAL
-        },
-    );
-    assert_eq!(rt; shown_around(&mut kernel, event)?, due);
-    Ok(())
+fn a_theorem_is_added_to_what_is_shown(rt: HostRuntime) {
+    assert!(rt; on_a_kernel(rt.alloc(), shows_a_theorem) == Ok(true));
 }
 
 // A function of four formals that always answers NIL, the proof that it may judge, and the switch to it.
@@ -172,15 +151,6 @@ const NEVER_CLAIMS: &[u8] = b"(verify claim \
 
 const SWITCH: &[u8] = b"(switch never)";
 
-// What happens by three events.
-fn refusals(kernel: &mut Kernel, events: [&[u8]; 3]) -> Result<[Option<Refusal>; 3], Memory> {
-    Ok([
-        refusal(kernel, events[0])?,
-        refusal(kernel, events[1])?,
-        refusal(kernel, events[2])?,
-    ])
-}
-
 // Whether the checker has the name NEVER.
 fn is_never(kernel: &Kernel) -> bool {
     match kernel.checker() {
@@ -191,11 +161,18 @@ fn is_never(kernel: &Kernel) -> bool {
     }
 }
 
+// Whether the three events are accepted, and the kernel then shows its checker and level.
+fn switches(kernel: &mut Kernel) -> bool {
+    [
+        refusal(kernel, NEVER) == Ok(None),
+        refusal(kernel, NEVER_CLAIMS) == Ok(None),
+        refusal(kernel, SWITCH) == Ok(None),
+        kernel.level() == 2,
+        is_never(kernel),
+    ] == [true; 5]
+}
+
 #[test]
-fn a_switch_shows_its_checker_and_its_level(rt: HostRuntime) -> Result<(), Fail> {
-    let mut kernel = boxed_kernel(rt.alloc())?;
-    let events: [&[u8]; 3] = [NEVER, NEVER_CLAIMS, SWITCH];
-    assert_eq!(rt; refusals(&mut kernel, events)?, [None, None, None]);
-    assert_eq!(rt; (kernel.level(), is_never(&kernel)), (2, true));
-    Ok(())
+fn a_switch_shows_its_checker_and_its_level(rt: HostRuntime) {
+    assert!(rt; on_a_kernel(rt.alloc(), switches) == Ok(true));
 }
