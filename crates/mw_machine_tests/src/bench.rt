@@ -1,14 +1,14 @@
 //! A run of a term from its compilation to its outcome.
 ghost use Rattle.mw_machine_tests.specs.Tested.{IsSomeTerm, IsPlain};
 
-use crate::terms::{doubled, nested};
+use crate::terms::Made;
 use mw_code::Table;
 use mw_heap::{Heap, Memory, Profile, Ref};
 use mw_machine::{Machine, Outcome};
 use std::alloc::Global;
 
 // What a run comes to: a natural, with the units that are left and the frames that were there at once, or what ended it.
-#[derive(Clone, Copy, Debug, PartialEq, Eq)]
+#[derive(Clone, Copy, PartialEq, Eq)]
 pub(crate) enum Answer {
     Number(u128, u64, u64),
     Steps,
@@ -42,50 +42,23 @@ fn answer_of(
     }
 }
 
-fn nested_in(
+fn answer_in(
     heap: &mut Heap,
     table: &mut Table,
     machine: &mut Machine,
-    depth: usize,
+    made: Made,
     steps: u64,
 ) -> Result<Answer, Memory>
     requires { IsPlain heap.old.objects table.old }
 {
-    let term = nested(heap, depth)?;
+    let term = made.term(heap)?;
     answer_of(heap, table, machine, term, steps)
 }
 
-fn doubled_in(
-    heap: &mut Heap,
-    table: &mut Table,
-    machine: &mut Machine,
-    n: u128,
-    times: usize,
-    steps: u64,
-) -> Result<Answer, Memory>
-    requires { IsPlain heap.old.objects table.old }
-{
-    let term = doubled(heap, n, times)?;
-    answer_of(heap, table, machine, term, steps)
-}
-
-// What (CAR (CAR .. '0)) comes to with so many calls. The error is memory that is refused.
-pub(crate) fn answer_of_nested(alloc: Global, depth: usize, steps: u64) -> Result<Answer, Memory> {
+// What a term comes to in so many steps. The error is memory that is refused.
+pub(crate) fn answer_for(alloc: Global, made: Made, steps: u64) -> Result<Answer, Memory> {
     let mut heap = Box::new(alloc, Heap::new(alloc)?)?;
     let mut table = Box::new(alloc, Table::new(alloc, Profile::Two))?;
     let mut machine = Machine::new(alloc);
-    nested_in(&mut heap, &mut table, &mut machine, depth, steps)
-}
-
-// What n comes to that is doubled so many times. The error is memory that is refused.
-pub(crate) fn answer_of_doubled(
-    alloc: Global,
-    n: u128,
-    times: usize,
-    steps: u64,
-) -> Result<Answer, Memory> {
-    let mut heap = Box::new(alloc, Heap::new(alloc)?)?;
-    let mut table = Box::new(alloc, Table::new(alloc, Profile::Two))?;
-    let mut machine = Machine::new(alloc);
-    doubled_in(&mut heap, &mut table, &mut machine, n, times, steps)
+    answer_in(&mut heap, &mut table, &mut machine, made, steps)
 }

@@ -5,8 +5,30 @@ ghost use Rattle.mw_machine_tests.specs.Tested.{IsSomeTerm};
 
 use mw_heap::{Heap, Memory, Ref};
 
+/// How a term is made.
+#[derive(Clone, Copy)]
+pub(crate) enum Made {
+    /// (CAR (CAR .. '0)), with so many calls.
+    Nested(usize),
+    /// The sum of a natural with itself, and so on, so many times: both sides of a sum are one term.
+    Doubled(u128, usize),
+}
+
+impl Made {
+    // The term. The error is memory that is refused.
+    pub(crate) fn term(self, heap: &mut Heap) -> Result<Ref, Memory>
+        ensures grows { Grows heap.old.objects heap.new.objects }
+        ensures term { IfOk result (IsSomeTerm heap.new.objects) }
+    {
+        match self {
+            Made::Nested(depth) => nested(heap, depth),
+            Made::Doubled(n, times) => doubled(heap, n, times),
+        }
+    }
+}
+
 // The constant 'n. The error is memory that is refused.
-pub(crate) fn constant(heap: &mut Heap, n: u128) -> Result<Ref, Memory>
+fn constant(heap: &mut Heap, n: u128) -> Result<Ref, Memory>
     ensures grows { Grows heap.old.objects heap.new.objects }
     ensures term { IfOk result (IsSomeTerm heap.new.objects) }
 {
@@ -18,7 +40,7 @@ pub(crate) fn constant(heap: &mut Heap, n: u128) -> Result<Ref, Memory>
 }
 
 // The term (CAR x). The error is memory that is refused.
-pub(crate) fn car_of(heap: &mut Heap, x: Ref) -> Result<Ref, Memory>
+fn car_of(heap: &mut Heap, x: Ref) -> Result<Ref, Memory>
     requires { IsSomeTerm heap.old.objects x }
     ensures grows { Grows heap.old.objects heap.new.objects }
     ensures term { IfOk result (IsSomeTerm heap.new.objects) }
@@ -30,7 +52,7 @@ pub(crate) fn car_of(heap: &mut Heap, x: Ref) -> Result<Ref, Memory>
 }
 
 // The term (+ x y). The error is memory that is refused.
-pub(crate) fn sum_of(heap: &mut Heap, x: Ref, y: Ref) -> Result<Ref, Memory>
+fn sum_of(heap: &mut Heap, x: Ref, y: Ref) -> Result<Ref, Memory>
     requires first { IsSomeTerm heap.old.objects x }
     requires second { IsSomeTerm heap.old.objects y }
     ensures grows { Grows heap.old.objects heap.new.objects }
@@ -44,7 +66,7 @@ pub(crate) fn sum_of(heap: &mut Heap, x: Ref, y: Ref) -> Result<Ref, Memory>
 }
 
 // The term (CAR (CAR .. '0)), with so many calls. The error is memory that is refused.
-pub(crate) fn nested(heap: &mut Heap, depth: usize) -> Result<Ref, Memory>
+fn nested(heap: &mut Heap, depth: usize) -> Result<Ref, Memory>
     ensures grows { Grows heap.old.objects heap.new.objects }
     ensures term { IfOk result (IsSomeTerm heap.new.objects) }
 {
@@ -56,7 +78,7 @@ pub(crate) fn nested(heap: &mut Heap, depth: usize) -> Result<Ref, Memory>
 }
 
 // The sum of n with itself, and so on, so many times: both sides of a sum are one term. The error is memory that is refused.
-pub(crate) fn doubled(heap: &mut Heap, n: u128, times: usize) -> Result<Ref, Memory>
+fn doubled(heap: &mut Heap, n: u128, times: usize) -> Result<Ref, Memory>
     ensures grows { Grows heap.old.objects heap.new.objects }
     ensures term { IfOk result (IsSomeTerm heap.new.objects) }
 {
