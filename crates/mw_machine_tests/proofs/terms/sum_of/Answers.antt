@@ -1,7 +1,7 @@
--- What was made is a sum.
+-- What was made is a sum, and the heap grew by each part of it.
 use Rattle.std.proofs.Common.{sym, ap₂, ◌∙◌}
 use Rattle.mw_model.specs.Terms.Object.{Pair}
-use Rattle.mw_heap.proofs.Objects.{Grows-trans, object_at-Grows}
+use Rattle.mw_heap.proofs.Objects.{Grows-trans, IsIn-Grows, object_at-Grows}
 use Rattle.mw_code.proofs.PieceForms.{if_ok-along}
 use Rattle.mw_machine_tests.proofs.Forms.{term-grows, sum-term}
 use Rattle.mw_machine_tests.proofs.terms.sum_of.Goals as goal
@@ -20,3 +20,24 @@ returns-clause-term c =
     let actuals = object_at-Grows third c.symbol.new.self.objects c.in_ok-plus.ensures.grows c.in_ok-actuals.actuals c.in_ok-actuals.ensures.made.0
     ∙ (c.in_ok-actuals.ensures.made.1 ∙ ap₂ Pair (sym (object_at-Grows second end later c.args.x x.1.within)) last) in
     if_ok-along c.cons-3.result (λ r h. sum-term end r c.args.x c.args.y h.0 (term-grows second end later c.args.x x) (term-grows first end grows c.args.y y) (h.1 ∙ ap₂ Pair c.in_ok-plus.ensures.made.1 actuals)) c.cons-3.ensures.made
+
+pub cons-requires-clause-first_in : goal.cons-requires-clause-first_in
+cons-requires-clause-first_in c = IsIn-Grows _ _ c.in_ok-nil.ensures.grows _ c.requires.second.1.within
+
+pub cons-requires-2-clause-first_in : goal.cons-requires-2-clause-first_in
+cons-requires-2-clause-first_in c = IsIn-Grows _ _ (Grows-trans _ _ _ c.in_ok-nil.ensures.grows c.in_ok-last.ensures.grows) _ c.requires.first.1.within
+
+pub cons-requires-3-clause-second_in : goal.cons-requires-3-clause-second_in
+cons-requires-3-clause-second_in c = IsIn-Grows _ _ c.in_ok-plus.ensures.grows _ c.in_ok-actuals.ensures.made.0
+
+pub returns-in_err-last-clause-grows : goal.returns-in_err-last-clause-grows
+returns-in_err-last-clause-grows c = Grows-trans _ _ _ c.in_ok-nil.ensures.grows c.in_err-last.ensures.grows
+
+pub returns-in_err-actuals-clause-grows : goal.returns-in_err-actuals-clause-grows
+returns-in_err-actuals-clause-grows c = Grows-trans _ _ _ c.in_ok-nil.ensures.grows (Grows-trans _ _ _ c.in_ok-last.ensures.grows c.in_err-actuals.ensures.grows)
+
+pub returns-in_err-plus-clause-grows : goal.returns-in_err-plus-clause-grows
+returns-in_err-plus-clause-grows c = Grows-trans _ _ _ c.in_ok-nil.ensures.grows (Grows-trans _ _ _ c.in_ok-last.ensures.grows (Grows-trans _ _ _ c.in_ok-actuals.ensures.grows c.in_err-plus.ensures.grows))
+
+pub returns-clause-grows : goal.returns-clause-grows
+returns-clause-grows c = Grows-trans _ _ _ c.in_ok-nil.ensures.grows (Grows-trans _ _ _ c.in_ok-last.ensures.grows (Grows-trans _ _ _ c.in_ok-actuals.ensures.grows (Grows-trans _ _ _ c.in_ok-plus.ensures.grows c.cons-3.ensures.grows)))
