@@ -25,30 +25,45 @@ fn next_data(heap: &mut Heap, reader: &mut Reader, data: &mut Vec<Ref>) -> Resul
     }
 }
 
-// The data of a book that is fed in pieces of this size, and the answer after them.
-fn read_book(heap: &mut Heap, book: &[u8], size: usize) -> Result<(Vec<Ref>, Step), Memory>
+// The answer after the data of the book, which is fed to a reader in pieces of this size.
+fn feed_book(
+    heap: &mut Heap,
+    reader: &mut Reader,
+    data: &mut Vec<Ref>,
+    size: usize,
+) -> Result<Step, Memory>
+    requires some { 0 < size }
+    requires stands { IsStanding heap.old.objects reader.old.parser }
+    requires awaits { IsAwaiting reader.old }
+    requires free { IsFree reader.old.parser }
+{
+    for piece in BOOK.chunks(size) {
+        reader.feed(piece)?;
+        let step = next_data(heap, reader, data)?;
+        if !matches!(step, Step::More) {
+            return Ok(step);
+        }
+    }
+    reader.finish();
+    next_data(heap, reader, data)
+}
+
+// The data of the book, which is fed in pieces of this size, and the answer after them.
+fn read_book(heap: &mut Heap, size: usize) -> Result<(Vec<Ref>, Step), Memory>
     requires { 0 < size }
 {
     let mut reader = Reader::new(heap.alloc());
     let mut data = Vec::new(heap.alloc());
-    for piece in book.chunks(size) {
-        reader.feed(piece)?;
-        let step = next_data(heap, &mut reader, &mut data)?;
-        if !matches!(step, Step::More) {
-            return Ok((data, step));
-        }
-    }
-    reader.finish();
-    let step = next_data(heap, &mut reader, &mut data)?;
+    let step = feed_book(heap, &mut reader, &mut data, size)?;
     Ok((data, step))
 }
 
 // Whether the book has six data and then ends, and in pieces of no size from 1 to 8 it gives other data or another answer.
 fn reads_in_pieces(heap: &mut Heap) -> Result<bool, Memory> {
-    let (whole, end) = read_book(heap, BOOK, BOOK.len())?;
+    let (whole, end) = read_book(heap, BOOK.len())?;
     let mut others = 0usize;
     for size in 1..9 {
-        let (data, last) = read_book(heap, BOOK, size)?;
+        let (data, last) = read_book(heap, size)?;
         if data.as_slice() != whole.as_slice() || last != end {
             others = others.saturating_add(1);
         }

@@ -1,14 +1,6 @@
--- Between two pieces anything may be fed.
-use Rattle.std.proofs.Common.{[], sym, subst, inl}
-use Rattle.mw_read.specs.Feeding.{UnreadFollows}
+-- A new reader was handed nothing.
+use Rattle.std.proofs.Common.{[]}
 use Rattle.mw_text_tests.proofs.read.read_book.Goals as goal
 
-pub loop-piece-init : goal.loop-piece-init
-loop-piece-init c = record { stands = ([], [], c.new-reader.ensures.stands c.args.heap.now.objects); awaits = c.new-reader.ensures.awaits; free = c.new-reader.ensures.free }
-
-pub feed-requires-clause-follows : goal.feed-requires-clause-follows
-feed-requires-clause-follows c = inl (c.loop-piece.invariant.free _)
-
-pub next_data-requires-clause-follows : goal.next_data-requires-clause-follows
-next_data-requires-clause-follows c =
-    subst UnreadFollows (sym (c.in_ok-feed.ensures.fed c.loop-piece.invariant.stands.2.goes_on)) (inl (c.loop-piece.invariant.free _))
+pub feed_book-requires-clause-stands : goal.feed_book-requires-clause-stands
+feed_book-requires-clause-stands c = ([], [], c.new-reader.ensures.stands c.args.heap.now.objects)

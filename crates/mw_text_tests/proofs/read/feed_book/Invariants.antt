@@ -1,6 +1,6 @@
 use Rattle.mw_read.specs.Standing.{IsStanding, IsFree}
 use Rattle.mw_read.specs.Feeding.{IsAwaiting}
-use Rattle.mw_text_tests.proofs.read.read_book.Given as goal
+use Rattle.mw_text_tests.proofs.read.feed_book.Given as goal
 
 abbrev pub invariant-loop-piece : goal.invariant-loop-piece
 invariant-loop-piece l = record {
