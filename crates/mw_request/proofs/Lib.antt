@@ -1,4 +1,5 @@
 pub mod ExamplesCommands
 pub mod OneDatum
 pub mod Faultless
+pub mod Subcommands
 pub mod Requests

@@ -1,5 +1,5 @@
 -- What a book of one datum is read as.
-use Rattle.std.proofs.Common.{◌≡◌, ℕ, true, false, leb, List, [], ◌∷◌, ◌++◌, length, Option, Some, None, inl, inr, refl, sym, ap, ◌∙◌, append_assoc, append-nil, true≢false}
+use Rattle.std.proofs.Common.{◌≡◌, ℕ, true, List, [], ◌∷◌, ◌++◌, length, Option, Some, None, inl, inr, refl, sym, ap, ◌∙◌, append_assoc, append-nil, true≢false}
 use Rattle.std.proofs.lemmas.Bool.{le-leb as leb-from}
 use Rattle.mw_model.specs.Terms.Object.{Object, Natural, Symbol, Pair}
 use Rattle.mw_model.specs.Texts.Lexemes.{Fault, fault, Ends}

@@ -82,6 +82,11 @@ name_asks name is_check is_trial is_taut is_lower is_slice is_flat is_recheck st
     let seventh = h ∙ named_so name (codes "recheck") in
     λ i. asked_by (record { is_check = first i; is_trial = second i; is_taut = third i; is_lower = fourth i; is_slice = fifth i; is_flat = sixth i; is_recheck = seventh i }) steps events theorem
 
+-- the one that takes a name
+pub slice_asks : (name : Text) (steps events : Option ℕ) (theorem : Option Name) → bytes_eq name (codes "slice") ≡ true → slice_with theorem steps ≡ request_with name steps events theorem
+slice_asks name steps events theorem h =
+    subst (λ n. slice_with theorem steps ≡ request_with n steps events theorem) (same_bytes-eq (codes "slice") name (sym (named_so name (codes "slice")) ∙ h)) refl
+
 pub found_asks : (m : ArgMatches) (name : Text) (found : Found) → Some name ≡ subcommand_name_of m → Some (rows_of found) ≡ option_map (λ p. p.1) (subcommand_rows_of m)
     → (steps events : Option ℕ) (theorem : Option Name) → steps ≡ steps_of (first_value found (codes "steps")) → events ≡ events_of (first_value found (codes "events")) → theorem ≡ name_of (first_value found (codes "name")) → request_with name steps events theorem ≡ request_of (subcommand_rows_of m)
 found_asks m name found named has steps events theorem s e t =

@@ -1,7 +1,8 @@
 //! The words of the command line.
-ghost use Rattle.std.specs.Prelude.{◌≡◌, ℕ, IfOk, option_map};
+ghost use Rattle.std.specs.Prelude.{◌≡◌, ℕ, false, Option, IfOk, option_map, codes};
+ghost use Rattle.std.specs.Str.{bytes_eq};
 ghost use Rattle.clap.specs.Words.{subcommand_rows_of};
-ghost use Rattle.mw_model.specs.Terms.Object.{name_of_bytes};
+ghost use Rattle.mw_model.specs.Terms.Object.{Name, name_of_bytes};
 ghost use Rattle.mw_model.specs.Reports.Request.{Check, Lower, Flat};
 ghost use Rattle.mw_request.specs.Commands as commands;
 ghost use Rattle.mw_request.specs.Arguments as numbers;
@@ -94,6 +95,16 @@ fn request_with(
 ) -> Request
     ensures { meaning_of result ≡ commands.request_with word.now steps events (option_map name_of_bytes name) }
 {
+    if word == "slice" {
+        return slice_with(name, steps);
+    }
+    request_by_numbers(word, steps, events)
+}
+
+// What a subcommand of this name asks for that takes no name, with these numbers.
+fn request_by_numbers(word: &str, steps: Option<u64>, events: Option<u64>) -> Request
+    ensures { (theorem : Option Name) → bytes_eq word.now (codes "slice") ≡ false → meaning_of result ≡ commands.request_with word.now steps events theorem }
+{
     if word == "check" {
         return check_with(steps);
     }
@@ -105,9 +116,6 @@ fn request_with(
     }
     if word == "lower" {
         return lower_with(steps);
-    }
-    if word == "slice" {
-        return slice_with(name, steps);
     }
     if word == "flat" {
         return flat_with(steps);

@@ -1,5 +1,5 @@
 -- What comes first, and second.
-use Rattle.std.proofs.Common.{◌≡◌, ◌∙◌, [], ◌∷◌, None, sym, ap}
+use Rattle.std.proofs.Common.{◌∙◌, [], ◌∷◌, None, sym, ap}
 use Rattle.mw_model.specs.Texts.Grammar.{book}
 use Rattle.mw_heap.proofs.Objects.{IsIn-Grows, object_at-Grows}
 use Rattle.mw_request.proofs.OneDatum.{none_first, none_second, one_read}

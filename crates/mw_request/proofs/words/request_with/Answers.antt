@@ -1,28 +1,11 @@
-use Rattle.std.proofs.Common.{◌∙◌, option_map, refl, sym}
+-- The subcommand that takes the name.
+use Rattle.std.proofs.Common.{◌∙◌, option_map, sym}
 use Rattle.mw_model.specs.Terms.Object.{name_of_bytes}
-use Rattle.mw_request.proofs.Requests.{name_asks}
+use Rattle.mw_request.proofs.Requests.{slice_asks}
 use Rattle.mw_request.proofs.words.request_with.Goals as goal
 
 pub returns-then-eq : goal.returns-then-eq
-returns-then-eq c = c.check_with.ensures ∙ name_asks c.args.word.now _ _ _ _ _ _ _ c.args.steps c.args.events (option_map name_of_bytes c.args.name) (sym c.if-eq.true ∙ c.eq.ensures) refl refl refl refl refl refl
-
-pub returns-then-eq-2 : goal.returns-then-eq-2
-returns-then-eq-2 c = c.trial_with.ensures ∙ name_asks c.args.word.now _ _ _ _ _ _ _ c.args.steps c.args.events (option_map name_of_bytes c.args.name) (sym c.if-eq.false ∙ c.eq.ensures) (sym c.if-eq-2.true ∙ c.eq-2.ensures) refl refl refl refl refl
-
-pub returns-then-eq-3 : goal.returns-then-eq-3
-returns-then-eq-3 c = name_asks c.args.word.now _ _ _ _ _ _ _ c.args.steps c.args.events (option_map name_of_bytes c.args.name) (sym c.if-eq.false ∙ c.eq.ensures) (sym c.if-eq-2.false ∙ c.eq-2.ensures) (sym c.if-eq-3.true ∙ c.eq-3.ensures) refl refl refl refl
-
-pub returns-then-eq-4 : goal.returns-then-eq-4
-returns-then-eq-4 c = c.lower_with.ensures ∙ name_asks c.args.word.now _ _ _ _ _ _ _ c.args.steps c.args.events (option_map name_of_bytes c.args.name) (sym c.if-eq.false ∙ c.eq.ensures) (sym c.if-eq-2.false ∙ c.eq-2.ensures) (sym c.if-eq-3.false ∙ c.eq-3.ensures) (sym c.if-eq-4.true ∙ c.eq-4.ensures) refl refl refl
-
-pub returns-then-eq-5 : goal.returns-then-eq-5
-returns-then-eq-5 c = c.slice_with.ensures ∙ name_asks c.args.word.now _ _ _ _ _ _ _ c.args.steps c.args.events (option_map name_of_bytes c.args.name) (sym c.if-eq.false ∙ c.eq.ensures) (sym c.if-eq-2.false ∙ c.eq-2.ensures) (sym c.if-eq-3.false ∙ c.eq-3.ensures) (sym c.if-eq-4.false ∙ c.eq-4.ensures) (sym c.if-eq-5.true ∙ c.eq-5.ensures) refl refl
-
-pub returns-then-eq-6 : goal.returns-then-eq-6
-returns-then-eq-6 c = c.flat_with.ensures ∙ name_asks c.args.word.now _ _ _ _ _ _ _ c.args.steps c.args.events (option_map name_of_bytes c.args.name) (sym c.if-eq.false ∙ c.eq.ensures) (sym c.if-eq-2.false ∙ c.eq-2.ensures) (sym c.if-eq-3.false ∙ c.eq-3.ensures) (sym c.if-eq-4.false ∙ c.eq-4.ensures) (sym c.if-eq-5.false ∙ c.eq-5.ensures) (sym c.if-eq-6.true ∙ c.eq-6.ensures) refl
-
-pub returns-then-eq-7 : goal.returns-then-eq-7
-returns-then-eq-7 c = name_asks c.args.word.now _ _ _ _ _ _ _ c.args.steps c.args.events (option_map name_of_bytes c.args.name) (sym c.if-eq.false ∙ c.eq.ensures) (sym c.if-eq-2.false ∙ c.eq-2.ensures) (sym c.if-eq-3.false ∙ c.eq-3.ensures) (sym c.if-eq-4.false ∙ c.eq-4.ensures) (sym c.if-eq-5.false ∙ c.eq-5.ensures) (sym c.if-eq-6.false ∙ c.eq-6.ensures) (sym c.if-eq-7.true ∙ c.eq-7.ensures)
+returns-then-eq c = c.slice_with.ensures ∙ slice_asks c.args.word.now c.args.steps c.args.events (option_map name_of_bytes c.args.name) (sym c.eq.ensures ∙ c.if-eq.true)
 
 pub returns : goal.returns
-returns c = name_asks c.args.word.now _ _ _ _ _ _ _ c.args.steps c.args.events (option_map name_of_bytes c.args.name) (sym c.if-eq.false ∙ c.eq.ensures) (sym c.if-eq-2.false ∙ c.eq-2.ensures) (sym c.if-eq-3.false ∙ c.eq-3.ensures) (sym c.if-eq-4.false ∙ c.eq-4.ensures) (sym c.if-eq-5.false ∙ c.eq-5.ensures) (sym c.if-eq-6.false ∙ c.eq-6.ensures) (sym c.if-eq-7.false ∙ c.eq-7.ensures)
+returns c = c.request_by_numbers.ensures (option_map name_of_bytes c.args.name) (sym c.eq.ensures ∙ c.if-eq.false)
