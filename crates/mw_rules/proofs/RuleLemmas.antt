@@ -7,6 +7,7 @@ use Rattle.mw_model.specs.Terms.Object.{Object, Pair, NIL, same_object, is_membe
 use Rattle.mw_model.specs.Terms.Term.{ArityTable}
 use Rattle.mw_model.specs.Values.Primitive.{Profile}
 use Rattle.mw_model.specs.Proofs.Proof as logic
+use Rattle.mw_model.specs.Laws.Rules.{object_is_instance}
 use Rattle.mw_model.proofs.Names.{object_cases, same_object-from}
 use Rattle.mw_heap.specs.Objects.{object_at, IsIn, AreDistinct}
 use Rattle.mw_rules.specs.declared.method.Method.{Method}
@@ -14,7 +15,7 @@ use Rattle.mw_rules.specs.declared.method.Method.TheVariants.{Instantiation, Ind
 use Rattle.mw_rules.specs.Step.{rule_holds}
 use Rattle.mw_heap.specs.Lists.{list_object}
 use Rattle.mw_rules.specs.Methods.{method_of_logic}
-use Rattle.mw_rules.specs.Counted.{rule_of_one, rule_of_two}
+use Rattle.mw_rules.specs.Counted.{rule_of_none, rule_of_one, rule_of_two}
 
 same-references : (os : List Object) (x y : ℕ) → AreDistinct os → IsIn os x → IsIn os y → (x == y) ≡ same_object (object_at os x) (object_at os y)
 same-references os x y d i j = go (cases_eq x y) (object_cases (object_at os x) (object_at os y))
@@ -46,13 +47,33 @@ module _ (ax th : Object) (A : ArityTable) (P : Profile) (c x : Object) where
   more_row Induction i j a b d r = absurd (j refl)
   more_row m i j a b d r = refl
 
+  none_row : (m : Method) → (m ≡ Instantiation → ⊥) → (m ≡ Induction → ⊥) → rule_holds ax th A P (Some (method_of_logic m)) c NIL x ≡ (same_object x NIL && rule_of_none ax th P (method_of_logic m) c)
+  none_row Instantiation i j = absurd (i refl)
+  none_row Induction i j = absurd (j refl)
+  none_row m i j = refl
+
+  -- or that is given some
+  pub rule_with_extras : (m : Method) → (m ≡ Instantiation → ⊥) → (m ≡ Induction → ⊥) → same_object x NIL ≡ false → (cs : Object) → false ≡ rule_holds ax th A P (Some (method_of_logic m)) c cs x
+  rule_with_extras Instantiation i j nil cs = absurd (i refl)
+  rule_with_extras Induction i j nil cs = absurd (j refl)
+  rule_with_extras m i j nil cs = rw nil refl
+
   module _ (os : List Object) where
+    pub instance_of_one : (rs : List ℕ) (a : ℕ) → 1 ≤ length rs → length rs < 2 → a ≡ get_or rs 0 a → object_is_instance A c (object_at os a) x ≡ rule_holds ax th A P (Some logic.Instantiation) c (list_object os rs) x
+    instance_of_one [] a l k e = absurd (omega arith)
+    instance_of_one (y ∷ []) a l k e = ap (λ z. object_is_instance A c (object_at os z) x) e
+    instance_of_one (y ∷ z ∷ rs) a l k e = absurd (omega arith)
+
     pub instance_of_more : (rs : List ℕ) → 2 ≤ length rs → false ≡ rule_holds ax th A P (Some logic.Instantiation) c (list_object os rs) x
     instance_of_more [] l = absurd (omega arith)
     instance_of_more (a ∷ []) l = absurd (omega arith)
     instance_of_more (a ∷ b ∷ rs) l = refl
 
     module _ (m : Method) (i : m ≡ Instantiation → ⊥) (j : m ≡ Induction → ⊥) (nil : same_object x NIL ≡ true) where
+      pub rule_of_none-is : (rs : List ℕ) → length rs < 1 → rule_of_none ax th P (method_of_logic m) c ≡ rule_holds ax th A P (Some (method_of_logic m)) c (list_object os rs) x
+      rule_of_none-is [] k = sym (none_row m i j ∙ ap (λ t. t && rule_of_none ax th P (method_of_logic m) c) nil)
+      rule_of_none-is (y ∷ rs) k = absurd (omega arith)
+
       pub rule_of_one-is : (rs : List ℕ) (a : ℕ) → 1 ≤ length rs → length rs < 2 → a ≡ get_or rs 0 a → rule_of_one (method_of_logic m) c (object_at os a) ≡ rule_holds ax th A P (Some (method_of_logic m)) c (list_object os rs) x
       rule_of_one-is [] a l k e = absurd (omega arith)
       rule_of_one-is (y ∷ []) a l k e = sym (one_row m i j (object_at os y) ∙ (ap (λ t. t && rule_of_one (method_of_logic m) c (object_at os y)) nil ∙ ap (λ z. rule_of_one (method_of_logic m) c (object_at os z)) (sym e)))
