@@ -14,7 +14,7 @@ use Rattle.mw_heap.proofs.Objects.{object_at-Grows}
 use Rattle.mw_proof.specs.Step.{has_proof_shape, subproofs_of}
 use Rattle.mw_proof.specs.Judgments.{HasStepForSome}
 use Rattle.mw_rules.proofs.CallerLemmas.{keys_more}
-use Rattle.mw_proof.specs.Gathered.{IsAmong, AreIn, HasMembers, HasSubproofs, AddsMembers, AddsSubproofs, AreGathered, IsSubproof, IsMadeOf, itself, subproof}
+use Rattle.mw_proof.specs.Gathered.{IsAmong, AreIn, HasMembers, HasSubproofs, HoldsAlone, AddsMembers, AddsSubproofs, AreGathered, IsSubproof, IsMadeOf, itself, subproof}
 
 pub IsAmong-append : (keys more : List ℕ) (x : ℕ) → IsAmong keys x → IsAmong (keys ++ more) x
 IsAmong-append keys more x h = list_any-append (λ y. x == y) keys more ∙ or_left (list_any (λ y. x == y) keys) (list_any (λ y. x == y) more) h
@@ -150,20 +150,23 @@ pub record Gathers (os : List Object) (keys : List ℕ) (proof next : ℕ) : Typ
   pub made_of : (q : ℕ) → IsAmong keys q → IsMadeOf (object_at os proof) (object_at os q)
 
 -- at first there is the proof alone
-pub gathers_starts : (os : List Object) (keys old : List ℕ) (proof : ℕ) → IsIn os proof → old ≡ [] → IsAmong keys proof → ((x : ℕ) → list_any (λ y. x == y) keys ≡ cond (proof == x) true (list_any (λ y. x == y) old)) → Gathers os keys proof 0
-gathers_starts os keys old proof within empty here says = record {
-  here = here;
-  within = λ q h. subst (IsIn os) (only q (proof == q) refl h) within;
-  next_within = omega arith;
-  held = λ i k. absurd (omega (arith, k));
-  made_of = λ q h. subst (λ r. IsMadeOf (object_at os proof) (object_at os r)) (only q (proof == q) refl h) itself;
-}
+pub holds_alone : (keys old : List ℕ) (proof : ℕ) → old ≡ [] → IsAmong keys proof → ((x : ℕ) → list_any (λ y. x == y) keys ≡ cond (proof == x) true (list_any (λ y. x == y) old)) → HoldsAlone keys proof
+holds_alone keys old proof empty here says = (here, λ q h. only q (proof == q) refl h)
   where
     only : (q : ℕ) (t : Bool) → (proof == q) ≡ t → IsAmong keys q → proof ≡ q
     only q true e h = eqb-true proof q e
     only q false e h =
         let none : list_any (λ y. q == y) [] ≡ true = sym (ap (λ s. cond s true (list_any (λ y. q == y) [])) e) ∙ (sym (says q ∙ ap (λ l. cond (proof == q) true (list_any (λ y. q == y) l)) empty) ∙ h) in
         cc
+
+pub gathers_starts : (os : List Object) (keys : List ℕ) (proof : ℕ) → IsIn os proof → HoldsAlone keys proof → Gathers os keys proof 0
+gathers_starts os keys proof within alone = record {
+  here = alone.0;
+  within = λ q h. subst (IsIn os) (alone.1 q h) within;
+  next_within = omega arith;
+  held = λ i k. absurd (omega (arith, k));
+  made_of = λ q h. subst (λ r. IsMadeOf (object_at os proof) (object_at os r)) (alone.1 q h) itself;
+}
 
 module _ (os : List Object) (keys : List ℕ) (proof next : ℕ) (g : Gathers os keys proof next) where
   pub next_in : next < length keys → IsIn os (get_or keys next 0)

@@ -9,6 +9,10 @@ use Rattle.mw_proof.specs.Step.{has_proof_shape, subproofs_of}
 abbrev pub IsAmong : List ℕ → ℕ → Type 0
 IsAmong keys x = list_any (λ y. x == y) keys ≡ true
 
+-- x alone is among the references
+abbrev pub HoldsAlone : List ℕ → ℕ → Type 0
+HoldsAlone keys x = IsAmong keys x × ((q : ℕ) → IsAmong keys q → x ≡ q)
+
 abbrev pub AreIn : List Object → List ℕ → Type 0
 AreIn os keys = (x : ℕ) → IsAmong keys x → IsIn os x
 

@@ -6,6 +6,7 @@ ghost use Rattle.mw_term.specs.Marking.{AreMarks};
 ghost use Rattle.mw_model.specs.Terms.Term.{ArityTable};
 ghost use Rattle.mw_proof.specs.Step.{is_proof};
 ghost use Rattle.mw_heap.specs.Lists.{list_object};
+ghost use Rattle.mw_proof.specs.Gathered.{HoldsAlone};
 ghost use Rattle.mw_proof.specs.Judging.{basis, is_proof_on};
 ghost use Rattle.mw_proof.specs.Judgments.{IsJudgment, Reaches, DecidesEach, HasStepForEach, HasStepForSome};
 
@@ -169,11 +170,39 @@ fn all_hold<L: Ledger>(
 {
     let mut found = IndexSet::new(heap.alloc());
     found.insert(proof)?;
+    all_found_hold(
+        heap, proof, &mut found, axioms, theorems, profile, marks, steps,
+    )
+}
+
+// The same, where the proof alone was found. It stands apart, since each step of the loop costs more to prove where it owns what was
+// found.
+fn all_found_hold<L: Ledger>(
+    heap: &mut Heap,
+    proof: Ref,
+    found: &mut IndexSet<Ref>,
+    axioms: &Known,
+    theorems: &Known,
+    profile: Profile,
+    marks: &Marks,
+    steps: &mut Steps<L>,
+) -> Result<bool, Memory>
+    requires marks { (A : ArityTable) × AreMarks A heap.old.objects marks.now }
+    requires all { length marks.now ≡ length heap.old.objects }
+    requires within { IsIn heap.old.objects proof }
+    requires alone { HoldsAlone found.old.keys proof }
+    requires axioms { All (IsIn heap.old.objects) axioms.now }
+    requires theorems { All (IsIn heap.old.objects) theorems.now }
+    ensures grows { Grows heap.old.objects heap.new.objects }
+    ensures judged { IfOk result (λ b. (A : ArityTable) → AreMarks A heap.old.objects marks.now → b ≡ is_proof_on (basis heap.old.objects A axioms.now theorems.now (profile_of profile)) (object_at heap.old.objects proof)) }
+    ensures each { IfOk result (λ b. b ≡ true → HasStepForEach heap.old.objects proof steps.old steps.new) }
+    ensures most { HasStepForSome heap.old.objects proof steps.old steps.new }
+{
     let mut next = 0;
     while next < found.len() {
         let p = found.as_slice()[next];
         steps.tick();
-        if !decide(heap, p, &mut found, axioms, theorems, profile, marks)? {
+        if !decide(heap, p, found, axioms, theorems, profile, marks)? {
             return Ok(false);
         }
         next += 1;

@@ -6,7 +6,7 @@ use Rattle.mw_heap.specs.Variants.{profile_of}
 use Rattle.mw_term.specs.Marking.{AreMarks}
 use Rattle.mw_proof.specs.Judging.{basis, is_step_on}
 use Rattle.mw_proof.proofs.Gathering.{Gathers}
-use Rattle.mw_proof.proofs.judging.all_hold.Given as goal
+use Rattle.mw_proof.proofs.judging.all_found_hold.Given as goal
 
 abbrev pub invariant-loop-next : goal.invariant-loop-next
 invariant-loop-next g l = record {
