@@ -10,3 +10,4 @@ pub mod Sliced
 pub mod Flattened
 pub mod Rechecked
 pub mod Checks
+pub mod Runs

@@ -2,10 +2,12 @@
 ghost use Rattle.std.specs.Prelude.{◌≡◌, ◌≢◌, ◌⊎◌, true, false, IfSome, IfErr, OnOk, OnErr};
 ghost use Rattle.mw_model.specs.Reports.Request.{Help, Usage};
 ghost use Rattle.mw_request.specs.Commands.{asked, help_text};
+ghost use Rattle.mw_request.specs.Words.{meaning_of};
 ghost use Rattle.mw_port.specs.Ports.{Rises, Takes, HasEnded};
 ghost use Rattle.mw_book.specs.Books.{TakesSome};
 ghost use Rattle.mw_book.specs.Checks.{TrialEnds, SinkCounts, IsHalt};
 ghost use Rattle.mw_book.specs.Statuses.{report_status, reads_book, Reports, ReportsSoFar, IsCutShort};
+ghost use Rattle.mw_book.specs.Runs.{Fulfils, HelpEnds};
 
 use crate::Status;
 use crate::check::{check, trial};
@@ -56,22 +58,30 @@ pub fn run<S: Source, K: Sink>(
 {
     answers_promised();
     match request_of(alloc, words) {
-        Ok(Request::Check { steps }) => check(alloc, steps, source, sink),
-        Ok(Request::Trial { events, steps }) => judge_trial(alloc, events, steps, sink),
-        Ok(Request::Taut) => taut(alloc, source, sink),
-        Ok(Request::Lower { steps }) => lower(alloc, steps, source, sink),
-        Ok(Request::Slice { name, steps }) => slice(alloc, name, steps, source, sink),
-        Ok(Request::Flat { steps }) => flat(alloc, steps, source, sink),
-        Ok(Request::Recheck) => recheck(alloc, source, sink),
-        Ok(Request::Help) => match write_help(sink) {
-            Ok(()) => Status::Help,
-            Err(status) => status,
-        },
-        Ok(Request::Usage) => match write_help(sink) {
-            Ok(()) => Status::Usage,
-            Err(status) => status,
-        },
+        Ok(request) => fulfil(alloc, request, source, sink),
         Err(_) => Status::Memory,
+    }
+}
+
+// Does what the request asks for.
+fn fulfil<S: Source, K: Sink>(
+    alloc: Global,
+    request: Request,
+    source: &mut S,
+    sink: &mut K,
+) -> Status
+    ensures { Fulfils (meaning_of request) result (S.left source.old) (S.left source.new) (K.taken sink.old) (K.taken sink.new) (S.faults source.old) (S.faults source.new) (K.faults sink.old) (K.faults sink.new) }
+{
+    match request {
+        Request::Check { steps } => check(alloc, steps, source, sink),
+        Request::Trial { events, steps } => judge_trial(alloc, events, steps, sink),
+        Request::Taut => taut(alloc, source, sink),
+        Request::Lower { steps } => lower(alloc, steps, source, sink),
+        Request::Slice { name, steps } => slice(alloc, name, steps, source, sink),
+        Request::Flat { steps } => flat(alloc, steps, source, sink),
+        Request::Recheck => recheck(alloc, source, sink),
+        Request::Help => help_then(Status::Help, sink),
+        Request::Usage => help_then(Status::Usage, sink),
     }
 }
 
@@ -82,6 +92,16 @@ fn judge_trial<K: Sink>(alloc: Global, events: u64, steps: u64, sink: &mut K) ->
 {
     let mut source = TrialSource::new(events);
     trial(alloc, steps, &mut source, sink)
+}
+
+// Writes how the program is used, and ends so.
+fn help_then<K: Sink>(status: Status, sink: &mut K) -> Status
+    ensures { HelpEnds status result (K.taken sink.old) (K.taken sink.new) (K.faults sink.old) (K.faults sink.new) }
+{
+    match write_help(sink) {
+        Ok(()) => status,
+        Err(halt) => halt,
+    }
 }
 
 // Writes how the program is used.
