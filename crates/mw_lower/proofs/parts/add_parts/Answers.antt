@@ -5,7 +5,7 @@ use Rattle.mw_model.specs.Terms.Term.{ArityTable}
 use Rattle.mw_heap.specs.Objects.{object_at, IsIn}
 use Rattle.mw_term.specs.Marking.{AreMarks}
 use Rattle.mw_proof.specs.Gathered.{IsAmong, AreIn, AddsSubproofs}
-use Rattle.mw_proof.proofs.Gathering.{gathers_starts, gathers_more, gathered, read_at, next_in, few, IsAmong-at}
+use Rattle.mw_proof.proofs.Gathering.{holds_alone, gathers_starts, gathers_more, gathered, read_at, next_in, few, IsAmong-at}
 use Rattle.mw_lower.specs.Turned.{derived_on}
 use Rattle.mw_lower.proofs.DerivationSteps.{no_derivation}
 use Rattle.mw_lower.proofs.SortedParts.{sorted_parts}
@@ -14,7 +14,8 @@ use Rattle.mw_lower.proofs.parts.add_parts.Goals as goal
 pub loop-next-init : goal.loop-next-init
 loop-next-init c = record {
   same = refl;
-  gathers = gathers_starts c.args.heap.now.objects c.insert.new.self.keys c.args.found.now.keys c.args.proof c.requires.within c.requires.empty c.in_ok-insert.ensures.updates.1 c.in_ok-insert.ensures.updates.0;
+  gathers = gathers_starts c.args.heap.now.objects c.insert.new.self.keys c.args.proof c.requires.within
+      (holds_alone c.insert.new.self.keys c.args.found.now.keys c.args.proof c.requires.empty c.in_ok-insert.ensures.updates.1 c.in_ok-insert.ensures.updates.0);
 }
 
 pub add_subproofs-requires-clause-marks : goal.add_subproofs-requires-clause-marks
