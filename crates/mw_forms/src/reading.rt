@@ -46,7 +46,7 @@ fn two_members(heap: &Heap, x: Ref) -> Result<(Ref, Ref, Ref), Memory>
     Ok((first, second, rest))
 }
 
-/// The first two members of the list that a text gives. The error is memory that is refused, or a text that gives no list of two members.
+/// The first two members of the list that a text gives. The error is memory that is refused, or a text that gives no list of as many.
 pub fn read_two(heap: &mut Heap, text: &[u8]) -> Result<(Ref, Ref), Memory>
     ensures grows { Grows heap.old.objects heap.new.objects }
     ensures within { IfOk result (λ r. IsIn heap.new.objects r.0 × IsIn heap.new.objects r.1) }
@@ -56,8 +56,7 @@ pub fn read_two(heap: &mut Heap, text: &[u8]) -> Result<(Ref, Ref), Memory>
     Ok((first, second))
 }
 
-/// The first three members of the list that a text gives. The error is memory that is refused, or a text that gives no list of three
-/// members.
+/// The first three members of the list that a text gives. The error is memory that is refused, or a text that gives no list of as many.
 pub fn read_three(heap: &mut Heap, text: &[u8]) -> Result<(Ref, Ref, Ref), Memory>
     ensures grows { Grows heap.old.objects heap.new.objects }
     ensures within { IfOk result (λ r. IsIn heap.new.objects r.0 × (IsIn heap.new.objects r.1 × IsIn heap.new.objects r.2)) }
@@ -68,8 +67,7 @@ pub fn read_three(heap: &mut Heap, text: &[u8]) -> Result<(Ref, Ref, Ref), Memor
     Ok((first, second, third))
 }
 
-/// The first four members of the list that a text gives. The error is memory that is refused, or a text that gives no list of four
-/// members.
+/// The first four members of the list that a text gives. The error is memory that is refused, or a text that gives no list of as many.
 pub fn read_four(heap: &mut Heap, text: &[u8]) -> Result<(Ref, Ref, Ref, Ref), Memory>
     ensures grows { Grows heap.old.objects heap.new.objects }
     ensures within { IfOk result (λ r. IsIn heap.new.objects r.0 × (IsIn heap.new.objects r.1 × (IsIn heap.new.objects r.2 × IsIn heap.new.objects r.3))) }

@@ -1,7 +1,7 @@
 //! A run of a term from its compilation to its outcome.
 ghost use Rattle.mw_machine_tests.specs.Tested.{IsSomeTerm, IsPlain};
 
-use crate::terms::Made;
+use crate::terms::Recipe;
 use mw_code::Table;
 use mw_heap::{Heap, Memory, Profile, Ref};
 use mw_machine::{Machine, Outcome};
@@ -46,19 +46,19 @@ fn answer_in(
     heap: &mut Heap,
     table: &mut Table,
     machine: &mut Machine,
-    made: Made,
+    recipe: Recipe,
     steps: u64,
 ) -> Result<Answer, Memory>
     requires { IsPlain heap.old.objects table.old }
 {
-    let term = made.term(heap)?;
+    let term = recipe.term(heap)?;
     answer_of(heap, table, machine, term, steps)
 }
 
 // What a term comes to in so many steps. The error is memory that is refused.
-pub(crate) fn answer_for(alloc: Global, made: Made, steps: u64) -> Result<Answer, Memory> {
+pub(crate) fn answer_for(alloc: Global, recipe: Recipe, steps: u64) -> Result<Answer, Memory> {
     let mut heap = Box::new(alloc, Heap::new(alloc)?)?;
     let mut table = Box::new(alloc, Table::new(alloc, Profile::Two))?;
     let mut machine = Machine::new(alloc);
-    answer_in(&mut heap, &mut table, &mut machine, made, steps)
+    answer_in(&mut heap, &mut table, &mut machine, recipe, steps)
 }

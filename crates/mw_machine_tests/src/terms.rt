@@ -7,22 +7,22 @@ use mw_heap::{Heap, Memory, Ref};
 
 /// How a term is made.
 #[derive(Clone, Copy)]
-pub(crate) enum Made {
+pub(crate) enum Recipe {
     /// (CAR (CAR .. '0)), with so many calls.
     Nested(usize),
     /// The sum of a natural with itself, and so on, so many times: both sides of a sum are one term.
     Doubled(u128, usize),
 }
 
-impl Made {
+impl Recipe {
     // The term. The error is memory that is refused.
     pub(crate) fn term(self, heap: &mut Heap) -> Result<Ref, Memory>
         ensures grows { Grows heap.old.objects heap.new.objects }
         ensures term { IfOk result (IsSomeTerm heap.new.objects) }
     {
         match self {
-            Made::Nested(depth) => nested(heap, depth),
-            Made::Doubled(n, times) => doubled(heap, n, times),
+            Recipe::Nested(depth) => nested(heap, depth),
+            Recipe::Doubled(n, times) => doubled(heap, n, times),
         }
     }
 }

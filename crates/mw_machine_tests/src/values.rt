@@ -1,32 +1,32 @@
 //! What terms come to: a natural, the units that are left and the frames.
 use crate::bench::{Answer, answer_for};
-use crate::terms::Made;
+use crate::terms::Recipe;
 
 #[test]
 fn a_deep_term_takes_one_frame(rt: HostRuntime) {
     assert!(rt;
-        answer_for(rt.alloc(), Made::Nested(100_000), 100_001) == Ok(Answer::Number(0, 1, 1))
+        answer_for(rt.alloc(), Recipe::Nested(100_000), 100_001) == Ok(Answer::Number(0, 1, 1))
     );
 }
 
 #[test]
 fn a_unit_is_missing(rt: HostRuntime) {
-    assert!(rt; answer_for(rt.alloc(), Made::Nested(10), 9) == Ok(Answer::Steps));
+    assert!(rt; answer_for(rt.alloc(), Recipe::Nested(10), 9) == Ok(Answer::Steps));
 }
 
 #[test]
 fn a_sum_is_too_large(rt: HostRuntime) {
-    assert!(rt; answer_for(rt.alloc(), Made::Doubled(1 << 120, 8), 1000) == Ok(Answer::Overflow));
+    assert!(rt; answer_for(rt.alloc(), Recipe::Doubled(1 << 120, 8), 1000) == Ok(Answer::Overflow));
 }
 
 #[test]
 fn a_shared_term_is_run_as_a_tree(rt: HostRuntime) {
     assert!(rt;
-        answer_for(rt.alloc(), Made::Doubled(3, 10), 1023) == Ok(Answer::Number(3072, 0, 1))
+        answer_for(rt.alloc(), Recipe::Doubled(3, 10), 1023) == Ok(Answer::Number(3072, 0, 1))
     );
 }
 
 #[test]
 fn a_term_that_is_shared_too_often_is_refused(rt: HostRuntime) {
-    assert!(rt; answer_for(rt.alloc(), Made::Doubled(3, 60), 1000).is_err());
+    assert!(rt; answer_for(rt.alloc(), Recipe::Doubled(3, 60), 1000).is_err());
 }

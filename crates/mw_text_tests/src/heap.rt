@@ -2,7 +2,7 @@
 use crate::shared::holds;
 use mw_heap::{Heap, Mark, Memory, Refusal, View, Word, is_bare_name};
 
-// What a natural over 2^32 and a pair of it are seen as, whether the pair is kept once, and whether one object stays without it.
+// Whether a natural over 2^32 and a pair of it are seen as what they are, the pair is kept once, and one object stays without it.
 fn keeps_a_pair_once(heap: &mut Heap) -> Result<bool, Memory> {
     let large = heap.nat(1 << 100)?;
     let mark = heap.mark();
@@ -59,7 +59,7 @@ fn keeps_the_words(heap: &mut Heap) -> Result<bool, Memory> {
     )
 }
 
-// What is said of the symbols CAR and CDR, of which CAR came first.
+// Whether of the symbols CAR and CDR, of which CAR came first, what is due is said.
 fn orders_names(heap: &mut Heap) -> Result<bool, Memory> {
     let car = heap.symbol(b"CAR")?;
     let cdr = heap.symbol(b"CDR")?;

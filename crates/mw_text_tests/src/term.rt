@@ -182,7 +182,7 @@ fn tells_list(
     }
 }
 
-// What is said of (X W Y), of (X Y) and of (X X), each with Y and with a nested term, whose variables are Y, X and W.
+// Whether what is due is said of (X W Y), of (X Y) and of (X X), each with Y and with a nested term, whose variables are Y, X and W.
 fn tells_formals(heap: &mut Heap) -> Result<bool, Memory> {
     Ok(
         [
