@@ -1,109 +1,58 @@
 //! Blocks of functions and witnesses: what they owe and add, and why they are refused.
 use crate::shared::{CALLS, arities, nested};
 use mw_define::{Admitted, Draft, admit_block, admit_function, admit_witness};
-use mw_forms::{boxed, read, read_four, read_two};
-use mw_heap::{Heap, Memory, Ref, Refusal};
+use mw_forms::{boxed, read, read_four, read_three, read_two};
+use mw_heap::{Heap, Memory, Ref};
 use mw_term::Arity;
 use std::alloc::{AllocError, Global};
 use std::test::Fail;
 
-// A list of definitions, and the lists of its obligations and of its axioms.
-struct Row {
-    defs: &'static [u8],
-    due: &'static [u8],
-}
+// A list of one definition, and the lists of what it owes and of its axiom.
+const WALK: &str = "\
+(((walk (x) (and x (walk (cdr x))) (cdr x)))
+ ((pequal* (ordp (cdr x)) 't)
+  (por* (pequal* x 'nil) (pequal* (ord< (cdr (cdr x)) (cdr x)) 't)))
+ ((pequal* (walk x) (if x (walk (cdr x)) 'nil))))";
 
-// What walk owes and its axiom.
-const WALK_DUE: &[u8] =
-    b"(((pequal* (ordp (cdr x)) 't) (por* (pequal* x 'nil) (pequal* (ord< (cdr (cdr x)) (cdr x)) 't))) \
-    ((pequal* (walk x) (if x (walk (cdr x)) 'nil))))";
+// Lists of definitions, of what they owe and of their axioms; an empty line stands between two. In the third, equal obligations are owed once,
+// and a call in a test takes no part in what is owed under it.
+const BLOCKS: &str = "\
+(((swap (x y) (list y x) 0))
+ ()
+ ((pequal* (swap x y) (cons y (cons x 'nil)))))
 
-const BLOCKS: [Row; 5] = [
-    Row {
-        defs: b"((swap (x y) (list y x) 0))",
-        due: b"(() ((pequal* (swap x y) (cons y (cons x 'nil)))))",
-    },
-    Row {
-        defs: b"((walk (x) (and x (walk (cdr x))) (cdr x)))",
-        due: WALK_DUE,
-    },
-    Row {
-        defs: b"((even (x) (if (car x) (odd (cdr x)) t) x) (odd (y) (if (car y) (even (cdr y)) nil) (car y)))",
-        due: b"(((pequal* (ordp x) 't) \
-             (por* (pequal* (car x) 'nil) (pequal* (ord< (car (cdr x)) x) 't)) \
-             (pequal* (ordp (car y)) 't) \
-             (por* (pequal* (car y) 'nil) (pequal* (ord< (cdr y) (car y)) 't))) \
-            ((pequal* (even x) (if (car x) (odd (cdr x)) 't)) (pequal* (odd y) (if (car y) (even (cdr y)) 'nil))))",
-    },
-    // equal obligations are owed once; a call in a test takes no part in what is owed under it
-    Row {
-        defs: b"((twice (x) (f (twice (cdr x)) (twice (cdr x))) x))",
-        due: b"(((pequal* (ordp x) 't) (pequal* (ord< (cdr x) x) 't)) \
-            ((pequal* (twice x) (f (twice (cdr x)) (twice (cdr x))))))",
-    },
-    Row {
-        defs: b"((bound (x) (let ((y (car x))) (if (bound y) y (bound (cdr x)))) x))",
-        due: b"(((pequal* (ordp x) 't) (pequal* (ord< (car x) x) 't) (pequal* (ord< (cdr x) x) 't)) \
-            ((pequal* (bound x) ((lambda (y x) (if (bound y) y (bound (cdr x)))) (car x) x))))",
-    },
-];
+(((even (x) (if (car x) (odd (cdr x)) t) x)
+  (odd (y) (if (car y) (even (cdr y)) nil) (car y)))
+ ((pequal* (ordp x) 't)
+  (por* (pequal* (car x) 'nil) (pequal* (ord< (car (cdr x)) x) 't))
+  (pequal* (ordp (car y)) 't)
+  (por* (pequal* (car y) 'nil) (pequal* (ord< (cdr y) (car y)) 't)))
+ ((pequal* (even x) (if (car x) (odd (cdr x)) 't))
+  (pequal* (odd y) (if (car y) (even (cdr y)) 'nil))))
 
-// What is refused, and why.
-struct RefusedRow {
-    defs: &'static [u8],
-    reason: Refusal,
-}
+(((twice (x) (f (twice (cdr x)) (twice (cdr x))) x))
+ ((pequal* (ordp x) 't) (pequal* (ord< (cdr x) x) 't))
+ ((pequal* (twice x) (f (twice (cdr x)) (twice (cdr x))))))
 
-const REFUSED: [RefusedRow; 12] = [
-    RefusedRow {
-        defs: b"()",
-        reason: Refusal::Event,
-    },
-    RefusedRow {
-        defs: b"((g (x) x 0) . h)",
-        reason: Refusal::Event,
-    },
-    RefusedRow {
-        defs: b"((g (x) x))",
-        reason: Refusal::Event,
-    },
-    RefusedRow {
-        defs: b"((f (x x) z 0))",
-        reason: Refusal::Name,
-    },
-    RefusedRow {
-        defs: b"((g (x) x 0) (g (x) x 0))",
-        reason: Refusal::Name,
-    },
-    RefusedRow {
-        defs: b"((list (x) x 0))",
-        reason: Refusal::Name,
-    },
-    RefusedRow {
-        defs: b"((g (x) (f x) 0) (h (t) x 0))",
-        reason: Refusal::Formals,
-    },
-    RefusedRow {
-        defs: b"((g (x) y 0) (h (x) (g x x) 0))",
-        reason: Refusal::Term,
-    },
-    RefusedRow {
-        defs: b"((g (x) (cdr x) (g x)))",
-        reason: Refusal::Term,
-    },
-    RefusedRow {
-        defs: b"((g (x) (g (g x)) 0) (h (x) y 0))",
-        reason: Refusal::Variables,
-    },
-    RefusedRow {
-        defs: b"((g (x) x y))",
-        reason: Refusal::Variables,
-    },
-    RefusedRow {
-        defs: b"((g (x) (let ((y (h x))) (g y)) 0) (h (x) x 0))",
-        reason: Refusal::Nested,
-    },
-];
+(((bound (x) (let ((y (car x))) (if (bound y) y (bound (cdr x)))) x))
+ ((pequal* (ordp x) 't) (pequal* (ord< (car x) x) 't) (pequal* (ord< (cdr x) x) 't))
+ ((pequal* (bound x) ((lambda (y x) (if (bound y) y (bound (cdr x)))) (car x) x))))";
+
+// The reason why definitions are refused, and these, on a line each.
+const REFUSED: &str = "\
+EVENT ()
+EVENT ((g (x) x 0) . h)
+EVENT ((g (x) x))
+NAME ((f (x x) z 0))
+NAME ((g (x) x 0) (g (x) x 0))
+NAME ((list (x) x 0))
+FORMALS ((g (x) (f x) 0) (h (t) x 0))
+TERM ((g (x) y 0) (h (x) (g x x) 0))
+TERM ((g (x) (cdr x) (g x)))
+VARIABLES ((g (x) (g (g x)) 0) (h (x) y 0))
+VARIABLES ((g (x) x y))
+NESTED ((g (x) (let ((y (h x))) (g y)) 0) (h (x) x 0))
+";
 
 // Whether an answer has these obligations.
 fn owes_as_obligations(admitted: &Admitted, obligations: Ref) -> bool {
@@ -121,36 +70,38 @@ fn owes(admitted: &Admitted, obligations: Ref, axioms: Ref) -> bool {
     }
 }
 
-// Whether an answer is this refusal.
-fn refuses(admitted: &Admitted, reason: Refusal) -> bool {
+// Whether an answer is the refusal of this word.
+fn refuses(admitted: &Admitted, reason: &str) -> bool {
     match admitted {
-        Admitted::Refused(found) => *found == reason,
+        Admitted::Refused(found) => found.word() == reason,
         _ => false,
     }
 }
 
-fn is_row_right(heap: &mut Heap, arity: &Arity, row: &Row) -> Result<bool, Memory> {
-    let (obligations, axioms) = read_two(heap, row.due)?;
-    let defs = read(heap, row.defs)?;
+fn is_row_right(heap: &mut Heap, arity: &Arity, row: &str) -> Result<bool, Memory> {
+    let (defs, obligations, axioms) = read_three(heap, row.as_bytes())?;
     Ok(owes(&admit_block(heap, defs, arity), obligations, axioms))
 }
 
 fn are_right(heap: &mut Heap, arity: &Arity) -> Result<bool, Memory> {
-    for row in &BLOCKS {
+    for row in BLOCKS.split("\n\n") {
         if !is_row_right(heap, arity, row)? {
             return Ok(false);
         }
     }
-    Ok(true)
+    is_row_right(heap, arity, WALK)
 }
 
-fn is_refused(heap: &mut Heap, arity: &Arity, row: &RefusedRow) -> Result<bool, Memory> {
-    let defs = read(heap, row.defs)?;
-    Ok(refuses(&admit_block(heap, defs, arity), row.reason))
+fn is_refused(heap: &mut Heap, arity: &Arity, row: &str) -> Result<bool, Memory> {
+    let Some((reason, defs)) = row.split_once(' ') else {
+        return Ok(false);
+    };
+    let defs = read(heap, defs.as_bytes())?;
+    Ok(refuses(&admit_block(heap, defs, arity), reason))
 }
 
 fn are_refused(heap: &mut Heap, arity: &Arity) -> Result<bool, Memory> {
-    for row in &REFUSED {
+    for row in REFUSED.lines() {
         if !is_refused(heap, arity, row)? {
             return Ok(false);
         }
@@ -160,7 +111,7 @@ fn are_refused(heap: &mut Heap, arity: &Arity) -> Result<bool, Memory> {
 
 // Whether a function alone owes what its block of one does.
 fn is_function_right(heap: &mut Heap, arity: &Arity) -> Result<bool, Memory> {
-    let (obligations, axioms) = read_two(heap, WALK_DUE)?;
+    let (_, obligations, axioms) = read_three(heap, WALK.as_bytes())?;
     let (name, formals, body, measure) = read_four(
         heap,
         b"(walk (x) (and x (walk (cdr x))) (cdr x))",

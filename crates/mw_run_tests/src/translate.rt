@@ -1,142 +1,73 @@
 //! Raw terms, and the terms that they expand to.
 use crate::shared::{CALLS, Nest, add, arities, nested};
-use mw_forms::{boxed, read};
+use mw_forms::{boxed, read, read_two};
 use mw_heap::{Heap, Memory};
 use mw_term::Arity;
 use mw_translate::{Expanded, expand, expand_under};
 use std::alloc::{AllocError, Global};
 use std::test::Fail;
 
-// A raw term, and the term that it expands to.
-struct Row {
-    raw: &'static [u8],
-    term: &'static [u8],
-}
+// Lists of a raw term and of the term that it expands to, each on a line.
+const CONNECTIVES: &str = "\
+((and) 't)
+((and x) x)
+((and x y 5) (if x (if y '5 'nil) 'nil))
+((or) 'nil)
+((or x) x)
+((or x y t) (if x x (if y y 't)))
+((cond) 'nil)
+((cond (x 1) (y 2) (t nil)) (if x '1 (if y '2 (if 't 'nil 'nil))))
+((list) 'nil)
+((list x 'x (list y)) (cons x (cons 'x (cons (cons y 'nil) 'nil))))
+((and (or x y) (cond (x (list)))) (if (if x x y) (if x 'nil 'nil) 'nil))
+";
 
-const CONNECTIVES: [Row; 11] = [
-    Row {
-        raw: b"(and)",
-        term: b"'t ",
-    },
-    Row {
-        raw: b"(and x)",
-        term: b"x ",
-    },
-    Row {
-        raw: b"(and x y 5)",
-        term: b"(if x (if y '5 'nil) 'nil)",
-    },
-    Row {
-        raw: b"(or)",
-        term: b"'nil ",
-    },
-    Row {
-        raw: b"(or x)",
-        term: b"x ",
-    },
-    Row {
-        raw: b"(or x y t)",
-        term: b"(if x x (if y y 't))",
-    },
-    Row {
-        raw: b"(cond)",
-        term: b"'nil ",
-    },
-    Row {
-        raw: b"(cond (x 1) (y 2) (t nil))",
-        term: b"(if x '1 (if y '2 (if 't 'nil 'nil)))",
-    },
-    Row {
-        raw: b"(list)",
-        term: b"'nil ",
-    },
-    Row {
-        raw: b"(list x 'x (list y))",
-        term: b"(cons x (cons 'x (cons (cons y 'nil) 'nil)))",
-    },
-    Row {
-        raw: b"(and (or x y) (cond (x (list))))",
-        term: b"(if (if x x y) (if x 'nil 'nil) 'nil)",
-    },
-];
+// The same.
+const PLACES: &str = "\
+((first x) (car x))
+((second x) (car (cdr x)))
+((third x) (car (cdr (cdr x))))
+((fourth x) (car (cdr (cdr (cdr x)))))
+((fifth (list x)) (car (cdr (cdr (cdr (cdr (cons x 'nil)))))))
+";
 
-const PLACES: [Row; 5] = [
-    Row {
-        raw: b"(first x)",
-        term: b"(car x)",
-    },
-    Row {
-        raw: b"(second x)",
-        term: b"(car (cdr x))",
-    },
-    Row {
-        raw: b"(third x)",
-        term: b"(car (cdr (cdr x)))",
-    },
-    Row {
-        raw: b"(fourth x)",
-        term: b"(car (cdr (cdr (cdr x))))",
-    },
-    Row {
-        raw: b"(fifth (list x))",
-        term: b"(car (cdr (cdr (cdr (cdr (cons x 'nil))))))",
-    },
-];
+// The same. The variables of a body that are not bound stand for themselves, in the order in which they first occur.
+const BINDINGS: &str = "\
+((let () (f x y)) ((lambda (x y) (f x y)) x y))
+((let ((x t) (z y)) (f x (f y w))) ((lambda (x z y w) (f x (f y w))) 't y y w))
+((let* () (f x y)) (f x y))
+((let* ((x t)) (f x y)) ((lambda (x y) (f x y)) 't y))
+((let* ((x (car y)) (x (cdr x)) (y x)) (f x y)) ((lambda (x) ((lambda (x) ((lambda (y x) (f x y)) x x)) (cdr x))) (car y)))
+(((lambda (x) (list x)) (and y 1)) ((lambda (x) (cons x 'nil)) (if y '1 'nil)))
+";
 
-// The variables of a body that are not bound stand for themselves, in the order in which they first occur.
-const BINDINGS: [Row; 6] = [
-    Row {
-        raw: b"(let () (f x y))",
-        term: b"((lambda (x y) (f x y)) x y)",
-    },
-    Row {
-        raw: b"(let ((x t) (z y)) (f x (f y w)))",
-        term: b"((lambda (x z y w) (f x (f y w))) 't y y w)",
-    },
-    Row {
-        raw: b"(let* () (f x y))",
-        term: b"(f x y)",
-    },
-    Row {
-        raw: b"(let* ((x t)) (f x y))",
-        term: b"((lambda (x y) (f x y)) 't y)",
-    },
-    Row {
-        raw: b"(let* ((x (car y)) (x (cdr x)) (y x)) (f x y))",
-        term: b"((lambda (x) ((lambda (x) ((lambda (y x) (f x y)) x x)) (cdr x))) (car y))",
-    },
-    Row {
-        raw: b"((lambda (x) (list x)) (and y 1))",
-        term: b"((lambda (x) (cons x 'nil)) (if y '1 'nil))",
-    },
-];
-
-const NO_TERMS: [&[u8]; 24] = [
-    b"(f x)",
-    b"(g x)",
-    b"(if x y)",
-    b"(f x . y)",
-    b"(1 x)",
-    b"(and x . y)",
-    b"(or x (g x))",
-    b"(list . 5)",
-    b"(cond x)",
-    b"(cond (x))",
-    b"(cond (x y z))",
-    b"(cond (x y) . z)",
-    b"(first)",
-    b"(second x y)",
-    b"(fifth x . y)",
-    b"(let ((x 1)))",
-    b"(let ((x 1)) x x)",
-    b"(let ((x 1) (x 2)) x)",
-    b"(let ((t 1)) x)",
-    b"(let* ((x)) x)",
-    b"(let* ((x 1) . y) x)",
-    b"(quote)",
-    b"(quote x y)",
-    b"((lambda (x) (f x y)) x)",
-];
+// What expands to no term, each on a line.
+const NO_TERMS: &str = "\
+(f x)
+(g x)
+(if x y)
+(f x . y)
+(1 x)
+(and x . y)
+(or x (g x))
+(list . 5)
+(cond x)
+(cond (x))
+(cond (x y z))
+(cond (x y) . z)
+(first)
+(second x y)
+(fifth x . y)
+(let ((x 1)))
+(let ((x 1)) x x)
+(let ((x 1) (x 2)) x)
+(let ((t 1)) x)
+(let* ((x)) x)
+(let* ((x 1) . y) x)
+(quote)
+(quote x y)
+((lambda (x) (f x y)) x)
+";
 
 // Whether one text expands to another.
 fn expands_to(heap: &mut Heap, arity: &Arity, raw: &[u8], term: &[u8]) -> Result<bool, Memory> {
@@ -145,21 +76,32 @@ fn expands_to(heap: &mut Heap, arity: &Arity, raw: &[u8], term: &[u8]) -> Result
     Ok(expand(heap, raw, arity, &[]) == Expanded::Term(term))
 }
 
-// Whether each raw text expands to its term.
-fn are_right(heap: &mut Heap, arity: &Arity, rows: &[Row]) -> Result<bool, Memory> {
-    for row in rows {
-        if !expands_to(heap, arity, row.raw, row.term)? {
+// Whether the first member of the list that a text gives expands to the second.
+fn is_right(heap: &mut Heap, arity: &Arity, row: &str) -> Result<bool, Memory> {
+    let (raw, term) = read_two(heap, row.as_bytes())?;
+    Ok(expand(heap, raw, arity, &[]) == Expanded::Term(term))
+}
+
+// Whether that is so for each line.
+fn are_right(heap: &mut Heap, arity: &Arity, rows: &str) -> Result<bool, Memory> {
+    for row in rows.lines() {
+        if !is_right(heap, arity, row)? {
             return Ok(false);
         }
     }
     Ok(true)
 }
 
-// Whether no text expands to a term.
-fn are_no_terms(heap: &mut Heap, arity: &Arity, texts: &[&[u8]]) -> Result<bool, Memory> {
-    for text in texts {
-        let raw = read(heap, text)?;
-        if expand(heap, raw, arity, &[]) != Expanded::NotTerm {
+// Whether a text expands to no term.
+fn is_no_term(heap: &mut Heap, arity: &Arity, text: &str) -> Result<bool, Memory> {
+    let raw = read(heap, text.as_bytes())?;
+    Ok(expand(heap, raw, arity, &[]) == Expanded::NotTerm)
+}
+
+// Whether that is so for each line.
+fn are_no_terms(heap: &mut Heap, arity: &Arity, texts: &str) -> Result<bool, Memory> {
+    for text in texts.lines() {
+        if !is_no_term(heap, arity, text)? {
             return Ok(false);
         }
     }
@@ -319,19 +261,19 @@ fn is_new_called(heap: &mut Heap, arity: &Arity) -> Result<bool, Memory> {
 }
 
 fn connectives_are_conditionals(heap: &mut Heap, arity: &Arity) -> Result<bool, Memory> {
-    are_right(heap, arity, &CONNECTIVES)
+    are_right(heap, arity, CONNECTIVES)
 }
 
 fn places_are_cars_of_cdrs(heap: &mut Heap, arity: &Arity) -> Result<bool, Memory> {
-    are_right(heap, arity, &PLACES)
+    are_right(heap, arity, PLACES)
 }
 
 fn bindings_are_lambda_calls(heap: &mut Heap, arity: &Arity) -> Result<bool, Memory> {
-    are_right(heap, arity, &BINDINGS)
+    are_right(heap, arity, BINDINGS)
 }
 
 fn wrong_shapes_are_no_terms(heap: &mut Heap, arity: &Arity) -> Result<bool, Memory> {
-    are_no_terms(heap, arity, &NO_TERMS)
+    are_no_terms(heap, arity, NO_TERMS)
 }
 
 fn short_forms(heap: &mut Heap, arity: &Arity) -> Result<[bool; 4], Memory> {
