@@ -1,6 +1,8 @@
 //! The book books/app.book, judged after books/ranks.book: appending associates, by induction.
+use crate::row::lines_from;
+use std::alloc::{AllocError, Global};
 
-pub const APP: &str = "; Appending associates, shown by induction; judged after ranks.book.
+const APP: &str = "; Appending associates, shown by induction; judged after ranks.book.
 (define app (x y)
  (if (consp x) (cons (car x) (app (cdr x) y)) y)
  (rank x)
@@ -292,17 +294,27 @@ pub const APP: &str = "; Appending associates, shown by induction; judged after 
   ((rank x) (#2#) ((((x . (cdr x))))))))
 ";
 
-/// What its events do, all of them accepted.
-pub const APPENDED: [&str; 11] = [
-    "DEFINE APP",
-    "VERIFY APP-OF-ATOM",
-    "VERIFY APP-OF-PAIR",
-    "VERIFY APP-SAME",
-    "VERIFY CONS-SAME",
-    "VERIFY APP-OF-CONS",
-    "VERIFY ASSOCIATES-AT-ATOM",
-    "VERIFY LEFT-AT-PAIR",
-    "VERIFY ASSOCIATES-AT-PAIR",
-    "VERIFY MEASURE-FALLS",
-    "VERIFY ASSOCIATES",
-];
+// What its events do, all of them accepted.
+const APPENDED: &str = "\
+DEFINE APP
+VERIFY APP-OF-ATOM
+VERIFY APP-OF-PAIR
+VERIFY APP-SAME
+VERIFY CONS-SAME
+VERIFY APP-OF-CONS
+VERIFY ASSOCIATES-AT-ATOM
+VERIFY LEFT-AT-PAIR
+VERIFY ASSOCIATES-AT-PAIR
+VERIFY MEASURE-FALLS
+VERIFY ASSOCIATES
+";
+
+/// The book books/app.book.
+pub fn app_book() -> &'static str {
+    APP
+}
+
+/// The lines that are due for its events, from this number on.
+pub fn app_lines(alloc: Global, first: u64) -> Result<String, AllocError> {
+    lines_from(alloc, first, APPENDED)
+}

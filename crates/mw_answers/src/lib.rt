@@ -9,13 +9,14 @@ mod shared_proof;
 mod shorthand;
 mod wrap;
 
-pub use app::{APP, APPENDED};
-pub use never::{NEVER, OF_NEVER};
+pub use app::{app_book, app_lines};
+pub use never::{NEVER, OF_NEVER, other_answer_on_never};
 pub use ranks::other_report_after_ranks;
 pub use row::{
-    Answer, Limited, Row, WRITTEN, answer_of_check, answer_of_command, answer_with_faults,
-    expect_empty, lines_from, other_report, other_reports, wrong_answers,
+    Answer, NEXT_ROW, WRITTEN, answer_of_check, answer_of_command, answer_with_faults,
+    expect_empty, limited_parts, other_answer, other_answer_with_faults, other_report,
+    other_reports, wrong_answers,
 };
 pub use shared_proof::book_of_the_proof;
-pub use shorthand::{SHORTENED, SHORTHAND};
-pub use wrap::{WRAP, WRAPPED};
+pub use shorthand::{shorthand_book, shorthand_lines};
+pub use wrap::{wrap_book, wrap_lines};

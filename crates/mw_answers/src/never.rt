@@ -1,4 +1,6 @@
 //! A switch to a checker that accepts nothing.
+use crate::row::other_answer;
+use std::alloc::{AllocError, Global};
 
 /// A checker that accepts nothing, its claim, the switch to it, and a theorem that it does not take.
 pub const NEVER: &str = "(define never (x axioms thms atbl) nil nil ())
@@ -18,3 +20,9 @@ pub const OF_NEVER: &str = "1 DEFINE NEVER accepted
 4 VERIFY REFL refused NIL
 events 4 accepted 3 refused 1 level 2
 ";
+
+/// How `check` ends on it and what it writes, where this is not what is due, and else no text. Each read gives so many bytes at most.
+pub fn other_answer_on_never(alloc: Global, size: usize) -> Result<String, AllocError> {
+    let due = format!(in alloc; "1\n{OF_NEVER}")?;
+    other_answer(alloc, &["check"], NEVER, due.as_str(), size)
+}

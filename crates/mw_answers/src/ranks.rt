@@ -266,6 +266,10 @@ const OF_RANKS: &str = "1 VERIFY SYMMETRY accepted
 13 VERIFY RANK-FALLS accepted
 ";
 
+fn ranks_book() -> &'static str {
+    RANKS
+}
+
 /// The report on the theorems on ranks and these events after them, where these lines do not come after theirs.
 pub fn other_report_after_ranks(
     alloc: Global,
@@ -273,7 +277,9 @@ pub fn other_report_after_ranks(
     events: &str,
     lines: &str,
 ) -> Result<String, AllocError> {
-    let book = format!(in alloc; "{RANKS}{events}")?;
-    let due = format!(in alloc; "{OF_RANKS}{lines}")?;
+    let mut book = String::from_str(alloc, ranks_book())?;
+    book.push_str(events)?;
+    let mut due = String::from_str(alloc, OF_RANKS)?;
+    due.push_str(lines)?;
     other_report(alloc, steps, book.as_str(), due.as_str())
 }

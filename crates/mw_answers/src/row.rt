@@ -1,24 +1,17 @@
 //! A book, what is due for it and what the program answers.
 ghost use Rattle.std.specs.Prelude.{◌≡◌, ◌≢◌, ◌↔◌, [], IsTrue, OnOk, OnErr, string_bytes};
+ghost use Rattle.mw_book.specs.Numbers.{status_number};
 
 use mw_book::{Status, run};
 use mw_port::{MemSink, MemSource, Text};
 use std::alloc::{AllocError, Global};
 use std::test::Fail;
 
-/// A book, the report that is due for it and how the program is to end.
-pub struct Row {
-    pub book: &'static str,
-    pub report: &'static str,
-    pub status: Status,
-}
+/// The line between two rows of a table.
+pub const NEXT_ROW: &str = "----\n";
 
-/// A step limit, a book, and what the report on the book under that limit is to begin with.
-pub struct Limited {
-    pub steps: &'static str,
-    pub book: &'static str,
-    pub report: &'static str,
-}
+// What stands between a row's book and what is due for it.
+const DUE: &str = "\n=> ";
 
 /// What the program wrote and how it ended.
 #[derive(Drop)]
@@ -28,11 +21,11 @@ pub struct Answer {
 }
 
 impl Answer {
-    /// Whether it is just what is due for the row's book: the report, byte by byte, and how the program is to end.
-    pub fn is_due(&self, row: &Row) -> bool
-        ensures { IsTrue result ↔ ((string_bytes self.now.report ≡ row.now.report.now) × (self.now.status ≡ row.now.status)) }
+    /// Whether this is just what is due: the number that the program ended with, and the report, byte by byte.
+    pub fn is_due(&self, number: u8, report: &str) -> bool
+        ensures { IsTrue result ↔ ((string_bytes self.now.report ≡ report.now) × (status_number self.now.status ≡ number)) }
     {
-        self.report.as_str() == row.report && self.status == row.status
+        self.report.as_str() == report && self.status.number() == number
     }
 }
 
@@ -88,29 +81,66 @@ pub fn other_report(
     }
 }
 
-/// The reports that do not begin with what is due.
-pub fn other_reports(alloc: Global, rows: &[Limited]) -> Result<String, AllocError> {
+/// The step limit, the book and what is due of a row: a step limit stands on a line of its own before the book.
+pub fn limited_parts(row: &str) -> Option<(&str, &str, &str)> {
+    let (steps, rest) = row.split_once("\n")?;
+    let (book, due) = rest.split_once(DUE)?;
+    Some((steps, book, due))
+}
+
+/// The reports of `check` that do not begin with what is due, by a table of rows: a row is a step limit on a line of its own, a book, and
+/// after `=> ` what the report on the book under that limit is to begin with. A line `----` stands between two rows, and the newline before
+/// `=> ` belongs to no book.
+pub fn other_reports(alloc: Global, rows: &str) -> Result<String, AllocError> {
     let mut others = String::new(alloc);
-    for row in rows {
-        let other = other_report(alloc, row.steps, row.book, row.report)?;
-        others.push_str(other.as_str())?;
+    for row in rows.split(NEXT_ROW) {
+        add_other_report(&mut others, alloc, row)?;
     }
     Ok(others)
 }
 
-/// The books on which the program, called with these words, does not write and end as is due, each with what it wrote and how it ended,
-/// where each read gives so many bytes at most.
+/// The books on which the program, called with these words, does not write and end as is due, each with how it ended and what it wrote,
+/// where each read gives so many bytes at most. A row of the table is a book, after `=> ` the number that the program is to end with, and
+/// on the lines after it the report that is due. A line `----` stands between two rows, and the newline before `=> ` belongs to no book.
 pub fn wrong_answers(
     alloc: Global,
     words: &[&str],
-    rows: &[Row],
+    rows: &str,
     size: usize,
 ) -> Result<String, AllocError> {
     let mut wrong = String::new(alloc);
-    for row in rows {
-        add_wrong(&mut wrong, alloc, words, row, size)?;
+    for row in rows.split(NEXT_ROW) {
+        add_wrong_answer(&mut wrong, alloc, words, row, size)?;
     }
     Ok(wrong)
+}
+
+/// How the program, called with these words, ends on a book and what it writes, as a row has it, where this is not what is due, and else no
+/// text. Each read gives so many bytes at most.
+pub fn other_answer(
+    alloc: Global,
+    words: &[&str],
+    book: &str,
+    due: &str,
+    size: usize,
+) -> Result<String, AllocError> {
+    let answer = answer_of_command(alloc, words, book, size)?;
+    other_than(alloc, &answer, due)
+}
+
+/// The same where each of the first hundred writes takes three bytes at most, and the reads and the writes of these numbers, counted from 1,
+/// fail.
+pub fn other_answer_with_faults(
+    alloc: Global,
+    words: &[&str],
+    book: &str,
+    due: &str,
+    size: usize,
+    reads: &[u64],
+    writes: &[u64],
+) -> Result<String, AllocError> {
+    let answer = answer_with_faults(alloc, words, book, size, reads, writes)?;
+    other_than(alloc, &answer, due)
 }
 
 /// Fails with this text, which tells what went wrong, exactly when it is not empty.
@@ -125,34 +155,59 @@ pub fn expect_empty(wrong: String) -> Result<(), Fail>
     }
 }
 
-/// The lines of events that are accepted, from this number on: of each its word and its label.
-pub fn lines_from(alloc: Global, first: u64, events: &[&str]) -> Result<String, AllocError> {
+/// The lines of events that are accepted, from this number on: of each its word and its label stand on a line.
+pub(crate) fn lines_from(alloc: Global, first: u64, events: &str) -> Result<String, AllocError> {
     let mut lines = String::new(alloc);
     let mut number = first;
-    for event in events {
+    for event in events.lines() {
         writeln!(lines, "{number} {event} accepted")?;
         number = number.saturating_add(1);
     }
     Ok(lines)
 }
 
-// Puts the book and the answer to it after the text, where the answer of the program, called with these words, is not the one that is due.
-fn add_wrong(
+// The answer, as a row has it, where it is not the one that is due, and else no text.
+fn other_than(alloc: Global, answer: &Answer, due: &str) -> Result<String, AllocError> {
+    let Some((number, report)) = due.split_once("\n") else {
+        return format!(in alloc; "no row: {due}");
+    };
+    let is_due = match number.parse::<u8>() {
+        Ok(number) => answer.is_due(number, report),
+        Err(_) => false,
+    };
+    if is_due {
+        return Ok(String::new(alloc));
+    }
+    let number = answer.status.number();
+    let report = answer.report.as_str();
+    format!(in alloc; "{number}\n{report}")
+}
+
+// Puts a row's book and the answer to it after the text, where it is not the one that is due.
+fn add_wrong_answer(
     wrong: &mut String,
     alloc: Global,
     words: &[&str],
-    row: &Row,
+    row: &str,
     size: usize,
 ) -> Result<(), AllocError> {
-    let answer = answer_of_command(alloc, words, row.book, size)?;
-    if answer.is_due(row) {
+    let Some((book, due)) = row.split_once(DUE) else {
+        return writeln!(wrong, "no row: {row}");
+    };
+    let other = other_answer(alloc, words, book, due, size)?;
+    if other.as_str().is_empty() {
         return Ok(());
     }
-    wrong.push_str(row.book)?;
-    wrong.push_str("\n")?;
-    wrong.push_str(answer.report.as_str())?;
-    let number = answer.status.number();
-    writeln!(wrong, "status {number}")
+    writeln!(wrong, "{book}\n=> {other}")
+}
+
+// Puts the report on a row's book under the row's step limit after the text, where it does not begin with what is due.
+fn add_other_report(others: &mut String, alloc: Global, row: &str) -> Result<(), AllocError> {
+    let Some((steps, book, due)) = limited_parts(row) else {
+        return writeln!(others, "no row: {row}");
+    };
+    let other = other_report(alloc, steps, book, due)?;
+    others.push_str(other.as_str())
 }
 
 // Runs the program, called with these words, on this source and this sink. What it wrote is what the sink has taken then.

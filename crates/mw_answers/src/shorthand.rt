@@ -1,5 +1,8 @@
 //! A second checker, above WRAP.
-pub const SHORTHAND: &str =
+use crate::row::lines_from;
+use std::alloc::{AllocError, Global};
+
+const SHORTHAND: &str =
     "; A checker that takes a shorthand for modus ponens beside all proofs, judged after wrap.book: so the proof of its claim is judged by WRAP.
 (switch wrap)
 
@@ -196,15 +199,26 @@ pub const SHORTHAND: &str =
 (switch short)
 ";
 
-pub const SHORTENED: [&str; 10] = [
-    "SWITCH WRAP",
-    "DEFINE SPELL-OUT",
-    "DEFINE SHORT",
-    "VERIFY SAME",
-    "VERIFY SPELLED",
-    "VERIFY AGREES",
-    "VERIFY VALUE",
-    "VERIFY NO",
-    "VERIFY CLAIM",
-    "SWITCH SHORT",
-];
+// What its events do, all of them accepted.
+const SHORTENED: &str = "\
+SWITCH WRAP
+DEFINE SPELL-OUT
+DEFINE SHORT
+VERIFY SAME
+VERIFY SPELLED
+VERIFY AGREES
+VERIFY VALUE
+VERIFY NO
+VERIFY CLAIM
+SWITCH SHORT
+";
+
+/// The book books/shorthand.book.
+pub fn shorthand_book() -> &'static str {
+    SHORTHAND
+}
+
+/// The lines that are due for its events, from this number on.
+pub fn shorthand_lines(alloc: Global, first: u64) -> Result<String, AllocError> {
+    lines_from(alloc, first, SHORTENED)
+}

@@ -1,6 +1,8 @@
 //! The books books/wrap.book, a checker that runs LOGIC.PROOFP, and books/shorthand.book, judged after it: one that takes a shorthand too.
+use crate::row::lines_from;
+use std::alloc::{AllocError, Global};
 
-pub const WRAP: &str =
+const WRAP: &str =
     "; A checker that runs LOGIC.PROOFP, and the proof of its claim: after this book it can be switched to.
 ;
 ; Most proofs here use three moves. To turn \"A or B\" round, cut it with \"not A or A\". To drop a first part \"not A\" where A is shown, turn
@@ -167,14 +169,24 @@ pub const WRAP: &str =
        #7#)))))))
 ";
 
-/// What its events do, all of them accepted.
-pub const WRAPPED: [&str; 8] = [
-    "DEFINE WRAP",
-    "VERIFY TRANSITIVITY",
-    "VERIFY TRUTH",
-    "VERIFY ITSELF",
-    "VERIFY TEST",
-    "VERIFY WITNESS",
-    "VERIFY PROOFS",
-    "VERIFY CLAIM",
-];
+// What its events do, all of them accepted.
+const WRAPPED: &str = "\
+DEFINE WRAP
+VERIFY TRANSITIVITY
+VERIFY TRUTH
+VERIFY ITSELF
+VERIFY TEST
+VERIFY WITNESS
+VERIFY PROOFS
+VERIFY CLAIM
+";
+
+/// The book books/wrap.book.
+pub fn wrap_book() -> &'static str {
+    WRAP
+}
+
+/// The lines that are due for its events, from this number on.
+pub fn wrap_lines(alloc: Global, first: u64) -> Result<String, AllocError> {
+    lines_from(alloc, first, WRAPPED)
+}

@@ -1,6 +1,5 @@
 //! What each command has written where a read or a write fails.
-use mw_answers::{answer_with_faults, expect_empty};
-use mw_book::Status;
+use mw_answers::{expect_empty, other_answer_with_faults};
 use std::alloc::{AllocError, Global};
 use std::test::Fail;
 
@@ -11,9 +10,9 @@ const READ: usize = 7;
 struct Cut {
     words: &'static [&'static str],
     book: &'static str,
-    // what is written where the third read fails
+    // the answer where the third read fails
     read: &'static str,
-    // the number of the write that fails, and what is written then
+    // the number of the write that fails, and the answer then
     write: u64,
     written: &'static str,
 }
@@ -22,98 +21,61 @@ const CUTS: [Cut; 5] = [
     Cut {
         words: &["taut"],
         book: "(a) (b (pequal* x y)) 7",
-        read: "; 1 A SHAPE\n",
+        read: "4\n; 1 A SHAPE\n",
         write: 3,
-        written: "; 1 A ",
+        written: "5\n; 1 A ",
     },
     Cut {
         words: &["lower"],
         book: "(print a) (print b) (shout)",
-        read: "(PRINT A)\n",
+        read: "4\n(PRINT A)\n",
         write: 3,
-        written: "(PRINT",
+        written: "5\n(PRINT",
     },
     Cut {
         words: &["slice", "use"],
         book: "(verify use (pequal* x x) (axiom (pequal* x x)))",
-        read: "",
+        read: "4\n",
         write: 2,
-        written: "(VE",
+        written: "5\n(VE",
     },
     Cut {
         words: &["flat"],
         book: "(profile 2) (print b) (shout)",
-        read: "(PROFILE 2)\n",
+        read: "4\n(PROFILE 2)\n",
         write: 3,
-        written: "(PROFI",
+        written: "5\n(PROFI",
     },
     Cut {
         words: &["recheck"],
         book: "(profile 2) (eval 1) (shout)",
-        read: "1 PROFILE - yes\n",
+        read: "4\n1 PROFILE - yes\n",
         write: 3,
-        written: "1 PROF",
+        written: "5\n1 PROF",
     },
 ];
 
-// Puts the book after the text where a command does not end so, or did not write just this, with these reads and writes failing.
-fn add_wrong(
-    wrong: &mut String,
-    alloc: Global,
-    cut: &Cut,
-    reads: &[u64],
-    writes: &[u64],
-    status: Status,
-    due: &str,
-) -> Result<(), AllocError> {
-    let answer = answer_with_faults(alloc, cut.words, cut.book, READ, reads, writes)?;
-    if answer.status == status && answer.report.as_str() == due {
-        return Ok(());
-    }
-    wrong.push_str(cut.book)
+// What a command writes where the third read fails, and where its write of that number does, if it is not what is due.
+fn other_at_a_read(alloc: Global, cut: &Cut) -> Result<String, AllocError> {
+    other_answer_with_faults(alloc, cut.words, cut.book, cut.read, READ, &[3], &[])
 }
 
-// The books of which something else is written where the third read fails.
-fn wrong_at_a_read(alloc: Global) -> Result<String, AllocError> {
-    let mut wrong = String::new(alloc);
-    for cut in &CUTS {
-        add_wrong(
-            &mut wrong,
-            alloc,
-            cut,
-            &[3],
-            &[],
-            Status::ReadFault,
-            cut.read,
-        )?;
-    }
-    Ok(wrong)
+fn other_at_a_write(alloc: Global, cut: &Cut) -> Result<String, AllocError> {
+    let writes = [cut.write];
+    other_answer_with_faults(alloc, cut.words, cut.book, cut.written, READ, &[], &writes)
 }
 
-// The books of which something else is written where a write fails.
-fn wrong_at_a_write(alloc: Global) -> Result<String, AllocError> {
+// The same of all commands.
+fn wrong_with_faults(alloc: Global) -> Result<String, AllocError> {
     let mut wrong = String::new(alloc);
     for cut in &CUTS {
-        let writes = [cut.write];
-        add_wrong(
-            &mut wrong,
-            alloc,
-            cut,
-            &[],
-            &writes,
-            Status::WriteFault,
-            cut.written,
-        )?;
+        wrong.push_str(other_at_a_read(alloc, cut)?.as_str())?;
+        wrong.push_str(other_at_a_write(alloc, cut)?.as_str())?;
     }
     Ok(wrong)
 }
 
 #[test]
-fn what_was_written_first_stays_where_a_read_fails(rt: HostRuntime) -> Result<(), Fail> {
-    expect_empty(wrong_at_a_read(rt.alloc())?)
-}
-
-#[test]
-fn what_was_written_first_stays_where_a_write_fails(rt: HostRuntime) -> Result<(), Fail> {
-    expect_empty(wrong_at_a_write(rt.alloc())?)
+fn what_was_written_first_stays_where_a_read_or_a_write_fails(rt: HostRuntime) -> Result<(), Fail> {
+    expect_empty(wrong_with_faults(rt.alloc())?)
 }

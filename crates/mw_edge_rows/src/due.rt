@@ -28,32 +28,42 @@ pub(crate) fn lines_within(
     Ok(lines)
 }
 
-/// What is due for the book that is cut there. A datum that is cut inside is not complete: it is a list.
-pub(crate) fn due_at(alloc: Global, data: &[Datum], cut: usize) -> Result<Answer, AllocError> {
+// Whether one of the data begins before this place and ends after it.
+fn is_inside(data: &[Datum], place: usize) -> bool {
+    for datum in data {
+        if datum.begins < place && place < datum.ends {
+            return true;
+        }
+    }
+    false
+}
+
+// How many of the data that end within so many bytes are accepted and how many are refused, and the level after them.
+fn count_within(data: &[Datum], bytes: usize) -> (u64, u64, u64) {
+    let (mut accepted, mut refused, mut level) = (0_u64, 0_u64, 1);
+    for datum in data {
+        if datum.ends <= bytes {
+            level = datum.level;
+            if datum.accepted {
+                accepted = accepted.saturating_add(1);
+            } else {
+                refused = refused.saturating_add(1);
+            }
+        }
+    }
+    (accepted, refused, level)
+}
+
+// What is due for the book that is cut there. A datum that is cut inside is not complete: it is a list.
+fn due_at(alloc: Global, data: &[Datum], cut: usize) -> Result<Answer, AllocError> {
     let mut report = lines_within(alloc, data, cut)?;
-    if data
-        .iter()
-        .any(|datum| datum.begins < cut && cut < datum.ends)
-    {
+    if is_inside(data, cut) {
         writeln!(report, "syntax END at {cut}")?;
         let status = Status::Syntax(SyntaxKind::End, cut as u64);
         return Ok(Answer { report, status });
     }
-    let accepted = data
-        .iter()
-        .filter(|datum| datum.ends <= cut && datum.accepted)
-        .count();
-    let refused = data
-        .iter()
-        .filter(|datum| datum.ends <= cut && !datum.accepted)
-        .count();
-    let all = data.iter().filter(|datum| datum.ends <= cut).count();
-    let mut level = 1;
-    for datum in data {
-        if datum.ends <= cut {
-            level = datum.level;
-        }
-    }
+    let (accepted, refused, level) = count_within(data, cut);
+    let all = accepted.saturating_add(refused);
     writeln!(
         report,
         "events {all} accepted {accepted} refused {refused} level {level}"
@@ -66,8 +76,8 @@ pub(crate) fn due_at(alloc: Global, data: &[Datum], cut: usize) -> Result<Answer
     Ok(Answer { report, status })
 }
 
-/// Whether the answer to the book of these data that is cut there, in pieces of so many bytes, is the one that is due.
-pub(crate) fn is_due(
+// Whether the answer to the book of these data that is cut there, in pieces of so many bytes, is the one that is due.
+fn is_due(
     alloc: Global,
     book: &str,
     data: &[Datum],
@@ -80,4 +90,19 @@ pub(crate) fn is_due(
     let answer = answer_of_check(alloc, text, size)?;
     let due = due_at(alloc, data, cut)?;
     Ok(answer.report == due.report && answer.status == due.status)
+}
+
+/// A place where the book of these data may be cut so that the answer, in pieces of so many bytes, is not the one that is due.
+pub(crate) fn wrong_cut(
+    alloc: Global,
+    book: &str,
+    data: &[Datum],
+    size: usize,
+) -> Result<Option<usize>, AllocError> {
+    for cut in 0..=book.len() {
+        if !is_due(alloc, book, data, cut, size)? {
+            return Ok(Some(cut));
+        }
+    }
+    Ok(None)
 }

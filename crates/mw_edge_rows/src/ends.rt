@@ -1,6 +1,8 @@
 //! The ends that are not the book's own, and the numbers of all.
-use crate::due::{Datum, is_due, lines_within};
-use mw_answers::{NEVER, OF_NEVER, WRITTEN, answer_with_faults};
+use crate::due::{Datum, lines_within, wrong_cut};
+use mw_answers::{
+    NEVER, OF_NEVER, WRITTEN, answer_with_faults, expect_empty, other_answer_with_faults,
+};
 use mw_book::Status;
 use mw_read::SyntaxKind;
 use std::alloc::{AllocError, Global};
@@ -8,7 +10,7 @@ use std::test::Fail;
 
 const BOOK: &str = "(verify refl (pequal* x x) (axiom (pequal* x x)))";
 
-const REPORT: &str = "1 VERIFY REFL accepted\nevents 1 accepted 1 refused 0 level 1\n";
+const REPORT: &str = "0\n1 VERIFY REFL accepted\nevents 1 accepted 1 refused 0 level 1\n";
 
 // The data of the book with a switch.
 const DATA: [Datum; 4] = [
@@ -85,65 +87,74 @@ fn failing_writes(alloc: Global) -> Result<usize, AllocError> {
     Ok(100)
 }
 
+// What is written on the book, where it is not what is due and these reads and writes fail.
+fn other_answer_to_the_book(
+    alloc: Global,
+    due: &str,
+    reads: &[u64],
+    writes: &[u64],
+) -> Result<String, AllocError> {
+    other_answer_with_faults(alloc, &CHECK, BOOK, due, 4096, reads, writes)
+}
+
+// The same for the book with a switch, of which all is due although a read or a write after the last one would fail.
+fn other_answer_to_the_switch(
+    alloc: Global,
+    reads: &[u64],
+    writes: &[u64],
+) -> Result<String, AllocError> {
+    let due = format!(in alloc; "1\n{OF_NEVER}")?;
+    other_answer_with_faults(alloc, &CHECK, NEVER, due.as_str(), READ, reads, writes)
+}
+
 #[test]
 fn a_failed_read_leaves_the_lines_before_it(rt: HostRuntime) -> Result<(), Fail> {
-    let answer = answer_with_faults(rt.alloc(), &CHECK, BOOK, 4096, &[2], &[])?;
-    assert_eq!(rt; answer.status, Status::ReadFault);
-    assert_eq!(rt; answer.report.as_str(), "1 VERIFY REFL accepted\n");
-    Ok(())
+    let due = "4\n1 VERIFY REFL accepted\n";
+    expect_empty(other_answer_to_the_book(rt.alloc(), due, &[2], &[])?)
 }
 
 #[test]
 fn a_failed_write_leaves_nothing(rt: HostRuntime) -> Result<(), Fail> {
-    let answer = answer_with_faults(rt.alloc(), &CHECK, BOOK, 4096, &[], &[1])?;
-    assert_eq!(rt; answer.status, Status::WriteFault);
-    assert_eq!(rt; answer.report.as_str(), "");
-    Ok(())
+    expect_empty(other_answer_to_the_book(rt.alloc(), "5\n", &[], &[1])?)
 }
 
 #[test]
 fn short_writes_take_the_whole_report(rt: HostRuntime) -> Result<(), Fail> {
-    let answer = answer_with_faults(rt.alloc(), &CHECK, BOOK, 4096, &[], &[])?;
-    assert_eq!(rt; answer.status, Status::Done);
-    assert_eq!(rt; answer.report.as_str(), REPORT);
-    Ok(())
+    expect_empty(other_answer_to_the_book(rt.alloc(), REPORT, &[], &[])?)
 }
 
 // The book has 386 bytes, so there are 39 reads that give some, and one that tells the end.
 #[test]
 fn any_read_may_fail(rt: HostRuntime) -> Result<(), Fail> {
-    assert_eq!(rt; failing_reads(rt.alloc())?, 40);
-    let answer = answer_with_faults(rt.alloc(), &CHECK, NEVER, READ, &[41], &[])?;
-    assert_eq!(rt; answer.status, Status::SomeRefused);
-    assert_eq!(rt; answer.report.as_str(), OF_NEVER);
-    Ok(())
+    assert!(rt; failing_reads(rt.alloc())? == 40);
+    expect_empty(other_answer_to_the_switch(rt.alloc(), &[41], &[])?)
 }
 
 #[test]
 fn any_write_may_fail(rt: HostRuntime) -> Result<(), Fail> {
     let done = failing_writes(rt.alloc())?;
-    assert!(rt; OF_NEVER.len().div_ceil(WRITTEN) <= done, "write {done}");
+    assert!(rt; OF_NEVER.len().div_ceil(WRITTEN) <= done);
     let next = (done as u64).saturating_add(1);
-    let answer = answer_with_faults(rt.alloc(), &CHECK, NEVER, READ, &[], &[next])?;
-    assert_eq!(rt; answer.status, Status::SomeRefused);
-    assert_eq!(rt; answer.report.as_str(), OF_NEVER);
-    Ok(())
+    expect_empty(other_answer_to_the_switch(rt.alloc(), &[], &[next])?)
 }
 
 #[test]
 fn a_book_with_a_switch_may_be_cut_anywhere(rt: HostRuntime) -> Result<(), Fail> {
-    for cut in 0..=NEVER.len() {
-        assert!(rt;
-            is_due(rt.alloc(), NEVER, &DATA, cut, 4096)?,
-            "cut at {cut}"
-        );
-    }
+    assert!(rt; wrong_cut(rt.alloc(), NEVER, &DATA, 4096)?.is_none());
     Ok(())
+}
+
+// Whether each end has the number of the table.
+fn have_their_numbers() -> bool {
+    for (status, number) in NUMBERS {
+        if status.number() != number {
+            return false;
+        }
+    }
+    true
 }
 
 #[test]
 fn each_end_has_its_number(rt: HostRuntime) {
-    for (status, number) in NUMBERS {
-        assert_eq!(rt; status.number(), number);
-    }
+    assert!(rt; have_their_numbers());
 }

@@ -1,109 +1,96 @@
 //! Books whose terms would be large if labels and abbreviations were written out: each ends in time that is linear in what is written and in
 //! the units that it uses, or out of memory at once.
-use mw_answers::{Answer, answer_of_check, answer_of_command};
+use crate::nested::{Nested, other_report_on_nested, text_of};
+use crate::shared::doubled_term;
+use mw_answers::{Answer, answer_of_check, expect_empty, other_answer, other_report};
 use mw_book::Status;
 use std::alloc::{AllocError, Global};
 use std::test::Fail;
 
-// The text so many times.
-fn repeated(alloc: Global, text: &str, times: usize) -> Result<String, AllocError> {
-    let mut all = String::new(alloc);
-    for _ in 0..times {
-        all.push_str(text)?;
-    }
-    Ok(all)
+// Whether the program runs out of memory on this book.
+fn runs_out(alloc: Global, book: &str) -> Result<bool, AllocError> {
+    let answer = answer_of_check(alloc, book, 4096)?;
+    Ok(answer.status == Status::Memory)
 }
 
-// The answer to an EVAL of a text between so many copies of two others.
-fn answer_on_nested(
-    alloc: Global,
-    words: &[&str],
-    opening: &str,
-    inner: &str,
-    closing: &str,
-    depth: usize,
-) -> Result<Answer, AllocError> {
-    let before = repeated(alloc, opening, depth)?;
-    let after = repeated(alloc, closing, depth)?;
-    let book = format!(in alloc; "(eval {before}{inner}{after})")?;
-    answer_of_command(alloc, words, book.as_str(), 4096)
-}
-
-// The answer to an EVAL of a text with so many copies of another in its middle.
-fn answer_on_many(
+// The book that has a term of 2^60 calls of this function, written by labels, between these texts.
+fn book_of_calls(
     alloc: Global,
     before: &str,
-    member: &str,
+    function: &str,
     after: &str,
-    count: usize,
-) -> Result<Answer, AllocError> {
-    let members = repeated(alloc, member, count)?;
-    let book = format!(in alloc; "(eval {before}{members}{after})")?;
-    answer_of_check(alloc, book.as_str(), 4096)
+) -> Result<String, AllocError> {
+    let term = doubled_term(alloc, function, "1")?;
+    format!(in alloc; "{before}{term}{after}")
 }
 
-// A term of sixty labels, each for a form of two copies of the one before it.
-fn shared_term(alloc: Global, word: &str) -> Result<String, AllocError> {
-    let mut term = format!(in alloc; "#1=({word} 1 1)")?;
-    for k in 1..60 {
-        let next = k + 1;
-        term = format!(in alloc; "#{next}=({word} {term} #{k}#)")?;
-    }
-    Ok(term)
+// Whether the program runs out of memory on it.
+fn runs_out_on_calls(
+    alloc: Global,
+    before: &str,
+    function: &str,
+    after: &str,
+) -> Result<bool, AllocError> {
+    let book = book_of_calls(alloc, before, function, after)?;
+    runs_out(alloc, book.as_str())
 }
 
-fn answer_on_shared(alloc: Global, word: &str) -> Result<Answer, AllocError> {
-    let term = shared_term(alloc, word)?;
-    let book = format!(in alloc; "(eval {term})")?;
-    answer_of_check(alloc, book.as_str(), 4096)
+// Whether the program runs out of memory on a term that is nested.
+fn runs_out_on_nested(alloc: Global, nested: &Nested) -> Result<bool, AllocError> {
+    let book = text_of(alloc, nested)?;
+    runs_out(alloc, book.as_str())
 }
 
-// As a tree, the object has 2^60 pairs.
-fn answer_on_rank(alloc: Global) -> Result<Answer, AllocError> {
-    let object = shared_term(alloc, "cons")?;
-    let book = format!(in alloc; "(eval (rank '{object}))")?;
-    answer_of_check(alloc, book.as_str(), 4096)
+// The report on an EVAL of a recursion over an object of 2^60 pairs as a tree, where it does not run out of units.
+fn other_report_on_rank(alloc: Global) -> Result<String, AllocError> {
+    let book = book_of_calls(alloc, "(eval (rank '", "cons", "))")?;
+    other_report(alloc, "10000000", book.as_str(), "1 EVAL - refused STEPS\n")
 }
 
-// The answer to an EVAL of a call with so many actuals, each for a formal of its own.
-fn answer_on_actuals(alloc: Global, count: usize) -> Result<Answer, AllocError> {
-    let mut formals = String::new(alloc);
+// The report on an EVAL of a call with so many actuals, each for a formal of its own, where it is not the pair of two.
+fn other_report_on_actuals(alloc: Global, count: usize) -> Result<String, AllocError> {
+    let mut book = String::from_str(alloc, "(eval ((lambda (")?;
     for k in 0..count {
-        write!(formals, " x{k}")?;
+        write!(book, " x{k}")?;
     }
-    let actuals = repeated(alloc, " 7", count)?;
-    let book = format!(in alloc; "(eval ((lambda ({formals}) (cons x1 x0)) {actuals}))")?;
-    answer_of_check(alloc, book.as_str(), 4096)
+    book.push_str(") (cons x1 x0))")?;
+    for _ in 0..count {
+        book.push_str(" 7")?;
+    }
+    book.push_str("))")?;
+    other_report(
+        alloc,
+        "10000000",
+        book.as_str(),
+        "1 EVAL - accepted (7 . 7)\n",
+    )
 }
 
-// The answer to a DEFINE after that of a function of two arguments, with a body in which sixty labels stand for 2^60 calls of the older one.
-fn answer_on_shared_body(alloc: Global) -> Result<Answer, AllocError> {
-    let body = shared_term(alloc, "two")?;
-    let book = format!(in alloc;
-        "(define two (x y) (cons x y) nil ()) (define big (x) {body} nil ())"
-    )?;
-    answer_of_check(alloc, book.as_str(), 4096)
-}
-
-// The answer to a DEFINE of a function that calls itself on each of 2^60 ways through sixty tests.
-fn answer_on_shared_obligations(alloc: Global) -> Result<Answer, AllocError> {
+// Whether the program runs out of memory on a function that calls itself on each of 2^60 ways through sixty tests.
+fn runs_out_on_obligations(alloc: Global) -> Result<bool, AllocError> {
     let mut body = String::from_str(alloc, "#1=(f x)")?;
     for k in 1..60 {
         let next = k + 1;
         body = format!(in alloc; "#{next}=(if (equal x {k}) {body} #{k}#)")?;
     }
     let book = format!(in alloc; "(define f (x) {body} x ())")?;
-    answer_of_check(alloc, book.as_str(), 4096)
+    runs_out(alloc, book.as_str())
 }
 
-// The answer to a block of so many functions and an EVAL of the last but one.
-fn answer_on_block(alloc: Global, count: usize) -> Result<Answer, AllocError> {
-    let mut members = String::new(alloc);
+const OF_THE_BLOCK: &str = "0
+1 DEFINE-ALL - accepted
+2 EVAL - accepted 7
+events 2 accepted 2 refused 0 level 1
+";
+
+// The answer to a block of so many functions and an EVAL of the last but one, where it is not the one that is due.
+fn other_answer_on_block(alloc: Global, count: usize) -> Result<String, AllocError> {
+    let mut book = String::from_str(alloc, "(define-all (")?;
     for k in 0..count {
-        write!(members, "(f{k} (x) x nil)")?;
+        write!(book, "(f{k} (x) x nil)")?;
     }
-    let book = format!(in alloc; "(define-all ({members}) ()) (eval (f1998 7))")?;
-    answer_of_check(alloc, book.as_str(), 4096)
+    book.push_str(") ()) (eval (f1998 7))")?;
+    other_answer(alloc, &["check"], book.as_str(), OF_THE_BLOCK, 4096)
 }
 
 // The answer to so many definitions, each of which calls the one before it, and an EVAL of one of them.
@@ -117,120 +104,136 @@ fn answer_on_definitions(alloc: Global, count: usize) -> Result<Answer, AllocErr
     answer_of_check(alloc, book.as_str(), 4096)
 }
 
-const CHECK: [&str; 1] = ["check"];
+const LAST_OF_DEFINITIONS: &str =
+    "5001 EVAL - accepted 7\nevents 5001 accepted 5001 refused 0 level 1\n";
+
+// Whether five thousand definitions are accepted, and the EVAL after them.
+fn accepts_definitions(alloc: Global) -> Result<bool, AllocError> {
+    let answer = answer_on_definitions(alloc, 5_000)?;
+    Ok(answer.status == Status::Done && answer.report.as_str().ends_with(LAST_OF_DEFINITIONS))
+}
+
+// A hundred thousand calls, one in the other, which take a unit each.
+const CALLS: Nested = Nested {
+    before: "(eval ",
+    opening: "(car ",
+    inner: "nil",
+    closing: ")",
+    after: ")",
+    depth: 100_000,
+};
+
+// Sixty forms, each of which is written out twice.
+const CHOICES: Nested = Nested {
+    before: "(eval ",
+    opening: "(or ",
+    inner: "1",
+    closing: " 1)",
+    after: ")",
+    depth: 60,
+};
+
+const CLAUSES: Nested = Nested {
+    before: "(eval (cond ",
+    opening: "(nil 1)",
+    inner: "(t 2))",
+    closing: "",
+    after: ")",
+    depth: 100_000,
+};
+
+const MEMBERS: Nested = Nested {
+    before: "(eval (logic.len (list ",
+    opening: "1 ",
+    inner: "))",
+    closing: "",
+    after: ")",
+    depth: 100_000,
+};
+
+const BINDINGS: Nested = Nested {
+    before: "(eval (let* ((x 1)",
+    opening: "(x (+ x 1))",
+    inner: ") x)",
+    closing: "",
+    after: ")",
+    depth: 2_000,
+};
+
+const LONG_VALUE: Nested = Nested {
+    before: "(eval '(",
+    opening: "1 ",
+    inner: ")",
+    closing: "",
+    after: ")",
+    depth: 40_000,
+};
 
 #[test]
 fn a_deep_term_takes_a_unit_for_each_call(rt: HostRuntime) -> Result<(), Fail> {
     let alloc = rt.alloc();
-    let enough = answer_on_nested(alloc, &CHECK, "(car ", "nil", ")", 100_000)?;
-    assert!(rt;
-        enough
-            .report
-            .as_str()
-            .starts_with("1 EVAL - accepted NIL\n")
-    );
-    let words = ["check", "--steps", "99999"];
-    let few = answer_on_nested(alloc, &words, "(car ", "nil", ")", 100_000)?;
-    assert!(rt; few.report.as_str().starts_with("1 EVAL - refused STEPS\n"));
-    Ok(())
+    expect_empty(other_report_on_nested(alloc, "10000000", &CALLS, "1 EVAL - accepted NIL\n")?)?;
+    expect_empty(other_report_on_nested(alloc, "99999", &CALLS, "1 EVAL - refused STEPS\n")?)
 }
 
 #[test]
 fn code_past_the_bound_is_out_of_memory(rt: HostRuntime) -> Result<(), Fail> {
-    let nested = answer_on_nested(rt.alloc(), &CHECK, "(or ", "1", " 1)", 60)?;
-    assert_eq!(rt; nested.status, Status::Memory);
-    let shared = answer_on_shared(rt.alloc(), "or")?;
-    assert_eq!(rt; shared.status, Status::Memory);
-    let pairs = answer_on_shared(rt.alloc(), "cons")?;
-    assert_eq!(rt; pairs.status, Status::Memory);
+    assert!(rt; runs_out_on_nested(rt.alloc(), &CHOICES)?);
+    assert!(rt; runs_out_on_calls(rt.alloc(), "(eval ", "or", ")")?);
+    assert!(rt; runs_out_on_calls(rt.alloc(), "(eval ", "cons", ")")?);
+    Ok(())
+}
+
+// The body has 2^60 calls of a function that was defined before.
+#[test]
+fn a_body_past_the_bound_is_out_of_memory(rt: HostRuntime) -> Result<(), Fail> {
+    let before = "(define two (x y) (cons x y) nil ()) (define big (x) ";
+    assert!(rt; runs_out_on_calls(rt.alloc(), before, "two", " nil ())")?);
     Ok(())
 }
 
 #[test]
-fn definitions_past_the_bounds_are_out_of_memory(rt: HostRuntime) -> Result<(), Fail> {
-    let calls = answer_on_shared_body(rt.alloc())?;
-    assert_eq!(rt; calls.status, Status::Memory);
-    let obligations = answer_on_shared_obligations(rt.alloc())?;
-    assert_eq!(rt; obligations.status, Status::Memory);
+fn obligations_past_the_bound_are_out_of_memory(rt: HostRuntime) -> Result<(), Fail> {
+    assert!(rt; runs_out_on_obligations(rt.alloc())?);
     Ok(())
 }
 
 #[test]
 fn a_block_may_be_long(rt: HostRuntime) -> Result<(), Fail> {
-    let answer = answer_on_block(rt.alloc(), 2_000)?;
-    assert_eq!(rt;
-        answer.report.as_str(),
-        "1 DEFINE-ALL - accepted\n2 EVAL - accepted 7\nevents 2 accepted 2 refused 0 level 1\n"
-    );
-    Ok(())
+    expect_empty(other_answer_on_block(rt.alloc(), 2_000)?)
 }
 
 #[test]
 fn a_book_may_define_many_functions(rt: HostRuntime) -> Result<(), Fail> {
-    let answer = answer_on_definitions(rt.alloc(), 5_000)?;
-    assert!(rt;
-        answer.report.as_str().ends_with(
-            "5001 EVAL - accepted 7\nevents 5001 accepted 5001 refused 0 level 1\n"
-        )
-    );
-    assert_eq!(rt; answer.status, Status::Done);
+    assert!(rt; accepts_definitions(rt.alloc())?);
     Ok(())
 }
 
 #[test]
 fn a_recursion_ends_with_its_units(rt: HostRuntime) -> Result<(), Fail> {
-    let answer = answer_on_rank(rt.alloc())?;
-    assert!(rt;
-        answer
-            .report
-            .as_str()
-            .starts_with("1 EVAL - refused STEPS\n")
-    );
-    Ok(())
+    expect_empty(other_report_on_rank(rt.alloc())?)
 }
 
 #[test]
 fn long_forms_are_expanded_once(rt: HostRuntime) -> Result<(), Fail> {
     let alloc = rt.alloc();
-    let clauses = answer_on_many(alloc, "(cond ", "(nil 1)", "(t 2))", 100_000)?;
-    assert!(rt; clauses.report.as_str().starts_with("1 EVAL - accepted 2\n"));
-    let members = answer_on_many(alloc, "(logic.len (list ", "1 ", "))", 100_000)?;
-    assert!(rt;
-        members
-            .report
-            .as_str()
-            .starts_with("1 EVAL - accepted 100000\n")
-    );
-    let bindings = answer_on_many(alloc, "(let* ((x 1)", "(x (+ x 1))", ") x)", 2_000)?;
-    assert!(rt;
-        bindings
-            .report
-            .as_str()
-            .starts_with("1 EVAL - accepted 2001\n")
-    );
-    Ok(())
+    expect_empty(other_report_on_nested(alloc, "10000000", &CLAUSES, "1 EVAL - accepted 2\n")?)?;
+    expect_empty(other_report_on_nested(
+        alloc,
+        "10000000",
+        &MEMBERS,
+        "1 EVAL - accepted 100000\n",
+    )?)?;
+    expect_empty(other_report_on_nested(alloc, "10000000", &BINDINGS, "1 EVAL - accepted 2001\n")?)
 }
 
 #[test]
 fn a_call_may_have_many_actuals(rt: HostRuntime) -> Result<(), Fail> {
-    let answer = answer_on_actuals(rt.alloc(), 50_000)?;
-    assert!(rt;
-        answer
-            .report
-            .as_str()
-            .starts_with("1 EVAL - accepted (7 . 7)\n")
-    );
-    Ok(())
+    expect_empty(other_report_on_actuals(rt.alloc(), 50_000)?)
 }
 
 #[test]
 fn a_long_value_is_not_shown(rt: HostRuntime) -> Result<(), Fail> {
-    let answer = answer_on_many(rt.alloc(), "'(", "1 ", ")", 40_000)?;
-    assert!(rt;
-        answer
-            .report
-            .as_str()
-            .starts_with("1 EVAL - refused LONG\n")
-    );
-    Ok(())
+    let due = "1 EVAL - refused LONG\n";
+    expect_empty(other_report_on_nested(rt.alloc(), "10000000", &LONG_VALUE, due)?)
 }

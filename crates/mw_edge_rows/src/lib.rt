@@ -13,6 +13,8 @@ mod faults;
 #[cfg(test)]
 mod hostile;
 #[cfg(test)]
+mod nested;
+#[cfg(test)]
 mod pieces;
 #[cfg(test)]
 mod shared;

@@ -1,7 +1,7 @@
 //! A book read in pieces of any size.
-use crate::due::{Datum, is_due};
-use mw_answers::{NEVER, OF_NEVER, Row, wrong_answers};
-use mw_book::Status;
+use crate::due::{Datum, wrong_cut};
+use mw_answers::{expect_empty, other_answer, other_answer_on_never};
+use std::alloc::{AllocError, Global};
 use std::test::Fail;
 
 // Every kind of token, of datum and of line.
@@ -11,24 +11,14 @@ const BOOK: &str = "; a ) and a |
 (print 340282366920938463463374607431768211456)
 ";
 
-const ROWS: [Row; 2] = [
-    Row {
-        book: BOOK,
-        report: "1 VERIFY R accepted
+const OF_BOOK: &str = "1
+1 VERIFY R accepted
 2 PRINT - accepted ((QUOTE X) 7 |a )| . |a )|)
 3 - - refused EVENT
 4 Z - refused EVENT
 5 PRINT - refused RANGE
 events 5 accepted 2 refused 3 level 1
-",
-        status: Status::SomeRefused,
-    },
-    Row {
-        book: NEVER,
-        report: OF_NEVER,
-        status: Status::SomeRefused,
-    },
-];
+";
 
 // The data of the book. That the definitions give what is due for it, for each cut, is computed in proofs/Cuts.antt.
 const DATA: [Datum; 5] = [
@@ -69,23 +59,24 @@ const DATA: [Datum; 5] = [
     },
 ];
 
+// The answers to this book and to the one with a switch, in pieces of this size, that are not the ones that are due.
+fn other_answers_in_pieces(alloc: Global, size: usize) -> Result<String, AllocError> {
+    let mut others = other_answer(alloc, &["check"], BOOK, OF_BOOK, size)?;
+    others.push_str(other_answer_on_never(alloc, size)?.as_str())?;
+    Ok(others)
+}
+
 #[test]
 fn the_sizes_of_pieces_do_not_matter(rt: HostRuntime) -> Result<(), Fail> {
     for size in [1, 2, 3, 7, 4096] {
-        let wrong = wrong_answers(rt.alloc(), &["check"], &ROWS, size)?;
-        assert_eq!(rt; wrong.as_str(), "", "in pieces of {size}");
+        expect_empty(other_answers_in_pieces(rt.alloc(), size)?)?;
     }
     Ok(())
 }
 
 #[test]
 fn a_book_may_be_cut_anywhere(rt: HostRuntime) -> Result<(), Fail> {
-    for cut in 0..=BOOK.len() {
-        assert!(rt; is_due(rt.alloc(), BOOK, &DATA, cut, 4096)?, "cut at {cut}");
-        assert!(rt;
-            is_due(rt.alloc(), BOOK, &DATA, cut, 1)?,
-            "cut at {cut}, in single bytes"
-        );
-    }
+    assert!(rt; wrong_cut(rt.alloc(), BOOK, &DATA, 4096)?.is_none());
+    assert!(rt; wrong_cut(rt.alloc(), BOOK, &DATA, 1)?.is_none());
     Ok(())
 }

@@ -1,48 +1,43 @@
 //! Definitions: what is taken, what is refused, and what a theory does with a function that it has taken.
 use mw_answers::{
-    Limited, Row, expect_empty, other_report_after_ranks, other_reports, wrong_answers,
+    NEXT_ROW, expect_empty, limited_parts, other_report_after_ranks, other_reports, wrong_answers,
 };
-use mw_book::Status;
 use std::alloc::{AllocError, Global};
 use std::test::Fail;
 
-const FUNCTIONS: [Row; 6] = [
-    Row {
-        book: "(define twice (x) (+ x x) nil ())
-            (verify use (pequal* (twice x) (+ x x)) (axiom (pequal* (twice x) (+ x x))))
-            (define twice (x) x nil ())
-            (eval (twice 4))",
-        report: "1 DEFINE TWICE accepted
+const FUNCTIONS: &str = "\
+(define twice (x) (+ x x) nil ())
+(verify use (pequal* (twice x) (+ x x)) (axiom (pequal* (twice x) (+ x x))))
+(define twice (x) x nil ())
+(eval (twice 4))
+=> 1
+1 DEFINE TWICE accepted
 2 VERIFY USE accepted
 3 DEFINE TWICE refused NAME
 4 EVAL - accepted 8
 events 4 accepted 3 refused 1 level 1
-",
-        status: Status::SomeRefused,
-    },
-    Row {
-        book: "(define one () 1 nil ())
-            (verify o (pequal* (one) (one)) (functional-equality (pequal* (one) (one))))
-            (eval (one))",
-        report: "1 DEFINE ONE accepted
+----
+(define one () 1 nil ())
+(verify o (pequal* (one) (one)) (functional-equality (pequal* (one) (one))))
+(eval (one))
+=> 0
+1 DEFINE ONE accepted
 2 VERIFY O accepted
 3 EVAL - accepted 1
 events 3 accepted 3 refused 0 level 1
-",
-        status: Status::Done,
-    },
-    Row {
-        book: "(define pair (x) (cons x x) nil ())
-            (define pairs (x) (cons (pair x) (list (pair x) x)) nil ())
-            (eval (pairs 1))
-            (verify fe #1=(por* (pnot* (pequal* a b)) (pequal* (pairs a) (pairs b))) (functional-equality #1#))
-            (verify d (pequal* (pairs x) (cons (pair x) (cons (pair x) (cons x 'nil)))) (axiom (pequal* (pairs x) (cons (pair x) (cons (pair x) (cons x 'nil))))))
-            (verify be (pequal* (pair '1) '(1 . 1)) (base-eval (pequal* (pair '1) '(1 . 1))))
-            (define v (x) (let ((y x)) (and y (or x y))) nil ())
-            (eval (v 3))
-            (define first-of (quote if and) quote nil ())
-            (eval (first-of 1 2 3))",
-        report: "1 DEFINE PAIR accepted
+----
+(define pair (x) (cons x x) nil ())
+(define pairs (x) (cons (pair x) (list (pair x) x)) nil ())
+(eval (pairs 1))
+(verify fe #1=(por* (pnot* (pequal* a b)) (pequal* (pairs a) (pairs b))) (functional-equality #1#))
+(verify d (pequal* (pairs x) (cons (pair x) (cons (pair x) (cons x 'nil)))) (axiom (pequal* (pairs x) (cons (pair x) (cons (pair x) (cons x 'nil))))))
+(verify be (pequal* (pair '1) '(1 . 1)) (base-eval (pequal* (pair '1) '(1 . 1))))
+(define v (x) (let ((y x)) (and y (or x y))) nil ())
+(eval (v 3))
+(define first-of (quote if and) quote nil ())
+(eval (first-of 1 2 3))
+=> 1
+1 DEFINE PAIR accepted
 2 DEFINE PAIRS accepted
 3 EVAL - accepted ((1 . 1) (1 . 1) 1)
 4 VERIFY FE accepted
@@ -53,29 +48,27 @@ events 3 accepted 3 refused 0 level 1
 9 DEFINE FIRST-OF accepted
 10 EVAL - accepted 1
 events 10 accepted 9 refused 1 level 1
-",
-        status: Status::SomeRefused,
-    },
-    Row {
-        book: "(define list (x) x nil ())
-            (define if (x) x nil ())
-            (define k (x x) x nil ())
-            (define k (x . y) x nil ())
-            (define k (t) t nil ())
-            (define k (x) (car x x) nil ())
-            (define k (x) x (car x x) ())
-            (define k (x) x (k x) ())
-            (define k (x) y nil ())
-            (define k (x) x y ())
-            (define k (x) x nil (a))
-            (define k (x) x nil b)
-            (define 7 (x) x nil ())
-            (define t (x) x nil ())
-            (define k)
-            (define k (x) x nil)
-            (define k (x) x nil () ())
-            (define big (x) 340282366920938463463374607431768211456 nil ())",
-        report: "1 DEFINE LIST refused NAME
+----
+(define list (x) x nil ())
+(define if (x) x nil ())
+(define k (x x) x nil ())
+(define k (x . y) x nil ())
+(define k (t) t nil ())
+(define k (x) (car x x) nil ())
+(define k (x) x (car x x) ())
+(define k (x) x (k x) ())
+(define k (x) y nil ())
+(define k (x) x y ())
+(define k (x) x nil (a))
+(define k (x) x nil b)
+(define 7 (x) x nil ())
+(define t (x) x nil ())
+(define k)
+(define k (x) x nil)
+(define k (x) x nil () ())
+(define big (x) 340282366920938463463374607431768211456 nil ())
+=> 1
+1 DEFINE LIST refused NAME
 2 DEFINE IF refused NAME
 3 DEFINE K refused FORMALS
 4 DEFINE K refused FORMALS
@@ -94,22 +87,20 @@ events 10 accepted 9 refused 1 level 1
 17 DEFINE K refused EVENT
 18 DEFINE BIG refused RANGE
 events 18 accepted 0 refused 18 level 1
-",
-        status: Status::SomeRefused,
-    },
-    Row {
-        book: "(define f (x) (f x) x ())
-            (define f (x) (f x) x (a b c))
-            (define g (x) ((lambda (y) (g y)) (g x)) x ())
-            (define f (x) (f x) x ((axiom (pequal* x x)) b))
-            (define f (x) (f x) x ((axiom (pequal* (ordp x) 't)) b))
-            (define f (x) (f x) '0 ((axiom (pequal* (ordp '0) 't)) b))
-            (define h (x) (if (h (cdr x)) (h (car x)) x) (rank x) (a b))
-            (define h (x) (if (h (cdr x)) (h (car x)) x) (rank x) (a b c))
-            (define h (x) (if (h (cdr x)) (h (car x)) x) (rank x) (a b c d))
-            (define k (x) x nil ())
-            (define f (x) x nil ())",
-        report: "1 DEFINE F refused COUNT
+----
+(define f (x) (f x) x ())
+(define f (x) (f x) x (a b c))
+(define g (x) ((lambda (y) (g y)) (g x)) x ())
+(define f (x) (f x) x ((axiom (pequal* x x)) b))
+(define f (x) (f x) x ((axiom (pequal* (ordp x) 't)) b))
+(define f (x) (f x) '0 ((axiom (pequal* (ordp '0) 't)) b))
+(define h (x) (if (h (cdr x)) (h (car x)) x) (rank x) (a b))
+(define h (x) (if (h (cdr x)) (h (car x)) x) (rank x) (a b c))
+(define h (x) (if (h (cdr x)) (h (car x)) x) (rank x) (a b c d))
+(define k (x) x nil ())
+(define f (x) x nil ())
+=> 1
+1 DEFINE F refused COUNT
 2 DEFINE F refused COUNT
 3 DEFINE G refused NESTED
 4 DEFINE F refused CONCLUSION
@@ -121,18 +112,16 @@ events 18 accepted 0 refused 18 level 1
 10 DEFINE K accepted
 11 DEFINE F accepted
 events 11 accepted 2 refused 9 level 1
-",
-        status: Status::SomeRefused,
-    },
-    Row {
-        book: "(define quote (x x) y z a)
-            (define many (x x) (car x x) y a)
-            (define many (x) (car x x) y a)
-            (define many (x) (many (many y)) y a)
-            (define many (x) (many (many x)) x a)
-            (define many (x) (many x) x a)
-            (eval (many 1))",
-        report: "1 DEFINE QUOTE refused NAME
+----
+(define quote (x x) y z a)
+(define many (x x) (car x x) y a)
+(define many (x) (car x x) y a)
+(define many (x) (many (many y)) y a)
+(define many (x) (many (many x)) x a)
+(define many (x) (many x) x a)
+(eval (many 1))
+=> 1
+1 DEFINE QUOTE refused NAME
 2 DEFINE MANY refused FORMALS
 3 DEFINE MANY refused TERM
 4 DEFINE MANY refused VARIABLES
@@ -140,24 +129,21 @@ events 11 accepted 2 refused 9 level 1
 6 DEFINE MANY refused COUNT
 7 EVAL - refused TERM
 events 7 accepted 0 refused 7 level 1
-",
-        status: Status::SomeRefused,
-    },
-];
+";
 
-const WITNESSES: [Row; 3] = [
-    Row {
-        book: "(skolem pick y (x) (equal x y))
-            (eval (pick 1))
-            (eval (if nil (pick 1) 2))
-            (verify choice #1=(por* (pequal* (equal x y) 'nil)
-              (pnot* (pequal* ((lambda (y x) (equal x y)) (pick x) x) 'nil))) (axiom #1#))
-            (verify turned #1=(por* (pequal* (equal x y) 'nil)
-              (pnot* (pequal* ((lambda (x y) (equal x y)) x (pick x)) 'nil))) (axiom #1#))
-            (define live (x) (if x (pick x) x) nil ())
-            (eval (live 1))
-            (eval (live nil))",
-        report: "1 SKOLEM PICK accepted
+const WITNESSES: &str = "\
+(skolem pick y (x) (equal x y))
+(eval (pick 1))
+(eval (if nil (pick 1) 2))
+(verify choice #1=(por* (pequal* (equal x y) 'nil)
+   (pnot* (pequal* ((lambda (y x) (equal x y)) (pick x) x) 'nil))) (axiom #1#))
+(verify turned #1=(por* (pequal* (equal x y) 'nil)
+   (pnot* (pequal* ((lambda (x y) (equal x y)) x (pick x)) 'nil))) (axiom #1#))
+(define live (x) (if x (pick x) x) nil ())
+(eval (live 1))
+(eval (live nil))
+=> 1
+1 SKOLEM PICK accepted
 2 EVAL - refused WITNESS
 3 EVAL - accepted 2
 4 VERIFY CHOICE accepted
@@ -166,26 +152,25 @@ const WITNESSES: [Row; 3] = [
 7 EVAL - refused WITNESS
 8 EVAL - accepted NIL
 events 8 accepted 5 refused 3 level 1
-",
-        status: Status::SomeRefused,
-    },
-    Row {
-        book: "(skolem w y (y) y)
-            (skolem w y (x x) y)
-            (skolem w 7 (x) x)
-            (skolem w t (x) x)
-            (skolem w y x y)
-            (skolem w y (x) (car x x))
-            (skolem w y (x) (w x))
-            (skolem w y (x) z)
-            (skolem car y (x) y)
-            (skolem w y (x))
-            (skolem w y () (equal y 1))
-            (skolem w y () (equal y 1))
-            (define w () 1 nil ())
-            (eval (w))
-            (verify ax (por* (pequal* (equal y '1) 'nil) (pnot* (pequal* ((lambda (y) (equal y '1)) (w)) 'nil))) (axiom (por* (pequal* (equal y '1) 'nil) (pnot* (pequal* ((lambda (y) (equal y '1)) (w)) 'nil)))))",
-        report: "1 SKOLEM W refused FORMALS
+----
+(skolem w y (y) y)
+(skolem w y (x x) y)
+(skolem w 7 (x) x)
+(skolem w t (x) x)
+(skolem w y x y)
+(skolem w y (x) (car x x))
+(skolem w y (x) (w x))
+(skolem w y (x) z)
+(skolem car y (x) y)
+(skolem w y (x))
+(skolem w y () (equal y 1))
+(skolem w y () (equal y 1))
+(define w () 1 nil ())
+(eval (w))
+(verify ax (por* (pequal* (equal y '1) 'nil) (pnot* (pequal* ((lambda (y) (equal y '1)) (w)) 'nil)))
+ (axiom (por* (pequal* (equal y '1) 'nil) (pnot* (pequal* ((lambda (y) (equal y '1)) (w)) 'nil)))))
+=> 1
+1 SKOLEM W refused FORMALS
 2 SKOLEM W refused FORMALS
 3 SKOLEM W refused FORMALS
 4 SKOLEM W refused FORMALS
@@ -201,29 +186,24 @@ events 8 accepted 5 refused 3 level 1
 14 EVAL - refused WITNESS
 15 VERIFY AX accepted
 events 15 accepted 2 refused 13 level 1
-",
-        status: Status::SomeRefused,
-    },
-    Row {
-        book: "(define dead (x) (if nil (pick x) x) nil ())",
-        report: "1 DEFINE DEAD refused TERM
+----
+(define dead (x) (if nil (pick x) x) nil ())
+=> 1
+1 DEFINE DEAD refused TERM
 events 1 accepted 0 refused 1 level 1
-",
-        status: Status::SomeRefused,
-    },
-];
+";
 
-const BLOCKS: [Row; 3] = [
-    Row {
-        book: "(define-all () ())
-            (define-all nil ())
-            (define-all ((p (x) x)) ())
-            (define-all ((p (x) x nil) . q) ())
-            (define-all ((p (x) x nil)))
-            (define-all ((p (x) x nil) (p (x) x nil)) ())
-            (define-all ((p (x) x nil) (car (x) x nil)) ())
-            (define-all (p (x) x nil) ())",
-        report: "1 DEFINE-ALL - refused EVENT
+const BLOCKS: &str = "\
+(define-all () ())
+(define-all nil ())
+(define-all ((p (x) x)) ())
+(define-all ((p (x) x nil) . q) ())
+(define-all ((p (x) x nil)))
+(define-all ((p (x) x nil) (p (x) x nil)) ())
+(define-all ((p (x) x nil) (car (x) x nil)) ())
+(define-all (p (x) x nil) ())
+=> 1
+1 DEFINE-ALL - refused EVENT
 2 DEFINE-ALL - refused EVENT
 3 DEFINE-ALL - refused EVENT
 4 DEFINE-ALL - refused EVENT
@@ -232,18 +212,16 @@ const BLOCKS: [Row; 3] = [
 7 DEFINE-ALL - refused NAME
 8 DEFINE-ALL - refused EVENT
 events 8 accepted 0 refused 8 level 1
-",
-        status: Status::SomeRefused,
-    },
-    Row {
-        book: "(define-all ((p (x) x nil) (q (x x) x nil)) ())
-            (define-all ((p (x) (q x x) nil) (q (x) x nil)) ())
-            (define-all ((p (x) x (q x)) (q (x) x nil)) ())
-            (define-all ((p (x) x nil) (q (x) y nil)) ())
-            (define-all ((p (x) (q (p x)) x) (q (x) x nil)) ())
-            (define-all ((p (x) (q x) x) (q (x) x nil)) ())
-            (define-all ((p (x) ((lambda (y) (q y)) (p x)) x) (q (x) x nil)) ())",
-        report: "1 DEFINE-ALL - refused FORMALS
+----
+(define-all ((p (x) x nil) (q (x x) x nil)) ())
+(define-all ((p (x) (q x x) nil) (q (x) x nil)) ())
+(define-all ((p (x) x (q x)) (q (x) x nil)) ())
+(define-all ((p (x) x nil) (q (x) y nil)) ())
+(define-all ((p (x) (q (p x)) x) (q (x) x nil)) ())
+(define-all ((p (x) (q x) x) (q (x) x nil)) ())
+(define-all ((p (x) ((lambda (y) (q y)) (p x)) x) (q (x) x nil)) ())
+=> 1
+1 DEFINE-ALL - refused FORMALS
 2 DEFINE-ALL - refused TERM
 3 DEFINE-ALL - refused TERM
 4 DEFINE-ALL - refused VARIABLES
@@ -251,19 +229,17 @@ events 8 accepted 0 refused 8 level 1
 6 DEFINE-ALL - refused COUNT
 7 DEFINE-ALL - refused NESTED
 events 7 accepted 0 refused 7 level 1
-",
-        status: Status::SomeRefused,
-    },
-    Row {
-        book: "(define-all ((p (x) (cons x x) nil) (q (x) x nil)) ())
-            (eval (p (q 1)))
-            (define-all ((r (x) (car x) nil) (s (x x) x nil)) ())
-            (eval (r '(1)))
-            (define r (x) (cdr x) nil ())
-            (eval (r '(1)))
-            (define-all ((|p| (x) x nil)) ())
-            (define |p| (x) x nil ())",
-        report: "1 DEFINE-ALL - accepted
+----
+(define-all ((p (x) (cons x x) nil) (q (x) x nil)) ())
+(eval (p (q 1)))
+(define-all ((r (x) (car x) nil) (s (x x) x nil)) ())
+(eval (r '(1)))
+(define r (x) (cdr x) nil ())
+(eval (r '(1)))
+(define-all ((|p| (x) x nil)) ())
+(define |p| (x) x nil ())
+=> 1
+1 DEFINE-ALL - accepted
 2 EVAL - accepted (1 . 1)
 3 DEFINE-ALL - refused FORMALS
 4 EVAL - refused TERM
@@ -272,10 +248,7 @@ events 7 accepted 0 refused 7 level 1
 7 DEFINE-ALL - accepted
 8 DEFINE |p| refused NAME
 events 8 accepted 5 refused 3 level 1
-",
-        status: Status::SomeRefused,
-    },
-];
+";
 
 // A function and a block of two functions, both with a recursion down CDR.
 const RECURSIONS: &str = "(define app (x y)
@@ -367,57 +340,45 @@ const OF_AFTER: &str = "16 EVAL - accepted (1 2 3)
 events 38 accepted 27 refused 11 level 1
 ";
 
-const LIMITED: [Limited; 3] = [
-    Limited {
-        steps: "1",
-        book: "(skolem pick y (x) (equal x y)) (eval (pick 1)) (eval (if nil (pick 1) 2))",
-        report: "1 SKOLEM PICK accepted
+const LIMITED: &str = "\
+1
+(skolem pick y (x) (equal x y)) (eval (pick 1)) (eval (if nil (pick 1) 2))
+=> 1 SKOLEM PICK accepted
 2 EVAL - refused WITNESS
 3 EVAL - accepted 2
 events 3 accepted 2 refused 1 level 1
-",
-    },
-    Limited {
-        steps: "2",
-        book: "(define twice (x) (+ x x) nil ()) (eval (twice 4))",
-        report: "1 DEFINE TWICE accepted
+----
+2
+(define twice (x) (+ x x) nil ()) (eval (twice 4))
+=> 1 DEFINE TWICE accepted
 2 EVAL - accepted 8
 events 2 accepted 2 refused 0 level 1
-",
-    },
-    Limited {
-        steps: "1",
-        book: "(define twice (x) (+ x x) nil ()) (eval (twice 4))",
-        report: "1 DEFINE TWICE accepted
+----
+1
+(define twice (x) (+ x x) nil ()) (eval (twice 4))
+=> 1 DEFINE TWICE accepted
 2 EVAL - refused STEPS
 events 2 accepted 1 refused 1 level 1
-",
-    },
-];
+";
 
 // Each book comes after the recursions, and what is due for it after their lines.
-const LIMITED_RECURSIONS: [Limited; 4] = [
-    Limited {
-        steps: "8",
-        book: "(eval (ev '(1 2)))",
-        report: "16 EVAL - accepted T\n",
-    },
-    Limited {
-        steps: "7",
-        book: "(eval (ev '(1 2)))",
-        report: "16 EVAL - refused STEPS\n",
-    },
-    Limited {
-        steps: "12",
-        book: "(eval (app '(1 2) '(3)))",
-        report: "16 EVAL - accepted (1 2 3)\n",
-    },
-    Limited {
-        steps: "11",
-        book: "(eval (app '(1 2) '(3)))",
-        report: "16 EVAL - refused STEPS\n",
-    },
-];
+const LIMITED_RECURSIONS: &str = "\
+8
+(eval (ev '(1 2)))
+=> 16 EVAL - accepted T
+----
+7
+(eval (ev '(1 2)))
+=> 16 EVAL - refused STEPS
+----
+12
+(eval (app '(1 2) '(3)))
+=> 16 EVAL - accepted (1 2 3)
+----
+11
+(eval (app '(1 2) '(3)))
+=> 16 EVAL - refused STEPS
+";
 
 // The report on the recursions and these events after them, where these lines do not come after theirs.
 fn other_lines(
@@ -426,34 +387,38 @@ fn other_lines(
     events: &str,
     lines: &str,
 ) -> Result<String, AllocError> {
-    let book = format!(in alloc; "{RECURSIONS}{events}")?;
-    let due = format!(in alloc; "{OF_RECURSIONS}{lines}")?;
+    let mut book = String::from_str(alloc, RECURSIONS)?;
+    book.push_str(events)?;
+    let mut due = String::from_str(alloc, OF_RECURSIONS)?;
+    due.push_str(lines)?;
     other_report_after_ranks(alloc, steps, book.as_str(), due.as_str())
 }
 
 // The reports on the recursions and each book after them that are not those expected.
 fn other_limits_of_recursions(alloc: Global) -> Result<String, AllocError> {
     let mut others = String::new(alloc);
-    for row in &LIMITED_RECURSIONS {
-        let other = other_lines(alloc, row.steps, row.book, row.report)?;
-        others.push_str(other.as_str())?;
+    for row in LIMITED_RECURSIONS.split(NEXT_ROW) {
+        let Some((steps, events, lines)) = limited_parts(row) else {
+            return format!(in alloc; "no row: {row}");
+        };
+        others.push_str(other_lines(alloc, steps, events, lines)?.as_str())?;
     }
     Ok(others)
 }
 
 #[test]
 fn functions_are_defined(rt: HostRuntime) -> Result<(), Fail> {
-    expect_empty(wrong_answers(rt.alloc(), &["check"], &FUNCTIONS, 4096)?)
+    expect_empty(wrong_answers(rt.alloc(), &["check"], FUNCTIONS, 4096)?)
 }
 
 #[test]
 fn witnesses_are_chosen(rt: HostRuntime) -> Result<(), Fail> {
-    expect_empty(wrong_answers(rt.alloc(), &["check"], &WITNESSES, 4096)?)
+    expect_empty(wrong_answers(rt.alloc(), &["check"], WITNESSES, 4096)?)
 }
 
 #[test]
 fn blocks_are_taken_whole(rt: HostRuntime) -> Result<(), Fail> {
-    expect_empty(wrong_answers(rt.alloc(), &["check"], &BLOCKS, 4096)?)
+    expect_empty(wrong_answers(rt.alloc(), &["check"], BLOCKS, 4096)?)
 }
 
 #[test]
@@ -463,7 +428,7 @@ fn recursions_that_descend_are_defined(rt: HostRuntime) -> Result<(), Fail> {
 
 #[test]
 fn units_of_calls_are_counted(rt: HostRuntime) -> Result<(), Fail> {
-    expect_empty(other_reports(rt.alloc(), &LIMITED)?)
+    expect_empty(other_reports(rt.alloc(), LIMITED)?)
 }
 
 #[test]

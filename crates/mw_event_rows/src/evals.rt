@@ -1,10 +1,9 @@
 //! What EVAL shows, and within how many units.
-use mw_answers::{Limited, Row, expect_empty, other_reports, wrong_answers};
-use mw_book::Status;
+use mw_answers::{expect_empty, other_reports, wrong_answers};
 use std::test::Fail;
 
-const VALUES: [Row; 1] = [Row {
-    book: "(eval (+ 340282366920938463463374607431768211455 1))
+const VALUES: &str = "\
+(eval (+ 340282366920938463463374607431768211455 1))
         (eval ((lambda (x y) (cons y x)) 1 2))
         (eval (symbol-< 7 'z))
         (eval (if nil (+ 1 1) 2))
@@ -26,8 +25,9 @@ const VALUES: [Row; 1] = [Row {
         (eval 340282366920938463463374607431768211456)
         (eval 1 2)
         (verify a (pequal* x x) (theorem (pequal* x x)))
-        (eval (logic.len '(1 2 3)))",
-    report: "1 EVAL - refused OVERFLOW
+        (eval (logic.len '(1 2 3)))
+=> 1
+1 EVAL - refused OVERFLOW
 2 EVAL - accepted (2 . 1)
 3 EVAL - accepted T
 4 EVAL - accepted 2
@@ -51,69 +51,56 @@ const VALUES: [Row; 1] = [Row {
 22 VERIFY A refused PROOF
 23 EVAL - accepted 3
 events 23 accepted 13 refused 10 level 1
-",
-    status: Status::SomeRefused,
-}];
+";
 
-const LIMITED: [Limited; 10] = [
-    Limited {
-        steps: "1",
-        book: "(eval (+ (+ 1 1) 1))",
-        report: "1 EVAL - refused STEPS\n",
-    },
-    Limited {
-        steps: "2",
-        book: "(eval (+ (+ 1 1) 1))",
-        report: "1 EVAL - accepted 3\n",
-    },
-    Limited {
-        steps: "1",
-        book: "(eval ((lambda (x y) (cons y x)) 1 2))",
-        report: "1 EVAL - accepted (2 . 1)\n",
-    },
-    Limited {
-        steps: "13",
-        book: "(eval (logic.len '(1 2 3)))",
-        report: "1 EVAL - refused STEPS\n",
-    },
-    Limited {
-        steps: "14",
-        book: "(eval (logic.len '(1 2 3)))",
-        report: "1 EVAL - accepted 3\n",
-    },
-    Limited {
-        steps: "1",
-        book: "(eval (or (+ 1 1) 2))",
-        report: "1 EVAL - refused STEPS\n",
-    },
-    Limited {
-        steps: "2",
-        book: "(eval (or (+ 1 1) 2))",
-        report: "1 EVAL - accepted 2\n",
-    },
-    Limited {
-        steps: "1",
-        book: "(eval (if nil (car (car 1)) 2))",
-        report: "1 EVAL - accepted 2\n",
-    },
-    Limited {
-        steps: "3",
-        book: "(eval (equal (cons 1 2) (cons 1 2)))",
-        report: "1 EVAL - accepted T\n",
-    },
-    Limited {
-        steps: "1",
-        book: "(eval (+ 340282366920938463463374607431768211455 1))",
-        report: "1 EVAL - refused OVERFLOW\n",
-    },
-];
+const LIMITED: &str = "\
+1
+(eval (+ (+ 1 1) 1))
+=> 1 EVAL - refused STEPS
+----
+2
+(eval (+ (+ 1 1) 1))
+=> 1 EVAL - accepted 3
+----
+1
+(eval ((lambda (x y) (cons y x)) 1 2))
+=> 1 EVAL - accepted (2 . 1)
+----
+13
+(eval (logic.len '(1 2 3)))
+=> 1 EVAL - refused STEPS
+----
+14
+(eval (logic.len '(1 2 3)))
+=> 1 EVAL - accepted 3
+----
+1
+(eval (or (+ 1 1) 2))
+=> 1 EVAL - refused STEPS
+----
+2
+(eval (or (+ 1 1) 2))
+=> 1 EVAL - accepted 2
+----
+1
+(eval (if nil (car (car 1)) 2))
+=> 1 EVAL - accepted 2
+----
+3
+(eval (equal (cons 1 2) (cons 1 2)))
+=> 1 EVAL - accepted T
+----
+1
+(eval (+ 340282366920938463463374607431768211455 1))
+=> 1 EVAL - refused OVERFLOW
+";
 
 #[test]
 fn terms_are_evaluated(rt: HostRuntime) -> Result<(), Fail> {
-    expect_empty(wrong_answers(rt.alloc(), &["check"], &VALUES, 4096)?)
+    expect_empty(wrong_answers(rt.alloc(), &["check"], VALUES, 4096)?)
 }
 
 #[test]
 fn units_are_counted(rt: HostRuntime) -> Result<(), Fail> {
-    expect_empty(other_reports(rt.alloc(), &LIMITED)?)
+    expect_empty(other_reports(rt.alloc(), LIMITED)?)
 }

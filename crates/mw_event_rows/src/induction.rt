@@ -1,11 +1,10 @@
 //! An induction with its two premises: with no cases, and a measure that is the ordinal 0.
-use mw_answers::{Row, expect_empty, wrong_answers};
-use mw_book::Status;
+use mw_answers::{expect_empty, wrong_answers};
 use std::test::Fail;
 
 // The second premise, that the measure is an ordinal, is proved from the axiom of ORDP by some eighty steps.
-const INDUCTION: Row = Row {
-    book: "(verify i (pequal* x x) (induction (pequal* x x) ((axiom (pequal* x x)) (CONTRACTION #1=(PEQUAL* #2=(ORDP . \
+const INDUCTION: &str = "\
+(verify i (pequal* x x) (induction (pequal* x x) ((axiom (pequal* x x)) (CONTRACTION #1=(PEQUAL* #2=(ORDP . \
 #3=(#4=(QUOTE 0))) . #5=(#6=(QUOTE T))) ((CUT (POR* #1# . #7=(#1#)) ((CUT (POR* #8=(PEQUAL* #9=(NATP . #3#) . \
 #10=(#9#)) . #7#) ((EXPANSION (POR* #1# . #11=(#8#)) ((INSTANTIATION #8# #12=((AXIOM (PEQUAL* X . #13=(X)))) ((X . \
 #9#))))) (PROPOSITIONAL-SCHEMA (POR* (PNOT* . #7#) . #7#)))) (CONTRACTION #14=(POR* (PNOT* . #11#) . #7#) ((CUT (POR* \
@@ -43,12 +42,13 @@ X2 . #74=(Y2))) (POR* (PNOT* (PEQUAL* X1 X2)) (PEQUAL* Y1 . #74#)))))) (#75=(X1 
 #73# ((X1 . #35#) #77=(Y1 . #2#) (X2 . #35#) (Y2 . #9#))))))))))))))))) (PROPOSITIONAL-SCHEMA (POR* (PNOT* . #31#) . \
 #31#)))) (INSTANTIATION (POR* #48# . #31#) #73# (#75# (Y1 . #9#) . #76#)))))))))))))))) (PROPOSITIONAL-SCHEMA (POR* \
 (PNOT* . #19#) . #19#)))) (INSTANTIATION (POR* #26# . #19#) #73# ((X1 . #9#) #77# (X2 . #9#) (Y2 . \
-#6#)))))))))))))))) ('0 () ())))",
-    report: "1 VERIFY I accepted\nevents 1 accepted 1 refused 0 level 1\n",
-    status: Status::Done,
-};
+#6#)))))))))))))))) ('0 () ())))
+=> 0
+1 VERIFY I accepted
+events 1 accepted 1 refused 0 level 1
+";
 
 #[test]
 fn an_induction_is_accepted(rt: HostRuntime) -> Result<(), Fail> {
-    expect_empty(wrong_answers(rt.alloc(), &["check"], &[INDUCTION], 4096)?)
+    expect_empty(wrong_answers(rt.alloc(), &["check"], INDUCTION, 4096)?)
 }

@@ -1,51 +1,44 @@
 //! The second profile, which has multiplication, and when it can be chosen.
-use mw_answers::{
-    Limited, Row, WRAP, WRAPPED, expect_empty, lines_from, other_report, other_reports,
-    wrong_answers,
-};
-use mw_book::Status;
+use mw_answers::{expect_empty, other_report, other_reports, wrap_book, wrap_lines, wrong_answers};
 use std::alloc::{AllocError, Global};
 use std::test::Fail;
 
-const PROFILES: [Row; 8] = [
-    Row {
-        book: "(profile 2)
-            (eval (* 18446744073709551615 18446744073709551617))
-            (eval (* 18446744073709551616 18446744073709551616))
-            (eval (* 3 (* 'a 5)))",
-        report: "1 PROFILE - accepted
+// Only what changes the theory comes too early.
+const PROFILES: &str = "\
+(profile 2)
+(eval (* 18446744073709551615 18446744073709551617))
+(eval (* 18446744073709551616 18446744073709551616))
+(eval (* 3 (* 'a 5)))
+=> 1
+1 PROFILE - accepted
 2 EVAL - accepted 340282366920938463463374607431768211455
 3 EVAL - refused OVERFLOW
 4 EVAL - accepted 0
 events 4 accepted 3 refused 1 level 1
-",
-        status: Status::SomeRefused,
-    },
-    Row {
-        book: "(eval (* 2 3))
-            (verify f (pequal* (* '2 '3) '6) (base-eval (pequal* (* '2 '3) '6)))
-            (define * (a b) a nil ())
-            (eval (* 2 3))",
-        report: "1 EVAL - refused TERM
+----
+(eval (* 2 3))
+(verify f (pequal* (* '2 '3) '6) (base-eval (pequal* (* '2 '3) '6)))
+(define * (a b) a nil ())
+(eval (* 2 3))
+=> 1
+1 EVAL - refused TERM
 2 VERIFY F refused FORMULA
 3 DEFINE * accepted
 4 EVAL - accepted 2
 events 4 accepted 2 refused 2 level 1
-",
-        status: Status::SomeRefused,
-    },
-    Row {
-        book: "(profile 2)
-            (define * (a b) a nil ())
-            (skolem * y (a) y)
-            (verify b (pequal* (* '2 '3) '6) (base-eval (pequal* (* '2 '3) '6)))
-            (verify c (pequal* (* 'a '3) '0) (base-eval (pequal* (* 'a '3) '0)))
-            (verify o (pequal* (* '18446744073709551616 '18446744073709551616) '0)
-             (base-eval (pequal* (* '18446744073709551616 '18446744073709551616) '0)))
-            (verify e #1=(por* (pnot* (pequal* a b)) (por* (pnot* (pequal* c d)) (pequal* (* a c) (* b d))))
-             (functional-equality #1#))
-            (eval (list (logic.primitivep '*) (logic.apply '* '(6 7))))",
-        report: "1 PROFILE - accepted
+----
+(profile 2)
+(define * (a b) a nil ())
+(skolem * y (a) y)
+(verify b (pequal* (* '2 '3) '6) (base-eval (pequal* (* '2 '3) '6)))
+(verify c (pequal* (* 'a '3) '0) (base-eval (pequal* (* 'a '3) '0)))
+(verify o (pequal* (* '18446744073709551616 '18446744073709551616) '0)
+  (base-eval (pequal* (* '18446744073709551616 '18446744073709551616) '0)))
+(verify e #1=(por* (pnot* (pequal* a b)) (por* (pnot* (pequal* c d)) (pequal* (* a c) (* b d))))
+  (functional-equality #1#))
+(eval (list (logic.primitivep '*) (logic.apply '* '(6 7))))
+=> 1
+1 PROFILE - accepted
 2 DEFINE * refused NAME
 3 SKOLEM * refused NAME
 4 VERIFY B accepted
@@ -54,57 +47,48 @@ events 4 accepted 2 refused 2 level 1
 7 VERIFY E accepted
 8 EVAL - accepted (T 42)
 events 8 accepted 5 refused 3 level 1
-",
-        status: Status::SomeRefused,
-    },
-    Row {
-        book: "(profile 3)
-            (profile 2)
-            (profile 2)
-            (profile 1)",
-        report: "1 PROFILE - refused PROFILE
+----
+(profile 3)
+(profile 2)
+(profile 2)
+(profile 1)
+=> 1
+1 PROFILE - refused PROFILE
 2 PROFILE - accepted
 3 PROFILE - refused PROFILE
 4 PROFILE - refused PROFILE
 events 4 accepted 1 refused 3 level 1
-",
-        status: Status::SomeRefused,
-    },
-    Row {
-        book: "(define k (x) x nil ())
-            (profile 2)
-            (profile 1)",
-        report: "1 DEFINE K accepted
+----
+(define k (x) x nil ())
+(profile 2)
+(profile 1)
+=> 1
+1 DEFINE K accepted
 2 PROFILE - refused PROFILE
 3 PROFILE - refused PROFILE
 events 3 accepted 1 refused 2 level 1
-",
-        status: Status::SomeRefused,
-    },
-    Row {
-        book: "(verify refl (pequal* x x) (axiom (pequal* x x)))
-            (profile 1)
-            (profile 2)",
-        report: "1 VERIFY REFL accepted
+----
+(verify refl (pequal* x x) (axiom (pequal* x x)))
+(profile 1)
+(profile 2)
+=> 1
+1 VERIFY REFL accepted
 2 PROFILE - refused PROFILE
 3 PROFILE - refused PROFILE
 events 3 accepted 1 refused 2 level 1
-",
-        status: Status::SomeRefused,
-    },
-    // Only what changes the theory comes too early.
-    Row {
-        book: "(profile 1)
-            (print 1)
-            (eval (logic.primitivep '*))
-            (define k (x) y nil ())
-            (verify z (pequal* x y) (axiom (pequal* x y)))
-            (switch logic.proofp)
-            (profile 3)
-            (profile 1)
-            (profile 2)
-            (eval (* 6 7))",
-        report: "1 PROFILE - accepted
+----
+(profile 1)
+(print 1)
+(eval (logic.primitivep '*))
+(define k (x) y nil ())
+(verify z (pequal* x y) (axiom (pequal* x y)))
+(switch logic.proofp)
+(profile 3)
+(profile 1)
+(profile 2)
+(eval (* 6 7))
+=> 1
+1 PROFILE - accepted
 2 PRINT - accepted 1
 3 EVAL - accepted NIL
 4 DEFINE K refused VARIABLES
@@ -115,20 +99,18 @@ events 3 accepted 1 refused 2 level 1
 9 PROFILE - accepted
 10 EVAL - accepted 42
 events 10 accepted 6 refused 4 level 1
-",
-        status: Status::SomeRefused,
-    },
-    Row {
-        book: "(profile)
-            (profile 1 2)
-            (profile . 2)
-            (profile x)
-            (profile '2)
-            (profile 0)
-            (profile 340282366920938463463374607431768211456)
-            (skolem w y () y)
-            (profile 2)",
-        report: "1 PROFILE - refused EVENT
+----
+(profile)
+(profile 1 2)
+(profile . 2)
+(profile x)
+(profile '2)
+(profile 0)
+(profile 340282366920938463463374607431768211456)
+(skolem w y () y)
+(profile 2)
+=> 1
+1 PROFILE - refused EVENT
 2 PROFILE - refused EVENT
 3 PROFILE - refused EVENT
 4 PROFILE - refused PROFILE
@@ -138,40 +120,37 @@ events 10 accepted 6 refused 4 level 1
 8 SKOLEM W accepted
 9 PROFILE - refused PROFILE
 events 9 accepted 1 refused 8 level 1
-",
-        status: Status::SomeRefused,
-    },
-];
+";
 
-const LIMITED: [Limited; 4] = [
-    Limited {
-        steps: "1",
-        book: "(profile 2)(eval (* 2 3))",
-        report: "1 PROFILE - accepted\n2 EVAL - accepted 6\n",
-    },
-    Limited {
-        steps: "1",
-        book: "(profile 2)(eval (* (* 2 3) 4))",
-        report: "1 PROFILE - accepted\n2 EVAL - refused STEPS\n",
-    },
-    Limited {
-        steps: "2",
-        book: "(profile 2)(eval (* (* 2 3) 4))",
-        report: "1 PROFILE - accepted\n2 EVAL - accepted 24\n",
-    },
-    Limited {
-        steps: "1",
-        book: "(profile 2)(eval (* 18446744073709551616 18446744073709551616))",
-        report: "1 PROFILE - accepted\n2 EVAL - refused OVERFLOW\n",
-    },
-];
+const LIMITED: &str = "\
+1
+(profile 2)(eval (* 2 3))
+=> 1 PROFILE - accepted
+2 EVAL - accepted 6
+----
+1
+(profile 2)(eval (* (* 2 3) 4))
+=> 1 PROFILE - accepted
+2 EVAL - refused STEPS
+----
+2
+(profile 2)(eval (* (* 2 3) 4))
+=> 1 PROFILE - accepted
+2 EVAL - accepted 24
+----
+1
+(profile 2)(eval (* 18446744073709551616 18446744073709551616))
+=> 1 PROFILE - accepted
+2 EVAL - refused OVERFLOW
+";
 
 // The report on a product that is shown under a checker which runs LOGIC.PROOFP, where it is not the one expected.
 fn other_report_on_a_product(alloc: Global) -> Result<String, AllocError> {
+    let wrap = wrap_book();
     let book = format!(in alloc;
-        "(profile 2)\n{WRAP}(switch wrap)\n(verify b #1=(pequal* (* '6 '7) '42) (base-eval #1#))\n"
+        "(profile 2)\n{wrap}(switch wrap)\n(verify b #1=(pequal* (* '6 '7) '42) (base-eval #1#))\n"
     )?;
-    let lines = lines_from(alloc, 2, &WRAPPED)?;
+    let lines = wrap_lines(alloc, 2)?;
     let due = format!(in alloc;
         "1 PROFILE - accepted\n{lines}10 SWITCH WRAP accepted\n11 VERIFY B accepted\nevents 11 accepted 11 refused 0 level 2\n"
     )?;
@@ -180,12 +159,12 @@ fn other_report_on_a_product(alloc: Global) -> Result<String, AllocError> {
 
 #[test]
 fn a_profile_is_chosen_at_the_beginning(rt: HostRuntime) -> Result<(), Fail> {
-    expect_empty(wrong_answers(rt.alloc(), &["check"], &PROFILES, 4096)?)
+    expect_empty(wrong_answers(rt.alloc(), &["check"], PROFILES, 4096)?)
 }
 
 #[test]
 fn units_of_products_are_counted(rt: HostRuntime) -> Result<(), Fail> {
-    expect_empty(other_reports(rt.alloc(), &LIMITED)?)
+    expect_empty(other_reports(rt.alloc(), LIMITED)?)
 }
 
 #[test]

@@ -1,54 +1,43 @@
 //! The books of the guide to writing books, docs/BOOKS.md, with the reports that it states.
 use mw_answers::{
-    APP, APPENDED, Row, SHORTENED, SHORTHAND, WRAP, WRAPPED, expect_empty, lines_from,
-    other_report, other_report_after_ranks, wrong_answers,
+    app_book, app_lines, expect_empty, other_report, other_report_after_ranks, shorthand_book,
+    shorthand_lines, wrap_book, wrap_lines, wrong_answers,
 };
-use mw_book::Status;
-use mw_read::SyntaxKind;
 use std::alloc::{AllocError, Global};
 use std::test::Fail;
 
-const BOOKS: [Row; 15] = [
-    Row {
-        book: "; Equality of a thing with itself is an axiom of the logic.
+const BOOKS: &str = "\
+; Equality of a thing with itself is an axiom of the logic.
 (verify refl (pequal* x x) (axiom (pequal* x x)))
-",
-        report: "1 VERIFY REFL accepted
+
+=> 0
+1 VERIFY REFL accepted
 events 1 accepted 1 refused 0 level 1
-",
-        status: Status::Done,
-    },
-    Row {
-        book: "(print (a . (b . c)))
+----
+(print (a . (b . c)))
 (print 'x)
 (print (|a b| |AB| |12| 007 ()))
-",
-        report: "1 PRINT - accepted (A B . C)
+
+=> 0
+1 PRINT - accepted (A B . C)
 2 PRINT - accepted (QUOTE X)
 3 PRINT - accepted (|a b| AB |12| 7 NIL)
 events 3 accepted 3 refused 0 level 1
-",
-        status: Status::Done,
-    },
-    Row {
-        book: "(print (#1=(a b) #1#))
-",
-        report: "1 PRINT - accepted ((A B) (A B))
+----
+(print (#1=(a b) #1#))
+
+=> 0
+1 PRINT - accepted ((A B) (A B))
 events 1 accepted 1 refused 0 level 1
-",
-        status: Status::Done,
-    },
-    Row {
-        book: "(print 1)
+----
+(print 1)
 (print 12a)
-",
-        report: "1 PRINT - accepted 1
+
+=> 3
+1 PRINT - accepted 1
 syntax TOKEN at 17
-",
-        status: Status::Syntax(SyntaxKind::Token, 17),
-    },
-    Row {
-        book: "; From \"a = b or b = a\" by its parts: not A or A, and then the parts turned round.
+----
+; From \"a = b or b = a\" by its parts: not A or A, and then the parts turned round.
 (verify em
  (por* (pnot* (pequal* x y)) (pequal* x y))
  (propositional-schema (por* (pnot* (pequal* x y)) (pequal* x y))))
@@ -65,29 +54,25 @@ syntax TOKEN at 17
 (verify same
  (por* (pnot* (pequal* a b)) (pequal* (car a) (car b)))
  (functional-equality (por* (pnot* (pequal* a b)) (pequal* (car a) (car b)))))
-",
-        report: "1 VERIFY EM accepted
+
+=> 0
+1 VERIFY EM accepted
 2 VERIFY SWAP accepted
 3 VERIFY TWO accepted
 4 VERIFY SAME accepted
 events 4 accepted 4 refused 0 level 1
-",
-        status: Status::Done,
-    },
-    Row {
-        book: "(verify refl #1=(pequal* x x) (axiom #1#))
+----
+(verify refl #1=(pequal* x x) (axiom #1#))
 (verify weaker
  #2=(por* (pequal* a b) #3=(pequal* x x))
  (expansion #2# ((theorem #3#))))
-",
-        report: "1 VERIFY REFL accepted
+
+=> 0
+1 VERIFY REFL accepted
 2 VERIFY WEAKER accepted
 events 2 accepted 2 refused 0 level 1
-",
-        status: Status::Done,
-    },
-    Row {
-        book: "; A lambda call equals its body with the actuals put in.
+----
+; A lambda call equals its body with the actuals put in.
 (verify double
  #1=(pequal* ((lambda (x) (cons x x)) (car y)) (cons (car y) (car y)))
  (beta-reduction #1#))
@@ -110,17 +95,15 @@ events 2 accepted 2 refused 0 level 1
  (cut #1#
   ((expansion (por* #3# #2#) ((axiom #2#)))
    (propositional-schema (por* (pnot* #3#) #3#)))))
-",
-        report: "1 VERIFY DOUBLE accepted
+
+=> 0
+1 VERIFY DOUBLE accepted
 2 VERIFY ONCE accepted
 3 VERIFY LEFT accepted
 4 VERIFY TURNED accepted
 events 4 accepted 4 refused 0 level 1
-",
-        status: Status::Done,
-    },
-    Row {
-        book: "(eval (+ (+ 1 1) 1))
+----
+(eval (+ (+ 1 1) 1))
 (eval (let ((x 1)) (list x (first '(7 8)))))
 (eval (logic.len '(a b c)))
 (eval (if (consp 'a) (car 'a) 'none))
@@ -128,8 +111,9 @@ events 4 accepted 4 refused 0 level 1
 (eval (cons x x))
 (eval (+ 340282366920938463463374607431768211455 1))
 (eval (logic.provablep '(pequal* x x) nil nil nil))
-",
-        report: "1 EVAL - accepted 3
+
+=> 1
+1 EVAL - accepted 3
 2 EVAL - accepted (1 7)
 3 EVAL - accepted 3
 4 EVAL - accepted NONE
@@ -138,11 +122,8 @@ events 4 accepted 4 refused 0 level 1
 7 EVAL - refused OVERFLOW
 8 EVAL - refused WITNESS
 events 8 accepted 4 refused 4 level 1
-",
-        status: Status::SomeRefused,
-    },
-    Row {
-        book: "(define twice (x) (+ x x) nil ())
+----
+(define twice (x) (+ x x) nil ())
 (eval (twice 4))
 (verify use
  (pequal* (twice x) (+ x x))
@@ -156,8 +137,9 @@ events 8 accepted 4 refused 4 level 1
 (define k (x) y nil ())
 (define k (x) (list x (twice x)) nil ())
 (eval (k 3))
-",
-        report: "1 DEFINE TWICE accepted
+
+=> 1
+1 DEFINE TWICE accepted
 2 EVAL - accepted 8
 3 VERIFY USE accepted
 4 VERIFY SAME accepted
@@ -168,11 +150,8 @@ events 8 accepted 4 refused 4 level 1
 9 DEFINE K accepted
 10 EVAL - accepted (3 6)
 events 10 accepted 6 refused 4 level 1
-",
-        status: Status::SomeRefused,
-    },
-    Row {
-        book: "(define app (x y)
+----
+(define app (x y)
  (if (consp x) (cons (car x) (app (cdr x) y)) y)
  (rank x)
  ())
@@ -186,34 +165,30 @@ events 10 accepted 6 refused 4 level 1
  ((axiom (pequal* (ordp (rank x)) 't))
   (axiom (por* (pequal* (consp x) 'nil) (pequal* (ord< (rank (cdr x)) (rank x)) 't)))))
 (define deep (x) (if (consp x) (deep (deep (cdr x))) x) (rank x) ())
-",
-        report: "1 DEFINE APP refused COUNT
+
+=> 1
+1 DEFINE APP refused COUNT
 2 DEFINE APP refused CONCLUSION
 3 DEFINE APP refused PROOF
 4 DEFINE DEEP refused NESTED
 events 4 accepted 0 refused 4 level 1
-",
-        status: Status::SomeRefused,
-    },
-    Row {
-        book: "(skolem pick y (x) (equal (car y) x))
+----
+(skolem pick y (x) (equal (car y) x))
 (verify choice
  #1=(por* (pequal* (equal (car y) x) 'nil)
      (pnot* (pequal* ((lambda (y x) (equal (car y) x)) (pick x) x) 'nil)))
  (axiom #1#))
 (eval (pick 1))
 (eval (if nil (pick 1) 2))
-",
-        report: "1 SKOLEM PICK accepted
+
+=> 1
+1 SKOLEM PICK accepted
 2 VERIFY CHOICE accepted
 3 EVAL - refused WITNESS
 4 EVAL - accepted 2
 events 4 accepted 3 refused 1 level 1
-",
-        status: Status::SomeRefused,
-    },
-    Row {
-        book: "(print (six times seven))
+----
+(print (six times seven))
 (profile 2)
 (eval (* 6 7))
 (verify turned (pequal* (* (+ a b) c) (* c (+ a b)))
@@ -223,8 +198,9 @@ events 4 accepted 3 refused 1 level 1
 (eval (* 18446744073709551616 18446744073709551616))
 (define * (a b) (cons a b) nil ())
 (profile 2)
-",
-        report: "1 PRINT - accepted (SIX TIMES SEVEN)
+
+=> 1
+1 PRINT - accepted (SIX TIMES SEVEN)
 2 PROFILE - accepted
 3 EVAL - accepted 42
 4 VERIFY TURNED accepted
@@ -232,27 +208,22 @@ events 4 accepted 3 refused 1 level 1
 6 DEFINE * refused NAME
 7 PROFILE - refused PROFILE
 events 7 accepted 4 refused 3 level 1
-",
-        status: Status::SomeRefused,
-    },
-    Row {
-        book: "(profile 3)
+----
+(profile 3)
 (eval (* 6 7))
 (define * (a b) (cons a b) nil ())
 (eval (* 6 7))
 (profile 2)
-",
-        report: "1 PROFILE - refused PROFILE
+
+=> 1
+1 PROFILE - refused PROFILE
 2 EVAL - refused TERM
 3 DEFINE * accepted
 4 EVAL - accepted (6 . 7)
 5 PROFILE - refused PROFILE
 events 5 accepted 2 refused 3 level 1
-",
-        status: Status::SomeRefused,
-    },
-    Row {
-        book: "(define never (x axioms thms atbl) nil nil ())
+----
+(define never (x axioms thms atbl) nil nil ())
 (switch never)
 (verify claim
  #1=(por* #2=(pequal* (never x axioms thms atbl) 'nil)
@@ -267,8 +238,9 @@ events 5 accepted 2 refused 3 level 1
 (switch logic.proofp)
 (switch twice)
 (switch never)
-",
-        report: "1 DEFINE NEVER accepted
+
+=> 1
+1 DEFINE NEVER accepted
 2 SWITCH NEVER refused CLAIM
 3 VERIFY CLAIM accepted
 4 SWITCH NEVER accepted
@@ -280,28 +252,23 @@ events 5 accepted 2 refused 3 level 1
 10 SWITCH TWICE refused CHECKER
 11 SWITCH NEVER accepted
 events 11 accepted 6 refused 5 level 3
-",
-        status: Status::SomeRefused,
-    },
-    Row {
-        book: "(verify z (pequal* t nil) (axiom (pequal* t nil)))
+----
+(verify z (pequal* t nil) (axiom (pequal* t nil)))
 (verify z (pequal* 't 'nil) (axiom (pequal* 't 'nil)))
 (verify z (pequal* x y) (axiom (pequal* x x)))
 (verify 7 (pequal* x x) (axiom (pequal* x x)))
 (verify z)
 (print 340282366920938463463374607431768211456)
-",
-        report: "1 VERIFY Z refused FORMULA
+
+=> 1
+1 VERIFY Z refused FORMULA
 2 VERIFY Z refused PROOF
 3 VERIFY Z refused CONCLUSION
 4 VERIFY - refused NAME
 5 VERIFY Z refused EVENT
 6 PRINT - refused RANGE
 events 6 accepted 0 refused 6 level 1
-",
-        status: Status::SomeRefused,
-    },
-];
+";
 
 // What the guide shows after the theorems of books/ranks.book, and the lines that it shows for it.
 const AFTER_RANKS: &str = "(define app (x y)
@@ -377,30 +344,34 @@ events 21 accepted 20 refused 1 level 3
 
 // The reports on what the guide shows after these books, where they are not the ones stated.
 fn other_report_after_app(alloc: Global) -> Result<String, AllocError> {
-    let book = format!(in alloc; "{APP}{AFTER_APP}")?;
-    let lines = lines_from(alloc, 14, &APPENDED)?;
-    let due = format!(in alloc; "{lines}{OF_AFTER_APP}")?;
+    let mut book = String::from_str(alloc, app_book())?;
+    book.push_str(AFTER_APP)?;
+    let mut due = app_lines(alloc, 14)?;
+    due.push_str(OF_AFTER_APP)?;
     other_report_after_ranks(alloc, "10000000", book.as_str(), due.as_str())
 }
 
 fn other_report_after_wrap(alloc: Global) -> Result<String, AllocError> {
-    let book = format!(in alloc; "{WRAP}{AFTER_WRAP}")?;
-    let lines = lines_from(alloc, 1, &WRAPPED)?;
-    let due = format!(in alloc; "{lines}{OF_AFTER_WRAP}")?;
+    let mut book = String::from_str(alloc, wrap_book())?;
+    book.push_str(AFTER_WRAP)?;
+    let mut due = wrap_lines(alloc, 1)?;
+    due.push_str(OF_AFTER_WRAP)?;
     other_report(alloc, "10000000", book.as_str(), due.as_str())
 }
 
 fn other_report_after_shorthand(alloc: Global) -> Result<String, AllocError> {
-    let book = format!(in alloc; "{WRAP}{SHORTHAND}{AFTER_SHORTHAND}")?;
-    let wrapped = lines_from(alloc, 1, &WRAPPED)?;
-    let shortened = lines_from(alloc, 9, &SHORTENED)?;
-    let due = format!(in alloc; "{wrapped}{shortened}{OF_AFTER_SHORTHAND}")?;
+    let mut book = String::from_str(alloc, wrap_book())?;
+    book.push_str(shorthand_book())?;
+    book.push_str(AFTER_SHORTHAND)?;
+    let mut due = wrap_lines(alloc, 1)?;
+    due.push_str(shorthand_lines(alloc, 9)?.as_str())?;
+    due.push_str(OF_AFTER_SHORTHAND)?;
     other_report(alloc, "10000000", book.as_str(), due.as_str())
 }
 
 #[test]
 fn the_books_of_the_guide_have_its_reports(rt: HostRuntime) -> Result<(), Fail> {
-    expect_empty(wrong_answers(rt.alloc(), &["check"], &BOOKS, 4096)?)
+    expect_empty(wrong_answers(rt.alloc(), &["check"], BOOKS, 4096)?)
 }
 
 #[test]

@@ -1,47 +1,40 @@
 //! Switches to a checker of the book: what is refused, and how proofs are judged after one.
 use mw_answers::{
-    NEVER, OF_NEVER, Row, WRAP, WRAPPED, expect_empty, lines_from, other_report,
-    other_report_after_ranks, wrong_answers,
+    NEVER, expect_empty, other_answer_on_never, other_report, other_report_after_ranks, wrap_book,
+    wrap_lines, wrong_answers,
 };
-use mw_book::Status;
 use std::alloc::{AllocError, Global};
 use std::test::Fail;
 
-const SWITCHES: [Row; 4] = [
-    Row {
-        book: NEVER,
-        report: OF_NEVER,
-        status: Status::SomeRefused,
-    },
-    Row {
-        book: "(switch logic.proofp)
-            (switch logic.termp)
-            (switch 7)",
-        report: "1 SWITCH LOGIC.PROOFP refused CLAIM
+// In the last, the claim has variables of its own, whatever the formals are called, and its parts in this order.
+const SWITCHES: &str = "\
+(switch logic.proofp)
+(switch logic.termp)
+(switch 7)
+=> 1
+1 SWITCH LOGIC.PROOFP refused CLAIM
 2 SWITCH LOGIC.TERMP refused CHECKER
 3 SWITCH - refused CHECKER
 events 3 accepted 0 refused 3 level 1
-",
-        status: Status::SomeRefused,
-    },
-    Row {
-        book: "(switch)
-            (switch a b)
-            (switch . never)
-            (switch 340282366920938463463374607431768211456)
-            (switch never)
-            (switch car)
-            (switch nil)
-            (switch (never))
-            (switch logic.provablep)
-            (switch logic.provable-witness)
-            (skolem four y (a b c d) y)
-            (switch four)
-            (define three (a b c) nil nil ())
-            (switch three)
-            (define five (a b c d e) nil nil ())
-            (switch five)",
-        report: "1 SWITCH - refused EVENT
+----
+(switch)
+(switch a b)
+(switch . never)
+(switch 340282366920938463463374607431768211456)
+(switch never)
+(switch car)
+(switch nil)
+(switch (never))
+(switch logic.provablep)
+(switch logic.provable-witness)
+(skolem four y (a b c d) y)
+(switch four)
+(define three (a b c) nil nil ())
+(switch three)
+(define five (a b c d e) nil nil ())
+(switch five)
+=> 1
+1 SWITCH - refused EVENT
 2 SWITCH A refused EVENT
 3 SWITCH - refused EVENT
 4 SWITCH - refused RANGE
@@ -58,32 +51,29 @@ events 3 accepted 0 refused 3 level 1
 15 DEFINE FIVE accepted
 16 SWITCH FIVE refused CHECKER
 events 16 accepted 3 refused 13 level 1
-",
-        status: Status::SomeRefused,
-    },
-    // The claim has variables of its own, whatever the formals are called, and its parts in this order.
-    Row {
-        book: "(define never (a b c d) nil nil ())
-            (switch never)
-            (verify renamed
-             #1=(por* #2=(pequal* (never a b c d) 'nil)
-                      #3=(pnot* (pequal* (logic.provablep (logic.conclusion a) b c d) 'nil)))
-             (cut #1# ((expansion (por* #3# #2#) ((axiom #2#)))
-                       (propositional-schema (por* (pnot* #3#) #3#)))))
-            (switch never)
-            (verify turned
-             #1=(por* #3=(pnot* (pequal* (logic.provablep (logic.conclusion x) axioms thms atbl) 'nil))
-                      #2=(pequal* (never x axioms thms atbl) 'nil))
-             (expansion #1# ((instantiation #2# ((axiom (pequal* (never a b c d) 'nil)))
-                                  ((a . x) (b . axioms) (c . thms) (d . atbl))))))
-            (switch never)
-            (verify claim
-             #1=(por* #2=(pequal* (never x axioms thms atbl) 'nil)
-                      #3=(pnot* (pequal* (logic.provablep (logic.conclusion x) axioms thms atbl) 'nil)))
-             (cut #1# ((theorem (por* #3# #2#))
-                       (propositional-schema (por* (pnot* #3#) #3#)))))
-            (switch never)",
-        report: "1 DEFINE NEVER accepted
+----
+(define never (a b c d) nil nil ())
+(switch never)
+(verify renamed
+  #1=(por* #2=(pequal* (never a b c d) 'nil)
+           #3=(pnot* (pequal* (logic.provablep (logic.conclusion a) b c d) 'nil)))
+  (cut #1# ((expansion (por* #3# #2#) ((axiom #2#)))
+            (propositional-schema (por* (pnot* #3#) #3#)))))
+(switch never)
+(verify turned
+  #1=(por* #3=(pnot* (pequal* (logic.provablep (logic.conclusion x) axioms thms atbl) 'nil))
+           #2=(pequal* (never x axioms thms atbl) 'nil))
+  (expansion #1# ((instantiation #2# ((axiom (pequal* (never a b c d) 'nil)))
+                       ((a . x) (b . axioms) (c . thms) (d . atbl))))))
+(switch never)
+(verify claim
+  #1=(por* #2=(pequal* (never x axioms thms atbl) 'nil)
+           #3=(pnot* (pequal* (logic.provablep (logic.conclusion x) axioms thms atbl) 'nil)))
+  (cut #1# ((theorem (por* #3# #2#))
+            (propositional-schema (por* (pnot* #3#) #3#)))))
+(switch never)
+=> 1
+1 DEFINE NEVER accepted
 2 SWITCH NEVER refused CLAIM
 3 VERIFY RENAMED accepted
 4 SWITCH NEVER refused CLAIM
@@ -92,10 +82,7 @@ events 16 accepted 3 refused 13 level 1
 7 VERIFY CLAIM accepted
 8 SWITCH NEVER accepted
 events 8 accepted 5 refused 3 level 2
-",
-        status: Status::SomeRefused,
-    },
-];
+";
 
 // Events after the switch to the checker that accepts nothing, and their lines.
 const AFTER_NEVER: &str = "(verify c (pequal* x y) (axiom (pequal* x x)))
@@ -250,9 +237,8 @@ fn wrong_outcomes(alloc: Global) -> Result<String, AllocError> {
 
 // The report on a theorem under the checker that runs LOGIC.PROOFP, after these lines, where it does not end so.
 fn other_wrap(alloc: Global, steps: &str, lines: &str, end: &str) -> Result<String, AllocError> {
-    let book = format!(in alloc;
-        "{WRAP}(switch wrap)\n(verify refl (pequal* x x) (axiom (pequal* x x)))\n"
-    )?;
+    let mut book = String::from_str(alloc, wrap_book())?;
+    book.push_str("(switch wrap)\n(verify refl (pequal* x x) (axiom (pequal* x x)))\n")?;
     let due = format!(in alloc; "{lines}9 SWITCH WRAP accepted\n10 VERIFY REFL {end}")?;
     other_report(alloc, steps, book.as_str(), due.as_str())
 }
@@ -260,7 +246,7 @@ fn other_wrap(alloc: Global, steps: &str, lines: &str, end: &str) -> Result<Stri
 // The reports on the checker that runs LOGIC.PROOFP that are not those expected.
 fn wrong_wraps(alloc: Global) -> Result<String, AllocError> {
     let mut wrong = String::new(alloc);
-    let lines = lines_from(alloc, 1, &WRAPPED)?;
+    let lines = wrap_lines(alloc, 1)?;
     for row in &JUDGED {
         let other = other_wrap(alloc, row.0, lines.as_str(), row.1)?;
         wrong.push_str(other.as_str())?;
@@ -275,7 +261,8 @@ fn other_definition(
     lines: &str,
     end: &str,
 ) -> Result<String, AllocError> {
-    let book = format!(in alloc; "{WRAP}{DEFINED}")?;
+    let mut book = String::from_str(alloc, wrap_book())?;
+    book.push_str(DEFINED)?;
     let due = format!(in alloc; "{lines}22 SWITCH WRAP accepted\n23 DEFINE APP {end}\n")?;
     other_report_after_ranks(alloc, steps, book.as_str(), due.as_str())
 }
@@ -283,7 +270,7 @@ fn other_definition(
 // The reports on a recursion under the checker that runs LOGIC.PROOFP that are not those expected.
 fn wrong_definitions(alloc: Global) -> Result<String, AllocError> {
     let mut wrong = String::new(alloc);
-    let lines = lines_from(alloc, 14, &WRAPPED)?;
+    let lines = wrap_lines(alloc, 14)?;
     for row in &DEFINED_WITHIN {
         let other = other_definition(alloc, row.0, lines.as_str(), row.1)?;
         wrong.push_str(other.as_str())?;
@@ -299,7 +286,8 @@ fn other_report_after_never(alloc: Global) -> Result<String, AllocError> {
 
 #[test]
 fn checkers_are_switched_to(rt: HostRuntime) -> Result<(), Fail> {
-    expect_empty(wrong_answers(rt.alloc(), &["check"], &SWITCHES, 4096)?)
+    expect_empty(other_answer_on_never(rt.alloc(), 4096)?)?;
+    expect_empty(wrong_answers(rt.alloc(), &["check"], SWITCHES, 4096)?)
 }
 
 #[test]
