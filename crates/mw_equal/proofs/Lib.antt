@@ -1,1 +1,3 @@
 mod Actuals
+mod Calls
+mod BetaShapes

@@ -30,7 +30,10 @@ pub(crate) fn arguments_of_one(heap: &Heap, x: Option<Ref>, y: Option<Ref>) -> O
     ensures calls { are_calls_of_one (part_at heap.now.objects x) (part_at heap.now.objects y) ≡ is_some result }
     ensures arguments { IfSome result (λ p. (object_at heap.now.objects p.0 ≡ cdr (part_at heap.now.objects x)) × (object_at heap.now.objects p.1 ≡ cdr (part_at heap.now.objects y))) }
 {
-    let (Some(x), Some(y)) = (x, y) else {
+    let Some(x) = x else {
+        return None;
+    };
+    let Some(y) = y else {
         return None;
     };
     let View::Pair(f, firsts) = heap.view(x) else {
