@@ -1,7 +1,7 @@
 //! What the denial of a formula comes to.
 ghost use Rattle.std.specs.Prelude.{◌≡◌, IfOk};
 ghost use Rattle.mw_heap.specs.Objects.{object_at, IsIn, Grows};
-ghost use Rattle.mw_taut.specs.Reducing.{settled_at, other_at, form_at, IsOtherIn, IsFormIn, deny_value, denied_from, denied_to, undenied_from, undoubled, undenied_to, denial, undenied, deny_other, deny};
+ghost use Rattle.mw_taut.specs.Reducing.{Fixed, Changed, settled_at, other_at, form_at, IsOtherIn, IsFormIn, deny_value, denied_from, denied_to, undenied_from, undoubled, undenied_to, denial, undenied, deny_other, deny};
 
 use crate::derived::doubled;
 use crate::formulas::{not, or};
@@ -12,25 +12,25 @@ use crate::turning::{turned, turned_twice};
 use mw_heap::{Heap, Memory, Ref};
 
 // Where the value of x is fixed.
-fn deny_value(heap: &mut Heap, d: Ref, x: Ref, s: Settled) -> Result<Settled, Memory>
+fn deny_value(heap: &mut Heap, d: Ref, x: Ref, s: Settled) -> Result<Reduced, Memory>
     requires d_in { IsIn heap.old.objects d }
     requires x_in { IsIn heap.old.objects x }
     requires s_in { IsIn heap.old.objects s.proof }
     ensures grows { Grows heap.old.objects heap.new.objects }
-    ensures within { IfOk result (λ r. IsIn heap.new.objects r.proof) }
-    ensures made { IfOk result (λ r. settled_at heap.new.objects r ≡ deny_value (object_at heap.old.objects d) (object_at heap.old.objects x) (settled_at heap.old.objects s)) }
+    ensures within { IfOk result (λ r. IsFormIn heap.new.objects r) }
+    ensures made { IfOk result (λ r. form_at heap.new.objects r ≡ Fixed (deny_value (object_at heap.old.objects d) (object_at heap.old.objects x) (settled_at heap.old.objects s))) }
 {
     if !s.value {
-        return Ok(Settled {
+        return Ok(Reduced::Fixed(Settled {
             value: true,
             proof: s.proof,
-        });
+        }));
     }
     let proof = doubled(heap, x, d, s.proof)?;
-    Ok(Settled {
+    Ok(Reduced::Fixed(Settled {
         value: false,
         proof,
-    })
+    }))
 }
 
 // That the denial of x follows from that of y, where y follows from x by q.
@@ -116,53 +116,53 @@ fn undenied_to(heap: &mut Heap, d: Ref, x: Ref, z: Ref, p: Ref) -> Result<Ref, M
 }
 
 // Where x comes to another formula: the denial of that.
-fn denial(heap: &mut Heap, d: Ref, x: Ref, s: Change) -> Result<Change, Memory>
+fn denial(heap: &mut Heap, d: Ref, x: Ref, s: Change) -> Result<Reduced, Memory>
     requires d_in { IsIn heap.old.objects d }
     requires x_in { IsIn heap.old.objects x }
     requires s_in { IsOtherIn heap.old.objects s }
     ensures grows { Grows heap.old.objects heap.new.objects }
-    ensures within { IfOk result (λ r. IsOtherIn heap.new.objects r) }
-    ensures made { IfOk result (λ r. other_at heap.new.objects r ≡ denial (object_at heap.old.objects d) (object_at heap.old.objects x) (other_at heap.old.objects s)) }
+    ensures within { IfOk result (λ r. IsFormIn heap.new.objects r) }
+    ensures made { IfOk result (λ r. form_at heap.new.objects r ≡ Changed (denial (object_at heap.old.objects d) (object_at heap.old.objects x) (other_at heap.old.objects s))) }
 {
     let formula = not(heap, s.formula)?;
     let from = denied_from(heap, d, x, s.formula, s.to)?;
     let to = denied_to(heap, d, x, s.formula, s.from)?;
-    Ok(Change {
+    Ok(Reduced::Changed(Change {
         formula,
         denied: Some(s.formula),
         from,
         to,
-    })
+    }))
 }
 
 // Where x comes to the denial of z: z itself.
-fn undenied(heap: &mut Heap, d: Ref, x: Ref, z: Ref, s: Change) -> Result<Change, Memory>
+fn undenied(heap: &mut Heap, d: Ref, x: Ref, z: Ref, s: Change) -> Result<Reduced, Memory>
     requires d_in { IsIn heap.old.objects d }
     requires x_in { IsIn heap.old.objects x }
     requires z_in { IsIn heap.old.objects z }
     requires s_in { IsOtherIn heap.old.objects s }
     ensures grows { Grows heap.old.objects heap.new.objects }
-    ensures within { IfOk result (λ r. IsOtherIn heap.new.objects r) }
-    ensures made { IfOk result (λ r. other_at heap.new.objects r ≡ undenied (object_at heap.old.objects d) (object_at heap.old.objects x) (object_at heap.old.objects z) (other_at heap.old.objects s)) }
+    ensures within { IfOk result (λ r. IsFormIn heap.new.objects r) }
+    ensures made { IfOk result (λ r. form_at heap.new.objects r ≡ Changed (undenied (object_at heap.old.objects d) (object_at heap.old.objects x) (object_at heap.old.objects z) (other_at heap.old.objects s))) }
 {
     let from = undenied_from(heap, d, x, s.formula, s.to)?;
     let to = undenied_to(heap, d, x, z, s.from)?;
-    Ok(Change {
+    Ok(Reduced::Changed(Change {
         formula: z,
         denied: None,
         from,
         to,
-    })
+    }))
 }
 
 // Where x comes to another formula.
-fn deny_other(heap: &mut Heap, d: Ref, x: Ref, s: Change) -> Result<Change, Memory>
+fn deny_other(heap: &mut Heap, d: Ref, x: Ref, s: Change) -> Result<Reduced, Memory>
     requires d_in { IsIn heap.old.objects d }
     requires x_in { IsIn heap.old.objects x }
     requires s_in { IsOtherIn heap.old.objects s }
     ensures grows { Grows heap.old.objects heap.new.objects }
-    ensures within { IfOk result (λ r. IsOtherIn heap.new.objects r) }
-    ensures made { IfOk result (λ r. other_at heap.new.objects r ≡ deny_other (object_at heap.old.objects d) (object_at heap.old.objects x) (other_at heap.old.objects s) (other_at heap.old.objects s).denied) }
+    ensures within { IfOk result (λ r. IsFormIn heap.new.objects r) }
+    ensures made { IfOk result (λ r. form_at heap.new.objects r ≡ Changed (deny_other (object_at heap.old.objects d) (object_at heap.old.objects x) (other_at heap.old.objects s) (other_at heap.old.objects s).denied)) }
 {
     match s.denied {
         Some(z) => undenied(heap, d, x, z, s),
@@ -180,14 +180,8 @@ pub(crate) fn deny(heap: &mut Heap, d: Ref, x: Ref, r: Reduced) -> Result<Reduce
     ensures made { IfOk result (λ s. form_at heap.new.objects s ≡ deny (object_at heap.old.objects d) (object_at heap.old.objects x) (form_at heap.old.objects r)) }
 {
     match r {
-        Reduced::Fixed(s) => {
-            let s = deny_value(heap, d, x, s)?;
-            Ok(Reduced::Fixed(s))
-        }
+        Reduced::Fixed(s) => deny_value(heap, d, x, s),
         Reduced::Kept => Ok(Reduced::Kept),
-        Reduced::Changed(s) => {
-            let s = deny_other(heap, d, x, s)?;
-            Ok(Reduced::Changed(s))
-        }
+        Reduced::Changed(s) => deny_other(heap, d, x, s),
     }
 }

@@ -1,6 +1,7 @@
 -- One more pair is listed.
 use Rattle.std.proofs.Common.{◌≡◌, ◌-◌, suc, sym, subst, arith}
 use Rattle.mw_heap.specs.Objects.{IsIn}
+use Rattle.mw_heap.proofs.Objects.{IsIn-Grows, Grows-trans}
 use Rattle.mw_taut.proofs.Choosing.{IsChoosing, choosing-more}
 use Rattle.mw_taut.proofs.choice.choice_list.Goals as goal
 
@@ -16,3 +17,13 @@ loop-k-preserved c =
     let here = subst (IsChoosing start es ss c.loop-k.heap.objects c.loop-k.list) next c.loop-k.invariant in
     let in_e = subst (IsIn start) (sym c.index-equations-k.is) (c.requires k e (omega (arith, c.loop-k-test.true, c.loop-k.invariant.few))) in
     choosing-more start es ss c.loop-k.heap.objects c.choice_before.new.heap.objects c.loop-k.list c.in_ok-list-2.list k e c.is_true.result here made.grows made.within in_e c.index-equations-k.is c.is_true.ensures made.made
+
+pub choice_before-requires-clause-equation_in : goal.choice_before-requires-clause-equation_in
+choice_before-requires-clause-equation_in c =
+    let k = c.loop-k.k - 1 in
+    let e = c.index-equations-k.result in
+    let within = subst (IsIn c.args.heap.now.objects) (sym c.index-equations-k.is) (c.requires k e (omega (arith, c.loop-k-test.true, c.loop-k.invariant.few))) in
+    IsIn-Grows _ _ c.loop-k.invariant.grows e within
+
+pub returns-in_err-list-2-clause-grows : goal.returns-in_err-list-2-clause-grows
+returns-in_err-list-2-clause-grows c = Grows-trans _ _ _ c.loop-k.invariant.grows c.choice_before.ensures.grows

@@ -4,7 +4,7 @@ use Rattle.std.proofs.lemmas.Bool.{le-ltb}
 use Rattle.std.proofs.lemmas.List.{length-map}
 use Rattle.mw_model.specs.Terms.Term.{formula_object}
 use Rattle.mw_model.specs.Commands.Tautology.{equations, decision, most_equations}
-use Rattle.mw_heap.specs.Objects.{object_at}
+use Rattle.mw_heap.specs.Objects.{object_at, IsIn, Grows}
 use Rattle.mw_taut.specs.Decided.{IsTableOf, IsDecision}
 use Rattle.mw_taut.proofs.DecidedBy.{few_decided}
 use Rattle.mw_taut.proofs.deciding.decided.Goals as goal
@@ -22,3 +22,18 @@ returns-clause-decided c = λ F e f.
     let count = sym (length-map t.equations.items (object_at os)) ∙ (ap length table.equations_are ∙ length-map (equations F) formula_object) in
     let few = le-ltb most_equations (length (equations F)) (omega (arith, c.if-len-gt-MOST_EQUATIONS.false, c.len.ensures, t.equations.ok.0, count)) in
     subst (IsDecision new A F (decision F)) (sym c.answer.ensures.answer) (few_decided A F new o decides c.in_ok-outcome.ensures.within c.answer.ensures.in_range few)
+
+pub outcome-requires-clause-within : goal.outcome-requires-clause-within
+outcome-requires-clause-within c = subst (λ os. IsIn os c.args.f) (sym c.allow_looks.ensures) c.requires.within
+
+pub outcome-requires-clause-formula : goal.outcome-requires-clause-formula
+outcome-requires-clause-formula c =
+    let same = sym c.allow_looks.ensures in
+    let w = c.requires.formula in
+    (w.0, subst (λ os. object_at os c.args.f ≡ formula_object w.0) same w.1, w.2, subst (λ os. IsTableOf os w.0 c.in_ok-table.table) same (c.in_ok-table.ensures c.args.arity.now w.0 w.1 w.2))
+
+pub returns-in_err-outcome-clause-grows : goal.returns-in_err-outcome-clause-grows
+returns-in_err-outcome-clause-grows c = subst (λ os. Grows os c.outcome.new.heap.objects) c.allow_looks.ensures c.outcome.ensures.grows
+
+pub returns-clause-grows : goal.returns-clause-grows
+returns-clause-grows c = subst (λ os. Grows os c.outcome.new.heap.objects) c.allow_looks.ensures c.outcome.ensures.grows

@@ -1,7 +1,7 @@
 -- Each reference means in the grown heaps what it meant in the heap in which it was made.
 use Rattle.std.proofs.Common.{Some, ◌∙◌}
 use Rattle.mw_heap.proofs.Objects.{IsIn-Grows, object_at-Grows, Grows-trans}
-use Rattle.mw_taut.specs.Reducing.{denied_from, denied_to}
+use Rattle.mw_taut.specs.Reducing.{Changed, denied_from, denied_to}
 use Rattle.mw_taut.proofs.EqualParts.{ap₄}
 use Rattle.mw_taut.proofs.deny.denial.Goals as goal
 
@@ -52,9 +52,9 @@ returns-clause-made c =
     let second_proof = c.in_ok-to.ensures.made ∙ ap₄ denied_to (object_at-Grows _ _ to_first_proof _ c.requires.d_in) (object_at-Grows _ _ to_first_proof _ c.requires.x_in) (object_at-Grows _ _ to_first_proof _ c.requires.s_in.formula) (object_at-Grows _ _ to_first_proof _ c.requires.s_in.from) in
     let formula_to_second_proof = Grows-trans _ _ _ c.denied_from.ensures.grows c.denied_to.ensures.grows in
     let to_second_proof = Grows-trans _ _ _ to_first_proof c.denied_to.ensures.grows in
-    λ i. record {
+    λ i. Changed (record {
       formula = (object_at-Grows _ _ formula_to_second_proof _ c.in_ok-formula.ensures.within ∙ c.in_ok-formula.ensures.made) i;
       denied = Some ((object_at-Grows _ _ to_second_proof _ c.requires.s_in.formula) i);
       from = (object_at-Grows _ _ c.denied_to.ensures.grows _ c.in_ok-from.ensures.within ∙ first_proof) i;
       to = second_proof i;
-    }
+    })

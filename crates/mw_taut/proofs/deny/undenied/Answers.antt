@@ -1,7 +1,7 @@
 -- Each reference means in the grown heaps what it meant in the heap in which it was made.
 use Rattle.std.proofs.Common.{None, ◌∙◌}
 use Rattle.mw_heap.proofs.Objects.{IsIn-Grows, object_at-Grows, Grows-trans}
-use Rattle.mw_taut.specs.Reducing.{undenied_to}
+use Rattle.mw_taut.specs.Reducing.{Changed, undenied_to}
 use Rattle.mw_taut.proofs.EqualParts.{ap₄}
 use Rattle.mw_taut.proofs.deny.undenied.Goals as goal
 
@@ -34,9 +34,9 @@ pub returns-clause-made : goal.returns-clause-made
 returns-clause-made c =
     let second_proof = c.in_ok-to.ensures.made ∙ ap₄ undenied_to (object_at-Grows _ _ c.undenied_from.ensures.grows _ c.requires.d_in) (object_at-Grows _ _ c.undenied_from.ensures.grows _ c.requires.x_in) (object_at-Grows _ _ c.undenied_from.ensures.grows _ c.requires.z_in) (object_at-Grows _ _ c.undenied_from.ensures.grows _ c.requires.s_in.from) in
     let to_second_proof = Grows-trans _ _ _ c.undenied_from.ensures.grows c.undenied_to.ensures.grows in
-    λ i. record {
+    λ i. Changed (record {
       formula = (object_at-Grows _ _ to_second_proof _ c.requires.z_in) i;
       denied = None;
       from = (object_at-Grows _ _ c.undenied_to.ensures.grows _ c.in_ok-from.ensures.within ∙ c.in_ok-from.ensures.made) i;
       to = second_proof i;
-    }
+    })
