@@ -1,12 +1,13 @@
 //! The stack machine that makes objects of pieces.
 ghost use Rattle.std.specs.Prelude.{◌≡◌, All, [], ◌∷◌, map, get_or, IfOk, OnOk, OnErr};
-ghost use Rattle.mw_model.specs.Terms.Object.{NIL, Pair};
+ghost use Rattle.mw_model.specs.Terms.Object.{NIL, Pair, Symbol};
 ghost use Rattle.mw_heap.specs.Objects.{object_at, IsIn, Grows};
+ghost use Rattle.mw_heap.specs.Words.{word_object};
 ghost use Rattle.mw_axioms.specs.Stacks.{stack_of, AreIn};
-ghost use Rattle.mw_lower.specs.Pieces.{newest, older, gather, step, run, made_of};
+ghost use Rattle.mw_lower.specs.Pieces.{name_of_variable, newest, older, gather, step, run, made_of};
 
-use crate::piece::Piece;
-use mw_heap::{Heap, Memory, Ref};
+use crate::piece::{Piece, Variable};
+use mw_heap::{Heap, Memory, Ref, Word};
 
 // Takes the newest from the stack, NIL where it is empty.
 pub(crate) fn take(heap: &mut Heap, stack: &mut Vec<Ref>) -> Result<Ref, Memory>
@@ -64,6 +65,48 @@ fn given_at(heap: &mut Heap, given: &[Ref], number: usize) -> Result<Ref, Memory
     }
 }
 
+// Puts a word on the stack.
+fn put_word(heap: &mut Heap, stack: &mut Vec<Ref>, word: Word) -> Result<(), Memory>
+    requires { AreIn heap.old.objects stack.old.items }
+    ensures grows { Grows heap.old.objects heap.new.objects }
+    ensures within { OnOk result (AreIn heap.new.objects stack.new.items) }
+    ensures made { OnOk result (stack_of heap.new.objects stack.new.items ≡ word_object word ∷ stack_of heap.old.objects stack.old.items) }
+{
+    let made = heap.word(word)?;
+    stack.push(made)?;
+    Ok(())
+}
+
+// Puts a variable on the stack.
+fn put_variable(heap: &mut Heap, stack: &mut Vec<Ref>, variable: Variable) -> Result<(), Memory>
+    requires { AreIn heap.old.objects stack.old.items }
+    ensures grows { Grows heap.old.objects heap.new.objects }
+    ensures within { OnOk result (AreIn heap.new.objects stack.new.items) }
+    ensures made { OnOk result (stack_of heap.new.objects stack.new.items ≡ Symbol (name_of_variable variable) ∷ stack_of heap.old.objects stack.old.items) }
+{
+    let made = heap.symbol(variable.name())?;
+    stack.push(made)?;
+    Ok(())
+}
+
+// Puts the given reference of this number on the stack.
+fn put_given(
+    heap: &mut Heap,
+    stack: &mut Vec<Ref>,
+    given: &[Ref],
+    number: usize,
+) -> Result<(), Memory>
+    requires stack { AreIn heap.old.objects stack.old.items }
+    requires given { AreIn heap.old.objects given.now }
+    ensures grows { Grows heap.old.objects heap.new.objects }
+    ensures within { OnOk result (AreIn heap.new.objects stack.new.items) }
+    ensures made { OnOk result (stack_of heap.new.objects stack.new.items ≡ get_or (map (object_at heap.old.objects) given.now) number NIL ∷ stack_of heap.old.objects stack.old.items) }
+{
+    let made = given_at(heap, given, number)?;
+    stack.push(made)?;
+    Ok(())
+}
+
 // Does what one piece says.
 fn take_step(
     heap: &mut Heap,
@@ -77,15 +120,13 @@ fn take_step(
     ensures within { OnOk result (AreIn heap.new.objects stack.new.items) }
     ensures made { OnOk result (stack_of heap.new.objects stack.new.items ≡ step (map (object_at heap.old.objects) given.now) piece (stack_of heap.old.objects stack.old.items)) }
 {
-    let made = match piece {
-        Piece::Symbol(word) => heap.word(word)?,
-        Piece::Free(variable) => heap.symbol(variable.name())?,
-        Piece::Given(number) => given_at(heap, given, number)?,
-        Piece::Pair => return make_pair(heap, stack),
-        Piece::List(count) => return make_list(heap, stack, count),
-    };
-    stack.push(made)?;
-    Ok(())
+    match piece {
+        Piece::Symbol(word) => put_word(heap, stack, word),
+        Piece::Free(variable) => put_variable(heap, stack, variable),
+        Piece::Given(number) => put_given(heap, stack, given, number),
+        Piece::Pair => make_pair(heap, stack),
+        Piece::List(count) => make_list(heap, stack, count),
+    }
 }
 
 // Does what the pieces say, in order.

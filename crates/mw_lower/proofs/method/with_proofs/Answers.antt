@@ -1,10 +1,11 @@
 -- The step itself, or one that is made.
-use Rattle.std.proofs.Common.{inl, inr, sym, ap, ◌∙◌}
+use Rattle.std.proofs.Common.{[], ◌∷◌, inl, inr, sym, ap, ◌∙◌}
 use Rattle.std.proofs.lemmas.Bool.{true≢false}
+use Rattle.std.proofs.lemmas.List.Elements.{All-cons, All-nil}
 use Rattle.mw_model.specs.Terms.Object.{list4}
 use Rattle.mw_model.proofs.Names.{same_object-eq, same_object-from}
-use Rattle.mw_heap.specs.Objects.{object_at}
-use Rattle.mw_heap.proofs.Objects.{IsIn-Grows, object_at-Grows}
+use Rattle.mw_heap.specs.Objects.{object_at, IsIn}
+use Rattle.mw_heap.proofs.Objects.{IsIn-Grows, object_at-Grows, Grows-trans}
 use Rattle.mw_lower.proofs.Results.{IfOk-map}
 use Rattle.mw_lower.proofs.MethodSteps.{made_step}
 use Rattle.mw_lower.proofs.method.with_proofs.Goals as goal
@@ -30,3 +31,20 @@ returns-clause-made c =
         m.1 ∙ (ap (λ z. list4 (object_at mid step.method) (object_at mid step.conclusion) z (object_at mid step.extras)) list.1 ∙ made_step os mid grows step c.requires.method c.requires.conclusion c.requires.extras _),
       ),
     )) c.make.ensures.made
+
+pub same-requires-clause-second_in : goal.same-requires-clause-second_in
+same-requires-clause-second_in c = IsIn-Grows _ _ c.in_ok-list.ensures.grows _ c.requires.subproofs
+
+pub make-requires : goal.make-requires
+make-requires c =
+    let P = IsIn c.list_of.new.heap.objects in
+    let grows = c.in_ok-list.ensures.grows in
+    let step = c.args.step in
+    let list = c.in_ok-list.list in
+    All-cons P step.method (step.conclusion ∷ list ∷ step.extras ∷ []) (IsIn-Grows _ _ grows _ c.requires.method)
+    (All-cons P step.conclusion (list ∷ step.extras ∷ []) (IsIn-Grows _ _ grows _ c.requires.conclusion)
+    (All-cons P list (step.extras ∷ []) c.in_ok-list.ensures.made.0
+    (All-cons P step.extras [] (IsIn-Grows _ _ grows _ c.requires.extras) (All-nil P))))
+
+pub returns-clause-grows : goal.returns-clause-grows
+returns-clause-grows c = Grows-trans _ _ _ c.in_ok-list.ensures.grows c.make.ensures.grows
