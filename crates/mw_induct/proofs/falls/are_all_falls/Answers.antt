@@ -59,3 +59,12 @@ take_falls-requires-clause-pairs c =
     let n = next c.in-Pair.ensures.shows c.in-Pair-view.ensures.shows in
     let pairs = pairs_left c.args.heap.now.objects c.loop-condition.heap.objects i.0 _ _ _ _ _ _ n i.4 in
     subst (λ h. are_lists_of_pairs (object_at h c.in-Pair-view.substitutions) ≡ true) (sym i.0) pairs.0
+
+pub take_falls-requires-clause-within : goal.take_falls-requires-clause-within
+take_falls-requires-clause-within c = subst (λ os. IsIn os c.args.measure) (sym c.loop-condition.invariant.0) c.requires.within
+
+pub returns-in_err-count-clause-objects : goal.returns-in_err-count-clause-objects
+returns-in_err-count-clause-objects c = c.take_falls.ensures.objects ∙ c.loop-condition.invariant.0
+
+pub returns-in-None-clause-objects : goal.returns-in-None-clause-objects
+returns-in-None-clause-objects c = c.take_falls.ensures.objects ∙ c.loop-condition.invariant.0

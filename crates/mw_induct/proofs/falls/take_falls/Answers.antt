@@ -1,7 +1,7 @@
 -- One fall after another, over the heap at the start.
 use Rattle.std.proofs.Common.{◌≡◌, ◌<◌, true, length, sym, ap, ◌∙◌, subst, arith}
 use Rattle.std.proofs.lemmas.Bool.{and_parts}
-use Rattle.mw_heap.specs.Objects.{object_at}
+use Rattle.mw_heap.specs.Objects.{object_at, IsIn}
 use Rattle.mw_model.specs.Terms.Object.{same_object}
 use Rattle.mw_model.specs.Laws.RulesInduction.{fall_object}
 use Rattle.mw_subst.specs.Pairs.{is_list_of_pairs}
@@ -38,3 +38,21 @@ is_fall-requires-clause-pairs c =
     let member = same_pair os c.loop-s.heap.objects c.loop-s.substitutions s c.in-Pair.more i.0 c.in-Pair.ensures.shows in
     let pairs = and_parts (is_list_of_pairs (o s)) (are_lists_of_pairs (o c.in-Pair.more)) (ap are_lists_of_pairs (sym member.2) ∙ i.2) in
     subst (λ h. is_list_of_pairs (object_at h s) ≡ true) (sym i.0) pairs.0
+
+pub is_fall-requires-clause-measure_within : goal.is_fall-requires-clause-measure_within
+is_fall-requires-clause-measure_within c = subst (λ os. IsIn os c.args.measure) (sym c.loop-s.invariant.0) c.requires.within
+
+pub is_fall-requires-clause-condition_within : goal.is_fall-requires-clause-condition_within
+is_fall-requires-clause-condition_within c = subst (λ os. IsIn os c.args.condition) (sym c.loop-s.invariant.0) c.requires.condition_within
+
+pub is_fall-requires-clause-within : goal.is_fall-requires-clause-within
+is_fall-requires-clause-within c =
+    let x = c.index-conclusions-taken.result in
+    let within = subst (IsIn c.args.heap.now.objects) (sym c.index-conclusions-taken.is) (c.requires.conclusions_within c.loop-s.taken x (omega arith)) in
+    subst (λ os. IsIn os x) (sym c.loop-s.invariant.0) within
+
+pub returns-in_err-is_fall-clause-objects : goal.returns-in_err-is_fall-clause-objects
+returns-in_err-is_fall-clause-objects c = c.is_fall.ensures.objects ∙ c.loop-s.invariant.0
+
+pub returns-then-not-branch-clause-objects : goal.returns-then-not-branch-clause-objects
+returns-then-not-branch-clause-objects c = c.is_fall.ensures.objects ∙ c.loop-s.invariant.0

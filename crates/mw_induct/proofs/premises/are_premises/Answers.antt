@@ -76,3 +76,15 @@ are_measured-requires-clause-as_many c =
 
 pub are_measured-requires-clause-pairs : goal.are_measured-requires-clause-pairs
 are_measured-requires-clause-pairs c = subst (λ h. are_cases_of_pairs (object_at h c.args.cases) ≡ true) (sym c.in_ok-count.ensures.objects) c.requires.pairs
+
+pub are_measured-requires-clause-within : goal.are_measured-requires-clause-within
+are_measured-requires-clause-within c = subst (λ os. IsIn os c.args.measure) (sym c.in_ok-count.ensures.objects) c.requires.measure_within
+
+pub are_measured-requires-clause-conditions_within : goal.are_measured-requires-clause-conditions_within
+are_measured-requires-clause-conditions_within c = subst (λ os. IsIn os c.args.conditions) (sym c.in_ok-count.ensures.objects) c.requires.conditions_within
+
+pub are_measured-requires-clause-cases_within : goal.are_measured-requires-clause-cases_within
+are_measured-requires-clause-cases_within c = subst (λ os. IsIn os c.args.cases) (sym c.in_ok-count.ensures.objects) c.requires.cases_within
+
+pub returns-in-Some-clause-objects : goal.returns-in-Some-clause-objects
+returns-in-Some-clause-objects c = c.are_measured.ensures.objects ∙ c.in_ok-count.ensures.objects

@@ -1,12 +1,12 @@
 -- The tests of the data and of the premises make the rule. The looks change no object.
-use Rattle.std.proofs.Common.{◌≡◌, ◌&&◌, true, IfOk, sym, subst, ◌∙◌, eqb, eqb-true}
+use Rattle.std.proofs.Common.{◌≡◌, ◌&&◌, true, All, IfOk, sym, subst, ◌∙◌, eqb, eqb-true}
 use Rattle.std.proofs.lemmas.Result.{IfOk-weaker}
 use Rattle.std.proofs.lemmas.Bool.{and_parts}
 use Rattle.mw_model.specs.Terms.Object.{same_object}
 use Rattle.mw_model.specs.Terms.Term.{ArityTable}
 use Rattle.mw_model.specs.Laws.Rules.{is_formula_object}
 use Rattle.mw_model.specs.Laws.RulesInduction.{is_list_object, length_object, are_case_objects, premises_object}
-use Rattle.mw_heap.specs.Objects.{object_at}
+use Rattle.mw_heap.specs.Objects.{object_at, IsIn}
 use Rattle.mw_term.specs.Marking.{AreMarks}
 use Rattle.mw_subst.proofs.FormulaObjects.{substitute_object-formula}
 use Rattle.mw_induct.specs.Conclusions.{conclusions_object}
@@ -66,3 +66,12 @@ returns-clause-answer c =
     (λ b h. λ A marks.
     h ∙ object_is_induction-from A (object_at os c.args.f) (conclusions_object os c.args.conclusions.now) (object_at os c.args.extras) _ _ _ c.in-Some.ensures.members (sym (tested A marks) ∙ c.if-not-are_cases.false))
     made
+
+pub are_premises-requires-clause-within : goal.are_premises-requires-clause-within
+are_premises-requires-clause-within c = subst (λ os. IsIn os c.args.f) (sym c.in_ok-take_looks_at_cases.ensures) c.requires.conclusion
+
+pub are_premises-requires-clause-conclusions_within : goal.are_premises-requires-clause-conclusions_within
+are_premises-requires-clause-conclusions_within c = subst (λ os. All (IsIn os) c.args.conclusions.now) (sym c.in_ok-take_looks_at_cases.ensures) c.requires.premises
+
+pub returns-clause-objects : goal.returns-clause-objects
+returns-clause-objects c = c.are_premises.ensures.objects ∙ c.in_ok-take_looks_at_cases.ensures

@@ -1,6 +1,6 @@
 -- One step premise after another, over the heap at the start.
 use Rattle.std.proofs.Common.{◌≡◌, ◌<◌, ◌≤◌, true, length, sym, ◌∙◌, subst, arith}
-use Rattle.mw_heap.specs.Objects.{object_at}
+use Rattle.mw_heap.specs.Objects.{object_at, IsIn}
 use Rattle.mw_induct.specs.Pairs.{are_lists_of_pairs, IsLikeFormula}
 use Rattle.mw_induct.proofs.Forms.{steps_none}
 use Rattle.mw_induct.proofs.NextCases.{next_case, as_many_left, pairs_left, step_taken, step_refused}
@@ -52,3 +52,18 @@ is_step-requires-clause-pairs c =
 
 pub is_step-requires-clause-formula : goal.is_step-requires-clause-formula
 is_step-requires-clause-formula c = subst (λ h. IsLikeFormula (object_at h c.args.a)) (sym c.loop-condition.invariant.0) c.requires.formula
+
+pub is_step-requires-clause-formula_within : goal.is_step-requires-clause-formula_within
+is_step-requires-clause-formula_within c = subst (λ os. IsIn os c.args.a) (sym c.loop-condition.invariant.0) c.requires.within
+
+pub is_step-requires-clause-within : goal.is_step-requires-clause-within
+is_step-requires-clause-within c =
+    let x = c.index-conclusions-taken.result in
+    let within = subst (IsIn c.args.heap.now.objects) (sym c.index-conclusions-taken.is) (c.requires.conclusions_within c.loop-condition.taken x (omega arith)) in
+    subst (λ os. IsIn os x) (sym c.loop-condition.invariant.0) within
+
+pub returns-in_err-is_step-clause-objects : goal.returns-in_err-is_step-clause-objects
+returns-in_err-is_step-clause-objects c = c.is_step.ensures.objects ∙ c.loop-condition.invariant.0
+
+pub returns-then-not-branch-clause-objects : goal.returns-then-not-branch-clause-objects
+returns-then-not-branch-clause-objects c = c.is_step.ensures.objects ∙ c.loop-condition.invariant.0
