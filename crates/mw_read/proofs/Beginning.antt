@@ -7,9 +7,9 @@ use Rattle.mw_model.specs.Texts.Lexemes as lex
 use Rattle.mw_model.specs.Texts.Grammar.{book, and_events}
 use Rattle.mw_read.specs.Machine.{State, Idle, Within, Full, Broken, Turn, on, is_full, IsSound}
 use Rattle.mw_read.specs.Resume.{resume, onward, following}
-use Rattle.mw_read.specs.Held.{Took}
+use Rattle.mw_read.specs.Held.{Holds, Took}
 use Rattle.mw_lex.specs.Runs.{StartsWith}
-use Rattle.mw_read.specs.Parsing.{ahead, meaning_of, Fits, Advances, IsAfter, Begins, Moves, Moved, offset_of, offset_at, weight}
+use Rattle.mw_read.specs.Parsing.{ahead, meaning_of, Fits, IsText, is_inside, Advances, IsAfter, IsFirst, Begins, Moves, Moved, offset_of, offset_at, weight}
 use Rattle.mw_read.specs.declared.parser.Begun.{Begun}
 use Rattle.mw_read.specs.declared.parser.Begun.TheVariants.{Nothing, Comment, Token, Bars, Barred, Hash, AfterToken, AfterBar}
 use Rattle.mw_read.specs.declared.parser.Parser.{Parser}
@@ -88,6 +88,44 @@ lexeme_advances os t old new (b ∷ rest) r k l some h i s c w f q =
     ∙ on_step t l w (lexemes_from e (suc old.start) 0 z)
     ∙ ap (λ o. following (on t l) (lexemes_from e o 0 z)) (let o : suc old.start ≡ new.start = omega (arith, s) in o))
     q
+
+-- white space
+pub white_advances : (os : List Object) (t : State) (old new : Parser) (rest : List ℕ) → 0 < length rest → old.begun ≡ Nothing → new.begun ≡ Nothing → new.start ≡ old.start + 1 → class (get_or rest 0 0) ≡ lex.White →
+    Holds os new.stack t → Advances os t old rest outcomes.Pending 1 new
+white_advances os t old new [] some h i s c q = absurd (omega arith)
+white_advances os t old new (b ∷ rest) some h i s c q = (
+  t,
+  q,
+  free_parser os new i q.stack,
+  λ e z fit.
+      at_nothing e t old (b ∷ z) h
+      ∙ ap (resume t) (piece_lexemes e old.start b z lex.White c)
+      ∙ ap (λ o. resume t (lexemes_from e o 0 z)) (let o : suc old.start ≡ new.start = omega (arith, s) in o)
+      ∙ sym (at_nothing e t new z i),
+)
+
+-- a comment begins
+pub comment_advances : (os : List Object) (t : State) (old new : Parser) (rest : List ℕ) → 0 < length rest → old.begun ≡ Nothing → new.begun ≡ Comment → new.start ≡ old.start → class (get_or rest 0 0) ≡ lex.Semicolon →
+    Holds os new.stack t → Advances os t old rest outcomes.Pending 1 new
+comment_advances os t old new [] some h i s c q = absurd (omega arith)
+comment_advances os t old new (b ∷ rest) some h i s c q = (
+  t,
+  q,
+  record {
+    stack = q.stack;
+    text = subst (λ m. IsText m new.token.items) (sym i) tt;
+    ready = λ r. absurd (true≢false (sym r ∙ ap is_inside i));
+  },
+  λ e z fit.
+      at_nothing e t old (b ∷ z) h
+      ∙ ap (resume t) (piece_lexemes e old.start b z lex.Semicolon c ∙ sym (piece_lexemes e old.start 59 z lex.Semicolon refl))
+      ∙ ap (λ o. resume t (lexemes_from e o 0 (59 ∷ z))) (sym s)
+      ∙ sym (ap (λ m. resume t (ahead e m new.token.items new.start z)) i),
+)
+
+pub first_is : (k : Class) (rest : List ℕ) → 0 < length rest → class (get_or rest 0 0) ≡ k → IsFirst k rest
+first_is k [] some c = absurd (omega arith)
+first_is k (b ∷ rest) some c = c
 
 -- a byte that may not stand here
 pub byte_faults : (e : Ending) (t : State) (old : Parser) (rest z : List ℕ) → 0 < length rest → old.begun ≡ Nothing → class (get_or rest 0 0) ≡ lex.Other → IsSound t →

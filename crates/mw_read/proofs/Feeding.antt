@@ -101,6 +101,12 @@ pub ready_from : (os0 os : List Object) (old new : Reader) (t : Step) → IsRead
 ready_from os0 os old new t (inl h) f ended again = ready_again os old h.0.0 h.0.1 t new ended (f h.0.0 h.0.1 h.0.2)
 ready_from os0 os old new t (inr h) f ended again = let last = subst IsLast (sym (again h.0 h.2)) h.1 in inr (t, last, ended last)
 
+-- more bytes were fed
+pub ready_fed : (os : List Object) (r : Reader) (fed piece : List ℕ) → fed ≡ r.unread ++ piece → Follows r.parser (r.unread ++ piece) ⊎ HasEnded r.parser → IsReady os r → IsReady os (record r { unread = fed })
+ready_fed os r fed piece is (inl f) (inl h) = inl (h.0, inl (subst (λ x. Follows r.parser x) (sym is) f))
+ready_fed os r fed piece is (inl f) (inr h) = inr h
+ready_fed os r fed piece is (inr h) k = inr h
+
 pub ready_stands : (os : List Object) (r : Reader) → IsReady os r → IsStanding os r.parser ⊎ HasEnded r.parser
 ready_stands os r (inl h) = inl h.0
 ready_stands os r (inr h) = inr h

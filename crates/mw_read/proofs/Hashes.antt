@@ -8,16 +8,19 @@ use Rattle.mw_read.specs.Machine.{State, Idle, Turn, on, is_full, IsSound}
 use Rattle.mw_read.specs.Resume.{resume, onward, following}
 use Rattle.mw_read.specs.Lexing.{label_lexeme}
 use Rattle.mw_read.specs.Stacks.{IsStack}
-use Rattle.mw_read.specs.Held.{Took}
+use Rattle.mw_read.specs.Held.{Holds, Took}
 use Rattle.mw_read.specs.Parsing.{ahead, meaning_of, IsText, is_inside, IsParser, Advances, EndsHash}
 use Rattle.mw_read.specs.declared.parser.Begun.TheVariants.{Nothing}
 use Rattle.mw_read.specs.declared.parser.Parser.{Parser}
+use Rattle.mw_read.specs.declared.stack.Stack.{Stack}
+use Rattle.mw_read.specs.declared.step.SyntaxKind.TheVariants as kinds
 use Rattle.mw_read.specs.declared.step.Outcome.{Outcome}
 use Rattle.mw_read.specs.declared.step.Outcome.TheVariants as outcomes
 use Rattle.mw_read.proofs.Resuming.{on_step, IsSolid}
 use Rattle.mw_lex.proofs.Lexemes.{hash_lexemes}
 use Rattle.mw_lex.proofs.Runs.{run_more, take_more}
 use Rattle.mw_read.proofs.Bare.{take_run}
+use Rattle.mw_read.proofs.Holding.{sound_clamp}
 use Rattle.mw_read.proofs.Parsing.{wrong_breaks, following_event}
 
 pub comment_run : (e : Ending) (o : ℕ) (r z : List ℕ) → all_are is_inside_comment r ≡ true → lexemes_from e o 0 (59 ∷ (r ++ z)) ≡ lexemes_from e (o + length r) 0 (59 ∷ z)
@@ -100,6 +103,14 @@ label_mark o (c ∷ d) b l h = ap (λ v. if v then Mark o (decimal_value (c ∷ 
 pub label_ref : (o : ℕ) (d : List ℕ) (b : ℕ) → 0 < length d → b ≡ 35 → label_lexeme o d b ≡ Ref o (decimal_value d)
 label_ref o [] b l h = absurd (omega arith)
 label_ref o (c ∷ d) b l h = ap (λ u. if eqb u 61 then Mark o (decimal_value (c ∷ d)) else (if eqb u 35 then Ref o (decimal_value (c ∷ d)) else Wrong o (Some (fault LABEL o)))) h
+
+pub label_none : (o : ℕ) (d : List ℕ) (b : ℕ) → d ≡ [] → label_lexeme o d b ≡ Wrong o (Some (fault LABEL o))
+label_none o d b h = ap (λ x. label_lexeme o x b) h
+
+-- what is no label breaks what is open
+pub label_breaks : (os : List Object) (s : Stack) (t : State) (o : ℕ) (d : List ℕ) (b : ℕ) (r : Outcome) → label_lexeme o d b ≡ Wrong o (Some (fault LABEL o)) → r ≡ outcomes.Fault (record { kind = kinds.Label; offset = o }) → Holds os s t → is_full t ≡ false →
+    Took os s r (on t (label_lexeme o d b))
+label_breaks os s t o d b r l e h full = subst (λ u. Took os s u (on t (label_lexeme o d b))) (sym e) (ap (on t) l ∙ wrong_breaks t o (fault LABEL o) full (sound_clamp os s t h.means))
 
 pub free_parser : (os : List Object) (p : Parser) → p.begun ≡ Nothing → IsStack os p.stack → IsParser os p
 free_parser os p e k = record {

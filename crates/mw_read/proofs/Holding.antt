@@ -1,7 +1,7 @@
 -- What a lexeme makes of what a stack holds.
 use Rattle.std.proofs.Common.{◌≡◌, ℕ, Bool, true, false, ◌||◌, List, [], ◌∷◌, length, Result, Ok, Err, IfOk, refl, sym, ap, ap₂, ◌∙◌, subst}
 use Rattle.mw_model.specs.Terms.Object.{Object}
-use Rattle.mw_model.specs.Texts.Lexemes.{Lexeme, Atom, Fault}
+use Rattle.mw_model.specs.Texts.Lexemes.{Lexeme, Open, Close, Dot, Quote, Atom, Mark, Ref, Fault}
 use Rattle.mw_model.specs.Events.Fate.{is_out_of_range}
 use Rattle.mw_heap.specs.Objects.{object_at, Grows}
 use Rattle.mw_read.specs.Machine.{State, Idle, Within, Full, Broken, Turn, on, labels_of, IsSound, is_full}
@@ -10,6 +10,9 @@ use Rattle.mw_read.specs.Clamp.{clamp_all, clamp_state, clamp_turn, clamp_lexeme
 use Rattle.mw_read.specs.Piles.{Does, HoldsDatum, pile_of, fault_of, is_ready}
 use Rattle.mw_read.specs.Stacks.{IsStack, Means}
 use Rattle.mw_read.specs.Held.{Holds, Took}
+use Rattle.mw_read.specs.Taken.{lexeme_at, IsBare}
+use Rattle.mw_read.specs.declared.lexeme.Lexeme as code
+use Rattle.mw_read.specs.declared.lexeme.Lexeme.TheVariants as lexemes
 use Rattle.mw_read.specs.declared.stack.Stack.{Stack}
 use Rattle.mw_read.specs.declared.step.Outcome.{Outcome}
 use Rattle.mw_read.specs.declared.step.Outcome.TheVariants as outcomes
@@ -89,6 +92,21 @@ took os old s r t l os0 h w k d f e =
     took_turn os s r (on t l) (state_big t || lexeme_big l) k d (subst (λ (u : Turn). Does os s.layers.items s.labels.entries r u) (on_clamp t l) f) (e ∙ ap (λ u. u || lexeme_big l) h.big)
     (on_flags t l (λ c. sym h.big ∙ h.covered c) w)
 
+pub or_small : (a b c : Bool) → c ≡ false → a ≡ b → a ≡ (b || c)
+or_small a true c e h = h
+or_small a false c e h = h ∙ sym e
+
+-- a lexeme that is no atom is taken
+pub bare_took : (os0 os : List Object) (old s : Stack) (r : Outcome) (t : State) (l : code.Lexeme) (o : ℕ) → IsBare l → Holds os0 old t → IsStack os s → HoldsDatum os r →
+    ((u : State) → Means os0 old u → Does os s.layers.items s.labels.entries r (on u (lexeme_at os0 o l))) → s.big ≡ old.big → Took os s r (on t (lexeme_at os0 o l))
+bare_took os0 os old s r t lexemes.Open o b h k d f e = took os old s r t (Open o) os0 h tt k d (f (clamp_state t) h.means) (or_small s.big old.big false refl e)
+bare_took os0 os old s r t lexemes.Close o b h k d f e = took os old s r t (Close o) os0 h tt k d (f (clamp_state t) h.means) (or_small s.big old.big false refl e)
+bare_took os0 os old s r t lexemes.Dot o b h k d f e = took os old s r t (Dot o) os0 h tt k d (f (clamp_state t) h.means) (or_small s.big old.big false refl e)
+bare_took os0 os old s r t lexemes.Quote o b h k d f e = took os old s r t (Quote o) os0 h tt k d (f (clamp_state t) h.means) (or_small s.big old.big false refl e)
+bare_took os0 os old s r t (lexemes.Mark n) o b h k d f e = took os old s r t (Mark o n) os0 h tt k d (f (clamp_state t) h.means) (or_small s.big old.big false refl e)
+bare_took os0 os old s r t (lexemes.Ref n) o b h k d f e = took os old s r t (Ref o n) os0 h tt k d (f (clamp_state t) h.means) (or_small s.big old.big false refl e)
+bare_took os0 os old s r t (lexemes.Atom x) o b h k d f e = absurd b
+
 -- the heap grows
 pub stack_grows : (os os2 : List Object) (s : Stack) → Grows os os2 → IsStack os s → IsStack os2 s
 stack_grows os os2 s g k = record { pile = is_pile_grows os os2 s.layers.items g k.pile; listed = listed_grows (length os) (length os2) s.labels.entries (length-Grows os os2 g) k.listed }
@@ -122,10 +140,6 @@ pub atom_took : (os0 os1 os2 : List Object) (old s : Stack) (r : Outcome) (t : S
 atom_took os0 os1 os2 old s r t y x o h g e k d f b =
     took os2 old s r t (Atom o y) os0 h tt k d
     (subst (λ z. Does os2 s.layers.items s.labels.entries r (on (clamp_state t) (Atom o z))) e (f (clamp_state t) (holds_grows os0 os1 old t g h).means)) b
-
-pub or_small : (a b c : Bool) → c ≡ false → a ≡ b → a ≡ (b || c)
-or_small a true c e h = h
-or_small a false c e h = h ∙ sym e
 
 pub if_ok_all : {T E : Type 0} (P Q R S : T → Type 0) {V : T → Type 0} (r : Result T E) → ((x : T) → P x → Q x → R x → S x → V x) → IfOk r P → IfOk r Q → IfOk r R → IfOk r S → IfOk r V
 if_ok_all P Q R S (Ok x) f p q s v = f x p q s v

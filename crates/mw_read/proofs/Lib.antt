@@ -13,6 +13,8 @@ pub mod Bare
 pub mod Advancing
 pub mod Hashes
 pub mod Beginning
+pub mod Pausing
+pub mod Moving
 pub mod Scanning
 pub mod Blanks
 pub mod Ending

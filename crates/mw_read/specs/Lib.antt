@@ -10,5 +10,6 @@ pub mod Held
 pub mod Lexing
 pub mod Parsing
 pub mod Shown
+pub mod Pausing
 pub mod Standing
 pub mod Feeding

@@ -23,3 +23,8 @@ MayCome os p (Atom x) = IsIn os x × (is_ready p ≡ false)
 MayCome os p (Mark n) = is_ready p ≡ false
 MayCome os p (Ref n) = is_ready p ≡ false
 MayCome os p l = Unit {0}
+
+-- It is no atom, so that no natural in it can be cut.
+abbrev pub IsBare : Lexeme → Type 0
+IsBare (Atom x) = ⊥
+IsBare l = Unit {0}

@@ -291,7 +291,6 @@ impl Parser {
         ensures moves { IfOk result (λ r. Moves r.0 self.old rest.now r.1 self.new) }
         ensures advances { IfOk result (λ r. (t : State) → Holds heap.old.objects self.old.stack t → Advances heap.new.objects t self.old rest.now r.0 r.1 self.new) }
     {
-        let at = self.start;
         match classify(rest[0]) {
             Class::White => {
                 self.start += 1;
@@ -301,19 +300,10 @@ impl Parser {
                 self.begun = Begun::Comment;
                 Ok((Outcome::Pending, 1))
             }
-            Class::Opening => {
-                self.start += 1;
-                Ok((self.stack.take(heap, Lexeme::Open, at)?, 1))
-            }
-            Class::Closing => {
-                self.start += 1;
-                Ok((self.stack.take(heap, Lexeme::Close, at)?, 1))
-            }
-            Class::Apostrophe => {
-                self.start += 1;
-                Ok((self.stack.take(heap, Lexeme::Quote, at)?, 1))
-            }
-            Class::Other => Ok((fault(SyntaxKind::Byte, at), 0)),
+            Class::Opening => Ok((self.take(heap, Lexeme::Open, 1)?, 1)),
+            Class::Closing => Ok((self.take(heap, Lexeme::Close, 1)?, 1)),
+            Class::Apostrophe => Ok((self.take(heap, Lexeme::Quote, 1)?, 1)),
+            Class::Other => Ok((fault(SyntaxKind::Byte, self.start), 0)),
             Class::Bar => self.begin(heap, Begun::Bars, rest),
             Class::Hash => self.begin(heap, Begun::Hash, rest),
             Class::Constituent => self.begin(heap, Begun::Token, rest),

@@ -1,13 +1,15 @@
-//! Texts of more than one byte: tokens, names between bars, labels and comments, and where they end.
+//! Where lexemes end, and texts of more than one byte: tokens, names between bars, labels and comments.
 ghost use Rattle.std.specs.Prelude.{◌≡◌, ℕ, ◌+◌, ◌<◌, ◌≤◌, ◌^◌, ◌⊎◌, true, false, List, ◌++◌, length, take, IfOk};
-ghost use Rattle.mw_model.specs.Terms.Object.{is_name_byte, name_of_bytes, Symbol};
+ghost use Rattle.mw_model.specs.Terms.Object.{Object, is_name_byte, name_of_bytes, Symbol};
 ghost use Rattle.mw_model.specs.Texts.Lexemes.{all_are, is_constituent, is_digit, token_form, Atom, Ending};
 ghost use Rattle.mw_heap.specs.Objects.{Grows};
 ghost use Rattle.mw_read.specs.Machine.{State, on, is_full};
 ghost use Rattle.mw_read.specs.Piles.{pile_of, is_ready};
 ghost use Rattle.mw_read.specs.Stacks.{IsStack};
+ghost use Rattle.mw_read.specs.Taken.{lexeme_at, IsBare, MayCome};
 ghost use Rattle.mw_read.specs.Held.{Holds, Took};
 ghost use Rattle.mw_read.specs.Parsing.{IsParser, Advances, EndsHash, meaning_of, is_inside, Moves};
+ghost use Rattle.mw_read.specs.Pausing.{GoesOn};
 ghost use Rattle.mw_lex.specs.Runs.{StartsWith};
 ghost use Rattle.mw_read.specs.Lexing.{token_lexeme, label_lexeme};
 
@@ -185,38 +187,49 @@ impl Parser {
             Took heap.new.objects self.new.stack r (on t (label_lexeme self.old.start (self.old.token.items ++ bytes.now) b))) }
         ensures ended { IfOk result (λ r. EndsHash r (length (self.old.token.items ++ bytes.now)) self.old self.new) }
     {
-        let start = self.start;
         keep_after(&mut self.token, bytes)?;
         let text = whole_text(&self.token, bytes);
         if text.is_empty() {
-            return Ok(fault(SyntaxKind::Label, start));
+            return Ok(fault(SyntaxKind::Label, self.start));
         }
-        let count = text.len();
+        let length = text.len() as u64 + 2;
         let n = few_digits(text);
-        if b == b'=' {
-            self.end_label(count);
-            return self.stack.take(heap, Lexeme::Mark(n), start);
+        match b {
+            b'=' => self.take(heap, Lexeme::Mark(n), length),
+            b'#' => self.take(heap, Lexeme::Ref(n), length),
+            _ => Ok(fault(SyntaxKind::Label, self.start)),
         }
-        if b == b'#' {
-            self.end_label(count);
-            return self.stack.take(heap, Lexeme::Ref(n), start);
-        }
-        Ok(fault(SyntaxKind::Label, start))
     }
 
-    fn end_label(&mut self, count: usize)
-        requires { self.old.start + count < 2 ^ 60 }
-        ensures { self.new ≡ record self.old { begun = Begun.Nothing; start = self.old.start + 2 + count } }
+    // A lexeme that is no atom ends, after so many bytes.
+    #[inline(always)]
+    pub(crate) fn take(
+        &mut self,
+        heap: &mut Heap,
+        lexeme: Lexeme,
+        length: u64,
+    ) -> Result<Outcome, Memory>
+        requires stack { IsStack heap.old.objects self.old.stack }
+        requires bare { IsBare lexeme }
+        requires comes { MayCome heap.old.objects (pile_of heap.old.objects self.old.stack.layers.items) lexeme }
+        requires room { self.old.start + length < 2 ^ 60 }
+        ensures grows { Grows heap.old.objects heap.new.objects }
+        ensures took { IfOk result (λ r. (t : State) → Holds heap.old.objects self.old.stack t → Took heap.new.objects self.new.stack r (on t (lexeme_at heap.old.objects self.old.start lexeme))) }
+        ensures begun { self.new.begun ≡ Begun.Nothing }
+        ensures start { self.new.start ≡ self.old.start + length }
     {
+        let start = self.start;
         self.begun = Begun::Nothing;
-        self.start += count as u64 + 2;
+        self.start += length;
+        self.stack.take(heap, lexeme, start)
     }
 
     // The text that has begun goes on in the next piece.
     fn pause(&mut self, bytes: &[u8]) -> Result<(Outcome, usize), Memory>
-        ensures paused { IfOk result (λ r. (r.0 ≡ Outcome.Pending) × (r.1 ≡ length bytes.now)) }
-        ensures token { IfOk result (λ r. self.new.token.items ≡ self.old.token.items ++ bytes.now) }
-        ensures same { (self.new.stack ≡ self.old.stack) × ((self.new.begun ≡ self.old.begun) × (self.new.start ≡ self.old.start)) }
+        requires { GoesOn self.old.begun (self.old.token.items ++ bytes.now) }
+        ensures all { IfOk result (λ r. r.1 ≡ length bytes.now) }
+        ensures moves { IfOk result (λ r. Moves r.0 self.old bytes.now r.1 self.new) }
+        ensures advances { (os : List Object) → IsParser os self.old → IfOk result (λ r. (t : State) → Holds os self.old.stack t → Advances os t self.old bytes.now r.0 r.1 self.new) }
     {
         self.token.extend_from_slice(bytes)?;
         Ok((Outcome::Pending, bytes.len()))

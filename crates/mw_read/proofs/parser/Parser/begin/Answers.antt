@@ -1,5 +1,6 @@
 -- A text begins, unless none may.
-use Rattle.std.proofs.Common.{◌≡◌, ℕ, ◌∙◌, List, [], ◌++◌, sym, ap, refl, subst, arith}
+use Rattle.std.proofs.Common.{◌≡◌, ℕ, ◌<◌, ◌∙◌, List, [], ◌∷◌, ◌++◌, length, sym, ap, refl, subst, arith}
+use Rattle.std.proofs.lemmas.List.{length-drop}
 use Rattle.mw_read.specs.Resume.{resume}
 use Rattle.mw_read.specs.Parsing.{ahead, Begins, IsText, Moves, Advances}
 use Rattle.mw_read.specs.declared.parser.Begun.{Begun}
@@ -13,6 +14,15 @@ use Rattle.mw_read.proofs.parser.Parser.begin.Goals as goal
 
 begins_empty : (m n : Begun) (t : List ℕ) → m ≡ n → t ≡ [] → IsText n [] → IsText m t
 begins_empty m n t e f h = subst (λ k. IsText k t) (sym e) (subst (IsText n) (sym f) h)
+
+begins_some : (m : Begun) (rest : List ℕ) → Begins m rest → 0 < length rest
+begins_some begun.Bars (b ∷ rest) h = omega arith
+begins_some begun.Hash (b ∷ rest) h = omega arith
+begins_some begun.Token (b ∷ rest) h = omega arith
+begins_some begun.Bars [] h = absurd h
+begins_some begun.Hash [] h = absurd h
+begins_some begun.Token [] h = absurd h
+begins_some m rest h = absurd h
 
 pub in_bars-requires-clause-parser : goal.in_bars-requires-clause-parser
 in_bars-requires-clause-parser c = record {
@@ -36,6 +46,20 @@ in_token-requires-clause-parser c =
       text = begins_empty c.args.begun begun.Token c.clear.new.self.items k.0 c.clear.ensures.items refl;
       ready = λ _. sym (c.is_full.ensures c.args.heap.now.objects c.requires.parser.stack) ∙ c.if-is_full.false;
     }
+
+pub in_bars-requires-clause-room : goal.in_bars-requires-clause-room
+in_bars-requires-clause-room c = omega (arith, ap length c.clear.ensures.items, ap length (rest_is 1 c.args.rest.now), length-drop 1 c.args.rest.now, c.requires.room)
+
+pub returns-in_ok-outcome-in-Bars-clause-taken : goal.returns-in_ok-outcome-in-Bars-clause-taken
+returns-in_ok-outcome-in-Bars-clause-taken c =
+    omega (arith, c.in_ok-outcome-in-Bars.ensures.taken, ap length (rest_is 1 c.args.rest.now), length-drop 1 c.args.rest.now, begins_some c.args.begun c.args.rest.now c.requires.begins)
+
+pub in_hash-requires-clause-room : goal.in_hash-requires-clause-room
+in_hash-requires-clause-room c = omega (arith, ap length c.clear.ensures.items, ap length (rest_is 1 c.args.rest.now), length-drop 1 c.args.rest.now, c.requires.room)
+
+pub returns-in_ok-outcome-in-Hash-clause-taken : goal.returns-in_ok-outcome-in-Hash-clause-taken
+returns-in_ok-outcome-in-Hash-clause-taken c =
+    omega (arith, c.in_ok-outcome-in-Hash.ensures.taken, ap length (rest_is 1 c.args.rest.now), length-drop 1 c.args.rest.now, begins_some c.args.begun c.args.rest.now c.requires.begins)
 
 pub returns-then-is_full-clause-advances : goal.returns-then-is_full-clause-advances
 returns-then-is_full-clause-advances c t h =

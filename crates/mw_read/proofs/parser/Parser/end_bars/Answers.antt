@@ -1,7 +1,8 @@
 -- The name is what was kept and these bytes.
-use Rattle.std.proofs.Common.{◌≡◌, ℕ, ◌<◌, ◌∙◌, ◌&&◌, List, [], ◌∷◌, ◌++◌, length, ap, sym, subst, true, false, refl, arith}
+use Rattle.std.proofs.Common.{◌≡◌, ℕ, ◌<◌, ◌∙◌, ◌&&◌, List, [], ◌∷◌, ◌++◌, length, ap, sym, subst, true, false, refl, arith, length-append}
 use Rattle.mw_model.specs.Terms.Object.{Symbol, name_of_bytes, is_name, is_name_byte, are_name_bytes}
 use Rattle.mw_model.specs.Texts.Lexemes.{all_are}
+use Rattle.mw_heap.proofs.Objects.{Grows-trans}
 use Rattle.mw_read.proofs.Holding.{stack_grows, ready_grows, atom_took, or_small, if_ok_all}
 use Rattle.mw_read.proofs.Bare.{kept_is}
 use Rattle.mw_read.proofs.parser.Parser.end_bars.Goals as goal
@@ -22,6 +23,18 @@ symbol-requires c =
     kept_is a.token.items c.keep_after.new.kept.items c.deref.result.now bytes c.whole_text.result.now
     c.in_ok-keep_after.ensures.some c.in_ok-keep_after.ensures.none c.deref.ensures.value c.whole_text.ensures.kept c.whole_text.ensures.none in
     subst (λ u. is_name u ≡ true) (sym whole) (are_name (a.token.items ++ bytes) c.requires.name c.requires.some)
+
+pub returns-in_err-keep_after-clause-start : goal.returns-in_err-keep_after-clause-start
+returns-in_err-keep_after-clause-start c = omega (arith, length-append c.args.self.now.token.items c.args.bytes.now, c.len.ensures, c.args.self.now.token.ok.0)
+
+pub returns-in_err-x-clause-start : goal.returns-in_err-x-clause-start
+returns-in_err-x-clause-start c = omega (arith, length-append c.args.self.now.token.items c.args.bytes.now, c.len.ensures, c.args.self.now.token.ok.0)
+
+pub returns-clause-start : goal.returns-clause-start
+returns-clause-start c = omega (arith, length-append c.args.self.now.token.items c.args.bytes.now, c.len.ensures, c.args.self.now.token.ok.0)
+
+pub returns-clause-grows : goal.returns-clause-grows
+returns-clause-grows c = Grows-trans _ _ _ c.symbol.ensures.grows c.take.ensures.grows
 
 pub take-requires-clause-stack : goal.take-requires-clause-stack
 take-requires-clause-stack c = stack_grows c.args.heap.now.objects c.symbol.new.self.objects c.args.self.now.stack c.symbol.ensures.grows c.requires.parser.stack

@@ -1,5 +1,5 @@
-use Rattle.std.proofs.Common.{◌≡◌, ◌++◌, subst, false, IfOk}
-use Rattle.mw_model.specs.Texts.Lexemes.{token_form}
+use Rattle.std.proofs.Common.{◌≡◌, ◌++◌, sym, subst, true, false, arith, length-append, IfOk}
+use Rattle.mw_model.specs.Texts.Lexemes.{all_are, is_constituent, token_form}
 use Rattle.mw_read.specs.Machine.{State, on, is_full}
 use Rattle.mw_read.specs.Held.{Holds, Took}
 use Rattle.mw_read.specs.Lexing.{token_lexeme}
@@ -14,3 +14,16 @@ returns-clause-took g c =
     c.in_ok-keep_after.ensures.some c.in_ok-keep_after.ensures.none c.deref.ensures.value c.whole_text-token.ensures.kept c.whole_text-token.ensures.none in
     subst (λ u. IfOk c.end_token.result (λ r. (t : State) → Holds c.args.heap.now.objects a.stack t → is_full t ≡ false → Took c.end_token.new.heap.objects c.end_token.new.stack r (on t (token_lexeme a.start c.args.glued (token_form u)))))
     whole c.end_token.ensures.took
+
+pub returns-in_err-keep_after-clause-start : goal.returns-in_err-keep_after-clause-start
+returns-in_err-keep_after-clause-start g c = omega (arith, length-append c.args.self.now.token.items c.args.bytes.now, c.len.ensures, c.args.self.now.token.ok.0)
+
+pub end_token-requires-clause-token : goal.end_token-requires-clause-token
+end_token-requires-clause-token g c =
+    subst (λ u. all_are is_constituent u ≡ true)
+    (sym (kept_is c.args.self.now.token.items c.keep_after.new.kept.items c.deref.result.now c.args.bytes.now c.whole_text-token.result.now
+    c.in_ok-keep_after.ensures.some c.in_ok-keep_after.ensures.none c.deref.ensures.value c.whole_text-token.ensures.kept c.whole_text-token.ensures.none))
+    c.requires.token
+
+pub returns-clause-start : goal.returns-clause-start
+returns-clause-start g c = omega (arith, length-append c.args.self.now.token.items c.args.bytes.now, c.len.ensures, c.args.self.now.token.ok.0)

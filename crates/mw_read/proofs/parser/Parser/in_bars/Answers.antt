@@ -1,13 +1,18 @@
-use Rattle.std.proofs.Common.{◌≡◌, ◌∙◌, ◌<◌, ◌+◌, ◌++◌, ◌∷◌, [], Some, sym, ap, ap₂, subst, suc, length, take, drop, get_or, arith, true}
+use Rattle.std.proofs.Common.{◌≡◌, ◌∙◌, ◌<◌, ◌+◌, ◌++◌, ◌∷◌, [], Some, sym, ap, ap₂, subst, suc, length, take, drop, get_or, arith, true, refl}
 use Rattle.mw_model.specs.Terms.Object.{is_name_byte, Symbol, name_of_bytes}
 use Rattle.mw_model.specs.Texts.Lexemes.{all_are, lexemes_from, fault, BYTE}
 use Rattle.mw_model.specs.Texts.Grammar.{book}
 use Rattle.mw_read.specs.Resume.{resume}
 use Rattle.mw_read.specs.Parsing.{IsText, is_inside, ahead}
+use Rattle.mw_read.specs.Pausing.{GoesOn}
+use Rattle.mw_read.specs.declared.parser.Begun.TheVariants.{Barred}
+use Rattle.mw_read.specs.declared.parser.Parser.{Parser}
 use Rattle.mw_read.specs.declared.step.SyntaxKind.TheVariants as kinds
 use Rattle.mw_read.proofs.Holding.{holds_full, sound_clamp}
 use Rattle.mw_read.proofs.Bare.{split_at, all_append, go_on, go_on_past, both_length, empty_list, not_eqb}
 use Rattle.mw_read.proofs.Parsing.{bars_whole, bars_faults, bars_empty}
+use Rattle.mw_read.proofs.Pausing.{whole_taken}
+use Rattle.mw_read.proofs.Moving.{moves_all, barred_moved, barred_advances, bars_moved}
 use Rattle.mw_read.proofs.Advancing.{bars_advance, fault_advances}
 use Rattle.mw_read.proofs.parser.Parser.in_bars.Goals as goal
 
@@ -47,6 +52,57 @@ returns-then-length-eq0-clause-advances c t h =
     ∙ ap (λ y. resume t (lexemes_from e a.start 0 (124 ∷ y))) (go_on a.token.items rest n z lt)
     ∙ ap₂ (λ u b. resume t (lexemes_from e a.start 0 (124 ∷ (u ++ b ∷ (drop (suc n) rest ++ z))))) (empty_list (a.token.items ++ take n rest) z0) c.if-rest-n-ne124.false
     ∙ bars_empty e t a.start (drop (suc n) rest ++ z) full (sound_clamp c.args.heap.now.objects a.stack t h.means))
+
+pub pause-requires : goal.pause-requires
+pause-requires c =
+    let a = c.args.self.now in
+    let rest = c.args.rest.now in
+    let text : all_are is_name_byte a.token.items ≡ true = subst (λ m. IsText m a.token.items) c.requires.begun c.requires.parser.text in
+    let run = subst (λ u. all_are is_name_byte u ≡ true) (whole_taken rest c.name_bytes-n.result c.if-n-rest.true) c.name_bytes-n.ensures.all in
+    subst (λ m. GoesOn m (a.token.items ++ rest)) (sym c.requires.begun) (all_append is_name_byte a.token.items rest text run)
+
+pub returns-then-n-rest-2-clause-moves : goal.returns-then-n-rest-2-clause-moves
+returns-then-n-rest-2-clause-moves c =
+    let a = c.args.self.now in
+    let rest = c.args.rest.now in
+    let n = c.name_bytes-n.result in
+    let p : Parser = record a { begun = Barred; token = c.extend_from_slice.new.self } in
+    let lt : n < length rest = omega (arith, c.name_bytes-n.ensures.within, c.if-n-rest.false) in
+    barred_moved a p rest n c.requires.begun refl refl c.in_ok-extend_from_slice.ensures.items lt
+
+pub returns-then-n-rest-2-clause-advances : goal.returns-then-n-rest-2-clause-advances
+returns-then-n-rest-2-clause-advances c t h =
+    let a = c.args.self.now in
+    let os = c.args.heap.now.objects in
+    let rest = c.args.rest.now in
+    let n = c.name_bytes-n.result in
+    let run = c.name_bytes-n.ensures in
+    let p : Parser = record a { begun = Barred; token = c.extend_from_slice.new.self } in
+    let lt : n < length rest = omega (arith, run.within, c.if-n-rest.false) in
+    let text : all_are is_name_byte a.token.items ≡ true = subst (λ m. IsText m a.token.items) c.requires.begun c.requires.parser.text in
+    let l = both_length a.token.items rest n run.within in
+    let some : 0 < length (a.token.items ++ take n rest) = omega (arith, l, c.len.ensures, a.token.ok.0, c.if-length-eq0.false) in
+    barred_advances a p rest n c.requires.begun refl refl c.in_ok-extend_from_slice.ensures.items lt os t c.requires.parser refl h c.if-rest-n-ne124.false (all_append is_name_byte a.token.items (take n rest) text run.all) some
+
+pub end_bars-requires-clause-name : goal.end_bars-requires-clause-name
+end_bars-requires-clause-name c =
+    let a = c.args.self.now in
+    let text : all_are is_name_byte a.token.items ≡ true = subst (λ m. IsText m a.token.items) c.requires.begun c.requires.parser.text in
+    all_append is_name_byte a.token.items (take c.name_bytes-n.result c.args.rest.now) text c.name_bytes-n.ensures.all
+
+pub end_bars-requires-clause-some : goal.end_bars-requires-clause-some
+end_bars-requires-clause-some c =
+    let a = c.args.self.now in
+    let l = both_length a.token.items c.args.rest.now c.name_bytes-n.result c.name_bytes-n.ensures.within in
+    omega (arith, l, c.len.ensures, a.token.ok.0, c.if-length-eq0.false)
+
+pub returns-clause-moves : goal.returns-clause-moves
+returns-clause-moves c =
+    let a = c.args.self.now in
+    let rest = c.args.rest.now in
+    let n = c.name_bytes-n.result in
+    let lt : n + 1 < length rest = omega (arith, c.name_bytes-n.ensures.within, c.if-n-rest.false, c.if-n-rest-2.false) in
+    moves_all c.in_ok-outcome.outcome a rest (n + 1) c.end_bars.new.self (bars_moved a c.end_bars.new.self rest n c.requires.begun c.end_bars.ensures.begun c.end_bars.ensures.start lt)
 
 pub returns-clause-advances : goal.returns-clause-advances
 returns-clause-advances c t h =

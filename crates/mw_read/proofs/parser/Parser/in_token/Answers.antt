@@ -1,10 +1,48 @@
-use Rattle.std.proofs.Common.{◌≡◌, ◌∙◌, ◌<◌, sym, ap, subst, suc, length, take, drop, get_or, arith, true}
+use Rattle.std.proofs.Common.{◌≡◌, ◌∙◌, ◌<◌, ◌++◌, sym, ap, subst, suc, length, take, drop, get_or, arith, true}
 use Rattle.mw_model.specs.Texts.Lexemes.{all_are, is_constituent}
 use Rattle.mw_read.specs.Parsing.{IsText, is_inside}
+use Rattle.mw_read.specs.Pausing.{GoesOn}
 use Rattle.mw_read.proofs.Holding.{holds_full, sound_clamp}
 use Rattle.mw_read.proofs.Bare.{split_at, all_append, some_length}
+use Rattle.mw_read.proofs.Beginning.{if_ok_more}
+use Rattle.mw_read.proofs.Pausing.{whole_taken, starts_some, some_taken, some_begun}
+use Rattle.mw_read.proofs.Moving.{moves_all, token_moved}
 use Rattle.mw_read.proofs.Advancing.{token_advances}
 use Rattle.mw_read.proofs.parser.Parser.in_token.Goals as goal
+
+pub pause-requires : goal.pause-requires
+pause-requires g c =
+    let a = c.args.self.now in
+    let rest = c.args.rest.now in
+    let text : all_are is_constituent a.token.items ≡ true = subst (λ m. IsText m a.token.items) c.requires.begun c.requires.parser.text in
+    let run = subst (λ u. all_are is_constituent u ≡ true) (whole_taken rest c.constituents-n.result c.if-n-rest.true) c.constituents-n.ensures.all in
+    subst (λ m. GoesOn m (a.token.items ++ rest)) (sym c.requires.begun) (all_append is_constituent a.token.items rest text run, some_begun is_constituent a.token.items rest c.requires.some)
+
+pub returns-then-n-rest-clause-taken : goal.returns-then-n-rest-clause-taken
+returns-then-n-rest-clause-taken g c = if_ok_more _ _ c.pause.result (λ r e. omega (arith, e)) c.pause.ensures.all
+
+pub returns-then-n-rest-clause-starts : goal.returns-then-n-rest-clause-starts
+returns-then-n-rest-clause-starts g c = if_ok_more _ _ c.pause.result (λ r e h. omega (arith, e, starts_some is_constituent c.args.rest.now h)) c.pause.ensures.all
+
+pub returns-clause-starts : goal.returns-clause-starts
+returns-clause-starts g c h =
+    let run = c.constituents-n.ensures in
+    let lt : c.constituents-n.result < length c.args.rest.now = omega (arith, run.within, c.if-n-rest.false) in
+    some_taken is_constituent c.args.rest.now c.constituents-n.result h run.ends lt
+
+pub end_token-requires-clause-token : goal.end_token-requires-clause-token
+end_token-requires-clause-token g c =
+    let a = c.args.self.now in
+    let text : all_are is_constituent a.token.items ≡ true = subst (λ m. IsText m a.token.items) c.requires.begun c.requires.parser.text in
+    all_append is_constituent a.token.items (take c.constituents-n.result c.args.rest.now) text c.constituents-n.ensures.all
+
+pub returns-clause-moves : goal.returns-clause-moves
+returns-clause-moves g c =
+    let a = c.args.self.now in
+    let rest = c.args.rest.now in
+    let n = c.constituents-n.result in
+    let lt : n < length rest = omega (arith, c.constituents-n.ensures.within, c.if-n-rest.false) in
+    moves_all c.in_ok-outcome.outcome a rest n c.end_token.new.self (token_moved a c.end_token.new.self rest n c.requires.begun c.end_token.ensures.begun c.end_token.ensures.start lt (c.constituents-n.ensures.ends lt))
 
 pub returns-clause-advances : goal.returns-clause-advances
 returns-clause-advances g c t h =
