@@ -1,16 +1,21 @@
--- A datum with a natural past the range: a step that is not good, or an event of no form.
-use Rattle.std.proofs.Common.{◌≡◌, ◌+◌, Bool, true, false, ◌&&◌, not, List, [], ◌∷◌, ◌++◌, length, map, Option, Some, None, option_map, refl, sym, ap, ◌∙◌, subst, arith, length-append}
+-- A datum with a natural past the range, a step that is not good, and an event of no form.
+use Rattle.std.proofs.Common.{◌≡◌, ℕ, ◌+◌, Bool, true, false, ◌&&◌, not, List, [], ◌∷◌, ◌++◌, length, map, Option, Some, None, option_map, refl, sym, ap, ◌∙◌, subst, arith, length-append}
+use Rattle.std.proofs.lemmas.Bool.{false≢true}
 use Rattle.mw_model.specs.Terms.Object.{Object, Natural, Symbol, Pair, symbol, car, same_object, second_of, has_members}
 use Rattle.mw_model.specs.Terms.Term.{Formula, ArityTable}
 use Rattle.mw_model.specs.Terms.Reading.{when}
 use Rattle.mw_model.specs.Values.Primitive.{Profile}
-use Rattle.mw_model.specs.Values.Definition.{arity_table}
+use Rattle.mw_model.specs.Values.Definition.{arity_table, is_present}
 use Rattle.mw_model.specs.Events.Theory.{Theory}
 use Rattle.mw_model.specs.Events.Fate.{is_out_of_range, event_word}
-use Rattle.mw_model.specs.Commands.Log.{SHAPE, No, conclusion, conclusions, entry_by, entry_of, answer_to_entry, logged, is_step}
+use Rattle.mw_model.specs.Commands.Log.{SHAPE, STEP, No, Entry, conclusion, conclusions, entry_by, entry_of, answer_to_steps, answer_to_entry, logged, is_step}
 use Rattle.mw_heap.specs.Objects.{object_at}
-use Rattle.mw_flat.specs.Collecting.{AreConclusions}
-use Rattle.mw_flat.specs.Going.{Going, theory_of, HasCollected}
+use Rattle.mw_theory.specs.declared.world.World.{World}
+use Rattle.mw_theory.specs.Worlds.{IsWorld}
+use Rattle.mw_flat.specs.declared.collected.Collected.{Collected}
+use Rattle.mw_flat.specs.Collecting.{AreConclusions, AreFormulasIn}
+use Rattle.mw_flat.specs.Going.{Going, theory_of, HasCollected, IsGoing, going_of}
+use Rattle.mw_flat.proofs.Goings.{no_formulas}
 use Rattle.mw_flat.proofs.Conclusions.{with_step, conclusions-more}
 
 never : (a o s : Bool) → o ≡ true → (a && (not o && s)) ≡ false
@@ -50,9 +55,43 @@ large-entry x large = ap (λ b. when (not b) (entry_by (event_word x) x)) large
 pub no-form : (t : Theory) (steps : List Object) (x : Object) → entry_of x ≡ None → logged t steps x ≡ (No SHAPE, t)
 no-form t steps x none = ap (answer_to_entry t steps x) none
 
+-- a datum with the word of no event
+pub wordless : (x : Object) → event_word x ≡ None → entry_of x ≡ None
+wordless x h = ap (λ w. when (not (is_out_of_range x)) (entry_by w x)) h ∙ nothing (not (is_out_of_range x))
+  where
+    nothing : (b : Bool) → when b (entry_by None x) ≡ None
+    nothing true = refl
+    nothing false = refl
+
+pub absent : {X : Type 0} (o : Option X) → is_present o ≡ false → o ≡ None
+absent None h = refl
+absent (Some x) h = cc
+
+-- an event after steps that are not all good
+pub no-step : (t : Theory) (steps : List Object) (x : Object) (os : List Object) (good : Bool) (rs : List ℕ) → good ≡ false → is_present (entry_of x) ≡ true →
+    AreConclusions os good rs (conclusions t.axioms t.theorems (arity_table t.definitions) t.definitions.profile steps) → logged t steps x ≡ (No STEP, t)
+no-step t steps x os good rs bad there h = by_entry (entry_of x) there
+  where
+    by_steps : (entry : Entry) (o : Option (List Formula)) → AreConclusions os good rs o → answer_to_steps t x entry o ≡ (No STEP, t)
+    by_steps entry None k = refl
+    by_steps entry (Some Fs) k = absurd (false≢true (sym bad ∙ k.0))
+
+    by_entry : (o : Option Entry) → is_present o ≡ true → answer_to_entry t steps x o ≡ (No STEP, t)
+    by_entry None k = cc
+    by_entry (Some entry) k = by_steps entry (conclusions t.axioms t.theorems (arity_table t.definitions) t.definitions.profile steps) h
+
 -- no steps
 pub none-collected : (g : Going) → g.count ≡ 0 → g.good ≡ true → g.conclusions ≡ [] → HasCollected g []
 none-collected g count good none = record { count = count; conclusions = (good, ap (map (object_at g.objects)) none) }
+
+-- no steps are collected any more
+pub forgotten : (w : World) (c : Collected) → IsWorld w → w.theory.checker ≡ None → c.conclusions.items ≡ [] → c.good ≡ true → c.count ≡ 0 → IsGoing w c
+forgotten w c right built_in none good count = record {
+  world = right;
+  built_in = built_in;
+  formulas = subst (AreFormulasIn w.heap.objects w.theory.arity) (sym none) (no_formulas w.heap.objects w.theory.arity);
+  known = λ g. ([], none-collected (going_of w c) count good none);
+}
 
 -- a datum is a step by its first member
 pub step-headed : (x : Object) → same_object (car x) (symbol "STEP") ≡ is_step x

@@ -1,6 +1,7 @@
 -- The number of a proof is its place, counted from 1.
-use Rattle.std.proofs.Common.{◌≡◌, ℕ, suc, ◌+◌, ◌<◌, ◌≤◌, nat_eq, nat_lt, ltb, min, Bool, true, false, not, cond, List, [], ◌∷◌, length, map, All, Some, None, refl, sym, ap, ◌∙◌, arith, ltb-true, ltb-false}
+use Rattle.std.proofs.Common.{◌≡◌, ℕ, suc, ◌+◌, ◌<◌, ◌≤◌, nat_eq, nat_lt, ltb, min, Bool, true, false, not, cond, List, [], ◌∷◌, ◌++◌, length, map, take, get_or, All, Some, None, refl, sym, ap, ◌∙◌, arith, ltb-true, ltb-false}
 use Rattle.std.specs.List.{position_or_len}
+use Rattle.std.proofs.lemmas.List.{get_or_read, take_more, map-append}
 use Rattle.std.proofs.lemmas.List.Elements.{All-head, All-tail}
 use Rattle.mw_model.specs.Terms.Object.{Object}
 use Rattle.mw_model.specs.Commands.Flattening.{number_among}
@@ -38,3 +39,11 @@ module _ (os : List Object) (distinct : AreDistinct os) (p : ℕ) (p_in : IsIn o
 
   pub number_nowhere : None ≡ cond (nat_lt (position_or_len (nat_eq p) keys) (length keys)) (Some (position_or_len (nat_eq p) keys)) None → length keys ≡ number_among (map (object_at os) keys) (object_at os p)
   number_nowhere h = omega (arith, found_nowhere (position_or_len (nat_eq p) keys) (length keys) h, number_is os distinct p p_in keys all)
+
+-- one number more
+pub one_number : (f : ℕ → ℕ) (proofs : List ℕ) (i : ℕ) → i < length proofs → (old new : List ℕ) (n p : ℕ) → old ≡ map f (take i proofs) → new ≡ old ++ n ∷ [] → n ≡ f p → p ≡ get_or proofs i p → new ≡ map f (take (i + 1) proofs)
+one_number f proofs i l old new n p so_far more is at =
+    let q = get_or proofs i 0 in
+    more
+    ∙ (ap (λ k. old ++ k ∷ []) (is ∙ ap f (get_or_read proofs i p l at 0))
+    ∙ (ap (λ ns. ns ++ f q ∷ []) so_far ∙ (sym (map-append f (take i proofs) (q ∷ [])) ∙ ap (map f) (sym (take_more proofs i 0 l)))))

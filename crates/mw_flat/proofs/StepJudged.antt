@@ -1,12 +1,12 @@
 -- The conclusion of a step, test by test.
 use Rattle.std.proofs.Common.{◌≡◌, ℕ, ◌+◌, Bool, true, false, ◌&&◌, not, List, length, Option, Some, None, refl, sym, ap, ◌∙◌, subst}
-use Rattle.mw_model.specs.Terms.Object.{Object, Natural, same_object, second_of, fifth_of, has_members}
+use Rattle.mw_model.specs.Terms.Object.{Object, Natural, same_object, second_of, third_of, fourth_of, fifth_of, sixth_of, has_members}
 use Rattle.mw_model.specs.Terms.Term.{Formula, ArityTable}
-use Rattle.mw_model.specs.Terms.Reading.{when}
+use Rattle.mw_model.specs.Terms.Reading.{when, formula_of}
 use Rattle.mw_model.specs.Values.Primitive.{Profile}
 use Rattle.mw_model.specs.Events.Fate.{is_out_of_range}
 use Rattle.mw_model.specs.Proofs.Proof.{Method}
-use Rattle.mw_model.specs.Proofs.Judgment.{judge_step}
+use Rattle.mw_model.specs.Proofs.Judgment.{methods, method_among, judge_step}
 use Rattle.mw_model.specs.Commands.Log.{naturals_of, formulas_at, conclusion}
 use Rattle.mw_flat.specs.Steps.{IsConclusion}
 
@@ -39,6 +39,16 @@ module _ (ax th : Object) (A : ArityTable) (P : Profile) (Fs : List Formula) (x 
   not-counted n k is k_is other =
       let s : same_object (second_of x) (Natural (length Fs + 1)) ≡ false = ap (λ y. same_object y (Natural (length Fs + 1))) is ∙ (ap (λ j. same_object n (Natural j)) (sym k_is) ∙ other) in
       when-false (has_members 6 x && (not (is_out_of_range x) && same_object (second_of x) (Natural (length Fs + 1)))) _ (third-false (has_members 6 x) (is_out_of_range x) (same_object (second_of x) (Natural (length Fs + 1))) s)
+
+  -- it has not six members
+  pub not-six : has_members 6 x ≡ false → conclusion ax th A P Fs x ≡ None
+  not-six h = when-false (has_members 6 x && (not (is_out_of_range x) && same_object (second_of x) (Natural (length Fs + 1)))) _ (ap (λ b. b && (not (is_out_of_range x) && same_object (second_of x) (Natural (length Fs + 1)))) h)
+
+  -- its method is none
+  pub not-method : method_among methods (third_of x) ≡ None → conclusion ax th A P Fs x ≡ None
+  not-method h =
+      when-none (has_members 6 x && (not (is_out_of_range x) && same_object (second_of x) (Natural (length Fs + 1)))) _
+      (ap (λ m. judge_step ax th A P m (formula_of (fourth_of x)) (formulas_at Fs (naturals_of (fifth_of x))) (sixth_of x)) h)
 
   -- its subproofs are no numbers of conclusions
   pub not-listed : formulas_at Fs (naturals_of (fifth_of x)) ≡ None → conclusion ax th A P Fs x ≡ None

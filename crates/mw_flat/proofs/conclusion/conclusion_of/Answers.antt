@@ -1,6 +1,7 @@
 -- Test by test.
 use Rattle.std.proofs.Common.{◌≡◌, false, true, Some, None, option_map, sym, ap, ◌∙◌}
 use Rattle.mw_model.specs.Laws.Rules.{is_formula_object}
+use Rattle.mw_model.specs.Proofs.Judgment.{methods, method_among}
 use Rattle.mw_model.specs.Commands.Log.{naturals_of, formulas_at}
 use Rattle.mw_heap.specs.Objects.{object_at, IsIn}
 use Rattle.mw_term.proofs.CallerLemmas.{AreMarks-grows}
@@ -8,10 +9,20 @@ use Rattle.mw_rules.specs.Methods.{method_of_logic}
 use Rattle.mw_flat.specs.Collecting.{conclusions_listed}
 use Rattle.mw_flat.proofs.Premises.{none-all, listed-all}
 use Rattle.mw_flat.proofs.ByNumber.{listed-All}
-use Rattle.mw_flat.proofs.StepJudged.{is-none, not-counted, not-listed}
+use Rattle.mw_flat.proofs.StepJudged.{is-none, not-counted, not-listed, not-six, not-method}
 use Rattle.mw_flat.proofs.StepRule.{not-formula}
 use Rattle.mw_flat.proofs.StepTested.{good-step, bad-step}
 use Rattle.mw_flat.proofs.conclusion.conclusion_of.Goals as goal
+
+pub returns-in_default-clause-conclusion : goal.returns-in_default-clause-conclusion
+returns-in_default-clause-conclusion c = λ Fs formulas same counted.
+    let os = c.args.heap.now.objects in
+    is-none os _ (not-six _ _ _ _ Fs (object_at os c.args.x) c.in_default.ensures)
+
+pub returns-in_default-of-clause-conclusion : goal.returns-in_default-of-clause-conclusion
+returns-in_default-of-clause-conclusion c = λ Fs formulas same counted.
+    let os = c.args.heap.now.objects in
+    is-none os _ (not-method _ _ _ _ Fs (object_at os c.args.x) (ap (method_among methods) c.in-Some.ensures.method ∙ (sym c.of.ensures ∙ ap (option_map method_of_logic) c.in_default-of.is)))
 
 pub returns-then-not-is_number-clause-conclusion : goal.returns-then-not-is_number-clause-conclusion
 returns-then-not-is_number-clause-conclusion c = λ Fs formulas same counted.
@@ -34,6 +45,15 @@ returns-in_default-2-clause-conclusion c = λ Fs formulas same counted.
     let none : conclusions_listed c.args.conclusions.now sub ≡ None = sym c.in_ok-premises.ensures ∙ ap (option_map (λ v. v.items)) c.in_default-2.is in
     let missing = none-all os (conclusions_listed c.args.conclusions.now sub) (formulas_at Fs (naturals_of sub)) (listed-all os c.args.conclusions.now Fs same sub) none in
     is-none os _ (not-listed _ _ _ _ Fs (object_at os c.args.x) (ap (λ y. formulas_at Fs (naturals_of y)) c.in-Some.ensures.subproofs ∙ missing))
+
+pub follows-requires-clause-marks : goal.follows-requires-clause-marks
+follows-requires-clause-marks c = (c.args.theory.now.arity, c.in_ok-extend.ensures.marked)
+
+pub follows-requires-clause-axioms : goal.follows-requires-clause-axioms
+follows-requires-clause-axioms c = c.requires.held.each_axiom_in
+
+pub follows-requires-clause-theorems : goal.follows-requires-clause-theorems
+follows-requires-clause-theorems c = c.requires.held.each_theorem_in
 
 pub follows-requires-clause-formula : goal.follows-requires-clause-formula
 follows-requires-clause-formula c =

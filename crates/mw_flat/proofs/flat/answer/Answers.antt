@@ -2,10 +2,46 @@
 use Rattle.std.proofs.Common.{sym, ap, ◌∙◌}
 use Rattle.mw_heap.specs.Variants.{refusal_of}
 use Rattle.std.specs.Prelude.{Some, option_map}
+use Rattle.mw_model.specs.Commands.Log.{entry_of}
+use Rattle.mw_heap.specs.Objects.{object_at}
+use Rattle.mw_theory.specs.Worlds.{theory_in}
 use Rattle.mw_flat.proofs.Goings.{unnamed}
+use Rattle.mw_flat.proofs.Answered.{no-form, wordless, absent, no-step}
 use Rattle.mw_flat.proofs.Settled.{answer_by_fate, fate-answered}
 use Rattle.mw_flat.proofs.GoodSteps.{logged-settles, settles-sound, settles-built_in}
 use Rattle.mw_flat.proofs.flat.answer.Goals as goal
+
+pub returns-in_default-clause-answer : goal.returns-in_default-clause-answer
+returns-in_default-clause-answer c = λ steps h.
+    let os = c.args.world.now.heap.objects in
+    ap (λ r. Some r.0) (sym (no-form (theory_in c.args.world.now) steps (object_at os c.args.x) (wordless (object_at os c.args.x) c.in_default.ensures.event)))
+
+pub returns-in_default-clause-theory : goal.returns-in_default-clause-theory
+returns-in_default-clause-theory c = λ steps h.
+    let os = c.args.world.now.heap.objects in
+    ap (λ r. r.1) (sym (no-form (theory_in c.args.world.now) steps (object_at os c.args.x) (wordless (object_at os c.args.x) c.in_default.ensures.event)))
+
+pub returns-then-not-branch-clause-answer : goal.returns-then-not-branch-clause-answer
+returns-then-not-branch-clause-answer c = λ steps h.
+    let os = c.args.world.now.heap.objects in
+    ap (λ r. Some r.0) (sym (no-form (theory_in c.args.world.now) steps (object_at os c.args.x) (absent (entry_of (object_at os c.args.x)) (sym c.in_ok-is_entry.ensures ∙ c.if-not-branch.true))))
+
+pub returns-then-not-branch-clause-theory : goal.returns-then-not-branch-clause-theory
+returns-then-not-branch-clause-theory c = λ steps h.
+    let os = c.args.world.now.heap.objects in
+    ap (λ r. r.1) (sym (no-form (theory_in c.args.world.now) steps (object_at os c.args.x) (absent (entry_of (object_at os c.args.x)) (sym c.in_ok-is_entry.ensures ∙ c.if-not-branch.true))))
+
+pub returns-then-not-collected-clause-answer : goal.returns-then-not-collected-clause-answer
+returns-then-not-collected-clause-answer c = λ steps h.
+    let w = c.args.world.now in
+    let there = sym c.in_ok-is_entry.ensures ∙ c.if-not-branch.false in
+    ap (λ r. Some r.0) (sym (no-step (theory_in w) steps (object_at w.heap.objects c.args.x) w.heap.objects c.args.collected.now.good c.args.collected.now.conclusions.items c.if-not-collected.true there h.conclusions))
+
+pub returns-then-not-collected-clause-theory : goal.returns-then-not-collected-clause-theory
+returns-then-not-collected-clause-theory c = λ steps h.
+    let w = c.args.world.now in
+    let there = sym c.in_ok-is_entry.ensures ∙ c.if-not-branch.false in
+    ap (λ r. r.1) (sym (no-step (theory_in w) steps (object_at w.heap.objects c.args.x) w.heap.objects c.args.collected.now.good c.args.collected.now.conclusions.items c.if-not-collected.true there h.conclusions))
 
 pub settle-requires-clause-sound : goal.settle-requires-clause-sound
 settle-requires-clause-sound c =

@@ -9,7 +9,7 @@ use Rattle.mw_flat.specs.Verdicts.{answer_of}
 use Rattle.mw_flat.specs.Going.{theory_of, HasCollected, going_of, IsNoted, ComesBy, Comes}
 use Rattle.mw_flat.proofs.Goings.{going-same}
 use Rattle.mw_flat.proofs.Noting.{goes-on}
-use Rattle.mw_flat.proofs.Answered.{step-headed, none-collected}
+use Rattle.mw_flat.proofs.Answered.{step-headed, none-collected, forgotten}
 use Rattle.mw_flat.proofs.flat.Flat.datum.Goals as goal
 
 -- a value of which two things are said
@@ -26,6 +26,15 @@ pub answer-verdict-requires-clause-going : goal.answer-verdict-requires-clause-g
 answer-verdict-requires-clause-going c =
     let a = c.allow_looks.ensures in
     goes-on c.self.inside.world c.self.inside.collected c.self.invariant c.allow_looks.new.self a.world a.objects (ap (λ w. w.theory) a.rest) c.self.inside.collected refl refl refl
+
+pub invariant_of-self-2 : goal.invariant_of-self-2
+invariant_of-self-2 c =
+    let v = c.cut.ensures in
+    let f = c.forget.ensures in
+    forgotten c.cut.new.self c.forget.new.self v.world (ap (λ t. t.checker) v.theory_kept ∙ c.answer-verdict.ensures.built_in) f.conclusions f.good f.count
+
+pub returns-clause-sound : goal.returns-clause-sound
+returns-clause-sound c = (held _ _ _ _ c.cut.ensures.world).sound
 
 pub returns-in_err-collect-clause-sound : goal.returns-in_err-collect-clause-sound
 returns-in_err-collect-clause-sound c = subst IsSound (sym c.collect.ensures.theory) (held _ _ _ _ c.allow_looks.ensures.world).sound

@@ -1,8 +1,10 @@
 -- By the word: a step that is not good, or an event of no form.
-use Rattle.std.proofs.Common.{◌+◌, Some, None, refl, sym, ap, ◌∙◌, subst}
+use Rattle.std.proofs.Common.{◌+◌, Some, None, IfSome, refl, sym, ap, ◌∙◌, subst}
 use Rattle.mw_model.specs.Commands.Log.{SHAPE, No}
 use Rattle.mw_flat.specs.Going.{theory_of, going_of, ComesBy, is_step_word}
-use Rattle.mw_flat.proofs.Answered.{large-collected, large-entry, no-form, none-collected}
+use Rattle.mw_heap.specs.Objects.{IsIn}
+use Rattle.mw_flat.proofs.Noting.{goes-on-bad}
+use Rattle.mw_flat.proofs.Answered.{large-collected, large-entry, no-form, none-collected, forgotten}
 use Rattle.mw_flat.proofs.flat.Flat.too_big.Goals as goal
 
 pub returns-then-is_step_word : goal.returns-then-is_step_word
@@ -31,3 +33,17 @@ returns c = record {
         collected = none-collected new c.forget.ensures.count c.forget.ensures.good c.forget.ensures.conclusions;
       });
 }
+
+pub is_step_word-requires : goal.is_step_word-requires
+is_step_word-requires c = subst (λ g. IfSome c.args.word (IsIn g.objects)) (sym c.self.view_is) c.requires.word
+
+pub invariant_of-self : goal.invariant_of-self
+invariant_of-self c =
+    let b = c.add_bad.ensures in
+    goes-on-bad c.self.inside.world c.self.inside.collected c.self.invariant c.self.inside.world c.self.invariant.world refl refl c.add_bad.new.self (ap (λ v. v.items) b.conclusions) b.good
+
+pub invariant_of-self-2 : goal.invariant_of-self-2
+invariant_of-self-2 c =
+    let v = c.cut.ensures in
+    let f = c.forget.ensures in
+    forgotten c.cut.new.self c.forget.new.self v.world (ap (λ t. t.checker) v.theory_kept ∙ c.self.invariant.built_in) f.conclusions f.good f.count
