@@ -53,6 +53,12 @@ pub absent : {X : Type 0} (o : Option X) → is_present o ≡ false → o ≡ No
 absent None e = refl
 absent (Some x) e = cc
 
+-- nor does one whose second member is no formula
+pub no_formula_given : (os : List Object) (x : Object) (name formula : ℕ) (A : ArityTable) → IsNamed os x name formula → A ≡ initial_arities → is_present (formula_under A (object_at os formula)) ≡ false → formula_given x ≡ None
+no_formula_given os x name formula A named arity none =
+    let y = object_at os formula in
+    named_given os x name formula named ∙ absent (formula_under initial_arities y) (ap (λ B. is_present (formula_under B y)) (sym arity) ∙ none)
+
 -- ---- what a decision is
 
 module _ (os : List Object) (A : ArityTable) (F : Formula) where

@@ -10,7 +10,7 @@ ghost use Rattle.mw_lines.specs.Lines.{formulas_line};
 ghost use Rattle.mw_lines.specs.Members.{ShowsWord};
 ghost use Rattle.mw_lines.specs.Verdicts.{IsVerdict};
 
-use crate::line::{write_number, write_shown};
+use crate::line::{write_shown, write_text_and_number};
 use crate::verdict::Verdict;
 use mw_heap::{Heap, Memory, Ref};
 use mw_print::write_datum;
@@ -25,8 +25,7 @@ fn begin_remark(
     requires shows { (x : Object) × ShowsWord heap.now.objects word x }
     ensures { OnOk result ((x : Object) → ShowsWord heap.now.objects word x → lines.new.items ≡ lines.old.items ++ (codes "; " ++ (numeral number ++ 32 ∷ (word_text x ++ 32 ∷ [])))) }
 {
-    lines.extend_from_slice(b"; ")?;
-    write_number(lines, number)?;
+    write_text_and_number(lines, b"; ", number)?;
     lines.push(b' ')?;
     write_shown(lines, heap, word)?;
     lines.push(b' ')?;
@@ -101,10 +100,8 @@ pub fn write_formulas(lines: &mut Vec<u8>, formulas: u64, unproved: u64) -> Resu
     requires { unproved ≤ formulas }
     ensures { OnOk result (lines.new.items ≡ lines.old.items ++ formulas_line formulas (formulas - unproved)) }
 {
-    lines.extend_from_slice(b"formulas ")?;
-    write_number(lines, formulas)?;
-    lines.extend_from_slice(b" proved ")?;
-    write_number(lines, formulas - unproved)?;
+    write_text_and_number(lines, b"formulas ", formulas)?;
+    write_text_and_number(lines, b" proved ", formulas - unproved)?;
     lines.push(b'\n')?;
     Ok(())
 }

@@ -44,14 +44,10 @@ pub fn write_summary(
     requires { refused ≤ events }
     ensures { OnOk result (lines.new.items ≡ lines.old.items ++ summary_of events refused level) }
 {
-    lines.extend_from_slice(b"events ")?;
-    write_number(lines, events)?;
-    lines.extend_from_slice(b" accepted ")?;
-    write_number(lines, events - refused)?;
-    lines.extend_from_slice(b" refused ")?;
-    write_number(lines, refused)?;
-    lines.extend_from_slice(b" level ")?;
-    write_number(lines, level)?;
+    write_text_and_number(lines, b"events ", events)?;
+    write_text_and_number(lines, b" accepted ", events - refused)?;
+    write_text_and_number(lines, b" refused ", refused)?;
+    write_text_and_number(lines, b" level ", level)?;
     lines.push(b'\n')?;
     Ok(())
 }
@@ -62,8 +58,7 @@ pub fn write_fault(lines: &mut Vec<u8>, kind: SyntaxKind, offset: u64) -> Result
 {
     lines.extend_from_slice(b"syntax ")?;
     lines.extend_from_slice(kind_bytes(kind))?;
-    lines.extend_from_slice(b" at ")?;
-    write_number(lines, offset)?;
+    write_text_and_number(lines, b" at ", offset)?;
     lines.push(b'\n')?;
     Ok(())
 }
@@ -75,6 +70,14 @@ pub fn write_number(lines: &mut Vec<u8>, n: u64) -> Result<(), Memory>
     let mut buffer = Buffer::new();
     lines.extend_from_slice(buffer.format(n).as_bytes())?;
     Ok(())
+}
+
+/// Writes a text, and after it a number in decimal digits.
+pub(crate) fn write_text_and_number(lines: &mut Vec<u8>, text: &[u8], n: u64) -> Result<(), Memory>
+    ensures { OnOk result (lines.new.items ≡ lines.old.items ++ text.now ++ numeral n) }
+{
+    lines.extend_from_slice(text)?;
+    write_number(lines, n)
 }
 
 // Writes a dash, for what is not shown.

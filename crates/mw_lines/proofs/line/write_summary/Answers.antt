@@ -11,12 +11,8 @@ returns c =
     let refused = numeral c.args.refused in
     let level = numeral c.args.level in
     c.in_ok-push.ensures.items
-    ∙ ap (λ l. l ++ 10 ∷ []) (c.in_ok-write_number-4.ensures
-    ∙ ap (λ l. l ++ level) (c.in_ok-extend_from_slice-4.ensures.items
-    ∙ ap (λ l. l ++ codes " level ") (c.in_ok-write_number-3.ensures
-    ∙ ap (λ l. l ++ refused) (c.in_ok-extend_from_slice-3.ensures.items
-    ∙ ap (λ l. l ++ codes " refused ") (c.in_ok-write_number-2.ensures
-    ∙ ap (λ l. l ++ accepted) (c.in_ok-extend_from_slice-2.ensures.items
-    ∙ ap (λ l. l ++ codes " accepted ") (c.in_ok-write_number.ensures
-    ∙ ap (λ l. l ++ events) c.in_ok-extend_from_slice.ensures.items)))))))
+    ∙ ap (λ l. l ++ 10 ∷ []) (c.in_ok-write_text_and_number-4.ensures
+    ∙ ap (λ l. l ++ codes " level " ++ level) (c.in_ok-write_text_and_number-3.ensures
+    ∙ ap (λ l. l ++ codes " refused " ++ refused) (c.in_ok-write_text_and_number-2.ensures
+    ∙ ap (λ l. l ++ codes " accepted " ++ accepted) c.in_ok-write_text_and_number.ensures)))
     ∙ summary-joined c.args.lines.now.items events accepted refused level

@@ -3,10 +3,19 @@ use Rattle.std.proofs.Common.{subst}
 use Rattle.mw_model.specs.Terms.Reading.{formula_under}
 use Rattle.mw_model.specs.Commands.Tautology.{decision}
 use Rattle.mw_heap.specs.Objects.{object_at}
-use Rattle.mw_heap.proofs.Objects.{IsIn-Grows}
+use Rattle.mw_heap.proofs.Objects.{Grows-trans, IsIn-Grows}
 use Rattle.mw_taut.specs.Decided.{IsDecision}
 use Rattle.mw_lines.proofs.Owing.{present, proof_holds, theorem_found, choice_found, many_found}
 use Rattle.mw_lines.proofs.verdict.decided.Goals as goal
+
+pub decide-requires-clause-within : goal.decide-requires-clause-within
+decide-requires-clause-within c = c.requires.named.1.formula_in
+
+pub returns-in_err-theorem_of-in-Proof-clause-grows : goal.returns-in_err-theorem_of-in-Proof-clause-grows
+returns-in_err-theorem_of-in-Proof-clause-grows c = Grows-trans _ _ _ c.decide.ensures.grows c.theorem_of.ensures.grows
+
+pub returns-in_ok-theorem_of-in-Proof-clause-grows : goal.returns-in_ok-theorem_of-in-Proof-clause-grows
+returns-in_ok-theorem_of-in-Proof-clause-grows c = Grows-trans _ _ _ c.decide.ensures.grows c.theorem_of.ensures.grows
 
 pub theorem_of-requires-clause-proof : goal.theorem_of-requires-clause-proof
 theorem_of-requires-clause-proof c =
