@@ -1,13 +1,15 @@
 -- What is written for an event with numbers in place of its proofs: a list of proofs counts up to its end, and the event stands after the steps.
-use Rattle.std.proofs.Common.{◌≡◌, ℕ, false, List, [], ◌∷◌, ◌++◌, map, refl, sym, ap, ◌∙◌, subst}
-use Rattle.mw_model.specs.Terms.Object.{Object, Natural, Symbol, Pair, NIL, same_object}
+use Rattle.std.proofs.Common.{◌≡◌, ℕ, zero, suc, ◌-◌, ◌<◌, ◌≤◌, false, List, [], ◌∷◌, ◌++◌, length, map, drop, get_or, refl, sym, ap, ap₂, ◌∙◌, subst, arith}
+use Rattle.std.proofs.lemmas.List.{drop_all}
+use Rattle.mw_model.specs.Terms.Object.{Object, Natural, Symbol, Pair, NIL, list1, same_object}
 use Rattle.mw_model.specs.Values.Primitive.{is_pair}
 use Rattle.mw_model.specs.Terms.Term.{firsts}
 use Rattle.mw_model.specs.Texts.Written.{IsWritten}
 use Rattle.mw_model.specs.Commands.Subproofs.{proofs_within, each_within, distinct_proofs}
 use Rattle.mw_model.specs.Texts.Pieces.{InOrder, numbered}
 use Rattle.mw_model.specs.Commands.Flattening.{number_among, numbers_among, IsStepLine, StepsWritten}
-use Rattle.mw_heap.specs.Objects.{object_at}
+use Rattle.mw_heap.specs.Objects.{object_at, IsIn, Grows}
+use Rattle.mw_heap.proofs.Objects.{object_at-Grows}
 use Rattle.mw_heap.specs.Lists.{list_object}
 use Rattle.mw_logged.specs.FlatEvents.{proper_list, numbers_object, put_before, WritesFlat}
 
@@ -50,6 +52,34 @@ module _ (os : List Object) where
 
   pub members-end : (list : Object) (xs : List ℕ) (rest : ℕ) → put_before os xs (proper_list (object_at os rest)) ≡ list → is_pair (object_at os rest) ≡ false → list_object os xs ≡ list
   members-end list xs rest same end = sym (put_before-NIL xs) ∙ ap (put_before os xs) (sym (no_members (object_at os rest) end)) ∙ same
+
+  -- ---- the members of an event, made in another heap
+
+  -- the last one alone
+  pub list-begun : (members : List ℕ) (old mid new : List Object) (last end list : ℕ) → Grows old mid → IsIn old last → object_at mid end ≡ NIL → IsIn new list → object_at new list ≡ Pair (object_at mid last) (object_at mid end) →
+      IsIn new list × (object_at new list ≡ put_before os (drop (length members) members) (list1 (object_at old last)))
+  list-begun members old mid new last end list grows last_in nil list_in made = (
+    list_in,
+    made
+        ∙ ap₂ Pair (object_at-Grows old mid grows last last_in) nil
+        ∙ ap (λ xs. put_before os xs (list1 (object_at old last))) (sym (drop_all (length members) members (omega arith))),
+  )
+
+  drop-at : (xs : List ℕ) (i x : ℕ) → i < length xs → x ≡ get_or xs i x → drop i xs ≡ x ∷ drop (suc i) xs
+  drop-at [] i x below is = absurd (omega (arith, below))
+  drop-at (y ∷ xs) zero x below is = ap (λ z. z ∷ xs) (sym is)
+  drop-at (y ∷ xs) (suc i) x below is = drop-at xs i x (omega (arith, below)) is
+
+  -- one more, before those from n on
+  pub list-more : (members : List ℕ) (n x : ℕ) (rest : Object) (old mid new : List Object) (list member made : ℕ) → 0 < n → n ≤ length members → x ≡ get_or members (n - 1) x → IsIn old list × (object_at old list ≡ put_before os (drop n members) rest) → Grows old mid →
+      object_at mid member ≡ object_at os x → IsIn new made → object_at new made ≡ Pair (object_at mid member) (object_at mid list) → IsIn new made × (object_at new made ≡ put_before os (drop (n - 1) members) rest)
+  list-more members n x rest old mid new list member made some below is listed grows copied made_in made_is =
+      let next : suc (n - 1) ≡ n = omega (arith, some) in (
+        made_in,
+        made_is
+            ∙ ap₂ Pair copied (object_at-Grows old mid grows list listed.0 ∙ listed.1)
+            ∙ sym (ap (λ xs. put_before os xs rest) (drop-at members (n - 1) x (omega (arith, some, below)) is ∙ ap (λ i. x ∷ drop i members) next)),
+      )
 
   -- ---- numbers in place of proofs
 
