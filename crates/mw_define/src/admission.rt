@@ -2,7 +2,7 @@
 ghost use Rattle.std.specs.Prelude.{◌∷◌, [], map, IfOk};
 ghost use Rattle.mw_model.specs.Events.Admission.{some_drafts};
 ghost use Rattle.mw_heap.specs.Objects.{object_at, IsIn, Grows};
-ghost use Rattle.mw_define.specs.Blocks.{draft_at, IsDraftIn, AreDraftsIn, AreNames};
+ghost use Rattle.mw_define.specs.Blocks.{draft_at, IsDraftIn, AreDraftsIn, AreNames, Each2, IsCounted};
 ghost use Rattle.mw_define.specs.Owed.{AreBlock};
 ghost use Rattle.mw_define.specs.BlockTests.{IsBlock, IsBlockOf, IsExpandedBlock};
 
@@ -39,6 +39,26 @@ fn admit_expanded(
     }))
 }
 
+// The block of these drafts, whose names and formals passed: so many formals has each name.
+fn admit_counted(
+    heap: &mut Heap,
+    names: &IndexSet<Ref>,
+    drafts: &[Draft],
+    pairs: &[(Ref, u64)],
+    arity: &Arity,
+) -> Result<Admitted, Memory>
+    requires within { AreDraftsIn heap.old.objects drafts.now }
+    requires names { AreNames arity.now heap.old.objects drafts.now names.now.keys }
+    requires counted { Each2 (IsCounted heap.old.objects) drafts.now pairs.now }
+    ensures grows { Grows heap.old.objects heap.new.objects }
+    ensures admitted { IfOk result (IsBlock arity.now (map (draft_at heap.old.objects) drafts.now) heap.new.objects) }
+{
+    match expand_all(heap, drafts, pairs, arity)? {
+        Some(block) => admit_expanded(heap, names, block.as_slice()),
+        None => Ok(Admitted::Refused(Refusal::Term)),
+    }
+}
+
 // The block of these drafts, whose names passed.
 fn admit_named(
     heap: &mut Heap,
@@ -54,10 +74,7 @@ fn admit_named(
     let Some(pairs) = pairs_of(heap, drafts)? else {
         return Ok(Admitted::Refused(Refusal::Formals));
     };
-    let Some(block) = expand_all(heap, drafts, pairs.as_slice(), arity)? else {
-        return Ok(Admitted::Refused(Refusal::Term));
-    };
-    Ok(admit_expanded(heap, names, block.as_slice())?)
+    admit_counted(heap, names, drafts, pairs.as_slice(), arity)
 }
 
 // The block of these drafts.
@@ -67,7 +84,7 @@ fn admit_drafts(heap: &mut Heap, drafts: &[Draft], arity: &Arity) -> Result<Admi
     ensures admitted { IfOk result (IsBlock arity.now (map (draft_at heap.old.objects) drafts.now) heap.new.objects) }
 {
     match names_of(heap, drafts, arity)? {
-        Some(names) => Ok(admit_named(heap, &names, drafts, arity)?),
+        Some(names) => admit_named(heap, &names, drafts, arity),
         None => Ok(Admitted::Refused(Refusal::Name)),
     }
 }
@@ -79,7 +96,7 @@ fn admit_list(heap: &mut Heap, defs: Ref, arity: &Arity) -> Result<Admitted, Mem
     ensures admitted { IfOk result (IsBlockOf arity.now (some_drafts (object_at heap.old.objects defs)) heap.new.objects) }
 {
     match read_drafts(heap, defs)? {
-        Some(drafts) => Ok(admit_drafts(heap, drafts.as_slice(), arity)?),
+        Some(drafts) => admit_drafts(heap, drafts.as_slice(), arity),
         None => Ok(Admitted::Refused(Refusal::Event)),
     }
 }

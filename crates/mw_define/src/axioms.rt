@@ -1,9 +1,9 @@
 //! Axioms of definitions.
 ghost use Rattle.std.specs.Prelude.{◌≡◌, IfOk};
-ghost use Rattle.mw_model.specs.Terms.Object.{Pair, symbol, list3};
-ghost use Rattle.mw_model.specs.Laws.Rules.{equal_object};
+ghost use Rattle.mw_model.specs.Terms.Object.{Pair};
+ghost use Rattle.mw_model.specs.Laws.Rules.{equal_object, not_object};
 ghost use Rattle.mw_heap.specs.Objects.{object_at, IsIn, Grows};
-ghost use Rattle.mw_define.specs.Axioms.{quoted_nil, choice_object};
+ghost use Rattle.mw_define.specs.Axioms.{quoted_nil, chosen_object, choice_object};
 
 use mw_heap::{Heap, Memory, Ref, Word};
 use mw_translate::{call_of_one, call_of_two, quoted_symbol};
@@ -15,12 +15,12 @@ fn chosen(heap: &mut Heap, name: Ref, formals: Ref, free: Ref, body: Ref) -> Res
     requires free_in { IsIn heap.old.objects free }
     requires body_in { IsIn heap.old.objects body }
     ensures grows { Grows heap.old.objects heap.new.objects }
-    ensures made { IfOk result (λ r. IsIn heap.new.objects r × (object_at heap.new.objects r ≡ Pair (list3 (symbol "LAMBDA") (object_at heap.old.objects formals) (object_at heap.old.objects body)) (Pair (Pair (object_at heap.old.objects name) (object_at heap.old.objects free)) (object_at heap.old.objects free)))) }
+    ensures made { IfOk result (λ r. IsIn heap.new.objects r × (object_at heap.new.objects r ≡ chosen_object (object_at heap.old.objects name) (object_at heap.old.objects formals) (object_at heap.old.objects free) (object_at heap.old.objects body))) }
 {
     let call = heap.cons(name, free)?;
     let actuals = heap.cons(call, free)?;
     let head = call_of_two(heap, Word::Lambda, formals, body)?;
-    Ok(heap.cons(head, actuals)?)
+    heap.cons(head, actuals)
 }
 
 // x = 'nil.
@@ -30,7 +30,27 @@ pub(crate) fn equal_nil(heap: &mut Heap, x: Ref) -> Result<Ref, Memory>
     ensures made { IfOk result (λ r. IsIn heap.new.objects r × (object_at heap.new.objects r ≡ equal_object (object_at heap.old.objects x) quoted_nil)) }
 {
     let nil = quoted_symbol(heap, Word::Nil)?;
-    Ok(call_of_two(heap, Word::Pequal, x, nil)?)
+    call_of_two(heap, Word::Pequal, x, nil)
+}
+
+// not (the body where the witness stands for the bound variable) = 'nil.
+fn chosen_holds(
+    heap: &mut Heap,
+    name: Ref,
+    formals: Ref,
+    free: Ref,
+    body: Ref,
+) -> Result<Ref, Memory>
+    requires name_in { IsIn heap.old.objects name }
+    requires formals_in { IsIn heap.old.objects formals }
+    requires free_in { IsIn heap.old.objects free }
+    requires body_in { IsIn heap.old.objects body }
+    ensures grows { Grows heap.old.objects heap.new.objects }
+    ensures made { IfOk result (λ r. IsIn heap.new.objects r × (object_at heap.new.objects r ≡ not_object (equal_object (chosen_object (object_at heap.old.objects name) (object_at heap.old.objects formals) (object_at heap.old.objects free) (object_at heap.old.objects body)) quoted_nil))) }
+{
+    let call = chosen(heap, name, formals, free, body)?;
+    let fails = equal_nil(heap, call)?;
+    call_of_one(heap, Word::Pnot, fails)
 }
 
 // body = 'nil or not (the body where the witness stands for the bound variable) = 'nil.
@@ -48,11 +68,9 @@ pub(crate) fn choice_axiom(
     ensures grows { Grows heap.old.objects heap.new.objects }
     ensures made { IfOk result (λ r. IsIn heap.new.objects r × (object_at heap.new.objects r ≡ choice_object (object_at heap.old.objects name) (object_at heap.old.objects formals) (object_at heap.old.objects free) (object_at heap.old.objects body))) }
 {
-    let call = chosen(heap, name, formals, free, body)?;
+    let holds = chosen_holds(heap, name, formals, free, body)?;
     let none = equal_nil(heap, body)?;
-    let fails = equal_nil(heap, call)?;
-    let holds = call_of_one(heap, Word::Pnot, fails)?;
-    Ok(call_of_two(heap, Word::Por, none, holds)?)
+    call_of_two(heap, Word::Por, none, holds)
 }
 
 // (name . formals) = body.
@@ -69,5 +87,5 @@ pub(crate) fn function_axiom(
     ensures made { IfOk result (λ r. IsIn heap.new.objects r × (object_at heap.new.objects r ≡ equal_object (Pair (object_at heap.old.objects name) (object_at heap.old.objects formals)) (object_at heap.old.objects body))) }
 {
     let call = heap.cons(name, formals)?;
-    Ok(call_of_two(heap, Word::Pequal, call, body)?)
+    call_of_two(heap, Word::Pequal, call, body)
 }

@@ -188,7 +188,7 @@ fn closes_both(heap: &Heap, formals: &Formals, expanded: Draft) -> Result<bool, 
     if !formals.closes(heap, expanded.body)? {
         return Ok(false);
     }
-    Ok(formals.closes(heap, expanded.measure)?)
+    formals.closes(heap, expanded.measure)
 }
 
 // Whether the body and the measure have no variables but the formals of the draft.

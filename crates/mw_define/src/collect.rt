@@ -42,7 +42,7 @@ fn advance(
         })?;
         return Ok(());
     }
-    Ok(open(heap, names, item, waiting)?)
+    open(heap, names, item, waiting)
 }
 
 // The calls of functions of these names in a term, with the tests that they stand under, in order. Of a lambda call they are those of
@@ -97,7 +97,7 @@ pub(crate) fn find_calls(
     let mut looks_left = u64::MAX;
     if mentions_some(heap, names, Piece::Term(term), &mut looks_left)? {
         check_size(heap, term)?;
-        return Ok(collect_calls(heap, names, term)?);
+        return collect_calls(heap, names, term);
     }
     Ok(Vec::new(heap.alloc()))
 }

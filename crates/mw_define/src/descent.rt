@@ -18,7 +18,7 @@ pub(crate) fn is_ordinal(heap: &mut Heap, measure: Ref) -> Result<Ref, Memory>
 {
     let call = call_of_one(heap, Word::Ordp, measure)?;
     let truth = quoted_symbol(heap, Word::T)?;
-    Ok(call_of_two(heap, Word::Pequal, call, truth)?)
+    call_of_two(heap, Word::Pequal, call, truth)
 }
 
 // (ord< lower measure) = 't, where lower is the measure of the called function with the actuals for its formals.
@@ -40,5 +40,5 @@ pub(crate) fn falls(
     let lower = reduced(heap, function, actuals)?;
     let call = call_of_two(heap, Word::OrdLess, lower, measure)?;
     let truth = quoted_symbol(heap, Word::T)?;
-    Ok(call_of_two(heap, Word::Pequal, call, truth)?)
+    call_of_two(heap, Word::Pequal, call, truth)
 }

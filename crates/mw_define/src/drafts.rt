@@ -65,7 +65,7 @@ pub(crate) fn read_drafts(heap: &Heap, defs: Ref) -> Result<Option<Vec<Draft>>, 
     if !heap.is_pair(Some(defs)) {
         return Ok(None);
     }
-    Ok(drafts_of(heap, defs)?)
+    drafts_of(heap, defs)
 }
 
 /// Whether this is a list of one or more drafts. The error is that memory is refused.

@@ -1,5 +1,5 @@
 //! The lists of the obligations and of the axioms of a block.
-ghost use Rattle.std.specs.Prelude.{◌≡◌, true, IfOk, MatchOption};
+ghost use Rattle.std.specs.Prelude.{◌≡◌, true, [], IfOk, MatchOption};
 ghost use Rattle.mw_model.specs.Terms.Object.{NIL};
 ghost use Rattle.mw_model.specs.Values.Definition.{function_axioms};
 ghost use Rattle.mw_model.specs.Events.Obligation.{is_nested};
@@ -56,7 +56,7 @@ fn list_of(heap: &mut Heap, formulas: &[Ref]) -> Result<Ref, Memory>
 {
     let copy = Vec::from_slice(heap.alloc(), formulas)?;
     let nil = heap.nil()?;
-    Ok(put_before(heap, copy, nil)?)
+    put_before(heap, copy, nil)
 }
 
 // The list of what a block owes: nothing where it has no recursive calls, and no list where its calls are nested.
@@ -72,6 +72,22 @@ fn list_owed(heap: &mut Heap, recursion: Recursion, owed: &[Ref]) -> Result<Opti
     }
 }
 
+// The list of what a block owes, where nothing is owed yet and its calls are not nested.
+fn list_all(
+    heap: &mut Heap,
+    names: &IndexSet<Ref>,
+    block: &[Draft],
+    owed: &mut IndexSet<Ref>,
+) -> Result<Option<Ref>, Memory>
+    requires block { AreBlock heap.old.objects names.now.keys block.now }
+    requires none { owed.old.keys ≡ [] }
+    ensures grows { Grows heap.old.objects heap.new.objects }
+    ensures listed { IfOk result (λ o. MatchOption o (is_nested (functions_at heap.old.objects block.now) (functions_at heap.old.objects block.now) ≡ true) (IsOwedList heap.old.objects heap.new.objects block.now)) }
+{
+    let recursion = owe_each(heap, names, block, owed)?;
+    list_owed(heap, recursion, owed.as_slice())
+}
+
 // The list of the obligations of a block, in order and each once, where its calls are not nested.
 pub(crate) fn list_obligations(
     heap: &mut Heap,
@@ -83,8 +99,7 @@ pub(crate) fn list_obligations(
     ensures listed { IfOk result (λ o. MatchOption o (is_nested (functions_at heap.old.objects block.now) (functions_at heap.old.objects block.now) ≡ true) (IsOwedList heap.old.objects heap.new.objects block.now)) }
 {
     let mut owed = IndexSet::new(heap.alloc());
-    let recursion = owe_each(heap, names, block, &mut owed)?;
-    Ok(list_owed(heap, recursion, owed.as_slice())?)
+    list_all(heap, names, block, &mut owed)
 }
 
 // The axioms of a block.
@@ -109,5 +124,5 @@ pub(crate) fn list_axioms(heap: &mut Heap, block: &[Draft]) -> Result<Ref, Memor
 {
     let axioms = axioms_of(heap, block)?;
     let nil = heap.nil()?;
-    Ok(put_before(heap, axioms, nil)?)
+    put_before(heap, axioms, nil)
 }

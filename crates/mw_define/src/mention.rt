@@ -88,7 +88,7 @@ fn look_at_term(
         return Ok(false);
     };
     if let View::Symbol = heap.view(head) {
-        return Ok(look_at_named(heap, names, x, head, arguments, waiting)?);
+        return look_at_named(heap, names, x, head, arguments, waiting);
     }
     split_lambda(heap, names, x, head, arguments, waiting)?;
     Ok(false)
@@ -124,7 +124,7 @@ fn look(
     ensures { IfOk result (IsLook (names_at heap.now.objects names.now.keys) heap.now.objects piece waiting.old.items waiting.new.items) }
 {
     match piece {
-        Piece::Term(x) => Ok(look_at_term(heap, names, x, waiting)?),
+        Piece::Term(x) => look_at_term(heap, names, x, waiting),
         Piece::Terms(x) => {
             split_terms(heap, names, x, waiting)?;
             Ok(false)
@@ -145,30 +145,32 @@ pub(crate) fn mentions_some(
     ensures { IfOk result (λ b. (B : List Function) → HasNames B (names_at heap.now.objects names.now.keys) → b ≡ piece_mentions B heap.now.objects root) }
 {
     let mut looked = IndexSet::new(heap.alloc());
-    finds_mention(heap, names, root, &mut looked, looks_left)
+    let mut waiting = Vec::new(heap.alloc());
+    finds_mention(heap, names, root, &mut looked, &mut waiting, looks_left)
 }
 
-// The same, where no piece was looked at yet.
+// The same, where no piece was looked at yet and none waits.
 fn finds_mention(
     heap: &Heap,
     names: &IndexSet<Ref>,
     root: Piece,
     looked: &mut IndexSet<Piece>,
+    waiting: &mut Vec<Piece>,
     looks_left: &mut u64,
 ) -> Result<bool, Memory>
     requires within { IsPiece heap.now.objects root }
     requires symbols { AreSymbols heap.now.objects names.now.keys }
-    requires none { looked.old.keys ≡ [] }
+    requires none_looked { looked.old.keys ≡ [] }
+    requires none_waits { waiting.old.items ≡ [] }
     ensures { IfOk result (λ b. (B : List Function) → HasNames B (names_at heap.now.objects names.now.keys) → b ≡ piece_mentions B heap.now.objects root) }
 {
-    let mut waiting = Vec::new(heap.alloc());
     waiting.push(root)?;
     while let Some(piece) = waiting.pop() {
         take_look(looks_left)?;
         if !looked.insert(piece)? {
             continue;
         }
-        if look(heap, names, piece, &mut waiting)? {
+        if look(heap, names, piece, waiting)? {
             return Ok(true);
         }
     }

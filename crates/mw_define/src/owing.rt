@@ -42,7 +42,7 @@ fn obligation(
     ensures made { IfOk result (λ r. IsIn heap.new.objects r × Owes (names_at heap.old.objects names.now.keys) heap.old.objects formals called_measure call.now.actuals measure call.now.tests (object_at heap.new.objects r)) }
 {
     let below = falls(heap, formals, called_measure, call.actuals, measure)?;
-    Ok(under_each(heap, names, call.tests, below, looks_left)?)
+    under_each(heap, names, call.tests, below, looks_left)
 }
 
 // Adds a formula where it is not there yet: equal formulas have equal references.
@@ -134,7 +134,7 @@ fn owe_ordinal(
     ensures owed { OnOk result (Adds heap.old.objects heap.new.objects owed.old.keys owed.new.keys (ordinal_formula (measure_of (measures_at heap.old.objects block.now) (name_of (object_at heap.old.objects function.now.name))) ∷ [])) }
 {
     let formula = is_ordinal(heap, function.measure)?;
-    Ok(add_formula(heap, owed, formula)?)
+    add_formula(heap, owed, formula)
 }
 
 // Adds what a function owes at calls that are not nested: the ordinal first.
@@ -153,7 +153,7 @@ fn owe_flat(
     ensures owed { OnOk result (Adds heap.old.objects heap.new.objects owed.old.keys owed.new.keys (ordinal_formula (measure_of (measures_at heap.old.objects block.now) (name_of (object_at heap.old.objects function.now.name))) ∷ owed_at heap.old.objects block.now function.now (found_calls (functions_at heap.old.objects block.now) heap.old.objects calls.now))) }
 {
     owe_ordinal(heap, block, function, owed)?;
-    Ok(owe_calls(heap, names, block, function, calls, owed)?)
+    owe_calls(heap, names, block, function, calls, owed)
 }
 
 // The most looks at the actuals of one function's calls: where more are needed the answer is out of memory.

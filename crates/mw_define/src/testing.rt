@@ -25,7 +25,7 @@ fn failing(heap: &mut Heap, kind: Ref, term: Ref) -> Result<Ref, Memory>
     let is_nil = heap.is_nil(Some(kind));
     let equation = equal_nil(heap, term)?;
     if is_nil {
-        return Ok(call_of_one(heap, Word::Pnot, equation)?);
+        return call_of_one(heap, Word::Pnot, equation);
     }
     Ok(equation)
 }
@@ -52,7 +52,7 @@ fn under_one(
         return Ok(formula);
     }
     let fails = failing(heap, kind, term)?;
-    Ok(call_of_two(heap, Word::Por, fails, formula)?)
+    call_of_two(heap, Word::Por, fails, formula)
 }
 
 // The formula under those tests of a list, the innermost first, that mention no function of these names. Each cell of a test that is

@@ -5,7 +5,7 @@ ghost use Rattle.mw_model.specs.Terms.Term.{Term, IsTerm, term_object};
 ghost use Rattle.mw_model.specs.Terms.Reading.{term_of};
 ghost use Rattle.mw_heap.specs.Objects.{object_at, IsIn, Grows};
 ghost use Rattle.mw_term.specs.Parts.{AreSymbols, names_at};
-ghost use Rattle.mw_define.specs.Tests.{IsWitness, IsFormedWitness, IsClosedWitness};
+ghost use Rattle.mw_define.specs.Tests.{IsWitness, IsFormedWitness, IsClosedWitness, OwedWitness};
 
 use crate::admitted::{Admitted, Entry, Owed};
 use crate::axioms::choice_axiom;
@@ -13,6 +13,31 @@ use crate::names::is_new_name;
 use mw_heap::{Heap, Memory, Ref, Refusal};
 use mw_term::{Arity, Formals};
 use mw_translate::{Expanded, expand, list_of_one};
+
+// The axiom of a witness, and its entry; it owes nothing.
+fn owed_by(heap: &mut Heap, name: Ref, list: Ref, free: Ref, term: Ref) -> Result<Owed, Memory>
+    requires name_in { IsIn heap.old.objects name }
+    requires list_in { IsIn heap.old.objects list }
+    requires free_in { IsIn heap.old.objects free }
+    requires term_in { IsIn heap.old.objects term }
+    ensures grows { Grows heap.old.objects heap.new.objects }
+    ensures owed { IfOk result (OwedWitness heap.old.objects heap.new.objects name list free term) }
+{
+    let axiom = choice_axiom(heap, name, list, free, term)?;
+    let axioms = list_of_one(heap, axiom)?;
+    let obligations = heap.nil()?;
+    let entry = Entry {
+        name,
+        formals: list,
+        body: term,
+    };
+    let entries = Vec::from_slice(heap.alloc(), &[entry])?;
+    Ok(Owed {
+        obligations,
+        axioms,
+        entries,
+    })
+}
 
 // The witness whose tests but the last passed: the free variables of the term have to be formals.
 fn closed_witness(
@@ -34,20 +59,7 @@ fn closed_witness(
     if !formals.closes(heap, term)? {
         return Ok(Admitted::Refused(Refusal::Variables));
     }
-    let axiom = choice_axiom(heap, name, list, free, term)?;
-    let axioms = list_of_one(heap, axiom)?;
-    let obligations = heap.nil()?;
-    let mut entries = Vec::new(heap.alloc());
-    entries.push(Entry {
-        name,
-        formals: list,
-        body: term,
-    })?;
-    Ok(Admitted::Obligations(Owed {
-        obligations,
-        axioms,
-        entries,
-    }))
+    Ok(Admitted::Obligations(owed_by(heap, name, list, free, term)?))
 }
 
 // The witness whose name and formals passed their tests: its body has to expand to a term, and then comes the last test.

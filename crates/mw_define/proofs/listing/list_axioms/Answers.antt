@@ -1,5 +1,6 @@
 -- The list of what was made.
 use Rattle.std.proofs.Common.{ap, ◌∙◌}
+use Rattle.std.proofs.lemmas.Result.{IfOk-weaker}
 use Rattle.mw_model.specs.Terms.Object.{NIL}
 use Rattle.mw_translate.specs.Lets.{prepend}
 use Rattle.mw_translate.proofs.Appended.{all_in-Grows, prepend-Grows}
@@ -18,18 +19,13 @@ returns-clause-made c =
     let mid = c.axioms_of.new.heap.objects in
     let new = c.nil.new.self.objects in
     let rs = c.in_ok-axioms.axioms.items in
-    let k = c.in_ok-put_before.ensures.made in (
-      k.0,
-      k.1
-          ∙ (ap (prepend new rs) c.in_ok-nil.ensures.made.1
-          ∙ (prepend-Grows mid new rs NIL c.in_ok-nil.ensures.grows (axioms-in os mid c.args.block.now rs c.in_ok-axioms.ensures.made) ∙ listed-axioms os mid c.args.block.now rs c.in_ok-axioms.ensures.made)),
-    )
+    let same =
+    ap (prepend new rs) c.in_ok-nil.ensures.made.1
+    ∙ (prepend-Grows mid new rs NIL c.in_ok-nil.ensures.grows (axioms-in os mid c.args.block.now rs c.in_ok-axioms.ensures.made) ∙ listed-axioms os mid c.args.block.now rs c.in_ok-axioms.ensures.made) in
+    IfOk-weaker c.put_before.result _ _ (λ r made. (made.0, made.1 ∙ same)) c.put_before.ensures.made
 
 pub returns-in_err-nil-clause-grows : goal.returns-in_err-nil-clause-grows
 returns-in_err-nil-clause-grows c = Grows-trans _ _ _ c.in_ok-axioms.ensures.grows c.in_err-nil.ensures.grows
 
-pub returns-in_err-put_before-clause-grows : goal.returns-in_err-put_before-clause-grows
-returns-in_err-put_before-clause-grows c = Grows-trans _ _ _ c.in_ok-axioms.ensures.grows (Grows-trans _ _ _ c.in_ok-nil.ensures.grows c.in_err-put_before.ensures.grows)
-
 pub returns-clause-grows : goal.returns-clause-grows
-returns-clause-grows c = Grows-trans _ _ _ c.in_ok-axioms.ensures.grows (Grows-trans _ _ _ c.in_ok-nil.ensures.grows c.in_ok-put_before.ensures.grows)
+returns-clause-grows c = Grows-trans _ _ _ c.in_ok-axioms.ensures.grows (Grows-trans _ _ _ c.in_ok-nil.ensures.grows c.put_before.ensures.grows)

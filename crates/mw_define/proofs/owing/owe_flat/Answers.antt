@@ -1,8 +1,10 @@
 -- The ordinal, and then the calls.
 use Rattle.std.proofs.Common.{◌∷◌, [], sym, subst}
+use Rattle.std.proofs.lemmas.Result.{IfOk-weaker}
 use Rattle.mw_model.specs.Values.Primitive.{name_of}
 use Rattle.mw_model.specs.Events.Obligation.{ordinal_formula, measure_of}
 use Rattle.mw_heap.specs.Objects.{object_at}
+use Rattle.mw_heap.proofs.Objects.{Grows-trans}
 use Rattle.mw_term.specs.Parts.{names_at}
 use Rattle.mw_define.specs.Collecting.{AreFoundCalls, found_calls}
 use Rattle.mw_define.specs.Blocks.{functions_at, measures_at}
@@ -35,5 +37,10 @@ returns-clause-owed c =
     let es = c.args.block.now in
     let e = c.args.function.now in
     let owed = owed_at os es e (found_calls (functions_at os es) os c.args.calls.now) in
-    adds-both os mid new c.args.owed.now.keys c.owe_ordinal.new.owed.keys c.owe_calls.new.owed.keys (ordinal_formula (measure_of (measures_at os es) (name_of (object_at os e.name))) ∷ []) owed c.in_ok-owe_ordinal.ensures.owed
-    (subst (Adds mid new c.owe_ordinal.new.owed.keys c.owe_calls.new.owed.keys) (owed_found-Grows os mid c.in_ok-owe_ordinal.ensures.grows es e (names_at os c.args.names.now.keys) c.args.calls.now c.requires.block.expanded c.requires.named.expanded.within c.requires.calls) c.in_ok-owe_calls.ensures.owed)
+    IfOk-weaker c.owe_calls.result _ _
+    (λ _ adds. adds-both os mid new c.args.owed.now.keys c.owe_ordinal.new.owed.keys c.owe_calls.new.owed.keys (ordinal_formula (measure_of (measures_at os es) (name_of (object_at os e.name))) ∷ []) owed c.in_ok-owe_ordinal.ensures.owed
+    (subst (Adds mid new c.owe_ordinal.new.owed.keys c.owe_calls.new.owed.keys) (owed_found-Grows os mid c.in_ok-owe_ordinal.ensures.grows es e (names_at os c.args.names.now.keys) c.args.calls.now c.requires.block.expanded c.requires.named.expanded.within c.requires.calls) adds))
+    c.owe_calls.ensures.owed
+
+pub returns-clause-grows : goal.returns-clause-grows
+returns-clause-grows c = Grows-trans _ _ _ c.in_ok-owe_ordinal.ensures.grows c.owe_calls.ensures.grows

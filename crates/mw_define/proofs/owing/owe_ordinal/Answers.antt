@@ -1,5 +1,6 @@
 -- The measure is that of the function.
 use Rattle.std.proofs.Common.{◌≡◌, ◌∷◌, [], Some, sym, ap, ◌∙◌}
+use Rattle.std.proofs.lemmas.Result.{IfOk-weaker}
 use Rattle.mw_model.specs.Terms.Reading.{term_of}
 use Rattle.mw_model.specs.Values.Primitive.{name_of}
 use Rattle.mw_model.specs.Events.Obligation.{ordinal_formula, measure_of}
@@ -15,5 +16,7 @@ returns-clause-owed c =
     let new = c.is_ordinal.new.heap.objects in
     let m = measure_of (measures_at os c.args.block.now) (name_of (object_at os c.args.function.now.name)) in
     let read : term_of (object_at os c.args.function.now.measure) ≡ Some m = c.requires.expanded.measure ∙ ap Some (sym c.requires.measure) in
-    adds-later os new new c.args.owed.now.keys c.add_formula.new.owed.keys (ordinal_formula m ∷ []) c.in_ok-formula.ensures.grows
-    (c.in_ok-add_formula.ensures (ordinal_formula m) (c.in_ok-formula.ensures.made.1 m read) (ordinal-read (object_at os c.args.function.now.measure) m read))
+    IfOk-weaker c.add_formula.result _ _
+    (λ _ adds. adds-later os new new c.args.owed.now.keys c.add_formula.new.owed.keys (ordinal_formula m ∷ []) c.in_ok-formula.ensures.grows
+    (adds (ordinal_formula m) (c.in_ok-formula.ensures.made.1 m read) (ordinal-read (object_at os c.args.function.now.measure) m read)))
+    c.add_formula.ensures
