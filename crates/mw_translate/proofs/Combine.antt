@@ -144,6 +144,10 @@ module _ (A : ArityTable) (old new : List Object) (es : Entries) where
   step_made goal made cell (progress.Wants p) e h = absurd h
   step_made goal made cell progress.Fails e h = e ∙ h
 
+  pub result_made : {E : Type 0} (goal made : Option Meaning) (cell : ℕ) (r : Result Progress E) → goal ≡ made → IfOk r (IsMade new made) → IfOk r (IsStep A old new es goal cell)
+  result_made goal made cell (Ok s) e h = step_made goal made cell s e h
+  result_made goal made cell (Err x) e h = h
+
   -- the same step towards an equal meaning, of a later cell
   pub step_same : (goal same : Option Meaning) (cell later : ℕ) (s : Progress) → goal ≡ same → cell ≤ later → IsStep A old new es same cell s → IsStep A old new es goal later s
   step_same goal same cell later (progress.Made m) e l h = (h.0, e ∙ h.1)

@@ -13,7 +13,7 @@ pub fn list_of_one(heap: &mut Heap, a: Ref) -> Result<Ref, Memory>
     ensures made { IfOk result (λ r. IsIn heap.new.objects r × (object_at heap.new.objects r ≡ list1 (object_at heap.old.objects a))) }
 {
     let nil = heap.nil()?;
-    Ok(heap.cons(a, nil)?)
+    heap.cons(a, nil)
 }
 
 /// Makes the list (a b). The one error is that memory is refused.
@@ -24,7 +24,7 @@ pub fn list_of_two(heap: &mut Heap, a: Ref, b: Ref) -> Result<Ref, Memory>
     ensures made { IfOk result (λ r. IsIn heap.new.objects r × (object_at heap.new.objects r ≡ list2 (object_at heap.old.objects a) (object_at heap.old.objects b))) }
 {
     let rest = list_of_one(heap, b)?;
-    Ok(heap.cons(a, rest)?)
+    heap.cons(a, rest)
 }
 
 // Makes the list (a b c).
@@ -36,7 +36,7 @@ pub(crate) fn list_of_three(heap: &mut Heap, a: Ref, b: Ref, c: Ref) -> Result<R
     ensures made { IfOk result (λ r. IsIn heap.new.objects r × (object_at heap.new.objects r ≡ list3 (object_at heap.old.objects a) (object_at heap.old.objects b) (object_at heap.old.objects c))) }
 {
     let rest = list_of_two(heap, b, c)?;
-    Ok(heap.cons(a, rest)?)
+    heap.cons(a, rest)
 }
 
 // Makes the list with the word in front.
@@ -46,7 +46,7 @@ fn headed(heap: &mut Heap, word: Word, members: Ref) -> Result<Ref, Memory>
     ensures made { IfOk result (λ r. IsIn heap.new.objects r × (object_at heap.new.objects r ≡ Pair (word_object word) (object_at heap.old.objects members))) }
 {
     let head = heap.word(word)?;
-    Ok(heap.cons(head, members)?)
+    heap.cons(head, members)
 }
 
 /// Makes (WORD a). The one error is that memory is refused.
@@ -56,7 +56,7 @@ pub fn call_of_one(heap: &mut Heap, word: Word, a: Ref) -> Result<Ref, Memory>
     ensures made { IfOk result (λ r. IsIn heap.new.objects r × (object_at heap.new.objects r ≡ list2 (word_object word) (object_at heap.old.objects a))) }
 {
     let members = list_of_one(heap, a)?;
-    Ok(headed(heap, word, members)?)
+    headed(heap, word, members)
 }
 
 /// Makes (WORD a b). The one error is that memory is refused.
@@ -67,7 +67,7 @@ pub fn call_of_two(heap: &mut Heap, word: Word, a: Ref, b: Ref) -> Result<Ref, M
     ensures made { IfOk result (λ r. IsIn heap.new.objects r × (object_at heap.new.objects r ≡ list3 (word_object word) (object_at heap.old.objects a) (object_at heap.old.objects b))) }
 {
     let members = list_of_two(heap, a, b)?;
-    Ok(headed(heap, word, members)?)
+    headed(heap, word, members)
 }
 
 // Makes (IF a b c).
@@ -79,7 +79,7 @@ pub(crate) fn if_of(heap: &mut Heap, a: Ref, b: Ref, c: Ref) -> Result<Ref, Memo
     ensures made { IfOk result (λ r. IsIn heap.new.objects r × (object_at heap.new.objects r ≡ Pair (symbol "IF") (list3 (object_at heap.old.objects a) (object_at heap.old.objects b) (object_at heap.old.objects c)))) }
 {
     let members = list_of_three(heap, a, b, c)?;
-    Ok(headed(heap, Word::If, members)?)
+    headed(heap, Word::If, members)
 }
 
 /// Makes (QUOTE WORD). The one error is that memory is refused.
@@ -88,5 +88,5 @@ pub fn quoted_symbol(heap: &mut Heap, word: Word) -> Result<Ref, Memory>
     ensures made { IfOk result (λ r. IsIn heap.new.objects r × (object_at heap.new.objects r ≡ list2 (symbol "QUOTE") (word_object word))) }
 {
     let constant = heap.word(word)?;
-    Ok(call_of_one(heap, Word::Quote, constant)?)
+    call_of_one(heap, Word::Quote, constant)
 }

@@ -77,7 +77,7 @@ pub(crate) fn step_call(
         cell: rest,
     };
     match memo.find(&terms) {
-        Some(actuals) => Ok(checked_call(heap, newer, older, head, actuals)?),
+        Some(actuals) => checked_call(heap, newer, older, head, actuals),
         None => Ok(Progress::Wants(terms)),
     }
 }
@@ -196,7 +196,7 @@ pub(crate) fn step_head(heap: &mut Heap, memo: &Memo, x: Ref) -> Result<Progress
         cell: two.second,
     };
     match memo.find(&term) {
-        Some(made) => Ok(closed_head(heap, lambda, two.first, made.object)?),
+        Some(made) => closed_head(heap, lambda, two.first, made.object),
         None => Ok(Progress::Wants(term)),
     }
 }

@@ -86,7 +86,7 @@ fn append(heap: &mut Heap, front: Ref, back: Ref) -> Result<Ref, Memory>
     ensures made { IfOk result (λ r. IsIn heap.new.objects r × (object_at heap.new.objects r ≡ append_object (object_at heap.old.objects front) (object_at heap.old.objects back))) }
 {
     let members = members_of(heap, front)?;
-    Ok(put_before(heap, members, back)?)
+    put_before(heap, members, back)
 }
 
 // The call of a lambda with these formals and actuals, and the others after both.
@@ -107,7 +107,7 @@ fn joined_call(
     let formals = append(heap, names, others)?;
     let actuals = append(heap, values, others)?;
     let head = call_of_two(heap, Word::Lambda, formals, body)?;
-    Ok(heap.cons(head, actuals)?)
+    heap.cons(head, actuals)
 }
 
 // The call of a lambda with these formals and actuals, and other variables that stand for themselves.
@@ -127,7 +127,7 @@ fn extended_call(
 {
     let nil = heap.nil()?;
     let list = put_before(heap, others, nil)?;
-    Ok(joined_call(heap, names, values, list, body)?)
+    joined_call(heap, names, values, list, body)
 }
 
 // The looks that a binding takes, and the LET itself, besides what is walked: the name and the value are copied.

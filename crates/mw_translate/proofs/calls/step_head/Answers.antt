@@ -8,15 +8,15 @@ use Rattle.mw_model.specs.Terms.Reading.{term_of}
 use Rattle.mw_model.specs.Events.Expansion.{expanded}
 use Rattle.mw_model.proofs.Formed.{formed}
 use Rattle.mw_model.proofs.Read.{term_read}
-use Rattle.mw_translate.proofs.Combine.{at, made_found, step_made}
+use Rattle.mw_translate.proofs.Combine.{at, made_found, result_made}
 use Rattle.mw_translate.proofs.Called.{head-none, head-body, body_of}
 use Rattle.mw_translate.proofs.calls.step_head.Goals as goal
 
 pub closed_head-requires-clause-body_in : goal.closed_head-requires-clause-body_in
 closed_head-requires-clause-body_in c = (made_found c.requires.made.0 c.args.heap.now.objects c.args.memo.now.made.entries (at kind.Term c.in-Some.two.second) c.in-Some-find.made c.requires.made.1 (sym c.find.ensures ∙ c.in-Some-find.is)).object_in
 
-pub returns-in_ok-closed_head-in-Some-find-clause-step : goal.returns-in_ok-closed_head-in-Some-find-clause-step
-returns-in_ok-closed_head-in-Some-find-clause-step c = λ A made.
+pub returns-in-Some-find-clause-step : goal.returns-in-Some-find-clause-step
+returns-in-Some-find-clause-step c = λ A made.
     let os = c.args.heap.now.objects in
     let l = object_at os c.in-Pair.lambda in
     let xs = object_at os c.in-Some.two.first in
@@ -28,7 +28,7 @@ returns-in_ok-closed_head-in-Some-find-clause-step c = λ A made.
     let e =
     ap (meaning A kind.Head) (c.in-Pair.ensures.shows.2 ∙ ap (Pair l) c.in-Some.ensures.4)
     ∙ head-body A l xs b m t.0 (sym c.is_word.ensures ∙ c.if-not-is_word.false) t.1 t.2 t.3 in
-    step_made A os c.closed_head.new.heap.objects c.args.memo.now.made.entries (meaning A kind.Head (object_at os c.args.x)) _ c.args.x c.in_ok-closed_head-in-Some-find.field-0 e (c.in_ok-closed_head-in-Some-find.ensures.head t.0 read)
+    result_made A os c.closed_head.new.heap.objects c.args.memo.now.made.entries (meaning A kind.Head (object_at os c.args.x)) _ c.args.x c.closed_head.result e (c.closed_head.ensures.head t.0 read)
 
 pub returns-in-None-clause-step : goal.returns-in-None-clause-step
 returns-in-None-clause-step c = λ A made.

@@ -4,7 +4,7 @@ use Rattle.mw_model.specs.Terms.Object.{Pair}
 use Rattle.mw_heap.specs.Objects.{object_at}
 use Rattle.mw_translate.specs.Meaning.{meaning}
 use Rattle.mw_translate.specs.declared.part.Kind.TheVariants as kind
-use Rattle.mw_translate.proofs.Combine.{at, made_found, three-made, three-wanted, step_made}
+use Rattle.mw_translate.proofs.Combine.{at, made_found, three-made, three-wanted, result_made}
 use Rattle.mw_translate.proofs.Folded.{if_three, cond-pair}
 use Rattle.mw_translate.proofs.folds.step_cond.Goals as goal
 
@@ -17,14 +17,14 @@ checked_if-requires-clause-second_in c = (made_found (c.args.newer.now ++ c.args
 pub checked_if-requires-clause-third_in : goal.checked_if-requires-clause-third_in
 checked_if-requires-clause-third_in c = (made_found (c.args.newer.now ++ c.args.older.now) c.args.heap.now.objects c.args.memo.now.made.entries (at kind.Cond c.in-Pair.rest) c.in-Ok.c c.requires.made c.in-Ok.ensures.three.2).object_in
 
-pub returns-in_ok-checked_if-in-Ok-clause-step : goal.returns-in_ok-checked_if-in-Ok-clause-step
-returns-in_ok-checked_if-in-Ok-clause-step c =
+pub returns-in-Ok-clause-step : goal.returns-in-Ok-clause-step
+returns-in-Ok-clause-step c =
     let os = c.args.heap.now.objects in
     let A = c.args.newer.now ++ c.args.older.now in
     let e = ap (meaning A kind.Cond) (c.in-Pair.ensures.shows.2 ∙ ap₂ Pair c.in-Some.ensures.4 refl) ∙ cond-pair A (object_at os c.in-Some.two.first) (object_at os c.in-Some.two.second) (object_at os c.in-Pair.rest) in
-    step_made A os c.checked_if.new.heap.objects c.args.memo.now.made.entries (meaning A kind.Cond (object_at os c.args.x)) _ c.args.x c.in_ok-checked_if-in-Ok.field-0
+    result_made A os c.checked_if.new.heap.objects c.args.memo.now.made.entries (meaning A kind.Cond (object_at os c.args.x)) _ c.args.x c.checked_if.result
     (three-made A os c.args.memo.now.made.entries (meaning A kind.Cond (object_at os c.args.x)) c.args.x c.requires.made (if_three A) (at kind.Term c.in-Some.two.first) (at kind.Term c.in-Some.two.second) (at kind.Cond c.in-Pair.rest) c.in-Ok.a c.in-Ok.b c.in-Ok.c e c.in-Ok.ensures.three.0 c.in-Ok.ensures.three.1 c.in-Ok.ensures.three.2)
-    c.in_ok-checked_if-in-Ok.ensures.made
+    c.checked_if.ensures.made
 
 pub returns-in-Err-clause-step : goal.returns-in-Err-clause-step
 returns-in-Err-clause-step c =

@@ -3,7 +3,7 @@ use Rattle.std.proofs.Common.{◌++◌, ap, ◌∙◌}
 use Rattle.mw_heap.specs.Objects.{object_at}
 use Rattle.mw_translate.specs.Meaning.{meaning}
 use Rattle.mw_translate.specs.declared.part.Kind.TheVariants as kind
-use Rattle.mw_translate.proofs.Combine.{at, made_found, both-made, both-wanted, step_made}
+use Rattle.mw_translate.proofs.Combine.{at, made_found, both-made, both-wanted, result_made}
 use Rattle.mw_translate.proofs.Folded.{list_both, list-pair}
 use Rattle.mw_translate.proofs.folds.step_list.Goals as goal
 
@@ -13,14 +13,14 @@ checked_cons-requires-clause-first_in c = (made_found (c.args.newer.now ++ c.arg
 pub checked_cons-requires-clause-second_in : goal.checked_cons-requires-clause-second_in
 checked_cons-requires-clause-second_in c = (made_found (c.args.newer.now ++ c.args.older.now) c.args.heap.now.objects c.args.memo.now.made.entries (at kind.List c.in-Pair.rest) c.in-Ok.b c.requires.made c.in-Ok.ensures.both.1).object_in
 
-pub returns-in_ok-checked_cons-in-Ok-clause-step : goal.returns-in_ok-checked_cons-in-Ok-clause-step
-returns-in_ok-checked_cons-in-Ok-clause-step c =
+pub returns-in-Ok-clause-step : goal.returns-in-Ok-clause-step
+returns-in-Ok-clause-step c =
     let os = c.args.heap.now.objects in
     let A = c.args.newer.now ++ c.args.older.now in
     let e = ap (meaning A kind.List) c.in-Pair.ensures.shows.2 ∙ list-pair A (object_at os c.in-Pair.first) (object_at os c.in-Pair.rest) in
-    step_made A os c.checked_cons.new.heap.objects c.args.memo.now.made.entries (meaning A kind.List (object_at os c.args.x)) _ c.args.x c.in_ok-checked_cons-in-Ok.field-0
+    result_made A os c.checked_cons.new.heap.objects c.args.memo.now.made.entries (meaning A kind.List (object_at os c.args.x)) _ c.args.x c.checked_cons.result
     (both-made A os c.args.memo.now.made.entries (meaning A kind.List (object_at os c.args.x)) c.args.x c.requires.made (list_both A) (at kind.Term c.in-Pair.first) (at kind.List c.in-Pair.rest) c.in-Ok.a c.in-Ok.b e c.in-Ok.ensures.both.0 c.in-Ok.ensures.both.1)
-    c.in_ok-checked_cons-in-Ok.ensures.made
+    c.checked_cons.ensures.made
 
 pub returns-in-Err-clause-step : goal.returns-in-Err-clause-step
 returns-in-Err-clause-step c =

@@ -1,5 +1,6 @@
 -- The formals, the actuals, and the call.
 use Rattle.std.proofs.Common.{ap₂, ◌∙◌}
+use Rattle.std.proofs.lemmas.Result.{IfOk-weaker}
 use Rattle.mw_model.specs.Terms.Object.{Pair, symbol, list3}
 use Rattle.mw_heap.proofs.Objects.{Grows-trans, object_at-Grows, IsIn-Grows}
 use Rattle.mw_translate.specs.Lets.{append_object}
@@ -26,9 +27,6 @@ returns-in_err-head-clause-grows c = Grows-trans _ _ _ (Grows-trans _ _ _ c.appe
 pub cons-requires-clause-second_in : goal.cons-requires-clause-second_in
 cons-requires-clause-second_in c = IsIn-Grows _ _ c.call_of_two.ensures.grows _ c.in_ok-actuals.ensures.made.0
 
-pub returns-in_err-cons-clause-grows : goal.returns-in_err-cons-clause-grows
-returns-in_err-cons-clause-grows c = Grows-trans _ _ _ (Grows-trans _ _ _ (Grows-trans _ _ _ c.append.ensures.grows c.append-2.ensures.grows) c.call_of_two.ensures.grows) c.cons.ensures.grows
-
 pub returns-clause-grows : goal.returns-clause-grows
 returns-clause-grows c = Grows-trans _ _ _ (Grows-trans _ _ _ (Grows-trans _ _ _ c.append.ensures.grows c.append-2.ensures.grows) c.call_of_two.ensures.grows) c.cons.ensures.grows
 
@@ -46,7 +44,6 @@ returns-clause-made c =
     let actuals =
     object_at-Grows h2 h3 g3 c.in_ok-actuals.actuals c.in_ok-actuals.ensures.made.0
     ∙ (c.in_ok-actuals.ensures.made.1
-    ∙ ap₂ append_object (object_at-Grows h0 h1 g1 c.args.values c.requires.values_in) (object_at-Grows h0 h1 g1 c.args.others c.requires.others_in)) in (
-      c.in_ok-cons.ensures.made.0,
-      c.in_ok-cons.ensures.made.1 ∙ ap₂ Pair (c.in_ok-head.ensures.made.1 ∙ ap₂ (list3 (symbol "LAMBDA")) formals body) actuals,
-    )
+    ∙ ap₂ append_object (object_at-Grows h0 h1 g1 c.args.values c.requires.values_in) (object_at-Grows h0 h1 g1 c.args.others c.requires.others_in)) in
+    let head = c.in_ok-head.ensures.made.1 ∙ ap₂ (list3 (symbol "LAMBDA")) formals body in
+    IfOk-weaker c.cons.result _ _ (λ r made. (made.0, made.1 ∙ ap₂ Pair head actuals)) c.cons.ensures.made

@@ -2,7 +2,7 @@
 use Rattle.std.proofs.Common.{◌++◌, ◌∷◌, [], inl, inr, sym, ap, ap₂, ◌∙◌, subst, append_assoc, arith}
 use Rattle.mw_model.specs.Events.Expansion.{expanded}
 use Rattle.mw_heap.specs.Objects.{object_at, IsIn}
-use Rattle.mw_heap.proofs.Objects.{Grows-refl, object_at-Grows, length-Grows}
+use Rattle.mw_heap.proofs.Objects.{Grows-refl, Grows-trans, object_at-Grows, length-Grows}
 use Rattle.mw_translate.specs.Meaning.{meaning}
 use Rattle.mw_translate.specs.Memo.{part_at, AreUnique}
 use Rattle.mw_translate.specs.Walk.{Advances}
@@ -102,3 +102,9 @@ returns-clause-answer c =
     let found = made_found A h es (part_at kind.Term x) c.in-Some-find.made path.made (sym c.find.ensures ∙ c.in-Some-find.is) in
     let t = body_of A (expanded (object_at h x)) (object_at h c.in-Some-find.made.object, c.in-Some-find.made.count) found.is in
     (t.0, expand-some A (object_at h0 x) t.0 (ap expanded (sym (object_at-Grows h0 h path.grows x c.requires.within)) ∙ t.1) t.2, found.object_in, sym t.3)
+
+pub returns-in_err-advance-clause-grows : goal.returns-in_err-advance-clause-grows
+returns-in_err-advance-clause-grows c = Grows-trans _ _ _ c.loop-part.invariant.grows c.advance.ensures.grows
+
+pub returns-then-not-branch-clause-grows : goal.returns-then-not-branch-clause-grows
+returns-then-not-branch-clause-grows c = Grows-trans _ _ _ c.loop-part.invariant.grows c.advance.ensures.grows
