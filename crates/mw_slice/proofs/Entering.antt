@@ -2,7 +2,7 @@
 use Rattle.std.proofs.Common.{◌≡◌, ℕ, ◌<◌, Bool, true, false, ◌&&◌, ◌||◌, cond, List, [], ◌∷◌, ◌++◌, map, filter, Contains, ◌⊎◌, inl, inr, refl, sym, ap, ap₂, ◌∙◌, subst, append-nil, arith}
 use Rattle.std.proofs.lemmas.Bool.{or_cases, or_left, or_right}
 use Rattle.std.proofs.lemmas.List.Elements.{Contains-push_cases}
-use Rattle.mw_model.specs.Terms.Object.{Object, Natural, Symbol, Pair, NIL, second_of, third_of}
+use Rattle.mw_model.specs.Terms.Object.{Object, Natural, Symbol, Pair, NIL, car, cdr, second_of, third_of}
 use Rattle.mw_model.specs.Values.Primitive.{is_pair}
 use Rattle.mw_model.specs.Commands.Slice.{begins_with, some_passes, occurs, without_name, theorems_named}
 use Rattle.mw_model.specs.Commands.Subproofs.{proofs_within, each_within}
@@ -28,7 +28,7 @@ pub or_assoc : (a b c : Bool) → (a || (b || c)) ≡ ((a || b) || c)
 or_assoc true b c = refl
 or_assoc false b c = refl
 
-or_false : (a : Bool) → (a || false) ≡ a
+pub or_false : (a : Bool) → (a || false) ≡ a
 or_false true = refl
 or_false false = refl
 
@@ -193,6 +193,19 @@ itself_asks os firsts (Proved j) (Proofs x) h = cc
 itself_asks os firsts (Proved j) (Proof x) h = proof_asks os firsts j x (third_of (object_at os x)) refl ∙ or_right (some_passes (names_place os firsts j) (map second_of (filter (begins_with "THEOREM") (each_within (third_of (object_at os x)))))) (asks_itself os firsts (Proved j) (Proof x)) h
 
 -- what an event asks for, by its cells and by its proofs
+-- a cell asks for what its event does by its cells, unless that is a theorem
+pub cells_by_cell : (os : List Object) (firsts : List (ℕ × ℕ)) (r : ℕ) → begins_with "VERIFY" (object_at os r) ≡ false → (s : Support) → asks os firsts s (Cell r) ≡ cells_ask s (object_at os r)
+cells_by_cell os firsts r h (Named x) = ap (λ b. occurs x (cond b (Pair (car (object_at os r)) (cdr (cdr (object_at os r)))) (object_at os r))) (sym h)
+cells_by_cell os firsts r h (Proved j) = refl
+
+-- those of a theorem do so by its word and by what comes after its name
+pub cells_by_parts : (os : List Object) (firsts : List (ℕ × ℕ)) (e : Object) (a d : ℕ) → begins_with "VERIFY" e ≡ true → object_at os a ≡ car e → object_at os d ≡ cdr (cdr e) → (s : Support) (old : Bool) → ((old || asks os firsts s (Cell a)) || asks os firsts s (Cell d)) ≡ (old || cells_ask s e)
+cells_by_parts os firsts e a d h first others (Named x) old =
+    sym (or_assoc old (occurs x (object_at os a)) (occurs x (object_at os d)))
+    ∙ (ap₂ (λ y z. old || (occurs x y || occurs x z)) first others
+    ∙ ap (λ b. old || occurs x (cond b (Pair (car e) (cdr (cdr e))) e)) (sym h))
+cells_by_parts os firsts e a d h first others (Proved j) old = or_false (old || false)
+
 pub event_by_parts : (os : List Object) (firsts : List (ℕ × ℕ)) (e : Object) (p : Part) → ((x : Object) → occurs_in os x p ≡ false) → theorems_in os p ≡ theorems_named e → (s : Support) (old : Bool) → ((old || cells_ask s e) || asks os firsts s p) ≡ (old || event_asks os firsts s e)
 event_by_parts os firsts e p no_cell same (Named x) old = ap (λ b. (old || occurs x (without_name e)) || b) (no_cell x) ∙ or_false (old || occurs x (without_name e))
 event_by_parts os firsts e p no_cell same (Proved j) old = ap₂ (λ a l. a || some_passes (names_place os firsts j) l) (or_false old) same

@@ -55,3 +55,8 @@ blank_noted round [] n made some y = none_noted 0 round (replicate n blank) (All
     blank = record { round = 0; made = made }
 blank_noted round (note ∷ notes) n made some zero = refl
 blank_noted round (note ∷ notes) n made some (suc y) = blank_noted round notes n made some y
+
+-- one of this round is the copy
+pub noted_here : (round : ℕ) (notes : List Note) (x : ℕ) (note : Note) → x < length notes → note ≡ get_or notes x note → note.round ≡ round → Some note.made ≡ copy_of (noted round notes) x
+noted_here round notes x note within is now =
+    sym (get_or-map (noted_in round) notes x note None within ∙ (ap (noted_in round) (sym is) ∙ ap (λ b. cond b (Some note.made) None) (eq-eqb note.round round now)))

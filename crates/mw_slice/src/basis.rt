@@ -21,17 +21,18 @@ pub(crate) struct Basis {
 }
 
 impl Basis {
-    // Nothing.
-    pub fn new(alloc: Global) -> Basis
-        ensures parts { (p : Part) → has result p ≡ false }
-        ensures supports { (os : List Object) (s : Support) → notes os result s ≡ false }
+    // Nothing. It is boxed, so that the proofs of its owner are short.
+    pub fn new(alloc: Global) -> Result<Box<Basis>, Memory>
+        ensures parts { IfOk result (λ b. (p : Part) → has b.value p ≡ false) }
+        ensures supports { IfOk result (λ b. (os : List Object) (s : Support) → notes os b.value s ≡ false) }
     {
-        Basis {
+        let basis = Basis {
             cells: IndexSet::new(alloc),
             proofs: IndexSet::new(alloc),
             lists: IndexSet::new(alloc),
             places: IndexSet::new(alloc),
-        }
+        };
+        Ok(Box::new(alloc, basis)?)
     }
 
     // Meets a part, and tells whether that is new.

@@ -1,5 +1,5 @@
 //! Where formulas are first proved.
-ghost use Rattle.std.specs.Prelude.{◌≡◌, ℕ, ◌<◌, false, length, cond, Some, None, IfOk, OnOk};
+ghost use Rattle.std.specs.Prelude.{◌≡◌, ℕ, ◌<◌, false, [], length, cond, Some, None, OnOk};
 ghost use Rattle.mw_model.specs.Terms.Object.{Object};
 ghost use Rattle.mw_model.specs.Commands.Slice.{first_proof};
 ghost use Rattle.mw_heap.specs.Objects.{object_at, IsIn, Grows};
@@ -50,24 +50,25 @@ fn note_first(
     Ok(())
 }
 
-// Of each formula the place of the first event that proves it, found in one pass. The formulas are copied to the heap `to`.
-fn first_proofs(
+// Notes of each formula the place of the first event that proves it, in one pass. The formulas are copied to the heap `to`.
+fn note_firsts(
     heaps: &Heaps,
     added: &[Added],
     to: &mut Heap,
     copies: &mut Copies,
-) -> Result<IndexMap<Ref, u64>, Memory>
+    firsts: &mut IndexMap<Ref, u64>,
+) -> Result<(), Memory>
     requires within { AreIn heaps.now added.now }
+    requires none { firsts.old.entries ≡ [] }
     ensures grows { Grows to.old.objects to.new.objects }
-    ensures firsts { IfOk result (λ f. AreFirsts to.new.objects f.entries) }
-    ensures all { IfOk result (λ f. (c : Object) → first_by to.new.objects f.entries c ≡ first_proof (objects_of heaps.now added.now) c) }
+    ensures firsts { OnOk result (AreFirsts to.new.objects firsts.new.entries) }
+    ensures all { OnOk result ((c : Object) → first_by to.new.objects firsts.new.entries c ≡ first_proof (objects_of heaps.now added.now) c) }
 {
-    let mut firsts = IndexMap::new(to.alloc());
     for (place, event) in added.iter().enumerate() {
         let from = heaps.get(event.heap);
-        note_first(from, event.event, place as u64, to, copies, &mut firsts)?;
+        note_first(from, event.event, place as u64, to, copies, firsts)?;
     }
-    Ok(firsts)
+    Ok(())
 }
 
 // Whether an object of the heap is headed by the word of the steps that name a theorem: else no proof in it names one.
@@ -95,21 +96,23 @@ fn some_names_theorem(heaps: &Heaps) -> bool
     false
 }
 
-/// Of each formula that a step of an event names the place of the first event that proves it. Where no step names one, no formula is
-/// copied.
-pub(crate) fn first_proofs_named(
+/// Notes of each formula that a step of an event names the place of the first event that proves it. Where no step names one, no formula
+/// is copied.
+pub(crate) fn note_firsts_named(
     heaps: &Heaps,
     added: &[Added],
     to: &mut Heap,
     copies: &mut Copies,
-) -> Result<IndexMap<Ref, u64>, Memory>
+    firsts: &mut IndexMap<Ref, u64>,
+) -> Result<(), Memory>
     requires within { AreIn heaps.now added.now }
+    requires none { firsts.old.entries ≡ [] }
     ensures grows { Grows to.old.objects to.new.objects }
-    ensures firsts { IfOk result (λ f. AreFirsts to.new.objects f.entries) }
-    ensures index { IfOk result (λ f. IsIndex to.new.objects f.entries (objects_of heaps.now added.now)) }
+    ensures firsts { OnOk result (AreFirsts to.new.objects firsts.new.entries) }
+    ensures index { OnOk result (IsIndex to.new.objects firsts.new.entries (objects_of heaps.now added.now)) }
 {
-    if some_names_theorem(heaps) {
-        return first_proofs(heaps, added, to, copies);
+    if !some_names_theorem(heaps) {
+        return Ok(());
     }
-    Ok(IndexMap::new(to.alloc()))
+    note_firsts(heaps, added, to, copies, firsts)
 }

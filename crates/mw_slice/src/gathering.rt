@@ -54,10 +54,7 @@ pub(crate) fn gather_event(
 {
     gather_cells(heap, nil, firsts, event, basis)?;
     match proofs_of(heap, nil, event) {
-        Some(part) => {
-            gather(heap, nil, firsts, part, basis)?;
-            Ok(())
-        }
+        Some(part) => gather(heap, nil, firsts, part, basis),
         None => Ok(()),
     }
 }

@@ -14,7 +14,7 @@ use crate::added::Added;
 use crate::basis::Basis;
 use crate::copying::copy;
 use crate::event::{is_idle, is_theorem, sets_profile};
-use crate::firsts::first_proofs_named;
+use crate::firsts::note_firsts_named;
 use crate::gathering::gather_event;
 use crate::heaps::{Heaps, heap_with_words};
 use crate::names::adds_met;
@@ -186,22 +186,22 @@ fn needed_from(
     Ok(places)
 }
 
-// The same, where the basis is made.
+// The same, where these places are noted and the basis is made.
 fn needed_over(
     heaps: &Heaps,
     added: &[Added],
     goal: usize,
     to: &mut Heap,
     copies: &mut Copies,
-    firsts: &IndexMap<Ref, u64>,
+    firsts: &mut IndexMap<Ref, u64>,
 ) -> Result<Vec<u64>, Memory>
     requires within { AreIn heaps.now added.now }
-    requires firsts { AreFirsts to.old.objects firsts.now.entries }
-    requires index { IsIndex to.old.objects firsts.now.entries (objects_of heaps.now added.now) }
+    requires none { firsts.old.entries ≡ [] }
     requires goal { goal < length added.now }
     ensures { IfOk result (λ v. reverse v.items ≡ collected (is_wanted (objects_of heaps.now added.now) goal) (suc goal) []) }
 {
-    let mut basis = Basis::new(heaps.alloc());
+    note_firsts_named(heaps, added, to, copies, firsts)?;
+    let mut basis = Basis::new(heaps.alloc())?;
     needed_from(heaps, added, goal, to, copies, firsts, &mut basis)
 }
 
@@ -212,8 +212,8 @@ fn needed_in(heaps: &Heaps, added: &[Added], goal: usize, to: &mut Heap) -> Resu
     ensures { IfOk result (λ v. reverse v.items ≡ collected (is_wanted (objects_of heaps.now added.now) goal) (suc goal) []) }
 {
     let mut copies = Copies::new(heaps.alloc());
-    let firsts = first_proofs_named(heaps, added, to, &mut copies)?;
-    needed_over(heaps, added, goal, to, &mut copies, &firsts)
+    let mut firsts = IndexMap::new(heaps.alloc());
+    needed_over(heaps, added, goal, to, &mut copies, &mut firsts)
 }
 
 // Up to the goal, the places from the last one down of the events that it rests on.

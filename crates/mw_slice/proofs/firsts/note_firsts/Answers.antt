@@ -6,7 +6,7 @@ use Rattle.mw_slice.specs.Firsts.{proves, first_or}
 use Rattle.mw_model.specs.Commands.Slice.{first_place}
 use Rattle.mw_slice.specs.Events.{objects_of}
 use Rattle.mw_slice.proofs.FirstPlaces.{first_place-next}
-use Rattle.mw_slice.proofs.firsts.first_proofs.Goals as goal
+use Rattle.mw_slice.proofs.firsts.note_firsts.Goals as goal
 
 pub loop-place-preserved : goal.loop-place-preserved
 loop-place-preserved c =

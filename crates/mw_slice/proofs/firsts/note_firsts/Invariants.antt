@@ -5,7 +5,7 @@ use Rattle.mw_model.specs.Commands.Slice.{first_proof}
 use Rattle.mw_heap.specs.Objects.{Grows}
 use Rattle.mw_slice.specs.Events.{objects_of}
 use Rattle.mw_slice.specs.Firsts.{AreFirsts, first_by}
-use Rattle.mw_slice.proofs.firsts.first_proofs.Given as goal
+use Rattle.mw_slice.proofs.firsts.note_firsts.Given as goal
 
 abbrev pub invariant-loop-place : goal.invariant-loop-place
 invariant-loop-place l =
