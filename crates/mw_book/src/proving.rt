@@ -29,13 +29,6 @@ pub(crate) struct Proving {
     lines: Vec<u8>,
 }
 
-// A heap that finds the words of formulas by their places.
-fn heap_with_words(alloc: Global) -> Result<Heap, Memory> {
-    let mut heap = Heap::new(alloc)?;
-    heap.keep_words()?;
-    Ok(heap)
-}
-
 // The arities of the initial theory.
 fn initial_arity(heap: &mut Heap) -> Result<Arity, Memory>
     ensures { IfOk result (λ a. a ≡ initial_arities) }
@@ -51,28 +44,42 @@ impl Proving {
         ensures answered { IfOk result (λ b. Answered b.value []) }
         ensures lines { IfOk result (λ b. b.value.lines.items ≡ []) }
     {
-        let mut heap = heap_with_words(alloc)?;
-        let arity = initial_arity(&mut heap)?;
-        Proving::over(alloc, heap, arity)
+        let mut proving = Proving::unread(alloc)?;
+        proving.begin()?;
+        Ok(proving)
     }
 
-    // Nothing was read, over this heap.
-    fn over(alloc: Global, heap: Heap, arity: Arity) -> Result<Box<Proving>, Memory>
-        requires { arity ≡ initial_arities }
-        ensures proving { IfOk result (λ b. IsProving b.value) }
+    // Nothing was read, and no function has an arity yet.
+    fn unread(alloc: Global) -> Result<Box<Proving>, Memory>
+        ensures marks { IfOk result (λ b. b.value.marks ≡ []) }
         ensures answered { IfOk result (λ b. Answered b.value []) }
         ensures lines { IfOk result (λ b. b.value.lines.items ≡ []) }
     {
+        let heap = Heap::new(alloc)?;
         let proving = Proving {
             kept: heap.mark(),
             heap,
-            arity,
+            arity: Arity::new(alloc),
             marks: Marks::new(alloc),
             formulas: 0,
             unproved: 0,
             lines: Vec::new(alloc),
         };
         Ok(Box::new(alloc, proving)?)
+    }
+
+    // Keeps the arities of the initial theory, and a heap that finds the words of formulas by their places.
+    fn begin(&mut self) -> Result<(), Memory>
+        requires marks { self.old.marks ≡ [] }
+        requires answered { Answered self.old [] }
+        ensures proving { OnOk result (IsProving self.new) }
+        ensures answered { OnOk result (Answered self.new []) }
+        ensures lines { self.new.lines ≡ self.old.lines }
+    {
+        self.heap.keep_words()?;
+        self.arity = initial_arity(&mut self.heap)?;
+        self.kept = self.heap.mark();
+        Ok(())
     }
 
     // Writes the answer to a datum of which this was found, and counts it.

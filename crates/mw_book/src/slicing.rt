@@ -36,22 +36,14 @@ impl Slicing {
         ensures sliced { IfOk result (λ b. Sliced b.value (name_of_bytes name) steps []) }
         ensures lines { IfOk result (λ b. b.value.lines.items ≡ []) }
     {
-        let slicing = Slicing::unread(alloc, name, steps)?;
-        Ok(Box::new(alloc, slicing)?)
-    }
-
-    // Nothing was read.
-    fn unread(alloc: Global, name: TheoremName, steps: u64) -> Result<Slicing, Memory>
-        ensures sliced { IfOk result (λ s. Sliced s (name_of_bytes name) steps []) }
-        ensures lines { IfOk result (λ s. s.lines.items ≡ []) }
-    {
-        Ok(Slicing {
+        let slicing = Slicing {
             kernel: Kernel::new(alloc, steps)?,
             slicer: Slicer::new(alloc),
             name,
             events: 0,
             lines: Vec::new(alloc),
-        })
+        };
+        Ok(Box::new(alloc, slicing)?)
     }
 
     // Judges an event. The slicer keeps it where it is accepted.

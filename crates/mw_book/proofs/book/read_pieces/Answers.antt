@@ -2,7 +2,7 @@
 use Rattle.std.proofs.Common.{◌∙◌, refl, sym, subst, [], take, arith}
 use Rattle.std.proofs.lemmas.List.{length-take-le}
 use Rattle.std.proofs.lemmas.Result.{err_from_is_err_and}
-use Rattle.mw_port.specs.Ports.{Gives}
+use Rattle.mw_port.specs.Ports.{Gives, Rises}
 use Rattle.mw_book.specs.Checks.{SinkCounts}
 use Rattle.mw_book.proofs.Rounds.{between_none, here, known_here, count_short, room_for, read_fails, part_here, whole_end, whole_fault, taken_all, write_stops, between_more, halt_ends, halt_reads, halt_stops}
 use Rattle.mw_book.proofs.book.read_pieces.Goals as goal
@@ -18,6 +18,12 @@ loop-init g c = record {
 
 pub returns-in_default-clause-ends : goal.returns-in_default-clause-ends
 returns-in_default-clause-ends g c = read_fails c.loop.invariant.between (g.S.Source.left c.read.new.self) c.in_default.ensures.kept
+
+pub returns-in_default-clause-stops : goal.returns-in_default-clause-stops
+returns-in_default-clause-stops g c = tt
+
+pub returns-in_default-clause-source_counts : goal.returns-in_default-clause-source_counts
+returns-in_default-clause-source_counts g c = subst (λ n. Rises n (g.S.Source.faults c.read.new.self)) c.loop.invariant.source_steady c.in_default.ensures.failed
 
 pub finish-requires : goal.finish-requires
 finish-requires g c =

@@ -1,9 +1,9 @@
 -- The last line of the report.
-use Rattle.std.proofs.Common.{◌++◌, sym, ap, ◌∙◌, subst, arith}
+use Rattle.std.proofs.Common.{◌+◌, ◌++◌, sym, ap, ◌∙◌, subst, arith}
 use Rattle.mw_lines.specs.Lines.{answers_line}
 use Rattle.mw_book.specs.Answering.{fault_of}
 use Rattle.mw_book.specs.Due.{IsLastText}
-use Rattle.mw_book.proofs.LastLines.{rechecked_summary}
+use Rattle.mw_book.proofs.LastLines.{rechecked_refused, rechecked_summary}
 use Rattle.mw_book.proofs.RecheckedOne.{rechecked_few}
 use Rattle.mw_book.proofs.rechecking.RecheckingAnswering.end.Goals as goal
 
@@ -12,6 +12,9 @@ overflow_add-refused c = let few = rechecked_few c.args.self.now c.requires.know
 
 pub write_answers-requires : goal.write_answers-requires
 write_answers-requires c = (rechecked_few c.args.self.now c.requires.known).0
+
+pub returns-in_ok-write_answers-in-None-clause-refused : goal.returns-in_ok-write_answers-in-None-clause-refused
+returns-in_ok-write_answers-in-None-clause-refused c = λ none q given h. ap (λ n. c.args.self.now.denied + n) c.left-left.ensures ∙ rechecked_refused c.args.self.now q given h
 
 pub returns-in_ok-write_answers-in-None-clause-last : goal.returns-in_ok-write_answers-in-None-clause-last
 returns-in_ok-write_answers-in-None-clause-last c = λ q given h.
