@@ -12,6 +12,7 @@ pub mod Held
 pub mod Initial
 pub mod ListMembers
 pub mod Listing
+pub mod Mapped
 pub mod Profiles
 pub mod Results
 pub mod FirstName

@@ -1,5 +1,5 @@
 //! The code of a block.
-ghost use Rattle.std.specs.Prelude.{◌≡◌, List, map, IfOk, OnOk, OnErr};
+ghost use Rattle.std.specs.Prelude.{◌≡◌, List, [], map, OnOk, OnErr};
 ghost use Rattle.mw_model.specs.Terms.Object.{Object};
 ghost use Rattle.mw_model.specs.Values.Definition.{Block, Definitions};
 ghost use Rattle.mw_code.specs.Tables.{StandsFor};
@@ -9,7 +9,6 @@ ghost use Rattle.mw_theory.specs.Adding.{with_block, MayBeAdded};
 use mw_code::Table;
 use mw_heap::{Heap, Memory, Ref};
 use mw_preamble::Definition;
-use std::alloc::Global;
 
 /// Adds a block to the code. Where memory is refused the table stands for what it stood for.
 pub(crate) fn add_code(table: &mut Table, heap: &Heap, block: &[Definition]) -> Result<(), Memory>
@@ -17,17 +16,21 @@ pub(crate) fn add_code(table: &mut Table, heap: &Heap, block: &[Definition]) -> 
     ensures added { (D : Definitions) (B : Block) → MayBeAdded heap.now.objects table.old D block.now B → OnOk result (StandsFor heap.now.objects table.new (with_block B D)) }
     ensures err { (os : List Object) (E : Definitions) → StandsFor os table.old E → OnErr result (StandsFor os table.new E) }
 {
-    let spellings = spellings_of(block, heap.alloc())?;
+    let mut spellings = Vec::new(heap.alloc());
+    list_spellings(block, &mut spellings)?;
     table.add(heap, spellings.as_slice())
 }
 
-// What the table takes of each definition.
-fn spellings_of(block: &[Definition], alloc: Global) -> Result<Vec<(Ref, Ref, Option<Ref>)>, Memory>
-    ensures { IfOk result (λ v. v.items ≡ map spelling_of block.now) }
+// Lists what the table takes of each definition.
+fn list_spellings(
+    block: &[Definition],
+    spellings: &mut Vec<(Ref, Ref, Option<Ref>)>,
+) -> Result<(), Memory>
+    requires { spellings.old.items ≡ [] }
+    ensures { OnOk result (spellings.new.items ≡ map spelling_of block.now) }
 {
-    let mut spellings = Vec::new(alloc);
     for definition in block {
         spellings.push(definition.spelling())?;
     }
-    Ok(spellings)
+    Ok(())
 }

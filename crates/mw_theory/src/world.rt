@@ -39,9 +39,9 @@ impl World {
         ensures theory { IfOk result (λ w. theory_in w ≡ initial One) }
         ensures room { IfOk result (λ w. length w.heap.objects ≡ w.needed) }
     {
-        let mut heap = Heap::new(alloc)?;
+        let mut heap = boxed_heap(alloc)?;
         let theory = begin_first(&mut heap)?;
-        Ok(World::over(heap, theory))
+        Ok(World::over(Box::into_inner(heap), theory))
     }
 
     // A theory over the heap that has its objects, none of which has a mark.
@@ -153,6 +153,12 @@ impl World {
         cut_marks(&mut self.marks, to);
         self.heap.cut_back(to);
     }
+}
+
+// An empty heap, in a box, so that the proofs of its owner are short.
+fn boxed_heap(alloc: Global) -> Result<Box<Heap>, Memory> {
+    let heap = Heap::new(alloc)?;
+    Ok(Box::new(alloc, heap)?)
 }
 
 // The initial theory of the first profile, in a heap that has the words first, and finds them by their places.

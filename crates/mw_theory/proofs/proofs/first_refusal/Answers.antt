@@ -81,3 +81,27 @@ returns-then-is_some-clause-grows g c =
 
 pub refusal-requires-clause-marked : goal.refusal-requires-clause-marked
 refusal-requires-clause-marked g c = let (os, grows, ready) = c.requires.ready in (c.loop-formula.invariant.0 os grows ready).marked
+
+pub returns-in_err-refusal-clause-marked : goal.returns-in_err-refusal-clause-marked
+returns-in_err-refusal-clause-marked g c = c.refusal.ensures.marked
+
+pub returns-in_err-refusal-clause-same : goal.returns-in_err-refusal-clause-same
+returns-in_err-refusal-clause-same g c = c.refusal.ensures.same ∙ c.loop-formula.invariant.1
+
+pub returns-in_err-refusal-clause-limit : goal.returns-in_err-refusal-clause-limit
+returns-in_err-refusal-clause-limit g c = c.refusal.ensures.limit ∙ c.loop-formula.invariant.2
+
+pub returns-in_err-refusal-clause-ready : goal.returns-in_err-refusal-clause-ready
+returns-in_err-refusal-clause-ready g c = λ os ready. c.refusal.ensures.ready os (c.loop-formula.invariant.3 os ready)
+
+pub returns-then-is_some-clause-marked : goal.returns-then-is_some-clause-marked
+returns-then-is_some-clause-marked g c = c.refusal.ensures.marked
+
+pub returns-then-is_some-clause-same : goal.returns-then-is_some-clause-same
+returns-then-is_some-clause-same g c = c.refusal.ensures.same ∙ c.loop-formula.invariant.1
+
+pub returns-then-is_some-clause-limit : goal.returns-then-is_some-clause-limit
+returns-then-is_some-clause-limit g c = c.refusal.ensures.limit ∙ c.loop-formula.invariant.2
+
+pub returns-then-is_some-clause-ready : goal.returns-then-is_some-clause-ready
+returns-then-is_some-clause-ready g c = λ os ready. c.refusal.ensures.ready os (c.loop-formula.invariant.3 os ready)
