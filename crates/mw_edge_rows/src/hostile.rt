@@ -7,8 +7,8 @@ use mw_book::Status;
 use std::alloc::{AllocError, Global};
 use std::test::Fail;
 
-// Whether the program runs out of memory on this book.
-fn runs_out(alloc: Global, book: &str) -> Result<bool, AllocError> {
+// Whether the program ends out of memory on this book.
+fn ends_out_of_memory(alloc: Global, book: &str) -> Result<bool, AllocError> {
     let answer = answer_of_check(alloc, book, 4096)?;
     Ok(answer.status == Status::Memory)
 }
@@ -24,21 +24,21 @@ fn book_of_calls(
     format!(in alloc; "{before}{term}{after}")
 }
 
-// Whether the program runs out of memory on it.
-fn runs_out_on_calls(
+// Whether the program ends out of memory on it.
+fn ends_out_of_memory_on_calls(
     alloc: Global,
     before: &str,
     function: &str,
     after: &str,
 ) -> Result<bool, AllocError> {
     let book = book_of_calls(alloc, before, function, after)?;
-    runs_out(alloc, book.as_str())
+    ends_out_of_memory(alloc, book.as_str())
 }
 
-// Whether the program runs out of memory on a term that is nested.
-fn runs_out_on_nested(alloc: Global, nested: &Nested) -> Result<bool, AllocError> {
+// Whether the program ends out of memory on a nested text.
+fn ends_out_of_memory_on_nested(alloc: Global, nested: &Nested) -> Result<bool, AllocError> {
     let book = text_of(alloc, nested)?;
-    runs_out(alloc, book.as_str())
+    ends_out_of_memory(alloc, book.as_str())
 }
 
 // The report on an EVAL of a recursion over an object of 2^60 pairs as a tree, where it does not run out of units.
@@ -66,15 +66,15 @@ fn other_report_on_actuals(alloc: Global, count: usize) -> Result<String, AllocE
     )
 }
 
-// Whether the program runs out of memory on a function that calls itself on each of 2^60 ways through sixty tests.
-fn runs_out_on_obligations(alloc: Global) -> Result<bool, AllocError> {
+// Whether the program ends out of memory on a function that calls itself on each of 2^60 ways through sixty tests.
+fn ends_out_of_memory_on_obligations(alloc: Global) -> Result<bool, AllocError> {
     let mut body = String::from_str(alloc, "#1=(f x)")?;
     for k in 1..60 {
         let next = k + 1;
         body = format!(in alloc; "#{next}=(if (equal x {k}) {body} #{k}#)")?;
     }
     let book = format!(in alloc; "(define f (x) {body} x ())")?;
-    runs_out(alloc, book.as_str())
+    ends_out_of_memory(alloc, book.as_str())
 }
 
 const OF_THE_BLOCK: &str = "0
@@ -178,9 +178,9 @@ fn a_deep_term_takes_a_unit_for_each_call(rt: HostRuntime) -> Result<(), Fail> {
 
 #[test]
 fn code_past_the_bound_is_out_of_memory(rt: HostRuntime) -> Result<(), Fail> {
-    assert!(rt; runs_out_on_nested(rt.alloc(), &CHOICES)?);
-    assert!(rt; runs_out_on_calls(rt.alloc(), "(eval ", "or", ")")?);
-    assert!(rt; runs_out_on_calls(rt.alloc(), "(eval ", "cons", ")")?);
+    assert!(rt; ends_out_of_memory_on_nested(rt.alloc(), &CHOICES)?);
+    assert!(rt; ends_out_of_memory_on_calls(rt.alloc(), "(eval ", "or", ")")?);
+    assert!(rt; ends_out_of_memory_on_calls(rt.alloc(), "(eval ", "cons", ")")?);
     Ok(())
 }
 
@@ -188,13 +188,13 @@ fn code_past_the_bound_is_out_of_memory(rt: HostRuntime) -> Result<(), Fail> {
 #[test]
 fn a_body_past_the_bound_is_out_of_memory(rt: HostRuntime) -> Result<(), Fail> {
     let before = "(define two (x y) (cons x y) nil ()) (define big (x) ";
-    assert!(rt; runs_out_on_calls(rt.alloc(), before, "two", " nil ())")?);
+    assert!(rt; ends_out_of_memory_on_calls(rt.alloc(), before, "two", " nil ())")?);
     Ok(())
 }
 
 #[test]
 fn obligations_past_the_bound_are_out_of_memory(rt: HostRuntime) -> Result<(), Fail> {
-    assert!(rt; runs_out_on_obligations(rt.alloc())?);
+    assert!(rt; ends_out_of_memory_on_obligations(rt.alloc())?);
     Ok(())
 }
 

@@ -3,7 +3,7 @@ use mw_answers::{expect_empty, other_report, other_reports, wrap_book, wrap_line
 use std::alloc::{AllocError, Global};
 use std::test::Fail;
 
-// Only what changes the theory comes too early.
+// In the seventh, profiles are chosen after events of which none changed the theory.
 const PROFILES: &str = "\
 (profile 2)
 (eval (* 18446744073709551615 18446744073709551617))

@@ -22,7 +22,7 @@ const CONNECTIVES: &str = "\
 ((and (or x y) (cond (x (list)))) (if (if x x y) (if x 'nil 'nil) 'nil))
 ";
 
-// The same.
+// The same for the members of a list by their places.
 const PLACES: &str = "\
 ((first x) (car x))
 ((second x) (car (cdr x)))
@@ -31,7 +31,7 @@ const PLACES: &str = "\
 ((fifth (list x)) (car (cdr (cdr (cdr (cdr (cons x 'nil)))))))
 ";
 
-// The same. The variables of a body that are not bound stand for themselves, in the order in which they first occur.
+// The same for bindings. The variables of a body that are not bound stand for themselves, in the order in which they first occur.
 const BINDINGS: &str = "\
 ((let () (f x y)) ((lambda (x y) (f x y)) x y))
 ((let ((x t) (z y)) (f x (f y w))) ((lambda (x z y w) (f x (f y w))) 't y y w))
