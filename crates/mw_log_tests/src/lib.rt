@@ -1,5 +1,0 @@
-//! Tests of the crates that speak of logs.
-#![tactic(auto)]
-
-#[cfg(test)]
-mod flat;
