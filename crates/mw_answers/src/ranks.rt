@@ -270,7 +270,8 @@ fn ranks_book() -> &'static str {
     RANKS
 }
 
-/// The report on the theorems on ranks and these events after them, where these lines do not come after theirs.
+/// The report of `check` under this step limit on the theorems on ranks with these events after them, where it does not begin with their
+/// lines and these, and else no text.
 pub fn other_report_after_ranks(
     alloc: Global,
     steps: &str,

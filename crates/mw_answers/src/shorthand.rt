@@ -1,4 +1,4 @@
-//! A second checker, above WRAP.
+//! The book books/shorthand.book, judged after books/wrap.book: a checker that takes a shorthand too, and the proof of its claim.
 use crate::row::lines_from;
 use std::alloc::{AllocError, Global};
 

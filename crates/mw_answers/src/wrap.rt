@@ -1,4 +1,4 @@
-//! The books books/wrap.book, a checker that runs LOGIC.PROOFP, and books/shorthand.book, judged after it: one that takes a shorthand too.
+//! The book books/wrap.book: a checker that runs LOGIC.PROOFP, and the proof of its claim.
 use crate::row::lines_from;
 use std::alloc::{AllocError, Global};
 

@@ -1,4 +1,5 @@
-//! Worked books with the reports that are due for them, as tests of the whole program: the books of the guide, the axioms, switches.
+//! Worked books with the reports that are due for them, as tests of the whole program: the books of the guide, the axioms, switches; and
+//! that a wrong row is told.
 #![tactic(auto)]
 
 #[cfg(test)]
@@ -7,3 +8,5 @@ mod axioms;
 mod books;
 #[cfg(test)]
 mod switches;
+#[cfg(test)]
+mod told;
