@@ -5,7 +5,7 @@ use Rattle.mw_model.specs.Terms.Term.{formula_object}
 use Rattle.mw_model.specs.Proofs.Axioms.{axiom_1, axiom_2}
 use Rattle.mw_heap.specs.Objects.{object_at}
 use Rattle.mw_heap.specs.Lists.{list_object}
-use Rattle.mw_rule_tests.proofs.lower.axioms.Goals as goal
+use Rattle.mw_command_tests.proofs.lower.axioms.Goals as goal
 
 front : (os : List Object) (refs : List ℕ) (x y : Object) (rest : List Object) (d e : ℕ) → map (object_at os) refs ≡ x ∷ y ∷ rest → (object_at os (get_or refs 0 d) ≡ x) × (object_at os (get_or refs 1 e) ≡ y)
 front os [] x y rest d e h = cc

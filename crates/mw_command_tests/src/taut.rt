@@ -1,13 +1,12 @@
 //! Formulas that are decided: tautologies by a proof, others by the first choice against them, and those of too many equations.
 ghost use Rattle.mw_heap.specs.Objects.{IsIn};
 
-use crate::proof::judged_from;
 use mw_forms::{boxed, is_in, read, read_two};
-use mw_heap::{Heap, Memory, Ref};
-use mw_proof::Judged;
+use mw_heap::{Heap, Memory, Profile, Ref};
+use mw_proof::{Judged, judge};
 use mw_rules::Known;
 use mw_taut::{Decision, decide};
-use mw_term::{Arity, is_formula, mark_terms};
+use mw_term::{Arity, Marks, is_formula, mark_terms};
 use std::alloc::{AllocError, Global};
 use std::test::Fail;
 
@@ -28,7 +27,10 @@ fn judged(heap: &mut Heap, proof: Ref) -> Judged {
     if !is_in(heap, proof) {
         return Judged::Memory;
     }
-    judged_from(heap, proof, &Known::new(heap.alloc()))
+    let alloc = heap.alloc();
+    let none = Known::new(alloc);
+    let arity = Arity::new(alloc);
+    judge(heap, proof, &none, &none, &arity, Profile::One, &mut Marks::new(alloc))
 }
 
 // What the proof of a tautology is judged, or what is decided of any other formula.
