@@ -30,7 +30,15 @@ fn judged(heap: &mut Heap, proof: Ref) -> Judged {
     let alloc = heap.alloc();
     let none = Known::new(alloc);
     let arity = Arity::new(alloc);
-    judge(heap, proof, &none, &none, &arity, Profile::One, &mut Marks::new(alloc))
+    judge(
+        heap,
+        proof,
+        &none,
+        &none,
+        &arity,
+        Profile::One,
+        &mut Marks::new(alloc),
+    )
 }
 
 // What the proof of a tautology is judged, or what is decided of any other formula.
