@@ -9,7 +9,7 @@ use indexmap::IndexMap;
 use mw_heap::{Heap, Memory, Ref};
 
 /// The jobs that the blocks of a table share, for code that labels make of few cells.
-pub(crate) const SHARED_JOBS: u64 = 1 << 25;
+pub(crate) const SHARED_JOBS: u64 = 1 << 24;
 
 // The jobs for which each distinct cell of a block's bodies pays.
 const JOBS_FOR_A_CELL: u64 = 64;

@@ -20,7 +20,7 @@ pub(crate) enum Turns {
 impl Turns {
     /// The turns of a run of at most so many units.
     pub(crate) fn for_units(units: u64) -> Turns
-        ensures { result ≡ Limited (min (2 ^ 26 + 256 + min (units * 64) (2 ^ 64 - 1)) (2 ^ 64 - 1)) }
+        ensures { result ≡ Turns.Limited (min (2 ^ 26 + 256 + min (units * 64) (2 ^ 64 - 1)) (2 ^ 64 - 1)) }
     {
         Turns::Limited(MOST_TURNS.saturating_add(units.saturating_mul(TURNS_FOR_A_UNIT)))
     }
