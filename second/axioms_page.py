@@ -1,4 +1,4 @@
-"""The axioms and built-in definitions as docs/AXIOMS.md writes them, as text that a log can cite."""
+"""The axioms and built-in definitions of docs/AXIOMS.md, as text that a log can cite."""
 
 import re
 

@@ -1,6 +1,7 @@
 #!/usr/bin/env python3
 """Builds the second checker and compares it with `milawa recheck`: the same output and the same
-status, on the logs of books, on the axioms that docs/AXIOMS.md lists, and on mutants of all these.
+status, on the logs of books, on small logs that show a rule each, on the axioms that
+docs/AXIOMS.md lists, and on mutants of all these.
 
     MILAWA=PROGRAM second/test.py [BOOK ..]
 
@@ -17,6 +18,7 @@ from concurrent.futures import ThreadPoolExecutor
 from pathlib import Path
 
 import axioms_page
+import cases
 import mutants
 
 HERE = Path(__file__).resolve().parent
@@ -46,7 +48,7 @@ def flat(book):
 
 
 def count_events(log):
-    """How many events the book had of which `milawa flat` made this log; none where it has a fault."""
+    """How many events the book had of which `milawa flat` made this log; None if it has a fault."""
     counts = re.search(rb"^; events (\d+) flat", log, re.M)
     return int(counts[1]) if counts else None
 
@@ -90,17 +92,30 @@ def citing(formulas):
 
 
 def logs_of_axioms():
-    """Logs that cite what docs/AXIOMS.md lists: each gets a yes, but for two in the wrong profile."""
+    """By name, logs that cite what docs/AXIOMS.md lists, and how many events are to get a yes."""
     page = (ROOT / "docs/AXIOMS.md").read_text()
     axioms, (definitions, of_second) = axioms_page.axioms(page), axioms_page.definitions(page)
-    of_first = [axioms[n] for n in range(1, 54)] + [definitions[n] for n in range(1, 55)]
-    of_both = [formula for formula in of_first if formula not in (definitions[42], definitions[43])]
-    products = [axioms[n] for n in range(54, 61)]
-    return {"axioms of the first profile": (citing(of_first), len(of_first)),
-            "axioms of the second profile":
-                (b"(profile 2)\n" + citing(of_both + products + of_second), 1 + len(of_first) + 7),
-            "axioms of the other profile":
-                (b"(profile 2)\n" + citing([definitions[42], definitions[43]]), 1)}
+    of_first = [definitions.pop(42), definitions.pop(43)]
+    of_both = [axioms[n] for n in range(1, 54)] + list(definitions.values())
+    of_second += [axioms[n] for n in range(54, 61)]
+    second = b"(profile 2)\n"
+    return {"axioms of the first profile": (citing(of_both + of_first), 107),
+            "axioms of the second profile": (second + citing(of_both + of_second), 115),
+            "axioms of the second in the first": (citing(of_second), 0),
+            "axioms of the first in the second": (second + citing(of_first), 1)}
+
+
+def logs_of_cases():
+    """The small logs of cases.py with the reports that they are to have."""
+    logs = {name: (log.encode("latin-1"), due) for name, (log, due) in cases.CASES.items()}
+    ranks = flat(book("ranks"))
+    lines = "".join(run([SECOND], ranks)[0].decode().splitlines(keepends=True)[:-1])
+    for name, (log, answer) in cases.AFTER_RANKS.items():
+        word = "DEFINE-ALL -" if "define-all" in log else "DEFINE F"
+        counts = "yes 14 no 0" if answer == "yes" else "yes 13 no 1"
+        due = lines + f"14 {word} {answer}\nevents 14 {counts} left 0\n"
+        logs[f"obligations: {name}"] = ranks + log.encode(), due
+    return logs
 
 
 def is_agreed(log):
@@ -115,6 +130,9 @@ def failures(further):
         logs[name] = log
         counts = run([SECOND], log)[0].decode().splitlines()[-1].split()
         yield f"{name}: yes to {accepted}", counts[3] != str(accepted)
+    for name, (log, due) in logs_of_cases().items():
+        logs[name] = log
+        yield f"{name}: the report that is due", run([SECOND], log)[0].decode("latin-1") != due
     for name, log in logs.items():
         yield name, not is_agreed(log)
     chosen = random.Random(20090901)
