@@ -3,8 +3,8 @@ use Rattle.std.proofs.Common.{◌≡◌, ℕ, suc, ◌+◌, ◌-◌, Bool, true,
 use Rattle.std.proofs.lemmas.List.{length_push}
 use Rattle.mw_model.specs.Terms.Object.{Object}
 use Rattle.mw_model.specs.Texts.Pieces.{how_many}
-use Rattle.mw_model.specs.Commands.TautologyBook.{OwesTautology, is_proved, tautology_summary}
 use Rattle.mw_model.specs.Reports.Request.{Taut}
+use Rattle.mw_commands.specs.Commands.TautologyBook.{OwesTautology, is_proved, tautology_summary}
 use Rattle.mw_lines.specs.Lines.{formulas_line}
 use Rattle.mw_book.specs.Answered.{Answered, IsProving, ProvedFor, lines_of}
 use Rattle.mw_book.specs.Answering.{Answers}

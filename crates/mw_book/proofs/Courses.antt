@@ -4,7 +4,7 @@ use Rattle.mw_model.specs.Terms.Object.{Object}
 use Rattle.mw_model.specs.Values.Primitive.{One}
 use Rattle.mw_model.specs.Events.Theory.{Theory, initial}
 use Rattle.mw_model.specs.Events.Fate.{happens, next, after}
-use Rattle.mw_model.specs.Commands.Transition.{Effect, Transition, course, course_from, last_theory, last_theory_from}
+use Rattle.mw_commands.specs.Commands.Transition.{Effect, Transition, course, course_from, last_theory, last_theory_from}
 
 pub course-append : (effect : Effect) (k : ℕ) (t : Theory) (es more : List Object) → course_from effect k t (es ++ more) ≡ course_from effect k t es ++ course_from effect (k + length es) (last_theory_from t (course_from effect k t es)) more
 course-append effect k t [] more = ap (λ n. course_from effect n t more) (let e : k ≡ k + 0 = omega arith in e)

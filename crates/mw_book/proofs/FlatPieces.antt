@@ -3,9 +3,9 @@ use Rattle.std.proofs.Common.{◌≡◌, ℕ, ◌≤◌, Bool, true, false, ◌&
 use Rattle.mw_model.specs.Terms.Object.{Object}
 use Rattle.mw_model.specs.Events.Fate.{event_word}
 use Rattle.mw_model.specs.Texts.Pieces.{InOrder}
-use Rattle.mw_model.specs.Commands.Transition.{Transition, is_acceptance}
-use Rattle.mw_model.specs.Commands.Slice.{some_passes}
-use Rattle.mw_model.specs.Commands.Flattening.{OwesFlat, flat_events, is_logged_word, is_switch}
+use Rattle.mw_commands.specs.Commands.Transition.{Transition, is_acceptance}
+use Rattle.mw_commands.specs.Commands.Slice.{some_passes}
+use Rattle.mw_commands.specs.Commands.Flattening.{OwesFlat, flat_events, is_logged_word, is_switch}
 
 abbrev pub is_flat : Transition → Bool
 is_flat s = is_acceptance s && is_logged_word (event_word s.event)

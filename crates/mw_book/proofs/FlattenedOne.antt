@@ -10,9 +10,9 @@ use Rattle.mw_model.specs.Events.Refusal.{Fate}
 use Rattle.mw_model.specs.Events.Fate.{event_word, fate, happens, is_out_of_range, next}
 use Rattle.mw_model.specs.Reports.Report.{is_accepted}
 use Rattle.mw_model.specs.Texts.Pieces.{InOrder, how_many}
-use Rattle.mw_model.specs.Commands.Transition.{Transition, is_acceptance, last_theory}
-use Rattle.mw_model.specs.Commands.Slice.{begins_with, some_passes}
-use Rattle.mw_model.specs.Commands.Flattening.{OwesFlat, flat_events, flat_summary, is_logged_word, is_switch, plain_course}
+use Rattle.mw_commands.specs.Commands.Transition.{Transition, is_acceptance, last_theory}
+use Rattle.mw_commands.specs.Commands.Slice.{begins_with, some_passes}
+use Rattle.mw_commands.specs.Commands.Flattening.{OwesFlat, flat_events, flat_summary, is_logged_word, is_switch, plain_course}
 use Rattle.mw_kernel.specs.Knowledge.{Knowledge, theory_of}
 use Rattle.mw_lines.specs.Lines.{flat_line}
 use Rattle.mw_book.specs.Answering.{Answers, HasAnswered}

@@ -4,7 +4,7 @@ use Rattle.mw_model.specs.Terms.Object.{Object}
 use Rattle.mw_model.specs.Reports.Request.{Request}
 use Rattle.mw_model.specs.Texts.Grammar.{Book, book, trees}
 use Rattle.mw_model.specs.Reports.Report.{Status, Done, SomeRefused, Syntax, status_of}
-use Rattle.mw_model.specs.Reports.Headlines.{Promised}
+use Rattle.mw_commands.specs.Headlines.{Promised}
 use Rattle.mw_port.specs.Ports.{Takes}
 use Rattle.mw_read.specs.Kinds.{kind_of}
 use Rattle.mw_read.specs.declared.step.SyntaxKind.{SyntaxKind}

@@ -7,8 +7,8 @@ use Rattle.mw_model.specs.Events.Theory.{Theory, initial}
 use Rattle.mw_model.specs.Texts.Printing.{numeral}
 use Rattle.mw_model.specs.Reports.Report.{spaced, word_text, label_text}
 use Rattle.mw_model.specs.Texts.Pieces.{how_many}
-use Rattle.mw_model.specs.Commands.Log.{is_step, logged}
-use Rattle.mw_model.specs.Commands.LogReport.{Entered, Log, answer_text, is_yes, log_from, log_lines, log_of, theory_after, with_event}
+use Rattle.mw_commands.specs.Commands.Log.{is_step, logged}
+use Rattle.mw_commands.specs.Commands.LogReport.{Entered, Log, answer_text, is_yes, log_from, log_lines, log_of, theory_after, with_event}
 
 -- the log with this step more
 abbrev pub with_last_step : Log → Object → Log

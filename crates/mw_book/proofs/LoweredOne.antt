@@ -9,16 +9,16 @@ use Rattle.mw_model.specs.Events.Theory.{Theory, initial}
 use Rattle.mw_model.specs.Values.Primitive.{One}
 use Rattle.mw_model.specs.Events.Refusal.{Refusal, RANGE, EVENT, Fate, Accepted, Refused, refuse, need}
 use Rattle.mw_model.specs.Events.Fate.{is_out_of_range, happens, event_word}
-use Rattle.mw_model.specs.Commands.Demand.{happens_under, happens_by_under}
-use Rattle.mw_model.specs.Commands.DerivationTest.{derived_as}
-use Rattle.mw_model.specs.Commands.Derivation.{Turns}
+use Rattle.mw_model.specs.Events.Demand.{happens_under, happens_by_under}
 use Rattle.mw_model.specs.Laws.Rewriting.{IsRewritten}
 use Rattle.mw_model.specs.Terms.Reading.{when}
 use Rattle.mw_model.specs.Reports.Report.{fate_text, line, is_accepted}
 use Rattle.mw_model.specs.Texts.Written.{IsDatumLine}
 use Rattle.mw_model.specs.Texts.Pieces.{InOrder, how_many}
-use Rattle.mw_model.specs.Commands.Transition.{Transition, Effect, last_theory, is_acceptance}
-use Rattle.mw_model.specs.Commands.Lowering.{IsLoweredBy, OwesByFate, OwesLowered, derived_course, refused_in, course_summary}
+use Rattle.mw_commands.specs.Commands.DerivationTest.{derived_as}
+use Rattle.mw_commands.specs.Commands.Derivation.{Turns}
+use Rattle.mw_commands.specs.Commands.Transition.{Transition, Effect, last_theory, is_acceptance}
+use Rattle.mw_commands.specs.Commands.Lowering.{IsLoweredBy, OwesByFate, OwesLowered, derived_course, refused_in, course_summary}
 use Rattle.mw_kernel.specs.Knowledge.{Knowledge, theory_of}
 use Rattle.mw_lines.specs.Lines.{line_begun, summary_of}
 use Rattle.mw_book.specs.Answering.{Answers, HasAnswered}

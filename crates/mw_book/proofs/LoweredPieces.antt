@@ -5,8 +5,8 @@ use Rattle.mw_model.specs.Values.Truth.{Each}
 use Rattle.mw_model.specs.Events.Refusal.{Fate, Accepted, Refused}
 use Rattle.mw_model.specs.Reports.Report.{is_accepted, line}
 use Rattle.mw_model.specs.Texts.Pieces.{InOrder}
-use Rattle.mw_model.specs.Commands.Transition.{Transition, is_acceptance}
-use Rattle.mw_model.specs.Commands.Lowering.{IsLowered, OwesByFate, OwesLowered}
+use Rattle.mw_commands.specs.Commands.Transition.{Transition, is_acceptance}
+use Rattle.mw_commands.specs.Commands.Lowering.{IsLowered, OwesByFate, OwesLowered}
 use Rattle.mw_book.proofs.Pieces.{LabelledTexts, may_be_written}
 
 -- an event that is accepted has a lowered form

@@ -12,23 +12,23 @@ use Rattle.mw_model.specs.Events.Theory.{initial}
 use Rattle.mw_model.specs.Reports.Report.{spaced, lines, last_line, report, status_of}
 use Rattle.mw_model.specs.Reports.Headline.{Headline}
 use Rattle.mw_model.specs.Texts.Pieces.{InOrder, numbered, how_many, comment_ending, ending}
-use Rattle.mw_model.specs.Commands.Tautology.{Decision, Many, FailsUnder, Holds, decision, choice_object}
-use Rattle.mw_model.specs.Commands.TautologyBook.{IsPureProof, OwesDecided, OwesGiven, OwesTautology, TautologiesWritten, formula_given, initial_arities, is_proved, remark, tautology_summary}
-use Rattle.mw_model.specs.Commands.Slice.{target}
-use Rattle.mw_model.specs.Commands.Slicing.{accepted_events, SliceWritten}
-use Rattle.mw_model.specs.Commands.Flattening.{OwesFlat, FlatWritten, before_switch, flat_event, flat_events, flat_summary, plain_course}
-use Rattle.mw_model.specs.Commands.LogReport.{log_lines, log_of, log_summary}
-use Rattle.mw_model.specs.Reports.Headlines.{AcceptsAll, EntryKeeps, LogAccepted, SliceHeadline, Promised, IsBegun}
 use Rattle.mw_model.specs.Values.Truth.{Each}
 use Rattle.mw_model.specs.Events.Fate.{after}
-use Rattle.mw_model.specs.Commands.Demand.{happens_under}
-use Rattle.mw_model.specs.Commands.DerivationTest.{derived_as}
-use Rattle.mw_model.specs.Commands.Transition.{course_from, last_theory, last_theory_from, is_acceptance}
-use Rattle.mw_model.specs.Commands.Lowering.{OwesLowered, LoweredWritten, course_summary, derived_course}
+use Rattle.mw_model.specs.Events.Demand.{happens_under}
 use Rattle.mw_model.proofs.ReadBack.{when_some}
 use Rattle.mw_reflect.specs.Laws.{EventsKeep}
 use Rattle.mw_book.specs.Due.{AreAnswers, IsLastText, refused_for}
 use Rattle.mw_model.proofs.LinesGrow.{lines_first}
+use Rattle.mw_commands.specs.Commands.Tautology.{Decision, Many, FailsUnder, Holds, decision, choice_object}
+use Rattle.mw_commands.specs.Commands.TautologyBook.{IsPureProof, OwesDecided, OwesGiven, OwesTautology, TautologiesWritten, formula_given, initial_arities, is_proved, remark, tautology_summary}
+use Rattle.mw_commands.specs.Commands.Slice.{target}
+use Rattle.mw_commands.specs.Commands.Slicing.{accepted_events, SliceWritten}
+use Rattle.mw_commands.specs.Commands.Flattening.{OwesFlat, FlatWritten, before_switch, flat_event, flat_events, flat_summary, plain_course}
+use Rattle.mw_commands.specs.Commands.LogReport.{log_lines, log_of, log_summary}
+use Rattle.mw_commands.specs.Commands.DerivationTest.{derived_as}
+use Rattle.mw_commands.specs.Commands.Transition.{course_from, last_theory, last_theory_from, is_acceptance}
+use Rattle.mw_commands.specs.Commands.Lowering.{OwesLowered, LoweredWritten, course_summary, derived_course}
+use Rattle.mw_commands.specs.Headlines.{AcceptsAll, EntryKeeps, LogAccepted, SliceHeadline, Promised, IsBegun}
 use Rattle.mw_book.proofs.Headlines.{AreKept}
 use Rattle.mw_book.proofs.Courses.{course-append, judged}
 use Rattle.mw_book.proofs.FlatPieces.{all_flat, flat_goes_on}

@@ -8,8 +8,8 @@ use Rattle.mw_model.specs.Events.Theory.{initial}
 use Rattle.mw_model.specs.Texts.Printing.{numeral}
 use Rattle.mw_model.specs.Reports.Report.{spaced, word_text, label_text}
 use Rattle.mw_model.specs.Texts.Pieces.{how_many}
-use Rattle.mw_model.specs.Commands.Log.{Answer, Yes, No, is_step, logged}
-use Rattle.mw_model.specs.Commands.LogReport.{Entered, Log, answer_text, denied, is_yes, last_logged, log_lines, log_of, log_summary}
+use Rattle.mw_commands.specs.Commands.Log.{Answer, Yes, No, is_step, logged}
+use Rattle.mw_commands.specs.Commands.LogReport.{Entered, Log, answer_text, denied, is_yes, last_logged, log_lines, log_of, log_summary}
 use Rattle.mw_heap.specs.Objects.{object_at, IsIn}
 use Rattle.mw_read.specs.Shown.{IsShown, ShowsEvent, first_symbol}
 use Rattle.mw_flat.specs.Going.{Going, theory_of, HasCollected, IsNoted, IsAnswered, ComesBy, Comes, is_step_word}

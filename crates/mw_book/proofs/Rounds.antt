@@ -6,7 +6,7 @@ use Rattle.mw_model.specs.Reports.Request.{Request, Check, Trial, Taut, Lower, S
 use Rattle.mw_model.specs.Texts.Lexemes.{Goes}
 use Rattle.mw_model.specs.Texts.Grammar.{Book, book, reading, trees}
 use Rattle.mw_model.specs.Reports.Report.{Status}
-use Rattle.mw_model.specs.Reports.Headlines.{Promised, IsBegun}
+use Rattle.mw_commands.specs.Headlines.{Promised, IsBegun}
 use Rattle.mw_port.specs.Ports.{Gives, Takes as SinkTakes, HasEnded}
 use Rattle.mw_read.specs.Standing.{Stands, IsStanding, IsFree, work}
 use Rattle.mw_read.specs.declared.parser.Parser.{Parser}

@@ -9,8 +9,8 @@ use Rattle.mw_model.specs.Reports.Request.{Request, Slice}
 use Rattle.mw_model.specs.Events.Theory.{initial}
 use Rattle.mw_model.specs.Events.Fate.{is_out_of_range, happens, fate, next, after}
 use Rattle.mw_model.specs.Reports.Report.{is_accepted}
-use Rattle.mw_model.specs.Commands.Transition.{Transition, course, last_theory, is_acceptance}
-use Rattle.mw_model.specs.Commands.Slicing.{accepted_events}
+use Rattle.mw_commands.specs.Commands.Transition.{Transition, course, last_theory, is_acceptance}
+use Rattle.mw_commands.specs.Commands.Slicing.{accepted_events}
 use Rattle.mw_kernel.specs.Knowledge.{Knowledge, theory_of}
 use Rattle.mw_slice.specs.Slices.{events_of}
 use Rattle.mw_book.specs.Answering.{Answers}

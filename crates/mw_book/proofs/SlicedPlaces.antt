@@ -11,8 +11,8 @@ use Rattle.mw_model.specs.Texts.Printing.{numeral}
 use Rattle.mw_model.specs.Reports.Report.{spaced}
 use Rattle.mw_model.specs.Texts.Written.{IsDatumLine}
 use Rattle.mw_model.specs.Texts.Pieces.{InOrder, comment}
-use Rattle.mw_model.specs.Commands.Slice.{begins_with, event_at, some_passes, later_place, first_place, target, Needed, the_goal, the_profile, the_basis, is_idle, IsKept, IsSlice}
-use Rattle.mw_model.specs.Commands.Slicing.{accepted_events, SliceOwed}
+use Rattle.mw_commands.specs.Commands.Slice.{begins_with, event_at, some_passes, later_place, first_place, target, Needed, the_goal, the_profile, the_basis, is_idle, IsKept, IsSlice}
+use Rattle.mw_commands.specs.Commands.Slicing.{accepted_events, SliceOwed}
 use Rattle.mw_read.specs.Kinds.{kind_of}
 use Rattle.mw_read.specs.declared.step.SyntaxKind.{SyntaxKind}
 use Rattle.mw_slice.specs.Slices.{events_of}

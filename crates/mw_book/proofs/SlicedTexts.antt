@@ -8,9 +8,9 @@ use Rattle.mw_model.specs.Texts.Printing.{numeral}
 use Rattle.mw_model.specs.Reports.Report.{Done, spaced, status_of}
 use Rattle.mw_model.specs.Texts.Written.{IsDatumLine}
 use Rattle.mw_model.specs.Texts.Pieces.{InOrder, comment, comment_ending}
-use Rattle.mw_model.specs.Commands.Slice.{event_at, target, IsSlice}
-use Rattle.mw_model.specs.Commands.Slicing.{accepted_events, of_events, SliceOwed, SliceWritten, slicing_status, status_for}
-use Rattle.mw_model.specs.Reports.Headlines.{SliceAccepted}
+use Rattle.mw_commands.specs.Commands.Slice.{event_at, target, IsSlice}
+use Rattle.mw_commands.specs.Commands.Slicing.{accepted_events, of_events, SliceOwed, SliceWritten, slicing_status, status_for}
+use Rattle.mw_commands.specs.Headlines.{SliceAccepted}
 use Rattle.mw_book.proofs.Pieces.{LabelledTexts, in_order_both, may_be_written}
 
 -- that a slice is accepted when it is read again

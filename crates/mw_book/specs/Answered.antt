@@ -3,7 +3,7 @@ use Rattle.std.specs.Prelude.{◌≡◌, ℕ, ◌≤◌, not, List, length}
 use Rattle.mw_model.specs.Terms.Object.{Object}
 use Rattle.mw_model.specs.Reports.Request.{Request, Taut}
 use Rattle.mw_model.specs.Texts.Pieces.{how_many}
-use Rattle.mw_model.specs.Commands.TautologyBook.{initial_arities, is_proved}
+use Rattle.mw_commands.specs.Commands.TautologyBook.{initial_arities, is_proved}
 use Rattle.mw_term.specs.Marking.{AreMarks}
 use Rattle.mw_book.specs.Answering.{AnsweredBy}
 use Rattle.mw_book.specs.declared.proving.Proving.{Proving}

@@ -9,13 +9,13 @@ use Rattle.mw_model.specs.Values.Definition.{is_present}
 use Rattle.mw_model.specs.Reports.Report.{lines, last_line, refused_among}
 use Rattle.mw_model.specs.Reports.Request.{Request, Check, Taut, Lower, Slice, Flat, Recheck}
 use Rattle.mw_model.specs.Texts.Pieces.{InOrder, numbered, how_many, comment_ending, ending}
-use Rattle.mw_model.specs.Commands.TautologyBook.{OwesTautology, is_proved, tautology_summary}
-use Rattle.mw_model.specs.Commands.Lowering.{OwesLowered, course_summary, derived_course, refused_in}
-use Rattle.mw_model.specs.Commands.Slice.{target}
-use Rattle.mw_model.specs.Commands.Slicing.{accepted_events, SliceOwed}
-use Rattle.mw_model.specs.Commands.Transition.{is_acceptance}
-use Rattle.mw_model.specs.Commands.Flattening.{OwesFlat, flat_events, flat_summary, is_switch, plain_course}
-use Rattle.mw_model.specs.Commands.LogReport.{denied, log_lines, log_of, log_summary}
+use Rattle.mw_commands.specs.Commands.TautologyBook.{OwesTautology, is_proved, tautology_summary}
+use Rattle.mw_commands.specs.Commands.Lowering.{OwesLowered, course_summary, derived_course, refused_in}
+use Rattle.mw_commands.specs.Commands.Slice.{target}
+use Rattle.mw_commands.specs.Commands.Slicing.{accepted_events, SliceOwed}
+use Rattle.mw_commands.specs.Commands.Transition.{is_acceptance}
+use Rattle.mw_commands.specs.Commands.Flattening.{OwesFlat, flat_events, flat_summary, is_switch, plain_course}
+use Rattle.mw_commands.specs.Commands.LogReport.{denied, log_lines, log_of, log_summary}
 
 -- the text of the answers to these data, in order
 abbrev pub AreAnswers : Request → List Object → List ℕ → Type 0

@@ -3,9 +3,9 @@ use Rattle.std.specs.Prelude.{◌≡◌, ℕ, ◌+◌, Bool, ◌&&◌, ◌||◌,
 use Rattle.mw_model.specs.Terms.Object.{Object}
 use Rattle.mw_model.specs.Reports.Request.{Request, Flat}
 use Rattle.mw_model.specs.Texts.Pieces.{how_many}
-use Rattle.mw_model.specs.Commands.Transition.{last_theory, is_acceptance}
-use Rattle.mw_model.specs.Commands.Slice.{some_passes}
-use Rattle.mw_model.specs.Commands.Flattening.{flat_events, is_switch, plain_course}
+use Rattle.mw_commands.specs.Commands.Transition.{last_theory, is_acceptance}
+use Rattle.mw_commands.specs.Commands.Slice.{some_passes}
+use Rattle.mw_commands.specs.Commands.Flattening.{flat_events, is_switch, plain_course}
 use Rattle.mw_kernel.specs.Knowledge.{theory_of}
 use Rattle.mw_book.specs.Answering.{AnsweredBy}
 use Rattle.mw_book.specs.declared.flattening.Flattening.{Flattening}

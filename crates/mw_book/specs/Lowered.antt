@@ -2,8 +2,8 @@
 use Rattle.std.specs.Prelude.{◌≡◌, ℕ, List, length}
 use Rattle.mw_model.specs.Terms.Object.{Object}
 use Rattle.mw_model.specs.Reports.Request.{Request, Lower}
-use Rattle.mw_model.specs.Commands.Transition.{last_theory}
-use Rattle.mw_model.specs.Commands.Lowering.{derived_course, refused_in}
+use Rattle.mw_commands.specs.Commands.Transition.{last_theory}
+use Rattle.mw_commands.specs.Commands.Lowering.{derived_course, refused_in}
 use Rattle.mw_kernel.specs.Knowledge.{theory_of}
 use Rattle.mw_book.specs.Answering.{AnsweredBy}
 use Rattle.mw_book.specs.declared.lowering.Lowering.{Lowering}

@@ -2,8 +2,8 @@
 use Rattle.std.specs.Prelude.{◌≡◌, ℕ, ◌+◌, List, [], ◌∷◌, ◌++◌, length, Option, Some, None}
 use Rattle.mw_model.specs.Terms.Object.{Object}
 use Rattle.mw_model.specs.Reports.Request.{Request, Recheck}
-use Rattle.mw_model.specs.Commands.Log.{Answer, Yes, No}
-use Rattle.mw_model.specs.Commands.LogReport.{answer_text, denied, last_logged, log_of}
+use Rattle.mw_commands.specs.Commands.Log.{Answer, Yes, No}
+use Rattle.mw_commands.specs.Commands.LogReport.{answer_text, denied, last_logged, log_of}
 use Rattle.mw_flat.specs.Going.{HasCollected, theory_of}
 use Rattle.mw_book.specs.Answering.{AnsweredBy}
 use Rattle.mw_book.specs.declared.rechecking.Rechecking.{Rechecking}

@@ -5,7 +5,7 @@ use Rattle.mw_model.specs.Values.Primitive.{One}
 use Rattle.mw_model.specs.Reports.Request.{Request, Slice}
 use Rattle.mw_model.specs.Events.Theory.{initial}
 use Rattle.mw_model.specs.Events.Fate.{after}
-use Rattle.mw_model.specs.Commands.Slicing.{accepted_events}
+use Rattle.mw_commands.specs.Commands.Slicing.{accepted_events}
 use Rattle.mw_kernel.specs.Knowledge.{theory_of}
 use Rattle.mw_slice.specs.Slices.{events_of}
 use Rattle.mw_book.specs.Answering.{AnsweredBy}

@@ -6,7 +6,7 @@ use Rattle.mw_model.specs.Texts.Lexemes.{Goes}
 use Rattle.mw_model.specs.Texts.Grammar.{reading, trees}
 use Rattle.mw_model.specs.Reports.Report.{Status, Done, SomeRefused, Syntax, last_line}
 use Rattle.mw_model.specs.Reports.Trial.{trial_book}
-use Rattle.mw_model.specs.Reports.Headlines.{Promised, IsBegun}
+use Rattle.mw_commands.specs.Headlines.{Promised, IsBegun}
 use Rattle.mw_port.specs.Ports.{Gives, Takes}
 use Rattle.mw_read.specs.Kinds.{kind_of}
 use Rattle.mw_port.specs.declared.sink.Halt.{Halt}

@@ -3,7 +3,7 @@ ghost use Rattle.std.specs.Prelude.{◌≡◌, ◌+◌, ◌<◌, ◌^◌, ◌&&�
 ghost use Rattle.mw_model.specs.Reports.Request.{Flat};
 ghost use Rattle.mw_model.specs.Events.Fate.{event_word};
 ghost use Rattle.mw_model.specs.Reports.Report.{is_accepted};
-ghost use Rattle.mw_model.specs.Commands.Flattening.{OwesFlat, is_logged_word};
+ghost use Rattle.mw_commands.specs.Commands.Flattening.{OwesFlat, is_logged_word};
 ghost use Rattle.mw_heap.specs.Objects.{object_at, IsIn};
 ghost use Rattle.mw_kernel.specs.Fates.{fate_of};
 ghost use Rattle.mw_lines.specs.Lines.{flat_line};

@@ -4,7 +4,7 @@ ghost use Rattle.mw_model.specs.Texts.Printing.{numeral};
 ghost use Rattle.mw_model.specs.Reports.Report.{spaced};
 ghost use Rattle.mw_model.specs.Texts.Written.{IsDatumLine};
 ghost use Rattle.mw_model.specs.Texts.Pieces.{InOrder, comment};
-ghost use Rattle.mw_model.specs.Commands.Slice.{event_at};
+ghost use Rattle.mw_commands.specs.Commands.Slice.{event_at};
 ghost use Rattle.mw_slice.specs.Slices.{events_of};
 
 use mw_heap::Memory;

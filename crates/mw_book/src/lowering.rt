@@ -2,10 +2,10 @@
 ghost use Rattle.std.specs.Prelude.{◌≡◌, ◌+◌, ◌<◌, ◌^◌, cond, [], ◌∷◌, ◌++◌, codes, OnOk, IfOk};
 ghost use Rattle.mw_model.specs.Terms.Object.{Object};
 ghost use Rattle.mw_model.specs.Reports.Request.{Lower as ToLower};
-ghost use Rattle.mw_model.specs.Commands.Derivation.{Turns};
 ghost use Rattle.mw_model.specs.Laws.Rewriting.{IsRewritten};
 ghost use Rattle.mw_model.specs.Reports.Report.{fate_text, is_accepted};
 ghost use Rattle.mw_model.specs.Texts.Written.{IsDatumLine};
+ghost use Rattle.mw_commands.specs.Commands.Derivation.{Turns};
 ghost use Rattle.mw_heap.specs.Objects.{object_at, IsIn};
 ghost use Rattle.mw_read.specs.Shown.{ShowsEvent};
 ghost use Rattle.mw_kernel.specs.Fates.{fate_of};
@@ -15,11 +15,11 @@ ghost use Rattle.mw_book.specs.Lowered.{Lowered, LoweredFor};
 
 use crate::answering::Answering;
 use crate::fate_line::end_line;
+use mw_commands::lowering::{lowered_events, lowerings_possible};
 use mw_heap::{Memory, Ref, Refusal};
 use mw_kernel::{Fate, Kernel};
 use mw_lines::{begin_line, write_fault, write_summary};
 use mw_lower::Lower;
-use mw_model::lowering::{lowered_events, lowerings_possible};
 use mw_print::write_datum;
 use mw_read::{Reader, Step, SyntaxKind, shown};
 use std::alloc::Global;

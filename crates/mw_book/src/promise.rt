@@ -4,17 +4,17 @@ ghost use Rattle.mw_model.specs.Terms.Object.{Object};
 ghost use Rattle.mw_model.specs.Reports.Request.{Request};
 ghost use Rattle.mw_model.specs.Texts.Grammar.{trees};
 ghost use Rattle.mw_model.specs.Reports.Report.{status_of};
-ghost use Rattle.mw_model.specs.Reports.Headlines.{Promised, IsBegun};
+ghost use Rattle.mw_commands.specs.Headlines.{Promised, IsBegun};
 ghost use Rattle.mw_book.specs.Due.{AreAnswers, IsLastText, refused_for};
 
-use mw_model::commands::{slices, tautologies_again};
-use mw_model::flattening::{flattenings_again, flattenings_possible};
-use mw_model::lowering::{lowerings_again, lowerings_possible};
-use mw_model::slicing::slices_again;
+use mw_commands::flattening::{flattenings_again, flattenings_possible};
+use mw_commands::lowering::{lowerings_again, lowerings_possible};
+use mw_commands::proving::tautologies_again;
+use mw_commands::rechecking::logs_keep;
+use mw_commands::slicing::{slices, slices_again};
 use mw_print::labelled_texts_are_read;
 use mw_reflect::reached_sound;
 use mw_taut::tautologies_have_proofs;
-use mw_truth::soundness::logs_keep;
 
 /// The answers to all data of a book, with the last text, keep the promise of the request; those to the first data begin a text that
 /// keeps it, since an answer to each of the other data may be written.

@@ -2,7 +2,7 @@
 ghost use Rattle.std.specs.Prelude.{◌≡◌, ◌+◌, ◌<◌, ◌^◌, cond, List, [], ◌∷◌, ◌++◌, OnOk, IfOk};
 ghost use Rattle.mw_model.specs.Terms.Object.{Object};
 ghost use Rattle.mw_model.specs.Reports.Request.{Taut};
-ghost use Rattle.mw_model.specs.Commands.TautologyBook.{initial_arities};
+ghost use Rattle.mw_commands.specs.Commands.TautologyBook.{initial_arities};
 ghost use Rattle.mw_lines.specs.Members.{ShowsWord};
 ghost use Rattle.mw_lines.specs.Verdicts.{IsVerdict, is_theorem};
 ghost use Rattle.mw_book.specs.Answered.{IsProving, Answered, ProvedFor, lines_of};

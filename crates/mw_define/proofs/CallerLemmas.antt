@@ -7,8 +7,8 @@ use Rattle.mw_model.specs.Events.Obligation.{obligations, is_nested}
 use Rattle.mw_model.specs.Events.Expansion.{expand}
 use Rattle.mw_model.specs.Events.Theory.{Theory}
 use Rattle.mw_model.specs.Events.Refusal.{Refusal, NAME, FORMALS, TERM, VARIABLES, NESTED, Fate, refuse, accept, need, must}
-use Rattle.mw_model.specs.Commands.Demand.{Demand, Denied, Wants, wants_some, wants_that, define_demand}
 use Rattle.mw_model.specs.Events.Admission.{Draft, formals_of, functions, measures, are_closed_by, add_witness, add_to_theory, skolem}
+use Rattle.mw_model.specs.Events.Demand.{Demand, Denied, Wants, wants_some, wants_that, define_demand}
 use Rattle.mw_define.specs.declared.admitted.Owed.{Owed}
 use Rattle.mw_define.specs.Tests.{FailsWitness, by_name, by_formals, by_term, by_variables, PassesWitness}
 use Rattle.mw_define.specs.BlockTests.{the_formal_lists, the_terms_under, FailsBlock, no_names, no_formals, no_terms, not_closed, nested, PassesBlock}

@@ -9,9 +9,9 @@ use Rattle.mw_model.specs.Texts.Grammar.{Book, trees}
 use Rattle.mw_model.specs.Events.Fate.{event_word}
 use Rattle.mw_model.specs.Reports.Report.{Status, Done, SomeRefused, Syntax}
 use Rattle.mw_model.specs.Texts.Pieces.{comment_ending}
-use Rattle.mw_model.specs.Commands.Slice.{proofs_by_word}
-use Rattle.mw_model.specs.Commands.Lowering.{derived_course, course_summary, LoweredWritten, lowering_status}
-use Rattle.mw_model.proofs.TurnsTest.{pieces, are_right, right}
+use Rattle.mw_commands.specs.Commands.Slice.{proofs_by_word}
+use Rattle.mw_commands.specs.Commands.Lowering.{derived_course, course_summary, LoweredWritten, lowering_status}
+use Rattle.mw_commands.proofs.TurnsTest.{pieces, are_right, right}
 
 -- what may be written for the book, and the status
 abbrev pub lower : String → List String → Status → Type 0

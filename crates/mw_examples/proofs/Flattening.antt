@@ -7,10 +7,10 @@ use Rattle.mw_model.specs.Texts.Lexemes.{TOKEN}
 use Rattle.mw_model.specs.Texts.Grammar.{Book, trees}
 use Rattle.mw_model.specs.Reports.Report.{Status, Done, SomeRefused, Syntax}
 use Rattle.mw_model.specs.Texts.Pieces.{comment_ending}
-use Rattle.mw_model.specs.Commands.LogReport.{log_report}
-use Rattle.mw_model.specs.Commands.Flattening.{plain_course, flat_events, flat_summary, FlatWritten, flattening_status}
+use Rattle.mw_commands.specs.Commands.LogReport.{log_report}
+use Rattle.mw_commands.specs.Commands.Flattening.{plain_course, flat_events, flat_summary, FlatWritten, flattening_status}
+use Rattle.mw_commands.proofs.FlatData.{joined_by, flat_text, flat_owed}
 use Rattle.mw_examples.proofs.Reports.{says}
-use Rattle.mw_model.proofs.FlatData.{joined_by, flat_text, flat_owed}
 
 -- what is written for the book, and the status
 abbrev pub flat : List String → List String → Status → Type 0

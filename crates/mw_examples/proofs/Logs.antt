@@ -5,7 +5,7 @@ use Rattle.mw_model.specs.Events.Refusal.{need, must, unless}
 use Rattle.mw_model.specs.Laws.BuiltInText.{joined}
 use Rattle.mw_model.specs.Texts.Lexemes.{CLOSE}
 use Rattle.mw_model.specs.Reports.Report.{Report, Done, SomeRefused, Syntax}
-use Rattle.mw_model.specs.Commands.LogReport.{log_report}
+use Rattle.mw_commands.specs.Commands.LogReport.{log_report}
 use Rattle.mw_examples.proofs.Reports.{says}
 
 abbrev pub recheck : String → Report

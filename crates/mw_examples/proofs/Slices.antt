@@ -9,10 +9,10 @@ use Rattle.mw_model.specs.Texts.Grammar.{Book, trees}
 use Rattle.mw_model.specs.Texts.Printing.{text_lines}
 use Rattle.mw_model.specs.Reports.Report.{Status, Done, SomeRefused, Syntax, spaced}
 use Rattle.mw_model.specs.Texts.Pieces.{comment}
-use Rattle.mw_model.specs.Commands.Slice.{event_at, target, IsSlice}
-use Rattle.mw_model.specs.Commands.Slicing.{accepted_events, of_events, SliceOwed, SliceWritten, slicing_status}
-use Rattle.mw_model.proofs.SlicePlaces.{slice_places, slice_exists}
-use Rattle.mw_model.proofs.WrittenData.{are_short, short_lines}
+use Rattle.mw_commands.specs.Commands.Slice.{event_at, target, IsSlice}
+use Rattle.mw_commands.specs.Commands.Slicing.{accepted_events, of_events, SliceOwed, SliceWritten, slicing_status}
+use Rattle.mw_commands.proofs.SlicePlaces.{slice_places, slice_exists}
+use Rattle.mw_commands.proofs.WrittenData.{are_short, short_lines}
 
 -- what is written for the book and the name, and the status
 abbrev pub slice : String → List String → List String → Status → Type 0

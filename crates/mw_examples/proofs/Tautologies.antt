@@ -9,8 +9,8 @@ use Rattle.mw_model.specs.Events.Writing.{var}
 use Rattle.mw_model.specs.Texts.Grammar.{trees}
 use Rattle.mw_model.specs.Texts.Lexemes.{CLOSE}
 use Rattle.mw_model.specs.Reports.Report.{Status, Done, SomeRefused, Syntax}
-use Rattle.mw_model.specs.Commands.TautologyBook.{TautologiesWritten, tautology_status, initial_arities, IsPureProof}
 use Rattle.mw_model.proofs.Judging.{judge_good}
+use Rattle.mw_commands.specs.Commands.TautologyBook.{TautologiesWritten, tautology_status, initial_arities, IsPureProof}
 
 -- what may be written for the book, and the status
 abbrev pub taut : String → List String → Status → Type 0

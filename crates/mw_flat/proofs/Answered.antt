@@ -8,7 +8,7 @@ use Rattle.mw_model.specs.Values.Primitive.{Profile}
 use Rattle.mw_model.specs.Values.Definition.{arity_table, is_present}
 use Rattle.mw_model.specs.Events.Theory.{Theory}
 use Rattle.mw_model.specs.Events.Fate.{is_out_of_range, event_word}
-use Rattle.mw_model.specs.Commands.Log.{SHAPE, STEP, No, Entry, conclusion, conclusions, entry_by, entry_of, answer_to_steps, answer_to_entry, logged, is_step}
+use Rattle.mw_commands.specs.Commands.Log.{SHAPE, STEP, No, Entry, conclusion, conclusions, entry_by, entry_of, answer_to_steps, answer_to_entry, logged, is_step}
 use Rattle.mw_heap.specs.Objects.{object_at}
 use Rattle.mw_theory.specs.declared.world.World.{World}
 use Rattle.mw_theory.specs.Worlds.{IsWorld}

@@ -2,8 +2,8 @@
 use Rattle.std.proofs.Common.{◌≡◌, ℕ, append-nil, append_assoc, Bool, true, false, ◌||◌, cond, if◌then◌else◌, List, [], ◌∷◌, ◌++◌, ◌⊎◌, inl, inr, refl, sym, ap, ◌∙◌, subst}
 use Rattle.indexmap.specs.IndexSet.{insert_key}
 use Rattle.mw_model.specs.Terms.Object.{Object, Natural, Symbol, Pair, same_object, third_of}
-use Rattle.mw_model.specs.Commands.Subproofs.{proofs_within, each_within}
 use Rattle.mw_model.proofs.Names.{same_object-eq, same_object-refl}
+use Rattle.mw_commands.specs.Commands.Subproofs.{proofs_within, each_within}
 use Rattle.mw_heap.specs.Objects.{object_at}
 use Rattle.mw_heap.specs.Lists.{list_object}
 use Rattle.mw_term.specs.Occurrences.{gather}

@@ -9,8 +9,8 @@ use Rattle.mw_model.specs.Events.Fate.{is_out_of_range}
 use Rattle.mw_model.specs.Proofs.Proof.{Method}
 use Rattle.mw_model.specs.Proofs.Judgment.{methods, method_among, follows, judge_step}
 use Rattle.mw_model.specs.Terms.Reading.{formula_of}
-use Rattle.mw_model.specs.Commands.Log.{naturals_of, formulas_at, conclusion, and_conclusions, conclusions_after, conclusions}
 use Rattle.mw_model.proofs.ReadBack.{some_one, when_some}
+use Rattle.mw_commands.specs.Commands.Log.{naturals_of, formulas_at, conclusion, and_conclusions, conclusions_after, conclusions}
 use Rattle.mw_flat.proofs.Formulas.{Each-push}
 
 module _ (ax th : Object) (A : ArityTable) (P : Profile) where

@@ -4,7 +4,7 @@ use Rattle.mw_model.specs.Terms.Object.{Object}
 use Rattle.mw_model.specs.Terms.Reading.{when}
 use Rattle.mw_model.specs.Values.Definition.{is_present}
 use Rattle.mw_model.specs.Events.Fate.{EventWord, event_word, is_out_of_range}
-use Rattle.mw_model.specs.Commands.Log.{one_number, numbers_of, entry_with, entry_by, entry_of}
+use Rattle.mw_commands.specs.Commands.Log.{one_number, numbers_of, entry_with, entry_by, entry_of}
 
 pub one-present : (o : Option ℕ) → is_present (one_number o) ≡ is_present o
 one-present None = refl

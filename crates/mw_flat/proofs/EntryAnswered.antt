@@ -12,12 +12,12 @@ use Rattle.mw_model.specs.Events.Refusal.{Refusal, EVENT, NAME, FORMALS, TERM, F
 use Rattle.mw_model.specs.Events.Admission.{Draft, new_name, formals_of, add_to_theory, some_drafts, add_witness, skolem}
 use Rattle.mw_model.specs.Events.Fate as fate
 use Rattle.mw_model.specs.Events.Fate.{EventWord, event_word, is_out_of_range, is_initial, profile}
-use Rattle.mw_model.specs.Commands.Demand.{Demand, Denied, Wants, wants_some, wants_that, define_demand, verify_demand, without_proofs, demand, settled}
-use Rattle.mw_model.specs.Commands.Log.{natural_of, naturals_of, one_number, formula_numbered, is_that_formula, numbers_of, entry_with, entry_by, entry_of, conclusions, answer_to_goal, answer_to_demand, answer_to_steps, answer_to_entry, logged}
+use Rattle.mw_model.specs.Events.Demand.{Demand, Denied, Wants, wants_some, wants_that, define_demand, verify_demand, without_proofs, demand, settled}
 use Rattle.mw_model.proofs.Readable.{ReadableFormula, formula_readable}
 use Rattle.mw_model.proofs.ReadBack.{some_one, when_some, formula_back}
-use Rattle.mw_model.proofs.Leading.{Asks}
-use Rattle.mw_model.proofs.WantedFormulas.{wanted_readable}
+use Rattle.mw_commands.specs.Commands.Log.{natural_of, naturals_of, one_number, formula_numbered, is_that_formula, numbers_of, entry_with, entry_by, entry_of, conclusions, answer_to_goal, answer_to_demand, answer_to_steps, answer_to_entry, logged}
+use Rattle.mw_commands.proofs.Leading.{Asks}
+use Rattle.mw_commands.proofs.WantedFormulas.{wanted_readable}
 use Rattle.mw_heap.specs.Objects.{object_at}
 use Rattle.mw_theory.specs.declared.event.Event.{Event}
 use Rattle.mw_theory.specs.declared.event.Event.TheVariants.{Verify, Define, Skolem, Switch, Eval, Print, DefineAll, Profile}

@@ -7,9 +7,9 @@ use Rattle.mw_model.specs.Values.Truth.{Each}
 use Rattle.mw_model.specs.Values.Definition.{is_present}
 use Rattle.mw_model.specs.Terms.Reading.{that, when, formula_of}
 use Rattle.mw_model.specs.Laws.Rules.{is_formula_object}
-use Rattle.mw_model.specs.Commands.Log.{formula_numbered, formulas_numbered, formulas_at}
 use Rattle.mw_model.proofs.Read.{formula_read}
 use Rattle.mw_model.proofs.ReadBack.{some_one, and_more-back, formula_back}
+use Rattle.mw_commands.specs.Commands.Log.{formula_numbered, formulas_numbered, formulas_at}
 use Rattle.mw_heap.specs.Objects.{object_at, IsIn}
 use Rattle.mw_flat.specs.Collecting.{AreFormulasIn}
 

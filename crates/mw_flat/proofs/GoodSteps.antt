@@ -4,8 +4,8 @@ use Rattle.mw_model.specs.Terms.Object.{Object}
 use Rattle.mw_model.specs.Terms.Term.{Formula}
 use Rattle.mw_model.specs.Values.Definition.{arity_table, is_present}
 use Rattle.mw_model.specs.Events.Theory.{Theory, IsSound}
-use Rattle.mw_model.specs.Commands.Log.{entry_of, conclusions, logged}
-use Rattle.mw_truth.specs.Logged.{LoggedKeeps}
+use Rattle.mw_commands.specs.Commands.Log.{entry_of, conclusions, logged}
+use Rattle.mw_commands.specs.Logged.{LoggedKeeps}
 use Rattle.mw_heap.specs.Objects.{object_at}
 use Rattle.mw_theory.specs.declared.world.World.{World}
 use Rattle.mw_theory.specs.declared.event.Event.{Event}

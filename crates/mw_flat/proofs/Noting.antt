@@ -7,7 +7,7 @@ use Rattle.mw_model.specs.Terms.Term.{Formula, formula_object, IsFormula}
 use Rattle.mw_model.specs.Values.Truth.{Each}
 use Rattle.mw_model.specs.Values.Definition.{arity_table}
 use Rattle.mw_model.specs.Laws.Rules.{is_formula_object}
-use Rattle.mw_model.specs.Commands.Log.{conclusion}
+use Rattle.mw_commands.specs.Commands.Log.{conclusion}
 use Rattle.mw_heap.specs.Objects.{object_at, IsIn}
 use Rattle.mw_theory.specs.declared.world.World.{World}
 use Rattle.mw_theory.specs.Knowledge.{parts_of, meant}

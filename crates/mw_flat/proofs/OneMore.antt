@@ -8,7 +8,7 @@ use Rattle.mw_model.specs.Values.Primitive.{Profile}
 use Rattle.mw_model.specs.Values.Definition.{arity_table}
 use Rattle.mw_model.specs.Events.Theory.{Theory}
 use Rattle.mw_model.specs.Laws.Rules.{is_formula_object}
-use Rattle.mw_model.specs.Commands.Log.{conclusion, conclusions}
+use Rattle.mw_commands.specs.Commands.Log.{conclusion, conclusions}
 use Rattle.mw_heap.specs.Objects.{object_at}
 use Rattle.mw_flat.specs.Collecting.{AreConclusions}
 use Rattle.mw_flat.specs.Steps.{IsConclusion}

@@ -5,8 +5,8 @@ use Rattle.mw_model.specs.Terms.Object.{Object, Natural, Symbol, Pair, same_name
 use Rattle.mw_model.specs.Terms.Term.{Formula, formula_object}
 use Rattle.mw_model.specs.Terms.Reading.{and_more}
 use Rattle.mw_model.specs.Laws.RulesInduction.{formulas_object}
-use Rattle.mw_model.specs.Commands.Log.{naturals_of, formula_numbered, formulas_numbered, formulas_at}
 use Rattle.mw_model.proofs.ReadBack.{some_one}
+use Rattle.mw_commands.specs.Commands.Log.{naturals_of, formula_numbered, formulas_numbered, formulas_at}
 use Rattle.mw_heap.specs.Objects.{object_at}
 use Rattle.mw_heap.specs.Lists.{list_object}
 use Rattle.mw_flat.specs.Collecting.{conclusion_numbered, conclusions_listed}

@@ -3,8 +3,8 @@ use Rattle.std.proofs.Common.{◌≡◌, ℕ, zero, suc, List, [], ◌∷◌, Op
 use Rattle.mw_model.specs.Terms.Object.{Object, same_object}
 use Rattle.mw_model.specs.Terms.Term.{Formula, formula_object, ArityTable, IsFormula}
 use Rattle.mw_model.specs.Values.Truth.{Each}
-use Rattle.mw_model.specs.Commands.Log.{formula_numbered, is_that_formula}
 use Rattle.mw_model.proofs.Readable.{ReadableFormula, formula_readable, same_object-formulas}
+use Rattle.mw_commands.specs.Commands.Log.{formula_numbered, is_that_formula}
 use Rattle.mw_flat.specs.Collecting.{conclusion_numbered, is_concluded}
 use Rattle.mw_flat.proofs.Premises.{IsOne}
 

@@ -11,11 +11,11 @@ use Rattle.mw_model.specs.Events.Theory.{Theory}
 use Rattle.mw_model.specs.Events.Refusal.{Refusal, NAME, FORMALS, TERM, VARIABLES, NESTED, COUNT, PROOF, Fate, Accepted, Refused, accept, must, unless}
 use Rattle.mw_model.specs.Events.Checking.{or_else}
 use Rattle.mw_model.specs.Events.Admission.{Draft, all_of, new_names, formals_of, add_names, functions, measures, are_closed_by, add_to_theory}
-use Rattle.mw_model.specs.Commands.Demand.{Demand, Denied, Wants, wants_some, wants_that, define_demand, each_judged, settled}
-use Rattle.mw_model.specs.Commands.Log.{Answer, Yes, No, ADMIT, natural_of, naturals_of, formula_numbered, is_that_formula, are_concluded, answer_to_goal, answer_to_demand}
+use Rattle.mw_model.specs.Events.Demand.{Demand, Denied, Wants, wants_some, wants_that, define_demand, each_judged, settled}
 use Rattle.mw_model.proofs.Readable.{ReadableFormula}
 use Rattle.mw_model.proofs.ReadBack.{some_one, and_more-back}
-use Rattle.mw_model.proofs.Leading.{Asks}
+use Rattle.mw_commands.specs.Commands.Log.{Answer, Yes, No, ADMIT, natural_of, naturals_of, formula_numbered, is_that_formula, are_concluded, answer_to_goal, answer_to_demand}
+use Rattle.mw_commands.proofs.Leading.{Asks}
 use Rattle.mw_heap.specs.Objects.{object_at}
 use Rattle.mw_theory.specs.Proofs.{by_formula}
 use Rattle.mw_theory.specs.Settling.{fate_by}

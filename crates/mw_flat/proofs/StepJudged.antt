@@ -7,7 +7,7 @@ use Rattle.mw_model.specs.Values.Primitive.{Profile}
 use Rattle.mw_model.specs.Events.Fate.{is_out_of_range}
 use Rattle.mw_model.specs.Proofs.Proof.{Method}
 use Rattle.mw_model.specs.Proofs.Judgment.{methods, method_among, judge_step}
-use Rattle.mw_model.specs.Commands.Log.{naturals_of, formulas_at, conclusion}
+use Rattle.mw_commands.specs.Commands.Log.{naturals_of, formulas_at, conclusion}
 use Rattle.mw_flat.specs.Steps.{IsConclusion}
 
 -- nothing of what is none

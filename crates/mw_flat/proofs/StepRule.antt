@@ -12,7 +12,7 @@ use Rattle.mw_model.specs.Proofs.Proof.{Method}
 use Rattle.mw_model.specs.Proofs.Judgment.{methods, method_among, follows, judge_step}
 use Rattle.mw_model.specs.Laws.Rules.{is_formula_object}
 use Rattle.mw_model.specs.Laws.RulesInduction.{formulas_object}
-use Rattle.mw_model.specs.Commands.Log.{naturals_of, formulas_at, conclusion}
+use Rattle.mw_commands.specs.Commands.Log.{naturals_of, formulas_at, conclusion}
 use Rattle.mw_heap.specs.Objects.{object_at}
 use Rattle.mw_rules.specs.Step.{rule_holds}
 use Rattle.mw_rules.proofs.CallerLemmas.{rule_holds-is}

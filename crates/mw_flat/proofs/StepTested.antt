@@ -8,7 +8,7 @@ use Rattle.mw_model.specs.Events.Fate.{is_out_of_range}
 use Rattle.mw_model.specs.Proofs.Proof.{Method}
 use Rattle.mw_model.specs.Proofs.Judgment.{methods, method_among}
 use Rattle.mw_model.specs.Laws.Rules.{is_formula_object}
-use Rattle.mw_model.specs.Commands.Log.{naturals_of, formulas_at, conclusion}
+use Rattle.mw_commands.specs.Commands.Log.{naturals_of, formulas_at, conclusion}
 use Rattle.mw_heap.specs.Objects.{object_at}
 use Rattle.mw_heap.specs.Lists.{list_object}
 use Rattle.mw_heap.specs.Variants.{profile_of}

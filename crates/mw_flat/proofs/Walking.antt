@@ -5,7 +5,7 @@ use Rattle.std.proofs.lemmas.List.Elements.{All-append, All-cons, All-nil, All-p
 use Rattle.indexmap.specs.IndexSet.{insert_key}
 use Rattle.mw_model.specs.Terms.Object.{Object, Natural, Symbol, Pair, third_of}
 use Rattle.mw_model.specs.Values.Primitive.{is_pair}
-use Rattle.mw_model.specs.Commands.Subproofs.{proofs_within}
+use Rattle.mw_commands.specs.Commands.Subproofs.{proofs_within}
 use Rattle.mw_heap.specs.Objects.{object_at, IsIn, AreDistinct}
 use Rattle.mw_heap.specs.Parts.{part_at, IsPart}
 use Rattle.mw_term.specs.Occurrences.{gather}

@@ -4,7 +4,7 @@ use Rattle.std.proofs.lemmas.List.{map-append, length-map, take_more, length-tak
 use Rattle.mw_model.specs.Terms.Object.{Object}
 use Rattle.mw_model.specs.Texts.Printing.{text_of}
 use Rattle.mw_model.specs.Texts.Pieces.{InOrder, numbered}
-use Rattle.mw_model.proofs.TextWritten.{text_is_written}
+use Rattle.mw_commands.proofs.TextWritten.{text_is_written}
 use Rattle.mw_flat.specs.Members.{WritesMember, WritesMembers}
 
 pub writes_none : (first : ℕ) (old : List ℕ) → WritesMembers [] first old old

@@ -3,9 +3,9 @@ use Rattle.std.specs.Prelude.{◌≡◌, ℕ, Bool, true, false, List, [], ◌�
 use Rattle.mw_model.specs.Terms.Object.{Object, symbol, same_object}
 use Rattle.mw_model.specs.Values.Definition.{arity_table}
 use Rattle.mw_model.specs.Events.Theory.{Theory}
-use Rattle.mw_model.specs.Commands.Log.{Answer, conclusions, is_step, logged}
 use Rattle.mw_model.specs.Events.Refusal.{EVENT, Fate, refuse}
 use Rattle.mw_model.specs.Events.Fate.{profile}
+use Rattle.mw_commands.specs.Commands.Log.{Answer, conclusions, is_step, logged}
 use Rattle.mw_heap.specs.Objects.{object_at}
 use Rattle.mw_theory.specs.declared.world.World.{World}
 use Rattle.mw_theory.specs.declared.event.Event.{Event}

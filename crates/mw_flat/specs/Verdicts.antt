@@ -1,7 +1,7 @@
 -- What is answered to a datum of a log, as the logic has it.
 use Rattle.std.specs.Prelude.{Option, Some, None}
 use Rattle.mw_model.specs.Events.Refusal.{Refusal, COUNT, PROOF}
-use Rattle.mw_model.specs.Commands.Log as logic
+use Rattle.mw_commands.specs.Commands.Log as logic
 use Rattle.mw_flat.specs.declared.verdict.Objection.{Objection}
 use Rattle.mw_flat.specs.declared.verdict.Objection.TheVariants as objection
 use Rattle.mw_flat.specs.declared.verdict.Verdict.{Verdict}

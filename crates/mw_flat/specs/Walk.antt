@@ -4,7 +4,7 @@ use Rattle.std.specs.List.{list_any}
 use Rattle.indexmap.specs.IndexSet.{insert_key}
 use Rattle.mw_model.specs.Terms.Object.{Object, Pair, same_object, third_of}
 use Rattle.mw_model.specs.Values.Primitive.{is_pair}
-use Rattle.mw_model.specs.Commands.Subproofs.{proofs_within, each_within}
+use Rattle.mw_commands.specs.Commands.Subproofs.{proofs_within, each_within}
 use Rattle.mw_heap.specs.Objects.{object_at, IsIn}
 use Rattle.mw_heap.specs.Parts.{part_at, IsPart}
 use Rattle.mw_flat.specs.declared.item.Item.{Item}

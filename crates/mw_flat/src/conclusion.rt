@@ -4,8 +4,8 @@ ghost use Rattle.mw_model.specs.Terms.Object.{Natural, has_members, same_object}
 ghost use Rattle.mw_model.specs.Terms.Term.{Formula, IsFormula, formula_object};
 ghost use Rattle.mw_model.specs.Values.Truth.{Each};
 ghost use Rattle.mw_model.specs.Values.Definition.{arity_table};
-ghost use Rattle.mw_model.specs.Commands.Log.{conclusion};
 ghost use Rattle.mw_model.specs.Events.Theory.{Theory as Meant};
+ghost use Rattle.mw_commands.specs.Commands.Log.{conclusion};
 ghost use Rattle.mw_heap.specs.Objects.{object_at, IsIn, Grows};
 ghost use Rattle.mw_term.specs.Marking.{AreMarks};
 ghost use Rattle.mw_theory.specs.Knowledge.{parts_of, meant, IsHeld};

@@ -1,7 +1,7 @@
 //! Which events a log may have.
 ghost use Rattle.std.specs.Prelude.{◌≡◌, IfOk};
 ghost use Rattle.mw_model.specs.Values.Definition.{is_present};
-ghost use Rattle.mw_model.specs.Commands.Log.{natural_of, naturals_of, entry_of};
+ghost use Rattle.mw_commands.specs.Commands.Log.{natural_of, naturals_of, entry_of};
 ghost use Rattle.mw_heap.specs.Objects.{object_at, IsIn};
 ghost use Rattle.mw_theory.specs.Words.{IsEvent};
 

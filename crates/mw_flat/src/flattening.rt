@@ -1,7 +1,7 @@
 //! A list of proofs as steps.
 ghost use Rattle.std.specs.Prelude.{◌≡◌, ℕ, List, ◌++◌, map, All, IfOk, OnOk, OnErr};
-ghost use Rattle.mw_model.specs.Commands.Subproofs.{distinct_proofs};
-ghost use Rattle.mw_model.specs.Commands.Flattening.{number_among, StepsWritten};
+ghost use Rattle.mw_commands.specs.Commands.Subproofs.{distinct_proofs};
+ghost use Rattle.mw_commands.specs.Commands.Flattening.{number_among, StepsWritten};
 ghost use Rattle.mw_heap.specs.Objects.{object_at, IsIn};
 ghost use Rattle.mw_heap.specs.Lists.{list_object};
 

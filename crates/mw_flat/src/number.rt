@@ -1,6 +1,6 @@
 //! The numbers of proofs.
 ghost use Rattle.std.specs.Prelude.{◌≡◌, map, All, IfOk};
-ghost use Rattle.mw_model.specs.Commands.Flattening.{number_among};
+ghost use Rattle.mw_commands.specs.Commands.Flattening.{number_among};
 ghost use Rattle.mw_heap.specs.Objects.{object_at, IsIn};
 
 use indexmap::IndexSet;

@@ -1,7 +1,7 @@
 //! The numbers of subproofs, written as a list.
 ghost use Rattle.std.specs.Prelude.{◌≡◌, ◌∷◌, ◌++◌, map, All, OnOk};
 ghost use Rattle.mw_model.specs.Texts.Printing.{numeral, tail_text, text_of};
-ghost use Rattle.mw_model.specs.Commands.Flattening.{number_among, numbers_among};
+ghost use Rattle.mw_commands.specs.Commands.Flattening.{number_among, numbers_among};
 ghost use Rattle.mw_heap.specs.Objects.{object_at, IsIn};
 ghost use Rattle.mw_heap.specs.Parts.{part_at, IsPart};
 

@@ -1,7 +1,7 @@
 //! A step: a proof with its number, and with numbers in the place of its subproofs.
 ghost use Rattle.std.specs.Prelude.{◌≡◌, map, All, OnOk};
 ghost use Rattle.mw_model.specs.Terms.Object.{fourth_of};
-ghost use Rattle.mw_model.specs.Commands.Flattening.{step_members, IsStepLine};
+ghost use Rattle.mw_commands.specs.Commands.Flattening.{step_members, IsStepLine};
 ghost use Rattle.mw_heap.specs.Objects.{object_at, IsIn};
 ghost use Rattle.mw_heap.specs.Parts.{part_at, IsPart};
 ghost use Rattle.mw_flat.specs.Members.{WritesMembers};

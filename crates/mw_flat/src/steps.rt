@@ -1,7 +1,7 @@
 //! The steps of all proofs.
 ghost use Rattle.std.specs.Prelude.{◌≡◌, ℕ, List, ◌++◌, map, All, OnOk};
 ghost use Rattle.mw_model.specs.Texts.Pieces.{InOrder, numbered};
-ghost use Rattle.mw_model.specs.Commands.Flattening.{IsStepLine};
+ghost use Rattle.mw_commands.specs.Commands.Flattening.{IsStepLine};
 ghost use Rattle.mw_heap.specs.Objects.{object_at, IsIn};
 
 use crate::step::write_step;

@@ -1,6 +1,6 @@
 //! What is answered to the data of a log.
 ghost use Rattle.std.specs.Prelude.{◌≡◌};
-ghost use Rattle.mw_model.specs.Commands.Log.{objection_number, objection_word};
+ghost use Rattle.mw_commands.specs.Commands.Log.{objection_number, objection_word};
 ghost use Rattle.mw_flat.specs.Verdicts.{objection_of};
 
 /// Why an event of a log gets a no, the first of these that holds.

@@ -1,6 +1,6 @@
 //! The walk over what proofs are made of.
 ghost use Rattle.std.specs.Prelude.{◌≡◌, [], map, All, IfOk, OnOk};
-ghost use Rattle.mw_model.specs.Commands.Subproofs.{proofs_within, distinct_proofs};
+ghost use Rattle.mw_commands.specs.Commands.Subproofs.{proofs_within, distinct_proofs};
 ghost use Rattle.mw_heap.specs.Objects.{object_at, IsIn};
 ghost use Rattle.mw_heap.specs.Lists.{list_object};
 ghost use Rattle.mw_term.specs.Occurrences.{gather};

@@ -11,11 +11,11 @@ use Rattle.mw_model.specs.Texts.Printing.{text_of}
 use Rattle.mw_model.specs.Events.Refusal.{TERM, VARIABLES, LONG, EVENT, COUNT, Fate, Accepted, refuse, accept, need, must, unless}
 use Rattle.mw_model.specs.Events.Checking.{judged_as, or_else}
 use Rattle.mw_model.specs.Events.Admission.{Draft}
-use Rattle.mw_model.specs.Commands.Demand.{Demand, Denied, Wants, wants_some, define_demand, each_judged, settled}
 use Rattle.mw_model.proofs.Demands.{by_word as judged_by_word}
 use Rattle.mw_model.specs.Reports.Keeping.{EventKeeps}
 use Rattle.mw_model.specs.Events.Fate.{EventWord, SetProfile, is_out_of_range, event_word, longest, happens, happens_by, fate, next, show, show_outcome, eval, profile}
 use Rattle.mw_model.specs.Events.Fate as word
+use Rattle.mw_model.specs.Events.Demand.{Demand, Denied, Wants, wants_some, define_demand, each_judged, settled}
 use Rattle.mw_heap.specs.Objects.{object_at}
 use Rattle.mw_kernel.specs.Knowledge.{Knowledge, theory_of}
 use Rattle.mw_theory.specs.Words.{event_object, IsEvent, eval_event, profile_event}

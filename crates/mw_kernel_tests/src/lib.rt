@@ -1,7 +1,5 @@
-//! Tests of the kernel, and of how proofs are written as steps.
+//! Tests of the kernel.
 #![tactic(auto)]
 
-#[cfg(test)]
-mod flat;
 #[cfg(test)]
 mod kernel;

@@ -8,8 +8,8 @@ use Rattle.mw_model.specs.Values.Definition.{is_present}
 use Rattle.mw_model.specs.Events.Fate.{is_out_of_range}
 use Rattle.mw_model.specs.Reports.Report.{spaced}
 use Rattle.mw_model.specs.Texts.Written.{IsWritten}
-use Rattle.mw_model.specs.Commands.Tautology.{Choice, Decision as Due, Many as HasMany, FailsUnder, Holds, decision, choice_object}
-use Rattle.mw_model.specs.Commands.TautologyBook.{IsPureProof, OwesDecided, OwesGiven, OwesTautology, decision_on, formula_given, initial_arities, is_holding, is_proved, remark}
+use Rattle.mw_commands.specs.Commands.Tautology.{Choice, Decision as Due, Many as HasMany, FailsUnder, Holds, decision, choice_object}
+use Rattle.mw_commands.specs.Commands.TautologyBook.{IsPureProof, OwesDecided, OwesGiven, OwesTautology, decision_on, formula_given, initial_arities, is_holding, is_proved, remark}
 use Rattle.mw_heap.specs.Objects.{object_at, IsIn, Grows}
 use Rattle.mw_heap.proofs.Objects.{object_at-Grows}
 use Rattle.mw_taut.specs.Decided.{IsDecision}

@@ -2,8 +2,8 @@
 use Rattle.std.specs.Prelude.{◌≡◌, Bool, true, false, List, Some, None}
 use Rattle.mw_model.specs.Terms.Object.{Object, list4, symbol, car, second_of}
 use Rattle.mw_model.specs.Terms.Term.{Formula}
-use Rattle.mw_model.specs.Commands.Tautology.{Choice, Many as HasMany, FailsUnder, Holds, decision, choice_object}
-use Rattle.mw_model.specs.Commands.TautologyBook.{IsPureProof, formula_given, initial_arities}
+use Rattle.mw_commands.specs.Commands.Tautology.{Choice, Many as HasMany, FailsUnder, Holds, decision, choice_object}
+use Rattle.mw_commands.specs.Commands.TautologyBook.{IsPureProof, formula_given, initial_arities}
 use Rattle.mw_heap.specs.Objects.{object_at, IsIn}
 use Rattle.mw_lines.specs.declared.verdict.Verdict.{Verdict}
 use Rattle.mw_lines.specs.declared.verdict.Verdict.TheVariants.{Shape, Many, Fails, Theorem}

@@ -3,8 +3,8 @@ ghost use Rattle.std.specs.Prelude.{◌≡◌, ◌≤◌, ◌-◌, ◌++◌, ◌
 ghost use Rattle.mw_model.specs.Terms.Object.{Object};
 ghost use Rattle.mw_model.specs.Texts.Printing.{numeral};
 ghost use Rattle.mw_model.specs.Reports.Report.{spaced, word_text};
-ghost use Rattle.mw_model.specs.Commands.TautologyBook.{OwesTautology, remark};
 ghost use Rattle.mw_model.specs.Texts.Written.{IsWritten};
+ghost use Rattle.mw_commands.specs.Commands.TautologyBook.{OwesTautology, remark};
 ghost use Rattle.mw_heap.specs.Objects.{object_at, IsIn};
 ghost use Rattle.mw_lines.specs.Lines.{formulas_line};
 ghost use Rattle.mw_lines.specs.Members.{ShowsWord};

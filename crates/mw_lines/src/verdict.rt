@@ -2,7 +2,7 @@
 ghost use Rattle.std.specs.Prelude.{◌≡◌, true, false, None, IfOk, OnOk, MatchOption};
 ghost use Rattle.mw_model.specs.Terms.Object.{Object, has_members, list1, list2, list4, symbol};
 ghost use Rattle.mw_model.specs.Laws.Rules.{is_formula_object};
-ghost use Rattle.mw_model.specs.Commands.TautologyBook.{formula_given, initial_arities};
+ghost use Rattle.mw_commands.specs.Commands.TautologyBook.{formula_given, initial_arities};
 ghost use Rattle.mw_heap.specs.Objects.{object_at, IsIn, Grows};
 ghost use Rattle.mw_term.specs.Marking.{AreMarks};
 ghost use Rattle.mw_lines.specs.Members.{IsNamed};

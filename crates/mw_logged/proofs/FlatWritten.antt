@@ -5,9 +5,9 @@ use Rattle.mw_model.specs.Terms.Object.{Object, Natural, Symbol, Pair, NIL, list
 use Rattle.mw_model.specs.Values.Primitive.{is_pair}
 use Rattle.mw_model.specs.Terms.Term.{firsts}
 use Rattle.mw_model.specs.Texts.Written.{IsWritten}
-use Rattle.mw_model.specs.Commands.Subproofs.{proofs_within, each_within, distinct_proofs}
 use Rattle.mw_model.specs.Texts.Pieces.{InOrder, numbered}
-use Rattle.mw_model.specs.Commands.Flattening.{number_among, numbers_among, IsStepLine, StepsWritten}
+use Rattle.mw_commands.specs.Commands.Subproofs.{proofs_within, each_within, distinct_proofs}
+use Rattle.mw_commands.specs.Commands.Flattening.{number_among, numbers_among, IsStepLine, StepsWritten}
 use Rattle.mw_heap.specs.Objects.{object_at, IsIn, Grows}
 use Rattle.mw_heap.proofs.Objects.{object_at-Grows}
 use Rattle.mw_heap.specs.Lists.{list_object}

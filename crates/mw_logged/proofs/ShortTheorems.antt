@@ -5,9 +5,9 @@ use Rattle.mw_model.specs.Terms.Object.{Object, Natural, list1}
 use Rattle.mw_model.specs.Values.Value.{pick}
 use Rattle.mw_model.specs.Events.Fate.{longest}
 use Rattle.mw_model.specs.Texts.Printing.{text_of}
-use Rattle.mw_model.specs.Commands.Subproofs.{distinct_proofs}
 use Rattle.mw_model.specs.Texts.Written.{IsLabelled, IsDatumLine}
-use Rattle.mw_model.specs.Commands.Flattening.{number_among, StepsWritten, OwesFlat}
+use Rattle.mw_commands.specs.Commands.Subproofs.{distinct_proofs}
+use Rattle.mw_commands.specs.Commands.Flattening.{number_among, StepsWritten, OwesFlat}
 use Rattle.mw_theory.specs.Words.{verify_event}
 
 pub short_line : (x : Object) → length (text_of x) ≤ longest → IsDatumLine x (text_of x ++ 10 ∷ [])

@@ -2,7 +2,7 @@
 use Rattle.std.specs.Prelude.{◌≡◌, ℕ, List, [], ◌∷◌, ◌++◌}
 use Rattle.mw_model.specs.Terms.Object.{Object, Natural, Pair, NIL}
 use Rattle.mw_model.specs.Texts.Written.{IsDatumLine}
-use Rattle.mw_model.specs.Commands.Flattening.{StepsWritten}
+use Rattle.mw_commands.specs.Commands.Flattening.{StepsWritten}
 use Rattle.mw_heap.specs.Objects.{object_at}
 
 -- the members up to the end of a list, whatever ends it

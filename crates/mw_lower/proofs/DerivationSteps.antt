@@ -6,10 +6,10 @@ use Rattle.mw_model.specs.Terms.Term.{ArityTable, Formula, formula_object, is_fo
 use Rattle.mw_model.specs.Terms.Reading.{formula_of, and_more, that, when}
 use Rattle.mw_model.specs.Values.Definition.{is_present}
 use Rattle.mw_model.specs.Laws.Rules.{is_formula_object}
-use Rattle.mw_model.specs.Commands.Derivation.{Rule}
-use Rattle.mw_model.specs.Commands.DerivationTest.{rules, rule_among, derives, derive_step}
 use Rattle.mw_model.proofs.Names.{same_object-eq}
 use Rattle.mw_model.proofs.ReadBack.{formula_back}
+use Rattle.mw_commands.specs.Commands.Derivation.{Rule}
+use Rattle.mw_commands.specs.Commands.DerivationTest.{rules, rule_among, derives, derive_step}
 use Rattle.mw_heap.specs.Objects.{object_at}
 use Rattle.mw_proof.specs.Step.{has_proof_shape, subproofs_of}
 use Rattle.mw_proof.specs.Members.{AreMembers}

@@ -8,9 +8,9 @@ use Rattle.mw_model.specs.Proofs.Proof.{Axiom, Theorem, PropositionalSchema, Fun
 use Rattle.mw_model.specs.Proofs.Judgment.{of_none, of_one, of_two}
 use Rattle.mw_model.specs.Laws.Rules.{is_formula_object}
 use Rattle.mw_model.specs.Laws.RulesInduction.{length_object}
-use Rattle.mw_model.specs.Commands.Derivation.{Rule, By, CommuteOr, ModusPonens, Symmetry, Transitivity, Replace}
-use Rattle.mw_model.specs.Commands.DerivationTest.{rules, rule_among, derives}
 use Rattle.mw_model.proofs.ReadBack.{some_one, cond_some, and_more-back}
+use Rattle.mw_commands.specs.Commands.Derivation.{Rule, By, CommuteOr, ModusPonens, Symmetry, Transitivity, Replace}
+use Rattle.mw_commands.specs.Commands.DerivationTest.{rules, rule_among, derives}
 use Rattle.mw_heap.specs.Objects.{object_at}
 use Rattle.mw_proof.specs.Step.{has_proof_shape, subproofs_of}
 use Rattle.mw_proof.specs.Members.{AreMembers}

@@ -3,8 +3,8 @@ use Rattle.std.proofs.Common.{◌≡◌, ℕ, Bool, true, false, List, [], ◌�
 use Rattle.mw_model.specs.Terms.Object.{Object, NIL, list1}
 use Rattle.mw_model.specs.Terms.Term.{Formula}
 use Rattle.mw_model.specs.Proofs.Judgment.{of_one, of_two}
-use Rattle.mw_model.specs.Commands.Derivation.{Rule}
-use Rattle.mw_model.specs.Commands.DerivationTest.{derives}
+use Rattle.mw_commands.specs.Commands.Derivation.{Rule}
+use Rattle.mw_commands.specs.Commands.DerivationTest.{derives}
 use Rattle.mw_heap.specs.Objects.{object_at}
 use Rattle.mw_heap.specs.Lists.{list_object}
 use Rattle.mw_proof.specs.Judging.{Basis}

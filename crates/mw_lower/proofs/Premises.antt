@@ -6,7 +6,7 @@ use Rattle.std.proofs.lemmas.List.Elements.{All-append, All-cons}
 use Rattle.mw_model.specs.Terms.Object.{Object, Pair, NIL, symbol, second_of, list2, list3}
 use Rattle.mw_model.specs.Terms.Term.{Formula, formula_object}
 use Rattle.mw_model.specs.Proofs.Proof.{ProveEach, no_proofs, more_proofs}
-use Rattle.mw_model.proofs.LogAccepted.{conclusion_is}
+use Rattle.mw_commands.proofs.LogAccepted.{conclusion_is}
 use Rattle.mw_heap.specs.Objects.{object_at, IsIn}
 use Rattle.mw_proof.specs.Step.{conclusions_object}
 use Rattle.mw_heap.specs.Lists.{list_object}

@@ -8,12 +8,12 @@ use Rattle.mw_model.specs.Values.Truth.{Each}
 use Rattle.mw_model.specs.Proofs.Proof.{FunctionalEquality, unless_equal, three_terms, no_proofs, ProveEach}
 use Rattle.mw_model.specs.Proofs.Judgment.{last_disjunct, is_functional_equality}
 use Rattle.mw_model.specs.Laws.Rules.{object_is_functional_equality}
-use Rattle.mw_model.specs.Commands.Derivation.{equalities}
-use Rattle.mw_model.specs.Commands.DerivationTest.{is_replaced}
 use Rattle.mw_model.proofs.SameTerms.{same_formula-refl}
 use Rattle.mw_model.proofs.Follows.{row_is}
 use Rattle.mw_model.proofs.Judging.{goods_judge}
 use Rattle.mw_model.proofs.EqualityExact.{object_is_functional_equality-exact}
+use Rattle.mw_commands.specs.Commands.Derivation.{equalities}
+use Rattle.mw_commands.specs.Commands.DerivationTest.{is_replaced}
 use Rattle.mw_proof.specs.Judging.{Basis}
 use Rattle.mw_lower.specs.declared.scheme.TheConstants.{FUNCTIONAL}
 use Rattle.mw_lower.specs.Pieces.{made_of}

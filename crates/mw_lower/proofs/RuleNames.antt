@@ -3,11 +3,11 @@ use Rattle.std.proofs.Common.{◌≡◌, Bool, true, false, cond, List, [], ◌�
 use Rattle.mw_model.specs.Terms.Object.{Object, Symbol, same_object}
 use Rattle.mw_model.specs.Proofs.Proof.{Method, method_name}
 use Rattle.mw_model.specs.Proofs.Judgment.{methods, method_among}
-use Rattle.mw_model.specs.Commands.Derivation.{Rule, By, rule_name}
-use Rattle.mw_model.specs.Commands.DerivationTest.{rules, rule_among}
 use Rattle.mw_model.proofs.Names.{same_object-eq}
 use Rattle.mw_model.proofs.ReadBack.{some_one}
 use Rattle.mw_model.proofs.SameObject.{same_object-swap}
+use Rattle.mw_commands.specs.Commands.Derivation.{Rule, By, rule_name}
+use Rattle.mw_commands.specs.Commands.DerivationTest.{rules, rule_among}
 use Rattle.mw_lower.specs.declared.further.Further.{Further}
 use Rattle.mw_lower.specs.declared.further.Further.TheVariants.{CommuteOr, ModusPonens, Symmetry, Transitivity, Replace}
 use Rattle.mw_lower.specs.Further.{rule_of, further_rules, further_among}

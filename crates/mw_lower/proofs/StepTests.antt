@@ -4,10 +4,10 @@ use Rattle.std.proofs.lemmas.Bool.{true≢false, and_parts}
 use Rattle.mw_model.specs.Terms.Object.{Object, symbol, same_object, NIL, car, list3, second_of, third_of}
 use Rattle.mw_model.specs.Terms.Term.{Term, Formula, Equal, Not, Or, term_object, formula_object, is_formula, is_term, IsFormula, IsTerm}
 use Rattle.mw_model.specs.Terms.Same.{same_term, same_formula}
-use Rattle.mw_model.specs.Commands.DerivationTest.{is_commuted, is_detached, is_turned, is_chained}
 use Rattle.mw_model.proofs.Names.{same_object-from}
 use Rattle.mw_model.proofs.Formed.{formed}
 use Rattle.mw_model.proofs.Readable.{term_readable, formula_readable, same_object-terms, same_object-formulas}
+use Rattle.mw_commands.specs.Commands.DerivationTest.{is_commuted, is_detached, is_turned, is_chained}
 use Rattle.mw_heap.specs.Objects.{object_at, IsIn}
 use Rattle.mw_proof.specs.Judging.{Basis}
 use Rattle.mw_lower.specs.Answers.{HasParts}

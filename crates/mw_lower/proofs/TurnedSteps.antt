@@ -9,12 +9,12 @@ use Rattle.mw_model.specs.Laws.Rules.{is_formula_object}
 use Rattle.mw_model.specs.Laws.RulesInduction.{formulas_object}
 use Rattle.mw_model.specs.Proofs.Proof.{HasMembers, two, three, four, Method, method_name, proof, ProveEach}
 use Rattle.mw_model.specs.Proofs.Judgment.{methods, method_among, follows}
-use Rattle.mw_model.specs.Commands.Derivation.{Rule, By}
-use Rattle.mw_model.specs.Commands.DerivationTest.{rules, rule_among}
 use Rattle.mw_model.proofs.Names.{same_object-eq}
 use Rattle.mw_model.proofs.ReadBack.{nil_is}
 use Rattle.mw_model.proofs.Follows.{row_is}
 use Rattle.mw_model.proofs.Judging.{method_among-name, goods_judge}
+use Rattle.mw_commands.specs.Commands.Derivation.{Rule, By}
+use Rattle.mw_commands.specs.Commands.DerivationTest.{rules, rule_among}
 use Rattle.mw_heap.specs.Objects.{object_at}
 use Rattle.mw_heap.specs.Lists.{list_object}
 use Rattle.mw_rules.specs.Step.{rule_holds}

@@ -1,11 +1,11 @@
 -- What a derivation becomes in a heap is what it turns to.
 use Rattle.std.proofs.Common.{◌≡◌, false, None, sym, ap, ◌∙◌}
 use Rattle.mw_model.specs.Terms.Object.{Object}
-use Rattle.mw_model.specs.Commands.Derivation.{Turns}
 use Rattle.mw_model.specs.Values.Definition.{is_present}
 use Rattle.mw_model.specs.Events.Fate.{is_out_of_range}
-use Rattle.mw_model.proofs.Deriving.{derive_good, good_derive}
 use Rattle.mw_model.proofs.Judging.{good_judge}
+use Rattle.mw_commands.specs.Commands.Derivation.{Turns}
+use Rattle.mw_commands.proofs.Deriving.{derive_good, good_derive}
 use Rattle.mw_proof.specs.Judging.{Basis}
 use Rattle.mw_lower.specs.Turned.{derived_on, Becomes}
 

@@ -3,8 +3,8 @@ use Rattle.std.specs.Prelude.{◌≡◌, ℕ, true, false, List, [], ◌∷◌, 
 use Rattle.mw_model.specs.Terms.Object.{Object, NIL, list3}
 use Rattle.mw_model.specs.Terms.Term.{Formula, formula_object, IsFormula}
 use Rattle.mw_model.specs.Proofs.Proof.{ProveEach}
-use Rattle.mw_model.specs.Commands.Derivation.{Rule}
-use Rattle.mw_model.specs.Commands.DerivationTest.{derives}
+use Rattle.mw_commands.specs.Commands.Derivation.{Rule}
+use Rattle.mw_commands.specs.Commands.DerivationTest.{derives}
 use Rattle.mw_heap.specs.Objects.{object_at, IsIn}
 use Rattle.mw_proof.specs.Judging.{Basis}
 use Rattle.mw_lower.specs.Schemes.{IsProof, HasEquality}

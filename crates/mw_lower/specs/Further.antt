@@ -1,7 +1,7 @@
 -- The further rules of the code are those of the logic.
 use Rattle.std.specs.Prelude.{ℕ, cond, List, [], ◌∷◌, Option, Some, None}
 use Rattle.mw_model.specs.Terms.Object.{Object, Symbol, same_object}
-use Rattle.mw_model.specs.Commands.Derivation as logic
+use Rattle.mw_commands.specs.Commands.Derivation as logic
 use Rattle.mw_lower.specs.declared.further.Further.{Further}
 use Rattle.mw_lower.specs.declared.further.Further.TheVariants.{CommuteOr, ModusPonens, Symmetry, Transitivity, Replace}
 use Rattle.mw_rules.specs.Counted.{most_subproofs}

@@ -4,7 +4,7 @@ use Rattle.std.specs.Map.{lookup}
 use Rattle.mw_model.specs.Terms.Object.{Object, Natural, Symbol, Pair}
 use Rattle.mw_model.specs.Terms.Term.{Formula}
 use Rattle.mw_model.specs.Proofs.Proof.{ProveEach}
-use Rattle.mw_model.specs.Commands.DerivationTest.{derive, derive_each}
+use Rattle.mw_commands.specs.Commands.DerivationTest.{derive, derive_each}
 use Rattle.mw_heap.specs.Objects.{object_at, IsIn}
 use Rattle.mw_proof.specs.Step.{has_proof_shape, subproofs_of}
 use Rattle.mw_heap.specs.Lists.{list_object}

@@ -1,6 +1,6 @@
 //! The further rules.
 ghost use Rattle.std.specs.Prelude.{◌≡◌};
-ghost use Rattle.mw_model.specs.Commands.DerivationTest.{rules, rule_among};
+ghost use Rattle.mw_commands.specs.Commands.DerivationTest.{rules, rule_among};
 ghost use Rattle.mw_heap.specs.Objects.{object_at, IsIn};
 ghost use Rattle.mw_lower.specs.Further.{rule_of, further_rules, further_among, most_premises, most_premises_of};
 

@@ -19,7 +19,7 @@ use mw_term::{Arity, Marks};
 pub struct Lower;
 
 impl Rewriter for Lower {
-    ghost use Rattle.mw_model.specs.Commands.Derivation.{Turns};
+    ghost use Rattle.mw_commands.specs.Commands.Derivation.{Turns};
 
     ghost turns = { Turns };
 

@@ -1,6 +1,6 @@
 //! Steps by REPLACE, as a step by functional equality from which the premises are detached.
 ghost use Rattle.std.specs.Prelude.{◌≡◌, All, IfOk};
-ghost use Rattle.mw_model.specs.Commands.Derivation.{Replace};
+ghost use Rattle.mw_commands.specs.Commands.Derivation.{Replace};
 ghost use Rattle.mw_heap.specs.Objects.{object_at, IsIn, Grows};
 ghost use Rattle.mw_heap.specs.Lists.{list_object};
 ghost use Rattle.mw_lower.specs.Answers.{AnswersAll};

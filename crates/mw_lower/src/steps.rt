@@ -1,7 +1,7 @@
 //! Steps by the further rules: whether they hold, and proofs in their place.
 ghost use Rattle.std.specs.Prelude.{◌≡◌, false, MatchOption, IfOk};
 ghost use Rattle.mw_model.specs.Terms.Object.{Object, same_object, list3, second_of};
-ghost use Rattle.mw_model.specs.Commands.Derivation.{CommuteOr, ModusPonens, Symmetry, Transitivity};
+ghost use Rattle.mw_commands.specs.Commands.Derivation.{CommuteOr, ModusPonens, Symmetry, Transitivity};
 ghost use Rattle.mw_heap.specs.Objects.{object_at, IsIn, Grows};
 ghost use Rattle.mw_heap.specs.Words.{word_object};
 ghost use Rattle.mw_lower.specs.Answers.{AnswersOne, AnswersTwo, HasParts};

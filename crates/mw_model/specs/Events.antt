@@ -8,3 +8,4 @@ pub mod Checking
 pub mod Refusal
 pub mod Writing
 pub mod Fate
+pub mod Demand

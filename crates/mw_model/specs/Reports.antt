@@ -4,4 +4,3 @@ pub mod Trial
 pub mod Keeping
 pub mod Headline
 pub mod Request
-pub mod Headlines

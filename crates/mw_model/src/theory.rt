@@ -7,7 +7,9 @@ ghost use Rattle.mw_model.specs.Proofs.Proof.{Proves};
 ghost use Rattle.mw_model.specs.Proofs.Judgment.{judge};
 ghost use Rattle.mw_model.specs.Events.Theory.{Theory};
 ghost use Rattle.mw_model.specs.Events.Refusal.{Refusal, Refused};
-ghost use Rattle.mw_model.specs.Events.Fate.{fate, next};
+ghost use Rattle.mw_model.specs.Events.Checking.{judged_as};
+ghost use Rattle.mw_model.specs.Events.Fate.{fate, next, happens};
+ghost use Rattle.mw_model.specs.Events.Demand.{happens_under};
 
 /// The test on an object answers a formula exactly where the object is a proof of that formula.
 pub fn judging()
@@ -17,4 +19,9 @@ pub fn judging()
 /// A refused event leaves the theory as it was.
 pub fn refusals()
     ensures { (t : Theory) (N : ℕ) (e : Object) (r : Refusal) → fate t e N ≡ Refused r → next t e N ≡ t }
+{}
+
+/// What an event wants settles its fate, where the judge is the theory's own checker.
+pub fn demands()
+    ensures { (t : Theory) (N : ℕ) (e : Object) → happens_under judged_as t N e ≡ happens t N e }
 {}

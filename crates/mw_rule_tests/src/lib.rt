@@ -8,8 +8,6 @@ mod equal;
 #[cfg(test)]
 mod induct;
 #[cfg(test)]
-mod lower;
-#[cfg(test)]
 mod machine;
 #[cfg(test)]
 mod marked;
@@ -19,5 +17,3 @@ mod preamble;
 mod proof;
 #[cfg(test)]
 mod prop;
-#[cfg(test)]
-mod taut;

@@ -22,7 +22,7 @@ fn known_of(alloc: Global, x: Ref) -> Result<Known, Memory>
 }
 
 // What a proof from these axioms is judged, where no function is called.
-pub(crate) fn judged_from(heap: &mut Heap, proof: Ref, axioms: &Known) -> Judged
+fn judged_from(heap: &mut Heap, proof: Ref, axioms: &Known) -> Judged
     requires proof { IsIn heap.old.objects proof }
     requires axioms { All (IsIn heap.old.objects) axioms.now }
 {

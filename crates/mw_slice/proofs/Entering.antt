@@ -4,8 +4,8 @@ use Rattle.std.proofs.lemmas.Bool.{or_cases, or_left, or_right}
 use Rattle.std.proofs.lemmas.List.Elements.{Contains-push_cases}
 use Rattle.mw_model.specs.Terms.Object.{Object, Natural, Symbol, Pair, NIL, car, cdr, second_of, third_of}
 use Rattle.mw_model.specs.Values.Primitive.{is_pair}
-use Rattle.mw_model.specs.Commands.Slice.{begins_with, some_passes, occurs, without_name, theorems_named}
-use Rattle.mw_model.specs.Commands.Subproofs.{proofs_within, each_within}
+use Rattle.mw_commands.specs.Commands.Slice.{begins_with, some_passes, occurs, without_name, theorems_named}
+use Rattle.mw_commands.specs.Commands.Subproofs.{proofs_within, each_within}
 use Rattle.mw_heap.specs.Objects.{object_at, IsIn}
 use Rattle.mw_slice.specs.declared.part.Part.{Part}
 use Rattle.mw_slice.specs.declared.part.Part.TheVariants.{Cell, Proof, Proofs}

@@ -5,10 +5,10 @@ use Rattle.mw_model.specs.Terms.Object.{Name, Object, Natural, Symbol, Pair, NIL
 use Rattle.mw_model.specs.Values.Primitive.{is_pair}
 use Rattle.mw_model.specs.Terms.Reading.{when}
 use Rattle.mw_model.specs.Events.Fate.{EventWord, Verify, Define, Skolem, Switch, Eval, Print, DefineAll, SetProfile, event_word, with_members}
-use Rattle.mw_model.specs.Commands.Slice.{begins_with, proofs_by_word, theorems_named}
-use Rattle.mw_model.specs.Commands.Subproofs.{proofs_within, each_within}
 use Rattle.mw_model.proofs.Names.{same_object-eq}
 use Rattle.mw_model.proofs.SameObject.{same_object-swap}
+use Rattle.mw_commands.specs.Commands.Slice.{begins_with, proofs_by_word, theorems_named}
+use Rattle.mw_commands.specs.Commands.Subproofs.{proofs_within, each_within}
 
 -- ---- members are counted one by one
 

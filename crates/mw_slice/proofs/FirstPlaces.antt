@@ -3,9 +3,9 @@ use Rattle.std.proofs.Common.{◌≡◌, ℕ, zero, suc, ◌+◌, ◌<◌, ◌�
 use Rattle.std.specs.Map.{keys_of}
 use Rattle.std.proofs.lemmas.List.Elements.{All-append, All-cons, All-nil, All-head, All-tail}
 use Rattle.mw_model.specs.Terms.Object.{Object, same_object, third_of}
-use Rattle.mw_model.specs.Commands.Slice.{begins_with, event_at, later_place, first_place, some_passes, theorems_named}
 use Rattle.mw_model.proofs.Names.{same_object-eq}
 use Rattle.mw_model.proofs.SameObject.{same_object-swap}
+use Rattle.mw_commands.specs.Commands.Slice.{begins_with, event_at, later_place, first_place, some_passes, theorems_named}
 use Rattle.mw_heap.specs.Objects.{object_at, IsIn}
 use Rattle.mw_slice.specs.declared.added.Added.{Added}
 use Rattle.mw_slice.specs.Heaps.{heap_of, IsPlaced, object_in}

@@ -6,8 +6,8 @@ use Rattle.std.specs.Map.{keys_of}
 use Rattle.std.proofs.lemmas.Bool.{or_left, or_right}
 use Rattle.std.proofs.lemmas.List.Elements.{All-head, All-tail}
 use Rattle.mw_model.specs.Terms.Object.{Object, same_object, second_of}
-use Rattle.mw_model.specs.Commands.Slice.{begins_with, some_passes, is_place, occurs, names_added, theorems_named, sets_profile}
-use Rattle.mw_model.specs.Commands.Subproofs.{proofs_within, each_within}
+use Rattle.mw_commands.specs.Commands.Slice.{begins_with, some_passes, is_place, occurs, names_added, theorems_named, sets_profile}
+use Rattle.mw_commands.specs.Commands.Subproofs.{proofs_within, each_within}
 use Rattle.mw_heap.specs.Objects.{object_at, IsIn, Grows}
 use Rattle.mw_heap.proofs.Objects.{IsIn-Grows, object_at-Grows}
 use Rattle.mw_slice.specs.declared.basis.Basis.{Basis}

@@ -4,8 +4,8 @@ use Rattle.std.proofs.lemmas.Bool.{or_cases, or_left, or_right, lt-ltb, eqb-fals
 use Rattle.std.proofs.lemmas.List.{reverse-append, length-reverse}
 use Rattle.std.proofs.Math.Seq.{take-append_seam}
 use Rattle.mw_model.specs.Terms.Object.{Object}
-use Rattle.mw_model.specs.Commands.Slice.{begins_with, event_at, some_passes, occurs, without_name, names_added, theorems_named, first_proof, is_place, rests_on, sets_profile, is_idle}
-use Rattle.mw_model.proofs.SlicePlaces.{is_wanted, changes, collected, places_by, slice_places}
+use Rattle.mw_commands.specs.Commands.Slice.{begins_with, event_at, some_passes, occurs, without_name, names_added, theorems_named, first_proof, is_place, rests_on, sets_profile, is_idle}
+use Rattle.mw_commands.proofs.SlicePlaces.{is_wanted, changes, collected, places_by, slice_places}
 use Rattle.mw_heap.specs.Objects.{Grows}
 use Rattle.mw_slice.specs.Firsts.{AreFirsts, IsIndex}
 use Rattle.mw_slice.specs.declared.added.Added.{Added}

@@ -2,7 +2,7 @@
 use Rattle.std.specs.Prelude.{◌≡◌, ℕ, Bool, ◌&&◌, List, [], Option, Some, None, All, Contains}
 use Rattle.std.specs.Map.{keys_of, lookup}
 use Rattle.mw_model.specs.Terms.Object.{Object, same_object, third_of}
-use Rattle.mw_model.specs.Commands.Slice.{begins_with, event_at, first_proof, theorems_named}
+use Rattle.mw_commands.specs.Commands.Slice.{begins_with, event_at, first_proof, theorems_named}
 use Rattle.mw_heap.specs.Objects.{object_at, IsIn}
 
 -- references of the heap, each with a place

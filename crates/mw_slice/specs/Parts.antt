@@ -1,8 +1,8 @@
 -- Parts of an event, each by its cell, and what of an event is in a part.
 use Rattle.std.specs.Prelude.{ℕ, eqb, Bool, false, List, [], map, filter}
 use Rattle.mw_model.specs.Terms.Object.{Object, second_of}
-use Rattle.mw_model.specs.Commands.Slice.{begins_with, occurs}
-use Rattle.mw_model.specs.Commands.Subproofs.{proofs_within, each_within}
+use Rattle.mw_commands.specs.Commands.Slice.{begins_with, occurs}
+use Rattle.mw_commands.specs.Commands.Subproofs.{proofs_within, each_within}
 use Rattle.mw_heap.specs.Objects.{object_at}
 use Rattle.mw_slice.specs.declared.part.Part.{Part}
 use Rattle.mw_slice.specs.declared.part.Part.TheVariants.{Cell, Proof, Proofs}

@@ -1,7 +1,7 @@
 -- What is picked of a list of events for a name.
 use Rattle.std.specs.Prelude.{◌≡◌, ℕ, List, Some, None}
 use Rattle.mw_model.specs.Terms.Object.{Name, Object}
-use Rattle.mw_model.specs.Commands.Slice.{target, IsSlice}
+use Rattle.mw_commands.specs.Commands.Slice.{target, IsSlice}
 use Rattle.mw_slice.specs.declared.picked.Picked.{Picked as Pick}
 use Rattle.mw_slice.specs.declared.picked.Picked.TheVariants.{Events, Absent, Memory}
 

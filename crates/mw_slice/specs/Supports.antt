@@ -2,7 +2,7 @@
 use Rattle.std.specs.Prelude.{◌≡◌, ℕ, nat_eq, eqb, Bool, true, false, ◌&&◌, ◌||◌, List}
 use Rattle.std.specs.List.{list_any}
 use Rattle.mw_model.specs.Terms.Object.{Object, Natural, Symbol, Pair, same_object, second_of}
-use Rattle.mw_model.specs.Commands.Slice.{begins_with, some_passes, is_place, occurs, without_name, names_added, theorems_named, sets_profile}
+use Rattle.mw_commands.specs.Commands.Slice.{begins_with, some_passes, is_place, occurs, without_name, names_added, theorems_named, sets_profile}
 use Rattle.mw_heap.specs.Objects.{object_at, IsIn}
 use Rattle.mw_slice.specs.Firsts.{first_by}
 use Rattle.mw_slice.specs.declared.basis.Basis.{Basis}

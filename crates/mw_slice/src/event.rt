@@ -1,7 +1,7 @@
 //! What an event is.
 ghost use Rattle.std.specs.Prelude.{◌≡◌, ◌<◌, ◌&&◌, true, false, IfSome};
 ghost use Rattle.mw_model.specs.Terms.Object.{Object, Symbol, is_name, name_of_bytes, same_object, has_members, second_of, car, cdr};
-ghost use Rattle.mw_model.specs.Commands.Slice.{begins_with, is_idle, sets_profile, theorems_named};
+ghost use Rattle.mw_commands.specs.Commands.Slice.{begins_with, is_idle, sets_profile, theorems_named};
 ghost use Rattle.mw_heap.specs.Objects.{object_at, IsIn};
 ghost use Rattle.mw_heap.specs.Words.{word_object};
 ghost use Rattle.mw_slice.specs.Parts.{cell_of, occurs_in};

@@ -1,7 +1,7 @@
 //! Where formulas are first proved.
 ghost use Rattle.std.specs.Prelude.{◌≡◌, ℕ, ◌<◌, false, [], length, cond, Some, None, OnOk};
 ghost use Rattle.mw_model.specs.Terms.Object.{Object};
-ghost use Rattle.mw_model.specs.Commands.Slice.{first_proof};
+ghost use Rattle.mw_commands.specs.Commands.Slice.{first_proof};
 ghost use Rattle.mw_heap.specs.Objects.{object_at, IsIn, Grows};
 ghost use Rattle.mw_slice.specs.Events.{AreIn, objects_of};
 ghost use Rattle.mw_slice.specs.Firsts.{AreFirsts, IsIndex, NamesNone, proves, first_or, first_by};

@@ -1,6 +1,6 @@
 //! The names that events add.
 ghost use Rattle.std.specs.Prelude.{◌≡◌, IfOk};
-ghost use Rattle.mw_model.specs.Commands.Slice.{some_passes, first_members, names_added};
+ghost use Rattle.mw_commands.specs.Commands.Slice.{some_passes, first_members, names_added};
 ghost use Rattle.mw_heap.specs.Objects.{object_at, IsIn, Grows};
 ghost use Rattle.mw_heap.specs.Parts.{part_at, IsPart};
 ghost use Rattle.mw_slice.specs.Supports.{Named, IsInside, notes};

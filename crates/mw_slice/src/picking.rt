@@ -1,8 +1,8 @@
 //! The events that a theorem rests on.
 ghost use Rattle.std.specs.Prelude.{◌≡◌, ℕ, ◌<◌, suc, cond, true, false, ◌||◌, ◌∷◌, [], ◌++◌, length, reverse, Some, None, IfOk, IfSome, OnOk, MatchOption};
 ghost use Rattle.mw_model.specs.Terms.Object.{Object, is_name, name_of_bytes};
-ghost use Rattle.mw_model.specs.Commands.Slice.{begins_with, some_passes, target, first_proof, is_idle, IsSlice};
-ghost use Rattle.mw_model.proofs.SlicePlaces.{is_wanted, changes, collected, slice_places};
+ghost use Rattle.mw_commands.specs.Commands.Slice.{begins_with, some_passes, target, first_proof, is_idle, IsSlice};
+ghost use Rattle.mw_commands.proofs.SlicePlaces.{is_wanted, changes, collected, slice_places};
 ghost use Rattle.mw_heap.specs.Objects.{object_at, IsIn, Grows};
 ghost use Rattle.mw_slice.specs.Events.{AreIn, objects_of};
 ghost use Rattle.mw_slice.specs.Firsts.{AreFirsts, IsIndex};

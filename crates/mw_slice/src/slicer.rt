@@ -1,7 +1,7 @@
 //! The accepted events of a book.
 ghost use Rattle.std.specs.Prelude.{◌≡◌, ◌≢◌, ◌<◌, ℕ, [], ◌∷◌, ◌++◌, List, length, true, IfOk, OnOk, OnErr};
 ghost use Rattle.mw_model.specs.Terms.Object.{Object, is_name, name_of_bytes};
-ghost use Rattle.mw_model.specs.Commands.Slice.{event_at};
+ghost use Rattle.mw_commands.specs.Commands.Slice.{event_at};
 ghost use Rattle.mw_heap.specs.Objects.{object_at, IsIn};
 ghost use Rattle.mw_slice.specs.Picked.{IsPicked};
 ghost use Rattle.mw_slice.specs.Slices.{events_of, heap_at};

@@ -5,11 +5,11 @@ use Rattle.mw_model.specs.Terms.Object.{Object, same_object, weight}
 use Rattle.mw_model.specs.Terms.Term.{Formula, Equal, Not as Denial, Or as Either, formula_object, ArityTable, is_formula}
 use Rattle.mw_model.specs.Terms.Reading.{formula_of}
 use Rattle.mw_model.specs.Values.Truth.{Each}
-use Rattle.mw_model.specs.Commands.Tautology.{all_equations, equations}
 use Rattle.mw_model.specs.Terms.Same.{same_formula}
 use Rattle.mw_model.proofs.SameTerms.{same_formula-eq}
 use Rattle.mw_model.proofs.Read.{formula_read}
 use Rattle.std.proofs.lemmas.Bool.{and_parts}
+use Rattle.mw_commands.specs.Commands.Tautology.{all_equations, equations}
 use Rattle.mw_heap.specs.Objects.{object_at, IsIn, AreDistinct}
 use Rattle.mw_taut.specs.declared.node.Node.{Node}
 use Rattle.mw_taut.specs.declared.node.Node.TheVariants.{Equation, Not, Or}

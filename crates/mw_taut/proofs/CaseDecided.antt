@@ -4,8 +4,8 @@ use Rattle.mw_model.specs.Terms.Object.{Object, Pair, truth_of}
 use Rattle.mw_model.specs.Terms.Term.{Formula, Equal, Not, Or, formula_object, ArityTable, is_formula}
 use Rattle.mw_model.specs.Terms.Same.{same_formula}
 use Rattle.mw_model.specs.Values.Truth.{Each}
-use Rattle.mw_model.specs.Commands.Tautology.{Choice, choices, chosen, value_by, first_against, choice_object}
 use Rattle.mw_model.proofs.SameTerms.{same_formula-refl}
+use Rattle.mw_commands.specs.Commands.Tautology.{Choice, choices, chosen, value_by, first_against, choice_object}
 use Rattle.mw_heap.specs.Objects.{object_at}
 use Rattle.mw_taut.specs.declared.case.Outcome.{Outcome}
 use Rattle.mw_taut.specs.declared.case.Outcome.TheVariants.{Proof, Against}

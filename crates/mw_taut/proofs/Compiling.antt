@@ -5,7 +5,7 @@ use Rattle.std.proofs.lemmas.List.{map-append}
 use Rattle.mw_model.specs.Terms.Object.{Object}
 use Rattle.mw_model.specs.Terms.Term.{Formula, formula_object, ArityTable}
 use Rattle.mw_model.specs.Values.Truth.{Each}
-use Rattle.mw_model.specs.Commands.Tautology.{equations}
+use Rattle.mw_commands.specs.Commands.Tautology.{equations}
 use Rattle.mw_heap.specs.Objects.{object_at, IsIn}
 use Rattle.mw_taut.specs.declared.node.Node.{Node}
 use Rattle.mw_taut.specs.declared.table.Table.{Table}

@@ -4,8 +4,8 @@ use Rattle.std.specs.Prelude.{if◌then◌else◌}
 use Rattle.mw_model.specs.Terms.Object.{Object}
 use Rattle.mw_model.specs.Terms.Term.{Formula, Equal, Not, Or, formula_object, ArityTable, is_formula}
 use Rattle.mw_model.specs.Values.Truth.{Each}
-use Rattle.mw_model.specs.Commands.Tautology.{all_equations, equations, choices, first_against, falsifying, decided, decision, most_equations, Choice as Chosen, Many as ManyDue}
-use Rattle.mw_model.proofs.Tautologies.{tautology_exact}
+use Rattle.mw_commands.specs.Commands.Tautology.{all_equations, equations, choices, first_against, falsifying, decided, decision, most_equations, Choice as Chosen, Many as ManyDue}
+use Rattle.mw_commands.proofs.Tautologies.{tautology_exact}
 use Rattle.mw_heap.specs.Objects.{object_at}
 use Rattle.mw_taut.specs.declared.table.Table.{Table}
 use Rattle.mw_taut.specs.declared.case.Outcome.{Outcome}

@@ -2,7 +2,7 @@
 use Rattle.std.proofs.Common.{◌≡◌, Bool, true, false, cond, List, [], ◌∷◌, ◌++◌, Option, Some, None, refl, sym, ap, ap₂, ◌∙◌, append_assoc}
 use Rattle.std.proofs.lemmas.List.{map-append}
 use Rattle.mw_model.specs.Terms.Term.{Formula}
-use Rattle.mw_model.specs.Commands.Tautology.{Choice, choosing, choices, value_under, first_against}
+use Rattle.mw_commands.specs.Commands.Tautology.{Choice, choosing, choices, value_under, first_against}
 use Rattle.mw_taut.specs.Cases.{going_on}
 
 abbrev pub or_else : Option Choice → Option Choice → Option Choice

@@ -4,8 +4,8 @@ use Rattle.std.proofs.lemmas.Bool.{and_parts}
 use Rattle.mw_model.specs.Terms.Term.{Formula, Equal, Not, Or, firsts, ArityTable, is_formula}
 use Rattle.mw_model.specs.Terms.Same.{same_formula}
 use Rattle.mw_model.specs.Values.Truth.{Each}
-use Rattle.mw_model.specs.Commands.Tautology.{all_equations}
 use Rattle.mw_model.proofs.SameTerms.{same_formula-eq, same_formula-refl}
+use Rattle.mw_commands.specs.Commands.Tautology.{all_equations}
 use Rattle.mw_term.proofs.Gathered.{IsListing}
 use Rattle.mw_taut.specs.Meaning.{IsEquation, AreApart, among}
 

@@ -6,12 +6,12 @@ use Rattle.std.proofs.Common.{eqb-true}
 use Rattle.mw_model.specs.Terms.Object.{Object}
 use Rattle.mw_model.specs.Terms.Term.{Formula, Not, Or, formula_object, ArityTable, is_formula}
 use Rattle.mw_model.specs.Values.Truth.{Each}
-use Rattle.mw_model.specs.Commands.Tautology.{IsTautology}
 use Rattle.mw_model.proofs.Read.{formula_object-one}
 use Rattle.mw_heap.specs.Objects.{object_at, IsIn, Grows}
 use Rattle.mw_heap.proofs.Objects.{IsIn-Grows, object_at-Grows}
 use Rattle.indexmap.specs.IndexMap.{IndexMap, get, IsEmpty}
 use Rattle.std.specs.Map.{lookup}
+use Rattle.mw_commands.specs.Commands.Tautology.{IsTautology}
 use Rattle.mw_taut.specs.declared.table.Table.{Table}
 use Rattle.mw_taut.specs.declared.case.Outcome.{Outcome}
 use Rattle.mw_taut.specs.declared.case.Outcome.TheVariants.{Proof, Against}

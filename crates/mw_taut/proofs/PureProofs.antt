@@ -5,11 +5,11 @@ use Rattle.mw_model.specs.Terms.Object.{Object}
 use Rattle.mw_model.specs.Terms.Term.{Formula, Equal, Not, Or, formula_object, ArityTable, is_formula}
 use Rattle.mw_model.specs.Terms.Same.{same_formula}
 use Rattle.mw_model.specs.Values.Truth.{Each}
-use Rattle.mw_model.specs.Commands.Tautology.{Choice, Many, Holds, IsTautology, all_equations, equations, chosen, value_under, falsifying, decided, decision, most_equations}
-use Rattle.mw_model.specs.Commands.TautologyBook.{IsPureProof}
 use Rattle.mw_model.proofs.SameTerms.{same_formula-eq, same_formula-refl}
-use Rattle.mw_model.proofs.Tautologies.{tautology_exact}
 use Rattle.std.proofs.lemmas.Bool.{both_ways}
+use Rattle.mw_commands.specs.Commands.Tautology.{Choice, Many, Holds, IsTautology, all_equations, equations, chosen, value_under, falsifying, decided, decision, most_equations}
+use Rattle.mw_commands.specs.Commands.TautologyBook.{IsPureProof}
+use Rattle.mw_commands.proofs.Tautologies.{tautology_exact}
 use Rattle.mw_taut.proofs.Elements.{each_parts}
 use Rattle.mw_taut.specs.Steps.{schema, inserted, appended, resolved, doubled, left, right, neither}
 use Rattle.mw_taut.specs.Reducing.{literal_law}

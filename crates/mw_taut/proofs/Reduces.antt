@@ -3,11 +3,11 @@ use Rattle.std.proofs.Common.{◌≡◌, Bool, true, false, ◌||◌, not, cond,
 use Rattle.mw_model.specs.Terms.Object.{Object, same_object}
 use Rattle.mw_model.specs.Terms.Term.{Formula, Equal, Not as Denial, Or as Either, formula_object, ArityTable, is_formula}
 use Rattle.mw_model.specs.Terms.Same.{same_formula}
-use Rattle.mw_model.specs.Commands.Tautology.{value_by}
 use Rattle.mw_model.proofs.Names.{same_object-eq, same_object-from}
 use Rattle.mw_model.proofs.SameTerms.{same_formula-eq}
 use Rattle.mw_model.proofs.Read.{formula_object-one}
 use Rattle.std.proofs.lemmas.Bool.{both_ways, and_from}
+use Rattle.mw_commands.specs.Commands.Tautology.{value_by}
 use Rattle.mw_taut.specs.Steps.{left, right}
 use Rattle.mw_taut.specs.Reducing.{ValueAndProof, Other, Form, Fixed, Kept, Changed, literal_object, literal_law, reduce_equation, kept_from, kept_to, kept, deny_value, denied_from, denied_to, undenied_from, undoubled, undenied_to, denial, undenied, deny_other, deny, either_value, first_from, first_to_start, first_to, second_from, second_to_start, alone_end, second_to_end, second_to, either_first, either_second, either_both, either_first_kept, either_second_kept, either_after, either_before, either}
 use Rattle.mw_taut.specs.Meaning.{literal, IsEquation, among, Over, IsDenialOf, IsFixed, ComesTo, IsForm}

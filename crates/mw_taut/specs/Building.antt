@@ -4,7 +4,7 @@ use Rattle.mw_model.specs.Terms.Object.{Object, nil_name, same_object, weight}
 use Rattle.mw_model.specs.Terms.Term.{Formula, Equal, Variable, formula_object, ArityTable, is_formula}
 use Rattle.mw_model.specs.Terms.Reading.{formula_of}
 use Rattle.mw_model.specs.Values.Truth.{Each}
-use Rattle.mw_model.specs.Commands.Tautology.{all_equations, equations}
+use Rattle.mw_commands.specs.Commands.Tautology.{all_equations, equations}
 use Rattle.mw_heap.specs.Objects.{object_at, IsIn}
 use Rattle.mw_term.specs.Occurrences.{gather}
 use Rattle.mw_taut.specs.declared.node.Node.{Node}

@@ -5,7 +5,7 @@ use Rattle.mw_model.specs.Terms.Term.{Formula, Not, Or, formula_object, ArityTab
 use Rattle.mw_model.specs.Values.Primitive.{One}
 use Rattle.mw_model.specs.Proofs.Proof.{Proves}
 use Rattle.mw_model.specs.Values.Truth.{Each}
-use Rattle.mw_model.specs.Commands.Tautology.{Choice, IsTautology, choices, choice_object, first_against, value_by}
+use Rattle.mw_commands.specs.Commands.Tautology.{Choice, IsTautology, choices, choice_object, first_against, value_by}
 use Rattle.mw_heap.specs.Objects.{object_at, IsIn}
 use Rattle.indexmap.specs.IndexMap.{IndexMap, get}
 use Rattle.mw_taut.specs.declared.table.Table.{Table}

@@ -2,9 +2,9 @@
 use Rattle.std.specs.Prelude.{◌≡◌, false, List, [], Some, map, slice_get}
 use Rattle.mw_model.specs.Terms.Object.{Object}
 use Rattle.mw_model.specs.Terms.Term.{Formula, formula_object, ArityTable}
-use Rattle.mw_model.specs.Commands.Tautology.{equations, choice_object, Decision as Due, Many as ManyDue, FailsUnder, Holds}
 use Rattle.mw_model.specs.Events.Fate.{is_out_of_range}
-use Rattle.mw_model.specs.Commands.TautologyBook.{IsPureProof}
+use Rattle.mw_commands.specs.Commands.Tautology.{equations, choice_object, Decision as Due, Many as ManyDue, FailsUnder, Holds}
+use Rattle.mw_commands.specs.Commands.TautologyBook.{IsPureProof}
 use Rattle.mw_heap.specs.Objects.{object_at, IsIn}
 use Rattle.mw_taut.specs.declared.table.Table.{Table}
 use Rattle.mw_taut.specs.declared.deciding.Decision.{Decision}

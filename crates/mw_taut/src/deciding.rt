@@ -3,7 +3,7 @@ ghost use Rattle.std.specs.Prelude.{◌≡◌, true, Some, [], IfOk};
 ghost use Rattle.mw_model.specs.Terms.Term.{Formula, formula_object, is_formula};
 ghost use Rattle.mw_model.specs.Terms.Reading.{formula_under};
 ghost use Rattle.mw_model.specs.Laws.Rules.{is_formula_object};
-ghost use Rattle.mw_model.specs.Commands.Tautology.{decision, equations};
+ghost use Rattle.mw_commands.specs.Commands.Tautology.{decision, equations};
 ghost use Rattle.mw_heap.specs.Objects.{object_at, IsIn, Grows};
 ghost use Rattle.mw_taut.specs.Cases.{Decides, answer_at, IsOutcomeIn};
 ghost use Rattle.mw_taut.specs.Decided.{IsTableOf, IsDecision, decision_of, IsInRange};

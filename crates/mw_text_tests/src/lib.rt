@@ -19,8 +19,6 @@ mod read;
 #[cfg(test)]
 mod shared;
 #[cfg(test)]
-mod slice;
-#[cfg(test)]
 mod subst;
 #[cfg(test)]
 mod term;

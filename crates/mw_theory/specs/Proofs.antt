@@ -4,7 +4,7 @@ use Rattle.mw_model.specs.Terms.Object.{Object, has_members}
 use Rattle.mw_model.specs.Terms.Term.{Formula, formula_object}
 use Rattle.mw_model.specs.Events.Theory.{Theory}
 use Rattle.mw_model.specs.Events.Refusal.{Refusal, COUNT}
-use Rattle.mw_model.specs.Commands.Demand.{Judge as ByFormula, each_judged}
+use Rattle.mw_model.specs.Events.Demand.{Judge as ByFormula, each_judged}
 
 -- A judge says at a theory why an object is refused as a proof of the formula that another object is, where it is.
 abbrev pub Judge : Type 0

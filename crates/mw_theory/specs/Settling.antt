@@ -7,7 +7,7 @@ use Rattle.mw_model.specs.Laws.Rules.{is_formula_object}
 use Rattle.mw_model.specs.Events.Theory.{Theory, IsSound}
 use Rattle.mw_model.specs.Events.Refusal.{Refusal, EVENT, NAME, FORMULA, Fate, Accepted, Refused, refuse, accept, need}
 use Rattle.mw_model.specs.Events.Admission.{Draft, skolem, add_to_theory}
-use Rattle.mw_model.specs.Commands.Demand.{define_demand, settled}
+use Rattle.mw_model.specs.Events.Demand.{define_demand, settled}
 use Rattle.mw_heap.specs.Objects.{object_at}
 use Rattle.mw_theory.specs.Knowledge.{with_theorem}
 use Rattle.mw_theory.specs.Words.{skolem_event}

@@ -23,5 +23,4 @@ pub mod Drafted
 pub mod Growth
 pub mod Events
 pub mod Reached
-pub mod LogsTrue
 pub mod AdmissionExample

@@ -1,4 +1,3 @@
 pub mod Methods
 pub mod Admitted
 pub mod Reached
-pub mod Logged

@@ -1,16 +1,12 @@
 //! Events keep theories sound.
 
-ghost use Rattle.std.specs.Prelude.{◌≡◌, ℕ, List, Option, None};
+ghost use Rattle.std.specs.Prelude.{◌≡◌, ℕ, List, None};
 ghost use Rattle.mw_model.specs.Terms.Object.{Object, NIL, T, Member};
 ghost use Rattle.mw_model.specs.Terms.Term.{Constant, Equal, formula_object};
 ghost use Rattle.mw_model.specs.Values.Primitive.{Profile, One};
-ghost use Rattle.mw_model.specs.Values.Truth.{Each};
 ghost use Rattle.mw_model.specs.Events.Theory.{Theory, initial, IsSound};
 ghost use Rattle.mw_model.specs.Events.Fate.{after};
 ghost use Rattle.mw_model.specs.Reports.Keeping.{EventKeeps, EachKeeps};
-ghost use Rattle.mw_model.specs.Commands.LogReport.{last_logged, log_of};
-ghost use Rattle.mw_model.specs.Reports.Headlines.{EntryKeeps};
-ghost use Rattle.mw_truth.specs.Logged.{LoggedKeeps};
 ghost use Rattle.mw_truth.specs.Reached.{JudgesTruly, StaysBuiltIn};
 
 /// The initial theory of each profile is sound.
@@ -32,13 +28,4 @@ pub fn reached_sound()
     ensures events { (es : List Object) (N : ℕ) → StaysBuiltIn (initial One) es N → EachKeeps (initial One) N es }
     ensures sound { (es : List Object) (N : ℕ) → StaysBuiltIn (initial One) es N → IsSound (after (initial One) es N) }
     ensures consistent { (es : List Object) (N : ℕ) → StaysBuiltIn (initial One) es N → Member (formula_object (Equal (Constant T) (Constant NIL))) (after (initial One) es N).theorems → ⊥ }
-{}
-
-/// At a sound theory under the built-in checker each event of a log brings only what is true where it gets a yes, changes
-/// nothing where it gets a no, and leaves a sound theory under that checker. So each event of any log keeps truth, and the
-/// theory that it leads to is sound.
-pub fn logs_keep()
-    ensures event { (t : Theory) (steps : List Object) (e : Object) → IsSound t → t.checker ≡ None → LoggedKeeps t steps e }
-    ensures entered { (xs : List Object) → Each EntryKeeps (log_of xs).entered }
-    ensures sound { (xs : List Object) → IsSound (last_logged (log_of xs)) }
 {}

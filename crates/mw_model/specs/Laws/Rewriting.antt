@@ -7,7 +7,7 @@ use Rattle.mw_model.specs.Values.Definition.{arity_table}
 use Rattle.mw_model.specs.Laws.RulesInduction.{is_list_object}
 use Rattle.mw_model.specs.Events.Theory.{Theory}
 use Rattle.mw_model.specs.Events.Fate.{EventWord, event_word}
-use Rattle.mw_model.specs.Commands.Demand.{proofs_of, with_proofs}
+use Rattle.mw_model.specs.Events.Demand.{proofs_of, with_proofs}
 
 -- which objects turn to which, over axioms, theorems, an arity table and a profile
 abbrev pub Turning : Type 1

@@ -2,9 +2,9 @@
 use Rattle.std.proofs.Common.{◌≡◌, ◌+◌, ◌++◌, ◌∷◌, [], map, take, get_or, add-one, refl, sym, ap, ◌∙◌, subst, append_assoc}
 use Rattle.std.proofs.Math.Seq.{take-suc}
 use Rattle.std.proofs.lemmas.List.{map-append}
-use Rattle.mw_model.specs.Commands.Slice.{event_at}
 use Rattle.mw_model.specs.Texts.Written.{IsWritten, IsDatumLine}
 use Rattle.mw_model.specs.Texts.Pieces.{InOrder}
+use Rattle.mw_commands.specs.Commands.Slice.{event_at}
 use Rattle.mw_heap.specs.Objects.{object_at}
 use Rattle.mw_slice.specs.Slices.{events_of}
 use Rattle.mw_book.proofs.SlicedTexts.{line_more}

@@ -1,7 +1,7 @@
 use Rattle.std.proofs.Common.{◌≡◌, ℕ, List, ◌++◌, map, take}
 use Rattle.mw_model.specs.Texts.Written.{IsDatumLine}
 use Rattle.mw_model.specs.Texts.Pieces.{InOrder}
-use Rattle.mw_model.specs.Commands.Slice.{event_at}
+use Rattle.mw_commands.specs.Commands.Slice.{event_at}
 use Rattle.mw_slice.specs.Slices.{events_of}
 use Rattle.mw_book.proofs.kept.write_kept.Given as goal
 

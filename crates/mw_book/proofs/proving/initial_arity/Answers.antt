@@ -2,7 +2,7 @@
 use Rattle.std.proofs.Common.{◌≡◌, refl, ◌∙◌}
 use Rattle.mw_model.specs.Values.Primitive.{One}
 use Rattle.mw_model.specs.Values.Definition.{arity_table}
-use Rattle.mw_model.specs.Commands.TautologyBook.{initial_arities}
+use Rattle.mw_commands.specs.Commands.TautologyBook.{initial_arities}
 use Rattle.mw_preamble.specs.Admitted.{definitions_of}
 use Rattle.mw_book.proofs.proving.initial_arity.Goals as goal
 

@@ -2,7 +2,7 @@
 use Rattle.std.proofs.Common.{◌≡◌, false, true, Some, None, option_map, sym, ap, ◌∙◌}
 use Rattle.mw_model.specs.Laws.Rules.{is_formula_object}
 use Rattle.mw_model.specs.Proofs.Judgment.{methods, method_among}
-use Rattle.mw_model.specs.Commands.Log.{naturals_of, formulas_at}
+use Rattle.mw_commands.specs.Commands.Log.{naturals_of, formulas_at}
 use Rattle.mw_heap.specs.Objects.{object_at, IsIn}
 use Rattle.mw_term.proofs.CallerLemmas.{AreMarks-grows}
 use Rattle.mw_rules.specs.Methods.{method_of_logic}

@@ -1,7 +1,7 @@
 -- What is left of the list decides.
 use Rattle.std.proofs.Common.{◌≡◌}
 use Rattle.mw_model.specs.Values.Definition.{is_present}
-use Rattle.mw_model.specs.Commands.Log.{naturals_of}
+use Rattle.mw_commands.specs.Commands.Log.{naturals_of}
 use Rattle.mw_heap.specs.Objects.{object_at, IsIn}
 use Rattle.mw_flat.proofs.entry.are_naturals.Given as goal
 

@@ -2,8 +2,8 @@
 use Rattle.std.proofs.Common.{inl, inr, refl, sym, ap, ◌∙◌, subst}
 use Rattle.mw_model.specs.Terms.Reading.{when}
 use Rattle.mw_model.specs.Values.Definition.{is_present}
-use Rattle.mw_model.specs.Commands.Log.{natural_of, naturals_of}
 use Rattle.mw_model.specs.Events.Fate as word
+use Rattle.mw_commands.specs.Commands.Log.{natural_of, naturals_of}
 use Rattle.mw_heap.specs.Objects.{object_at}
 use Rattle.mw_theory.specs.Words.{IsEvent, event_object}
 use Rattle.mw_theory.specs.declared.event.Event.TheVariants.{Verify, Define, Skolem, DefineAll, Profile}

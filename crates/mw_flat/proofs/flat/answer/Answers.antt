@@ -2,7 +2,7 @@
 use Rattle.std.proofs.Common.{sym, ap, ◌∙◌}
 use Rattle.mw_heap.specs.Variants.{refusal_of}
 use Rattle.std.specs.Prelude.{Some, option_map}
-use Rattle.mw_model.specs.Commands.Log.{entry_of}
+use Rattle.mw_commands.specs.Commands.Log.{entry_of}
 use Rattle.mw_heap.specs.Objects.{object_at}
 use Rattle.mw_theory.specs.Worlds.{theory_in}
 use Rattle.mw_flat.proofs.Goings.{unnamed}

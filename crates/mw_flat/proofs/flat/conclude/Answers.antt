@@ -4,7 +4,7 @@ use Rattle.mw_model.specs.Terms.Object.{Object}
 use Rattle.mw_model.specs.Terms.Term.{Formula, ArityTable}
 use Rattle.mw_model.specs.Values.Primitive.{Profile}
 use Rattle.mw_model.specs.Laws.Rules.{is_formula_object}
-use Rattle.mw_model.specs.Commands.Log.{conclusion}
+use Rattle.mw_commands.specs.Commands.Log.{conclusion}
 use Rattle.mw_heap.specs.Objects.{object_at, IsIn}
 use Rattle.mw_heap.proofs.Objects.{length-Grows, take-Grows-mark}
 use Rattle.mw_theory.specs.Knowledge.{parts_of, meant}

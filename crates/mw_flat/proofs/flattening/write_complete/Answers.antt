@@ -2,7 +2,7 @@
 use Rattle.std.proofs.Common.{◌≡◌, ℕ, List, ◌++◌, map, ap, ◌∙◌, subst}
 use Rattle.mw_model.specs.Terms.Object.{Object}
 use Rattle.mw_model.specs.Texts.Pieces.{InOrder, numbered}
-use Rattle.mw_model.specs.Commands.Flattening.{IsStepLine, number_among}
+use Rattle.mw_commands.specs.Commands.Flattening.{IsStepLine, number_among}
 use Rattle.mw_heap.specs.Objects.{object_at}
 use Rattle.mw_flat.proofs.flattening.write_complete.Goals as goal
 

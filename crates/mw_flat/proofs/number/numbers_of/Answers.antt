@@ -1,6 +1,6 @@
 -- One number more.
 use Rattle.std.proofs.Common.{map}
-use Rattle.mw_model.specs.Commands.Flattening.{number_among}
+use Rattle.mw_commands.specs.Commands.Flattening.{number_among}
 use Rattle.mw_heap.specs.Objects.{object_at}
 use Rattle.mw_flat.proofs.Places.{one_number}
 use Rattle.mw_flat.proofs.number.numbers_of.Goals as goal

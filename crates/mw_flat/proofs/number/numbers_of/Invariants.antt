@@ -1,6 +1,6 @@
 -- The numbers of the proofs so far.
 use Rattle.std.proofs.Common.{◌≡◌, map, take}
-use Rattle.mw_model.specs.Commands.Flattening.{number_among}
+use Rattle.mw_commands.specs.Commands.Flattening.{number_among}
 use Rattle.mw_heap.specs.Objects.{object_at}
 use Rattle.mw_flat.proofs.number.numbers_of.Given as goal
 

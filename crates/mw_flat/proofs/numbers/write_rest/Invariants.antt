@@ -1,7 +1,7 @@
 -- What is still to be written follows what is written.
 use Rattle.std.proofs.Common.{◌≡◌, ◌++◌, map}
 use Rattle.mw_model.specs.Texts.Printing.{tail_text}
-use Rattle.mw_model.specs.Commands.Flattening.{numbers_among}
+use Rattle.mw_commands.specs.Commands.Flattening.{numbers_among}
 use Rattle.mw_heap.specs.Objects.{object_at, IsIn}
 use Rattle.mw_flat.proofs.numbers.write_rest.Given as goal
 

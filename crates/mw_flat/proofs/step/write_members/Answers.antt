@@ -2,7 +2,7 @@
 use Rattle.std.proofs.Common.{[], ◌∷◌, ◌++◌, map, ap, ◌∙◌, subst, append_assoc}
 use Rattle.mw_model.specs.Terms.Object.{Natural, car, second_of, third_of, fourth_of}
 use Rattle.mw_model.specs.Texts.Printing.{numeral, text_of}
-use Rattle.mw_model.specs.Commands.Flattening.{numbers_among}
+use Rattle.mw_commands.specs.Commands.Flattening.{numbers_among}
 use Rattle.mw_heap.specs.Objects.{object_at}
 use Rattle.mw_flat.specs.Members.{WritesMember}
 use Rattle.mw_flat.proofs.Writing.{writes_none, writes_more, writes_text}

@@ -1,7 +1,7 @@
 -- One step more.
 use Rattle.std.proofs.Common.{◌<◌, ◌+◌, ◌++◌, length, map, get_or, ap, ◌∙◌, subst, arith, append_assoc}
 use Rattle.std.proofs.lemmas.List.{get_or_read}
-use Rattle.mw_model.specs.Commands.Flattening.{IsStepLine}
+use Rattle.mw_commands.specs.Commands.Flattening.{IsStepLine}
 use Rattle.mw_heap.specs.Objects.{object_at}
 use Rattle.mw_flat.proofs.Writing.{one_more}
 use Rattle.mw_flat.proofs.steps.write_steps.Goals as goal

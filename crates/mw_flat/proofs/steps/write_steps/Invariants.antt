@@ -1,7 +1,7 @@
 -- The steps so far are written.
 use Rattle.std.proofs.Common.{◌≡◌, ℕ, List, ◌++◌, map, take}
 use Rattle.mw_model.specs.Texts.Pieces.{InOrder, numbered}
-use Rattle.mw_model.specs.Commands.Flattening.{IsStepLine}
+use Rattle.mw_commands.specs.Commands.Flattening.{IsStepLine}
 use Rattle.mw_heap.specs.Objects.{object_at}
 use Rattle.mw_flat.proofs.steps.write_steps.Given as goal
 

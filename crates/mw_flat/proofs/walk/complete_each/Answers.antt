@@ -1,7 +1,7 @@
 -- One proof more.
 use Rattle.std.proofs.Common.{◌≡◌, ◌<◌, [], ◌++◌, length, take, get_or, sym, ap, ◌∙◌, arith}
 use Rattle.std.proofs.lemmas.List.{take_more, take_all, get_or_read}
-use Rattle.mw_model.specs.Commands.Subproofs.{each_within, proofs_within}
+use Rattle.mw_commands.specs.Commands.Subproofs.{each_within, proofs_within}
 use Rattle.mw_heap.specs.Objects.{object_at}
 use Rattle.mw_heap.specs.Lists.{list_object}
 use Rattle.mw_term.specs.Occurrences.{gather}

@@ -1,6 +1,6 @@
 -- What the proofs so far are made of is complete.
 use Rattle.std.proofs.Common.{◌≡◌, [], map, take}
-use Rattle.mw_model.specs.Commands.Subproofs.{each_within}
+use Rattle.mw_commands.specs.Commands.Subproofs.{each_within}
 use Rattle.mw_heap.specs.Objects.{object_at}
 use Rattle.mw_heap.specs.Lists.{list_object}
 use Rattle.mw_term.specs.Occurrences.{gather}

@@ -3,7 +3,7 @@ use Rattle.std.proofs.Common.{[], ◌∷◌, ◌++◌, codes, subst}
 use Rattle.std.proofs.lemmas.Result.{on_ok_weaker}
 use Rattle.mw_model.specs.Reports.Report.{spaced}
 use Rattle.mw_model.specs.Texts.Written.{IsWritten}
-use Rattle.mw_model.specs.Commands.TautologyBook.{remark}
+use Rattle.mw_commands.specs.Commands.TautologyBook.{remark}
 use Rattle.mw_lines.specs.Verdicts.{IsVerdict}
 use Rattle.mw_lines.proofs.Owing.{owes_shape, owes_many, owes_choice, owes_theorem}
 use Rattle.mw_lines.proofs.answer.write_answer.Goals as goal

@@ -1,7 +1,7 @@
 -- The decision on the formula.
 use Rattle.std.proofs.Common.{subst}
 use Rattle.mw_model.specs.Terms.Reading.{formula_under}
-use Rattle.mw_model.specs.Commands.Tautology.{decision}
+use Rattle.mw_commands.specs.Commands.Tautology.{decision}
 use Rattle.mw_heap.specs.Objects.{object_at}
 use Rattle.mw_heap.proofs.Objects.{Grows-trans, IsIn-Grows}
 use Rattle.mw_taut.specs.Decided.{IsDecision}

@@ -1,7 +1,7 @@
 -- By the form of the event.
 use Rattle.std.proofs.Common.{sym, ap, subst}
 use Rattle.mw_model.specs.Events.Fate.{event_word}
-use Rattle.mw_model.specs.Commands.Flattening.{is_logged_word, OwesFlat}
+use Rattle.mw_commands.specs.Commands.Flattening.{is_logged_word, OwesFlat}
 use Rattle.mw_theory.specs.Words.{IsEvent}
 use Rattle.mw_logged.proofs.flat_event.write_event.Goals as goal
 

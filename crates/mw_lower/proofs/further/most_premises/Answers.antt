@@ -1,6 +1,6 @@
 -- By the rule that is named, a further one or a method.
 use Rattle.std.proofs.Common.{option_map, sym, ap, ◌∙◌}
-use Rattle.mw_model.specs.Commands.Derivation.{By}
+use Rattle.mw_commands.specs.Commands.Derivation.{By}
 use Rattle.mw_heap.specs.Objects.{object_at}
 use Rattle.mw_lower.specs.Further.{most_premises}
 use Rattle.mw_lower.proofs.RuleNames.{is_further, is_method}

@@ -1,7 +1,7 @@
 -- By how many proofs there are.
 use Rattle.std.proofs.Common.{None, sym, subst}
-use Rattle.mw_model.specs.Commands.Derivation as logic
-use Rattle.mw_model.specs.Commands.DerivationTest.{is_commuted, is_turned, is_detached, is_chained}
+use Rattle.mw_commands.specs.Commands.Derivation as logic
+use Rattle.mw_commands.specs.Commands.DerivationTest.{is_commuted, is_turned, is_detached, is_chained}
 use Rattle.mw_heap.specs.Objects.{object_at}
 use Rattle.mw_heap.specs.Lists.{list_object}
 use Rattle.mw_lower.specs.Answers.{AnswersAll}

@@ -1,7 +1,7 @@
 -- By the parts of the disjunction.
 use Rattle.std.proofs.Common.{ap, ◌∙◌}
 use Rattle.mw_model.specs.Terms.Object.{third_of}
-use Rattle.mw_model.proofs.LogAccepted.{conclusion_is}
+use Rattle.mw_commands.proofs.LogAccepted.{conclusion_is}
 use Rattle.mw_heap.proofs.Objects.{object_at-Grows}
 use Rattle.mw_lower.proofs.StepTests.{no_object}
 use Rattle.mw_lower.proofs.replace.detach_one.Goals as goal

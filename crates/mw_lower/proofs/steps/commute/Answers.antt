@@ -3,9 +3,9 @@ use Rattle.std.proofs.Common.{ap, ap₂, sym, ◌∙◌, subst}
 use Rattle.std.proofs.lemmas.Bool.{and_from}
 use Rattle.mw_model.specs.Terms.Object.{symbol, list3}
 use Rattle.mw_model.specs.Terms.Term.{Or}
-use Rattle.mw_model.specs.Commands.DerivationTest.{is_commuted}
-use Rattle.mw_model.proofs.LogAccepted.{conclusion_is}
 use Rattle.mw_model.proofs.SameTerms.{same_formula-eq}
+use Rattle.mw_commands.specs.Commands.DerivationTest.{is_commuted}
+use Rattle.mw_commands.proofs.LogAccepted.{conclusion_is}
 use Rattle.mw_heap.specs.Objects.{object_at}
 use Rattle.mw_lower.specs.Schemes.{IsProof}
 use Rattle.mw_lower.proofs.ByMethods.{formed}

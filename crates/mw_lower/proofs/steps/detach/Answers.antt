@@ -4,9 +4,9 @@ use Rattle.std.proofs.lemmas.Bool.{and_left, and_right, and_from}
 use Rattle.mw_model.specs.Terms.Object.{symbol, list2}
 use Rattle.mw_model.specs.Terms.Term.{Or, Not, formula_object}
 use Rattle.mw_model.specs.Terms.Same.{same_formula}
-use Rattle.mw_model.specs.Commands.DerivationTest.{is_detached}
-use Rattle.mw_model.proofs.LogAccepted.{conclusion_is}
 use Rattle.mw_model.proofs.SameTerms.{same_formula-eq}
+use Rattle.mw_commands.specs.Commands.DerivationTest.{is_detached}
+use Rattle.mw_commands.proofs.LogAccepted.{conclusion_is}
 use Rattle.mw_heap.specs.Objects.{object_at}
 use Rattle.mw_lower.specs.Schemes.{IsProof}
 use Rattle.mw_lower.proofs.ByMethods.{formed}

@@ -1,7 +1,7 @@
 -- The one at the place is not headed by it either.
 use Rattle.std.proofs.Common.{◌≡◌, true, false, eqb, refl, sym, ap, ◌∙◌, arith, eqb-true}
 use Rattle.std.proofs.lemmas.Bool.{eqb-false}
-use Rattle.mw_model.specs.Commands.Slice.{begins_with}
+use Rattle.mw_commands.specs.Commands.Slice.{begins_with}
 use Rattle.mw_heap.specs.Objects.{object_at}
 use Rattle.mw_slice.proofs.NoTheorems.{theorems_none}
 use Rattle.mw_slice.proofs.firsts.names_theorem.Goals as goal

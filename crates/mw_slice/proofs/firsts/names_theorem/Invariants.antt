@@ -1,6 +1,6 @@
 -- None of the objects before this one is headed by the word.
 use Rattle.std.proofs.Common.{◌≡◌, ℕ, ◌<◌, false}
-use Rattle.mw_model.specs.Commands.Slice.{begins_with}
+use Rattle.mw_commands.specs.Commands.Slice.{begins_with}
 use Rattle.mw_heap.specs.Objects.{object_at}
 use Rattle.mw_slice.proofs.firsts.names_theorem.Given as goal
 

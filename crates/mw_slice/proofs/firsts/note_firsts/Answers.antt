@@ -1,9 +1,9 @@
 -- One event more.
 use Rattle.std.proofs.Common.{take, Some, None, cond, sym, ap, ◌∙◌}
+use Rattle.mw_commands.specs.Commands.Slice.{first_place}
 use Rattle.mw_heap.specs.Objects.{object_at}
 use Rattle.mw_heap.proofs.Objects.{Grows-trans}
 use Rattle.mw_slice.specs.Firsts.{proves, first_or}
-use Rattle.mw_model.specs.Commands.Slice.{first_place}
 use Rattle.mw_slice.specs.Events.{objects_of}
 use Rattle.mw_slice.proofs.FirstPlaces.{first_place-next}
 use Rattle.mw_slice.proofs.firsts.note_firsts.Goals as goal

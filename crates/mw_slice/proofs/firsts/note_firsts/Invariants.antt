@@ -1,7 +1,7 @@
 -- The places of the formulas of the events before this one, in a heap that grows.
 use Rattle.std.proofs.Common.{◌≡◌, take}
 use Rattle.mw_model.specs.Terms.Object.{Object}
-use Rattle.mw_model.specs.Commands.Slice.{first_proof}
+use Rattle.mw_commands.specs.Commands.Slice.{first_proof}
 use Rattle.mw_heap.specs.Objects.{Grows}
 use Rattle.mw_slice.specs.Events.{objects_of}
 use Rattle.mw_slice.specs.Firsts.{AreFirsts, first_by}

@@ -1,7 +1,7 @@
 -- The first name of the list, and then those of the rest.
 use Rattle.std.proofs.Common.{◌≡◌, Bool, true, false, ◌||◌, sym, ap, ◌∙◌}
 use Rattle.mw_model.specs.Terms.Object.{Object, car}
-use Rattle.mw_model.specs.Commands.Slice.{some_passes, first_members}
+use Rattle.mw_commands.specs.Commands.Slice.{some_passes, first_members}
 use Rattle.mw_heap.specs.Objects.{object_at}
 use Rattle.mw_heap.proofs.Objects.{Grows-trans}
 use Rattle.mw_slice.specs.Supports.{Named, notes}

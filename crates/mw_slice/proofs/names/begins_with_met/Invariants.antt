@@ -1,6 +1,6 @@
 -- No member before the rest of the list begins with a name that was met.
 use Rattle.std.proofs.Common.{◌≡◌}
-use Rattle.mw_model.specs.Commands.Slice.{some_passes, first_members}
+use Rattle.mw_commands.specs.Commands.Slice.{some_passes, first_members}
 use Rattle.mw_heap.specs.Objects.{object_at, IsIn, Grows}
 use Rattle.mw_slice.specs.Supports.{Named, notes}
 use Rattle.mw_slice.proofs.names.begins_with_met.Given as goal

@@ -1,7 +1,7 @@
 -- One event after another.
 use Rattle.std.proofs.Common.{◌≡◌, ◌+◌, ◌-◌, ◌<◌, suc, [], length, reverse, sym, ap, ap₂, ◌∙◌, arith}
-use Rattle.mw_model.proofs.SlicePlaces.{changes, collected}
-use Rattle.mw_model.specs.Commands.Slice.{event_at}
+use Rattle.mw_commands.specs.Commands.Slice.{event_at}
+use Rattle.mw_commands.proofs.SlicePlaces.{changes, collected}
 use Rattle.mw_heap.specs.Objects.{object_at}
 use Rattle.mw_slice.specs.Heaps.{object_in}
 use Rattle.mw_slice.specs.Events.{objects_of}

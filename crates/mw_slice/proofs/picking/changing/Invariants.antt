@@ -1,6 +1,6 @@
 -- What is collected from the places that are left, in front of those that were found.
 use Rattle.std.proofs.Common.{◌≡◌, suc, [], reverse}
-use Rattle.mw_model.proofs.SlicePlaces.{changes, collected}
+use Rattle.mw_commands.proofs.SlicePlaces.{changes, collected}
 use Rattle.mw_slice.specs.Events.{objects_of}
 use Rattle.mw_slice.proofs.picking.changing.Given as goal
 

@@ -1,7 +1,7 @@
 -- One event after another.
 use Rattle.std.proofs.Common.{sym, ap, ◌∙◌}
+use Rattle.mw_commands.specs.Commands.Slice.{begins_with, some_passes}
 use Rattle.mw_heap.specs.Objects.{object_at}
-use Rattle.mw_model.specs.Commands.Slice.{begins_with, some_passes}
 use Rattle.mw_slice.proofs.FirstPlaces.{some_passes-next, some_passes-here, events-all}
 use Rattle.mw_slice.proofs.picking.has_switch.Goals as goal
 

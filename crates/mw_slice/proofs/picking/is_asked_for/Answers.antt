@@ -2,7 +2,7 @@
 use Rattle.std.proofs.Common.{◌≡◌, Bool, false, ◌||◌, eqb, eq-eqb, sym, ap, ap₂, ◌∙◌}
 use Rattle.std.proofs.lemmas.Bool.{ne_eqb, or_left, or_right}
 use Rattle.std.proofs.lemmas.Result.{IfOk-weaker}
-use Rattle.mw_model.specs.Commands.Slice.{sets_profile, some_passes, names_added}
+use Rattle.mw_commands.specs.Commands.Slice.{sets_profile, some_passes, names_added}
 use Rattle.mw_heap.specs.Objects.{object_at}
 use Rattle.mw_slice.specs.Supports.{Named, Proved, notes, is_asked_for}
 use Rattle.mw_slice.proofs.Entering.{or_false}

@@ -1,7 +1,7 @@
 -- One event after another.
 use Rattle.std.proofs.Common.{◌≡◌, ◌+◌, ◌-◌, ◌<◌, ◌≤◌, suc, [], length, reverse, sym, ap, ◌∙◌, append-nil, arith}
-use Rattle.mw_model.specs.Commands.Slice.{event_at}
-use Rattle.mw_model.proofs.SlicePlaces.{is_wanted, collected}
+use Rattle.mw_commands.specs.Commands.Slice.{event_at}
+use Rattle.mw_commands.proofs.SlicePlaces.{is_wanted, collected}
 use Rattle.mw_heap.specs.Objects.{object_at}
 use Rattle.mw_heap.proofs.Objects.{Grows-trans}
 use Rattle.mw_slice.specs.Heaps.{object_in}

@@ -1,7 +1,7 @@
 -- The slice of the target.
 use Rattle.std.proofs.Common.{sym, subst}
-use Rattle.mw_model.specs.Commands.Slice.{IsSlice}
-use Rattle.mw_model.proofs.SlicePlaces.{slice_exists}
+use Rattle.mw_commands.specs.Commands.Slice.{IsSlice}
+use Rattle.mw_commands.proofs.SlicePlaces.{slice_exists}
 use Rattle.mw_slice.specs.Events.{objects_of}
 use Rattle.mw_slice.proofs.picking.pick.Goals as goal
 

@@ -1,7 +1,7 @@
 -- The first event that passes.
 use Rattle.std.proofs.Common.{Bool, ◌&&◌, sym, ap, ◌∙◌}
 use Rattle.mw_model.specs.Terms.Object.{Object, Symbol, name_of_bytes, same_object, second_of}
-use Rattle.mw_model.specs.Commands.Slice.{begins_with, first_place}
+use Rattle.mw_commands.specs.Commands.Slice.{begins_with, first_place}
 use Rattle.mw_heap.specs.Objects.{object_at}
 use Rattle.mw_slice.proofs.FirstPlaces.{first_place-none, first_place-found, events-all}
 use Rattle.mw_slice.proofs.picking.target.Goals as goal

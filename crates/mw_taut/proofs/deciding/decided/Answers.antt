@@ -3,7 +3,7 @@ use Rattle.std.proofs.Common.{◌≡◌, length, sym, ap, ◌∙◌, subst, arit
 use Rattle.std.proofs.lemmas.Bool.{le-ltb}
 use Rattle.std.proofs.lemmas.List.{length-map}
 use Rattle.mw_model.specs.Terms.Term.{formula_object}
-use Rattle.mw_model.specs.Commands.Tautology.{equations, decision, most_equations}
+use Rattle.mw_commands.specs.Commands.Tautology.{equations, decision, most_equations}
 use Rattle.mw_heap.specs.Objects.{object_at, IsIn, Grows}
 use Rattle.mw_taut.specs.Decided.{IsTableOf, IsDecision}
 use Rattle.mw_taut.proofs.DecidedBy.{few_decided}

@@ -2,7 +2,7 @@
 use Rattle.std.proofs.Common.{◌∙◌, ap, arith}
 use Rattle.std.proofs.lemmas.Result.{on_ok_weaker}
 use Rattle.mw_model.specs.Events.Fate.{fate, next}
-use Rattle.mw_model.specs.Commands.Slice.{begins_with}
+use Rattle.mw_commands.specs.Commands.Slice.{begins_with}
 use Rattle.mw_heap.specs.Objects.{object_at}
 use Rattle.mw_kernel.specs.Fates.{fate_of}
 use Rattle.mw_kernel.specs.Knowledge.{Knowledge, theory_of}

@@ -1,8 +1,8 @@
 -- The event is judged with proofs in place of its derivations.
 use Rattle.std.proofs.Common.{◌++◌, ◌+◌, cond, ap, subst, ◌∙◌, arith}
-use Rattle.mw_model.specs.Commands.Derivation.{Turns}
 use Rattle.mw_model.specs.Laws.Rewriting.{IsRewritten}
 use Rattle.mw_model.specs.Reports.Report.{is_accepted}
+use Rattle.mw_commands.specs.Commands.Derivation.{Turns}
 use Rattle.mw_heap.specs.Objects.{object_at}
 use Rattle.mw_read.specs.Shown.{ShowsEvent}
 use Rattle.mw_kernel.specs.Knowledge.{theory_of}

@@ -2,7 +2,7 @@
 use Rattle.std.proofs.Common.{◌≡◌, ◌∙◌, List, ap, subst, arith}
 use Rattle.std.proofs.lemmas.Result.{on_ok_weaker}
 use Rattle.mw_model.specs.Terms.Object.{Object, car, same_object, symbol}
-use Rattle.mw_model.specs.Commands.Log.{is_step}
+use Rattle.mw_commands.specs.Commands.Log.{is_step}
 use Rattle.mw_heap.specs.Objects.{object_at}
 use Rattle.mw_read.specs.Shown.{ShowsEvent}
 use Rattle.mw_flat.specs.Going.{Comes, HasCollected}

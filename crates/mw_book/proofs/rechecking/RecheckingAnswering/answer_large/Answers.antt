@@ -2,7 +2,7 @@
 use Rattle.std.proofs.Common.{◌≡◌, ◌∙◌, List, IfSome, sym, ap, subst, arith}
 use Rattle.std.proofs.lemmas.Result.{on_ok_weaker}
 use Rattle.mw_model.specs.Terms.Object.{Object}
-use Rattle.mw_model.specs.Commands.Log.{is_step}
+use Rattle.mw_commands.specs.Commands.Log.{is_step}
 use Rattle.mw_heap.specs.Objects.{IsIn}
 use Rattle.mw_read.specs.Shown.{ShowsEvent}
 use Rattle.mw_flat.specs.Going.{Comes, HasCollected, is_step_word}

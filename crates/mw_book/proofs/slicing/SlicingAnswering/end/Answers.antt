@@ -7,7 +7,7 @@ use Rattle.mw_model.specs.Texts.Printing.{numeral}
 use Rattle.mw_model.specs.Reports.Report.{spaced}
 use Rattle.mw_model.specs.Texts.Written.{IsDatumLine}
 use Rattle.mw_model.specs.Texts.Pieces.{InOrder, comment}
-use Rattle.mw_model.specs.Commands.Slice.{event_at, target}
+use Rattle.mw_commands.specs.Commands.Slice.{event_at, target}
 use Rattle.mw_read.specs.declared.step.SyntaxKind.{SyntaxKind}
 use Rattle.mw_slice.specs.Slices.{events_of}
 use Rattle.mw_book.specs.Answering.{fault_of}

@@ -2,7 +2,7 @@
 use Rattle.std.proofs.Common.{Result, Ok, Err, IfOk, OnOk, Some, None, refl, sym, ap, ◌∙◌, subst}
 use Rattle.mw_model.specs.Events.Theory.{IsSound}
 use Rattle.mw_model.specs.Terms.Object.{symbol, car, same_object}
-use Rattle.mw_model.specs.Commands.Log.{logged}
+use Rattle.mw_commands.specs.Commands.Log.{logged}
 use Rattle.mw_heap.specs.Objects.{object_at}
 use Rattle.mw_theory.proofs.CallerLemmas.{held, OnErr-from}
 use Rattle.mw_flat.specs.Verdicts.{answer_of}

@@ -1,6 +1,6 @@
 -- By the word: a step that is not good, or an event of no form.
 use Rattle.std.proofs.Common.{◌+◌, Some, None, IfSome, refl, sym, ap, ◌∙◌, subst}
-use Rattle.mw_model.specs.Commands.Log.{SHAPE, No}
+use Rattle.mw_commands.specs.Commands.Log.{SHAPE, No}
 use Rattle.mw_flat.specs.Going.{theory_of, going_of, ComesBy, is_step_word}
 use Rattle.mw_heap.specs.Objects.{IsIn}
 use Rattle.mw_flat.proofs.Noting.{goes-on-bad}

@@ -1,6 +1,6 @@
 -- The event at the place.
 use Rattle.std.proofs.Common.{◌≡◌, ◌<◌, length, sym, ap, ◌∙◌, subst}
-use Rattle.mw_model.specs.Commands.Slice.{event_at}
+use Rattle.mw_commands.specs.Commands.Slice.{event_at}
 use Rattle.mw_heap.specs.Objects.{object_at, IsIn}
 use Rattle.mw_slice.specs.Heaps.{heap_of, object_in}
 use Rattle.mw_slice.specs.Slices.{events_of, heap_at}

@@ -2,7 +2,7 @@
 use Rattle.std.specs.Prelude.{MatchOption}
 use Rattle.std.proofs.Common.{◌≡◌, ℕ, None, Some, sym, ap, ◌∙◌, subst}
 use Rattle.mw_model.specs.Terms.Object.{name_of_bytes}
-use Rattle.mw_model.specs.Commands.Slice.{target, IsSlice}
+use Rattle.mw_commands.specs.Commands.Slice.{target, IsSlice}
 use Rattle.mw_slice.specs.Events.{AreIn, objects_of}
 use Rattle.mw_slice.specs.Slices.{events_of}
 use Rattle.mw_slice.proofs.InOrder.{are_in, events_of-added}
