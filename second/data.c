@@ -67,8 +67,8 @@ static bool begins_part(int byte)
 /* Refuses a byte, or the end, that may not come next, whatever follows it. */
 static void refuse_misplaced(int byte, const Frame *frame)
 {
-    int state =
-        frame ? frame->state : IN_QUOTE; /* outside all lists no list can be closed either */
+    /* Outside of all lists there is no list to close, as in a quote. */
+    int state = frame ? frame->state : IN_QUOTE;
     if (byte == EOF)
         fault("END", source.offset);
     if (!begins_part(byte))

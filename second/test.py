@@ -11,6 +11,7 @@ nothing failed. It needs a C compiler, `cc` or what CC names."""
 
 import os
 import random
+import resource
 import re
 import subprocess
 import sys
@@ -31,6 +32,8 @@ MOST_BYTES = 40_000  # of a log of which a mutant is made
 
 def build():
     """Builds the second checker; a warning is an error."""
+    if not os.access(MILAWA, os.X_OK):
+        sys.exit(f"There is no program {MILAWA}: set MILAWA, or build it as README.md says.")
     (HERE / "out").mkdir(exist_ok=True)
     subprocess.run([os.environ.get("CC", "cc"), "-std=c11", "-O2", "-Wall", "-Wextra", "-pedantic",
                     "-Werror", "-o", SECOND, *map(str, sorted(HERE.glob("*.c")))], check=True)
@@ -123,6 +126,37 @@ def is_agreed(log):
     return run([MILAWA, "recheck"], log) == run([SECOND], log)
 
 
+def ends_with(status, stdin, stdout):
+    """Do both programs end with this status where they read and write these files?"""
+    commands = [[MILAWA, "recheck"], [SECOND]]
+    return all(subprocess.run(command, stdin=stdin, stdout=stdout, check=False).returncode == status
+               for command in commands)
+
+
+def is_short_of_memory(log, bytes_allowed):
+    """Does the second checker end with 6, after a prefix of its report, where memory is short?"""
+    def limit():
+        resource.setrlimit(resource.RLIMIT_AS, (bytes_allowed, bytes_allowed))
+    done = subprocess.run([SECOND], input=log, stdout=subprocess.PIPE, check=False,
+                          preexec_fn=limit)
+    return done.returncode == 6 and run([SECOND], log)[0].startswith(done.stdout)
+
+
+def ways_to_end():
+    """By name, whether each status besides 0, 1 and 3 is answered where it has to be."""
+    empty, folder = os.open(os.devnull, os.O_RDONLY), os.open(HERE, os.O_RDONLY)
+    doubled = "(f (cdr x))"
+    for label in range(40):  # each branch is written once and reached under two tests
+        doubled = f"(if (equal x '{label}) #{label}={doubled} #{label}#)"
+    doubled = f"(define f (x) {doubled} (rank x) ())".encode()
+    long = b"".join(b"(verify a (pequal* '%d '%d) 1)\n" % (n, n + 1) for n in range(100_000))
+    yield "a read that fails is 4", ends_with(4, folder, subprocess.DEVNULL)
+    with open("/dev/full", "wb") as out:
+        yield "a write that fails is 5", ends_with(5, empty, out)
+    yield "a bound that is passed is 6", run([SECOND], doubled) == (b"", 6)
+    yield "out of memory is 6", is_short_of_memory(long, 16 << 20)
+
+
 def failures(further):
     """Runs all comparisons; gives for each its name and whether it failed."""
     logs = {**logs_of_books(further), **logs_of_pages()}
@@ -135,6 +169,8 @@ def failures(further):
         yield f"{name}: the report that is due", run([SECOND], log)[0].decode("latin-1") != due
     for name, log in logs.items():
         yield name, not is_agreed(log)
+    for name, is_so in ways_to_end():
+        yield name, not is_so
     chosen = random.Random(20090901)
     parents = [log for log in logs.values() if log.strip()]
     made = [mutants.mutant(chosen, parents, MOST_BYTES) for _ in range(MUTANTS)]
