@@ -91,6 +91,7 @@ void read_barred_token(void)
     if (token_length == 0)
         fault("TOKEN", start);
     skip();
+    peek(); /* a name in bars is complete only once the byte after it is there, or the end */
     last_token = BARRED_TOKEN;
 }
 
