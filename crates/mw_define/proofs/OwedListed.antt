@@ -14,7 +14,7 @@ use Rattle.mw_define.specs.declared.obligations.Obligations.{Obligations}
 use Rattle.mw_define.specs.declared.recursion.Recursion.{Recursion}
 use Rattle.mw_define.specs.declared.recursion.Recursion.TheVariants as recursion
 use Rattle.mw_define.specs.Blocks.{functions_at, measures_at}
-use Rattle.mw_define.specs.Owed.{is_past, AreFirsts, AreTooMany, AreOwed, OwesAll, OwesEach, IsListed, IsListedUnless, obligation_count, IsOwedList, IsOwing}
+use Rattle.mw_define.specs.Owed.{is_past, AreFirsts, AreOwed, OwesAll, OwesEach, IsListed, IsListedUnless, obligation_count, IsOwing}
 use Rattle.mw_define.proofs.OwedSoFar.{owed-none, firsts-length, listed-formulas}
 
 -- none is not past a bound

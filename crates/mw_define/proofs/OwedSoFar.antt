@@ -15,7 +15,7 @@ use Rattle.mw_heap.proofs.Objects.{object_at-Grows}
 use Rattle.mw_translate.specs.Lets.{prepend, AreAllIn}
 use Rattle.mw_translate.proofs.Appended.{all_in-push, all_in-Grows}
 use Rattle.mw_define.specs.declared.obligations.Obligations.{Obligations}
-use Rattle.mw_define.specs.Owed.{IsReadBack, AreReadBack, is_past, AreFirsts, AreTooMany, AreOwed, Adds}
+use Rattle.mw_define.specs.Owed.{IsReadBack, AreReadBack, is_past, AreFirsts, AreOwed, Adds}
 
 -- whether a formula is one of some
 abbrev is_one_of : List Formula → Formula → Bool

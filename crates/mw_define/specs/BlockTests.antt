@@ -1,5 +1,5 @@
 -- The tests of a block of functions, in their order, and what is handed back where they pass.
-use Rattle.std.specs.Prelude.{◌≡◌, ℕ, ◌<◌, ◌≤◌, true, false, List, ◌⊎◌, length, map, Option, Some, None}
+use Rattle.std.specs.Prelude.{◌≡◌, ℕ, ◌<◌, ◌≤◌, true, false, List, length, map, Option, Some, None}
 use Rattle.mw_model.specs.Terms.Object.{Name, Object, Symbol}
 use Rattle.mw_model.specs.Terms.Term.{Term, ArityTable, names_object, term_object}
 use Rattle.mw_model.specs.Terms.Reading.{both}
