@@ -1,4 +1,5 @@
 pub mod BlockAdded
+pub mod BlockCut
 pub mod BlockPairs
 pub mod CallerLemmas
 pub mod CutBack

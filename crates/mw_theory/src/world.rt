@@ -10,6 +10,7 @@ ghost use Rattle.mw_heap.specs.Objects.{object_at, IsIn};
 ghost use Rattle.mw_term.specs.Marking.{AreMarks};
 ghost use Rattle.mw_theory.specs.Worlds.{theory_in, IsWorld};
 ghost use Rattle.mw_theory.specs.Knowledge.{parts_of, meant, with_theorem, IsHeld};
+ghost use Rattle.mw_preamble.specs.declared.definition.Definition.{Definition};
 ghost use Rattle.mw_theory.specs.Defining.{IsNewBlockIn};
 
 use crate::beginning::begin;
@@ -86,7 +87,23 @@ impl World {
         Ok(())
     }
 
-    /// Adds a block of definitions with the list of its axioms. The marks of the objects before its names stay.
+    // Forgets what stands after the list of the axioms of a block and all that the theory needs. The parts of the block are parts of its
+    // axioms, and so they stand before that list.
+    fn cut_behind(&mut self, axioms: Ref)
+        requires world { IsWorld self.old }
+        requires within { IsIn self.old.heap.objects axioms }
+        ensures world { IsWorld self.new }
+        ensures block { (ds : List Definition) (B : Block) → IsNewBlockIn self.old ds axioms B → IsNewBlockIn self.new ds axioms B }
+        ensures theory { theory_in self.new ≡ theory_in self.old }
+        ensures needed { self.new.needed ≡ self.old.needed }
+    {
+        self.heap.order();
+        let end = self.heap.mark_after(axioms);
+        self.cut_to(later(end, self.needed));
+    }
+
+    /// Adds a block of definitions with the list of its axioms. Of the objects that the theory does not need, only those that came before
+    /// this list stay, and the marks of those before the names of the block.
     pub fn add_definitions(&mut self, block: &[Definition], axioms: Ref) -> Result<(), Memory>
         requires world { IsWorld self.old }
         requires block { (B : Block) × IsNewBlockIn self.old block.now axioms B }
@@ -95,6 +112,7 @@ impl World {
         ensures err { OnErr result (theory_in self.new ≡ theory_in self.old) }
         ensures err_needed { OnErr result (self.new.needed ≡ self.old.needed) }
     {
+        self.cut_behind(axioms);
         let first = first_name(&self.heap, block);
         forget_marks(&mut self.marks, first);
         self.theory.add_definitions(&mut self.heap, block, axioms)?;
