@@ -13,4 +13,6 @@ mod HeldBodies
 pub mod TermOccurrences
 mod SameArities
 pub mod CallerLemmas
+pub mod Watching
+pub mod Reasons
 pub mod SubstitutionLists

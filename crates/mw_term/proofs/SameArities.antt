@@ -17,7 +17,7 @@ module _ (A B : ArityTable) where
   HasSameArities (Symbol s) = arity_of A s ≡ arity_of B s
   HasSameArities (Pair a b) = HasSameArities a × HasSameArities b
 
-  same_head : (o : Option (List Name)) (p : Option Term) → is_present (that (is_term A) p) ≡ is_present (that (is_term B) p) → head_count A o p ≡ head_count B o p
+  pub same_head : (o : Option (List Name)) (p : Option Term) → is_present (that (is_term A) p) ≡ is_present (that (is_term B) p) → head_count A o p ≡ head_count B o p
   same_head None p h = refl
   same_head (Some xs) None h = refl
   same_head (Some xs) (Some b) h =
