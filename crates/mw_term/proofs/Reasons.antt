@@ -3,16 +3,16 @@
 use Rattle.std.proofs.Common.{◌≡◌, ℕ, ◌<◌, Bool, true, false, ◌&&◌, ◌||◌, not, cond, List, length, Option, Some, None, ◌⊎◌, inl, inr, is_some, refl, sym, ap, ap₂, ◌∙◌, subst, arith, true≢false}
 use Rattle.mw_model.specs.Terms.Object.{Name, Object, Natural, Symbol, Pair, named, symbol, same_name, same_object, nil_name, NIL}
 use Rattle.mw_model.specs.Terms.Term.{Term, Terms, ArityTable, arity_of, is_function_name, count, are_formals, is_closed, is_term, are_terms}
-use Rattle.mw_model.specs.Terms.Reading.{names_of, term_of, terms_of, when}
+use Rattle.mw_model.specs.Terms.Reading.{names_of, term_of, terms_of, when, that}
+use Rattle.mw_model.specs.Values.Definition.{is_present}
 use Rattle.mw_model.specs.Values.Primitive.{is_symbol}
 use Rattle.mw_model.specs.Laws.Rules.{is_term_object, is_formula_object}
 use Rattle.mw_heap.specs.Objects.{object_at, IsIn, ArePartsOlder, StandsBefore}
 use Rattle.mw_term.specs.Parts.{is_single}
-use Rattle.mw_term.specs.Marking.{ObjectMark, counted, term_count, head_count, formal_count, mark_of_object}
+use Rattle.mw_term.specs.Marking.{counted, term_count, head_count, formal_count, mark_of_object}
 use Rattle.mw_term.specs.Watching.{Test, as_term, as_terms, as_formula, as_head, passes, right_mark, Extends, Lasts, Reason, never, by_name, by_part, begins_formula, looks_at_members, IsEarly, IsPartWatched, AreMembersWatched}
-use Rattle.mw_term.proofs.Marked.{takes, allows_if, is_term-call, is_term-lambda, is_formula-binary, is_formula-unary, term_count-symbol}
+use Rattle.mw_term.proofs.Marked.{is_present-when, takes, allows_if, is_term-call, is_term-lambda, is_formula-binary, is_formula-unary, term_count-symbol}
 use Rattle.mw_term.proofs.ListMarks.{terms_of_pair}
-use Rattle.mw_term.proofs.SameArities.{same_head}
 use Rattle.mw_term.proofs.Watching.{both-true, more-term, more-counted, more-passes}
 
 denied-of : (p q : Bool) → (p && q) ≡ false → (p ≡ false) ⊎ ((p ≡ true) × (q ≡ false))
@@ -81,6 +81,13 @@ or-first p q e = ap (λ b. b || q) e
 or-second : (p q : Bool) → q ≡ true → (p || q) ≡ true
 or-second true q e = refl
 or-second false q e = e
+
+-- the head of a lambda is the same by two tables that say the same of its body
+same_head : (A B : ArityTable) (o : Option (List Name)) (p : Option Term) → is_present (that (is_term A) p) ≡ is_present (that (is_term B) p) → head_count A o p ≡ head_count B o p
+same_head A B None p h = refl
+same_head A B (Some xs) None h = refl
+same_head A B (Some xs) (Some b) h =
+    ap (λ t. cond (are_formals xs && (is_closed xs b && t)) (Some (length xs)) None) (sym (is_present-when (is_term A b) b) ∙ (h ∙ is_present-when (is_term B b) b))
 
 -- a symbol passes the same tests by all tables
 same-symbol : (A B : ArityTable) (s : Name) (k : Test) → passes B (Symbol s) k ≡ passes A (Symbol s) k
@@ -229,8 +236,8 @@ module _ (A : ArityTable) (os : List Object) (x first rest : ℕ) (before : firs
           elim (denied-of test (is_formula_object A p) (sym (are A) ∙ denied)) [
             | inl d ↦ never (λ B more. are B ∙ and-first test (is_formula_object B p) d)
             | inr d ↦ early p as_formula as_formula p (Symbol s) e (λ a b. a) (subst (IsEarly p) (sym e) refl)
-              (looks-formula (or-second (same_object h (symbol "PEQUAL*")) (same_object h (symbol "PNOT*") || same_object h (symbol "POR*")) (or-first (same_object h (symbol "PNOT*")) (same_object h (symbol "POR*")) (both-true (same_name s nil_name) (same_object h (symbol "PNOT*")) d.0).1)) denied)
-              d.1 (λ B more f. are B ∙ and-second test (is_formula_object B p) f)
+                (looks-formula (or-second (same_object h (symbol "PEQUAL*")) (same_object h (symbol "PNOT*") || same_object h (symbol "POR*")) (or-first (same_object h (symbol "PNOT*")) (same_object h (symbol "POR*")) (both-true (same_name s nil_name) (same_object h (symbol "PNOT*")) d.0).1)) denied)
+                d.1 (λ B more f. are B ∙ and-second test (is_formula_object B p) f)
           ]
 
       binary-reason : (p q z : Object) → object_at os rest ≡ Pair p (Pair q z) → passes A (object_at os x) as_formula ≡ false → Reason A os (right_mark A os) noted x as_formula

@@ -1,6 +1,6 @@
 -- Where each denied test has its reason the marks are right, up to the first cell that waits; new names make only those wait that were
 -- noted with their symbols; and a cell that is marked anew, where its mark changes, only those that were noted with it.
-use Rattle.std.proofs.Common.{◌≡◌, ℕ, zero, suc, ◌+◌, ◌<◌, ◌≤◌, Bool, true, false, ◌&&◌, cond, eqb, List, [], ◌∷◌, ◌⊎◌, length, slice_get, get_or, take, Option, Some, None, is_some, inl, inr, refl, sym, ap, ap₂, ◌∙◌, subst, arith, true≢false}
+use Rattle.std.proofs.Common.{◌≡◌, ℕ, zero, suc, ◌<◌, ◌≤◌, Bool, true, false, ◌&&◌, cond, eqb, List, [], ◌∷◌, ◌⊎◌, length, slice_get, take, Option, Some, None, is_some, inl, inr, refl, sym, ap, ap₂, ◌∙◌, subst, arith, true≢false}
 use Rattle.std.proofs.lemmas.Bool.{cases_eq}
 use Rattle.std.proofs.lemmas.List.{length-take-le}
 use Rattle.mw_model.specs.Terms.Object.{Name, Object, Natural, Symbol, Pair, named, symbol, same_name, same_object, NIL}
@@ -9,10 +9,10 @@ use Rattle.mw_model.specs.Terms.Reading.{names_of, term_of, terms_of, formula_of
 use Rattle.mw_model.specs.Values.Definition.{is_present}
 use Rattle.mw_model.proofs.Names.{same_name-eq}
 use Rattle.mw_heap.specs.Objects.{object_at, Grows}
-use Rattle.mw_heap.proofs.Objects.{object_at-Grows, length-Grows}
+use Rattle.mw_heap.proofs.Objects.{object_at-Grows}
 use Rattle.mw_heap.proofs.Lists.{slice_get-take}
-use Rattle.mw_term.specs.Marking.{ObjectMark, AreMarks, counted, head_count, formal_count, mark_of_object}
-use Rattle.mw_term.specs.Watching.{Test, as_term, as_terms, as_formula, as_head, says, passes, no_mark, mark_in, right_mark, Extends, NeverPasses, Reason, never, by_name, by_part, AreExplained, AreLasting}
+use Rattle.mw_term.specs.Marking.{ObjectMark, AreMarks, counted, head_count, formal_count}
+use Rattle.mw_term.specs.Watching.{Test, as_term, as_terms, as_formula, as_head, says, passes, mark_in, right_mark, Extends, NeverPasses, Reason, never, by_name, by_part, AreExplained, AreLasting}
 use Rattle.mw_term.proofs.Marked.{is_present-when}
 
 pub extends-same : (A : ArityTable) → Extends A A
@@ -177,6 +177,9 @@ marks-from A os ms end fits within exact =
           slice_get-take end ms i below ∙ (mark-found ms i (omega (arith, below, fits)) ∙ ap Some (exact i below));
     }
 
+pub marks-all : (A : ArityTable) (os : List Object) (ms : List ObjectMark) → length ms ≤ length os → ((x : ℕ) → x < length ms → mark_in ms x ≡ right_mark A os x) → AreMarks A os ms
+marks-all A os ms within exact = record { within = within; each = λ i l. mark-found ms i l ∙ ap Some (exact i l) }
+
 -- the mark of a cell, where the marks are right
 pub right-mark : (A : ArityTable) (os : List Object) (ms : List ObjectMark) → AreMarks A os ms → (x : ℕ) → x < length ms → mark_in ms x ≡ right_mark A os x
 right-mark A os ms h x l = some-same (sym (mark-found ms x l) ∙ h.each x l)
@@ -189,6 +192,15 @@ pub reason-by : (A : ArityTable) (os : List Object) (mark other : ℕ → Object
 reason-by A os mark other noted also x k same keeps (never g) = never g
 reason-by A os mark other noted also x k same keeps (by_name s f before at absent g note) = by_name s f before at absent g (keeps s note)
 reason-by A os mark other noted also x k same keeps (by_part w j before denied g note) = by_part w j before (ap (λ m. says m j) (same w before) ∙ denied) g (keeps w note)
+
+-- by other marks that are the same
+pub explained-by : (A : ArityTable) (os : List Object) (n : ℕ) (mark other : ℕ → ObjectMark) (noted : ℕ → ℕ → Type 0) (waits : ℕ → Type 0) → ((x : ℕ) → x < n → other x ≡ mark x) → AreExplained A os n mark noted waits → AreExplained A os n other noted waits
+explained-by A os n mark other noted waits same h = record {
+  within = h.within;
+  are_true = λ x k l said. h.are_true x k l (ap (λ m. says m k) (sym (same x l)) ∙ said);
+  explained = λ x k l waiting denies.
+      reason-by A os mark other noted noted x k (λ w before. same w (omega (arith, before, l))) (λ w note. note) (h.explained x k l waiting (ap (λ m. says m k) (sym (same x l)) ∙ denies));
+}
 
 -- what is noted with nothing never passes
 pub reason-never : (A : ArityTable) (os : List Object) (mark : ℕ → ObjectMark) (noted : ℕ → ℕ → Type 0) (x : ℕ) (k : Test) → ((w : ℕ) → noted w x → ⊥) → Reason A os mark noted x k → NeverPasses A (object_at os x) k
@@ -235,7 +247,7 @@ module _ (A : ArityTable) (os : List Object) (n m : ℕ) (mark new : ℕ → Obj
     (wait : (y : ℕ) → old y → (y ≡ x) ⊎ waits y)
     (kept : (w y : ℕ) → noted w y → after w y ⊎ waits y)
     (woken : (y : ℕ) → y < n → x < y → (new x ≡ mark x) ⊎ (noted x y → waits y))
-    (reasons : (k : Test) → passes A (object_at os x) k ≡ false → Reason A os new after x k)
+    (reasons : (waits x → ⊥) → (k : Test) → passes A (object_at os x) k ≡ false → Reason A os new after x k)
     (within : m ≤ length os)
     (have : (y : ℕ) → y < m → (y < n) ⊎ (y ≡ x)) where
   kept-reason : (y : ℕ) (k : Test) → y < n → (waits y → ⊥) → Reason A os mark noted y k → Reason A os new after y k
@@ -267,7 +279,7 @@ module _ (A : ArityTable) (os : List Object) (n m : ℕ) (mark new : ℕ → Obj
 
       reason-anew : (y : ℕ) (k : Test) → (y ≡ x) ⊎ (y ≡ x → ⊥) → (y < n) ⊎ (y ≡ x) → (waits y → ⊥) → says (new y) k ≡ false → Reason A os new after y k
       reason-anew y k (inl q) l waiting denies =
-          subst (λ i. Reason A os new after i k) (sym q) (reasons k (ap (λ i. says i k) (sym right) ∙ (ap (λ i. says (new i) k) (sym q) ∙ denies)))
+          subst (λ i. Reason A os new after i k) (sym q) (reasons (λ o. waiting (subst waits (sym q) o)) k (ap (λ i. says i k) (sym right) ∙ (ap (λ i. says (new i) k) (sym q) ∙ denies)))
       reason-anew y k (inr q) (inl l) waiting denies =
           kept-reason y k l waiting (h.explained y k l (λ o. elim (wait y o) [ inl at ↦ q at | inr stays ↦ waiting stays ]) (ap (λ i. says i k) (sym (others y q)) ∙ denies))
       reason-anew y k (inr q) (inr e) waiting denies = absurd (q e)

@@ -1,9 +1,9 @@
 -- A watch of marks, and what is right of it as names come.
-use Rattle.std.specs.Prelude.{◌≡◌, ℕ, ◌≤◌, List, [], ◌⊎◌, length}
+use Rattle.std.specs.Prelude.{◌≡◌, ℕ, List, [], ◌⊎◌, length}
 use Rattle.mw_model.specs.Terms.Object.{Object}
 use Rattle.mw_model.specs.Terms.Term.{ArityTable}
 use Rattle.mw_term.specs.Marking.{ObjectMark}
-use Rattle.mw_term.specs.Watching.{mark_in, right_mark, IsOneOf, IsNoted, AreExplained, AreLasting}
+use Rattle.mw_term.specs.Watching.{right_mark, IsOneOf, IsNoted, AreExplained, AreLasting}
 use Rattle.mw_term.specs.declared.watch.Watch.{Watch}
 
 -- x waits to be marked anew
@@ -32,5 +32,12 @@ pub record IsWatch (A : ArityTable) (os : List Object) (w : Watch) : Type 0 wher
 pub record WakesNoted (old new : Watch) (part : ℕ) : Type 0 where
   pub same : new.lasting ≡ old.lasting
   pub woken : (x : ℕ) → IsNotedWith old part x → Waits new x
+  pub wait : (x : ℕ) → Waits old x → Waits new x
+  pub kept : (w x : ℕ) → IsNotedWith old w x → IsNotedWith new w x ⊎ Waits new x
+
+-- the same where the mark of the part has changed, and else nothing
+pub record WakesIfChanged (old new : Watch) (part : ℕ) (before after : ObjectMark) : Type 0 where
+  pub same : new.lasting ≡ old.lasting
+  pub woken : (after ≡ before) ⊎ ((x : ℕ) → IsNotedWith old part x → Waits new x)
   pub wait : (x : ℕ) → Waits old x → Waits new x
   pub kept : (w x : ℕ) → IsNotedWith old w x → IsNotedWith new w x ⊎ Waits new x

@@ -16,7 +16,6 @@ mod names;
 mod notes;
 mod noting;
 mod part;
-
 mod substitutions;
 mod variables;
 mod watch;

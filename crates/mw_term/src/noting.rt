@@ -112,7 +112,7 @@ fn note_members(
     first: Ref,
     rest: Ref,
 ) -> Result<bool, Memory>
-    requires mark { (A : ArityTable) × (mark.now ≡ right_mark A heap.now.objects cell) }
+    requires within { IsIn heap.now.objects cell }
     requires first { IsIn heap.now.objects first }
     requires rest { IsIn heap.now.objects rest }
     requires known { rest < length lasting.now }
@@ -155,6 +155,7 @@ pub(crate) fn note_reasons(
     ensures lasts { IfOk result (λ lasts. lasts ≡ true → Lasts arity.now (object_at heap.now.objects cell)) }
     ensures kept { OnOk result (KeepsNotes notes.old.by_part.entries notes.new.by_part.entries) }
 {
+    heap.order();
     let View::Pair(first, rest) = heap.view(cell) else {
         return Ok(true);
     };

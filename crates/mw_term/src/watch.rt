@@ -1,12 +1,12 @@
 //! Marks that stay right as names come.
-ghost use Rattle.std.specs.Prelude.{◌≡◌, ℕ, ◌+◌, ◌<◌, ◌≤◌, ◌⊎◌, List, [], length, OnOk};
+ghost use Rattle.std.specs.Prelude.{◌≡◌, ℕ, ◌+◌, ◌<◌, ◌≤◌, ◌⊎◌, List, [], length, false, IfOk, OnOk};
 ghost use Rattle.mw_model.specs.Terms.Object.{Object};
 ghost use Rattle.mw_model.specs.Terms.Term.{ArityTable};
 ghost use Rattle.mw_heap.specs.Objects.{IsIn};
 ghost use Rattle.mw_term.specs.Marking.{AreMarks};
 ghost use Rattle.mw_term.specs.Bodies.{AreBodies};
 ghost use Rattle.mw_term.specs.Watching.{mark_in, IsOneOf};
-ghost use Rattle.mw_term.specs.Settling.{Waits, IsSettling, IsAwake, IsWatch, WakesNoted};
+ghost use Rattle.mw_term.specs.Settling.{Waits, IsSettling, IsAwake, IsWatch, WakesNoted, WakesIfChanged};
 
 use crate::Arity;
 use crate::bodies::Bodies;
@@ -96,21 +96,44 @@ impl Watch {
         requires size { length cells.old.items ≡ length self.old.lasting.items }
         requires settling { IsSettling arity.now heap.now.objects (mark_in cells.old.items) self.old (Waits self.old) }
         requires bodies { AreBodies heap.now.objects bodies.old.found.entries }
-        ensures size { length cells.new.items ≡ length self.new.lasting.items }
+        ensures size { OnOk result (length cells.new.items ≡ length self.new.lasting.items) }
         ensures settling { OnOk result (IsSettling arity.now heap.now.objects (mark_in cells.new.items) self.new (Waits self.new)) }
         ensures none { OnOk result (self.new.waiting.keys ≡ []) }
         ensures bodies { OnOk result (AreBodies heap.now.objects bodies.new.found.entries) }
     {
         let turns = cells.len().saturating_mul(MOST_TIMES);
         for _ in 0..turns.saturating_add(1) {
-            let Some(x) = self.waiting.pop_first() else {
+            if !self.mark_first(cells, heap, arity, bodies, work)? {
                 return Ok(());
-            };
-            if x.index() < cells.len() {
-                self.mark_anew(cells, heap, arity, x, bodies, work)?;
             }
         }
         Err(Memory)
+    }
+
+    // Marks the first object that waits, if one does. It answers whether one did.
+    fn mark_first(
+        &mut self,
+        cells: &mut Vec<CellMark>,
+        heap: &Heap,
+        arity: &Arity,
+        bodies: &mut Bodies,
+        work: &mut Work,
+    ) -> Result<bool, Memory>
+        requires size { length cells.old.items ≡ length self.old.lasting.items }
+        requires settling { IsSettling arity.now heap.now.objects (mark_in cells.old.items) self.old (Waits self.old) }
+        requires bodies { AreBodies heap.now.objects bodies.old.found.entries }
+        ensures size { OnOk result (length cells.new.items ≡ length self.new.lasting.items) }
+        ensures settling { OnOk result (IsSettling arity.now heap.now.objects (mark_in cells.new.items) self.new (Waits self.new)) }
+        ensures none { IfOk result (λ waited. waited ≡ false → self.new.waiting.keys ≡ []) }
+        ensures bodies { OnOk result (AreBodies heap.now.objects bodies.new.found.entries) }
+    {
+        let Some(x) = self.waiting.pop_first() else {
+            return Ok(false);
+        };
+        if x.index() < cells.len() {
+            self.mark_anew(cells, heap, arity, x, bodies, work)?;
+        }
+        Ok(true)
     }
 
     // Marks an object anew, before all that wait, and wakes what is noted with it where its mark changes.
@@ -128,11 +151,12 @@ impl Watch {
         requires first { (y : ℕ) → Waits self.old y → x ≤ y }
         requires settling { IsSettling arity.now heap.now.objects (mark_in cells.old.items) self.old (λ y. (y ≡ x) ⊎ Waits self.old y) }
         requires bodies { AreBodies heap.now.objects bodies.old.found.entries }
-        ensures size { (length cells.new.items ≡ length cells.old.items) × (length self.new.lasting.items ≡ length self.old.lasting.items) }
+        ensures size { OnOk result (length cells.new.items ≡ length self.new.lasting.items) }
         ensures settling { OnOk result (IsSettling arity.now heap.now.objects (mark_in cells.new.items) self.new (Waits self.new)) }
         ensures bodies { OnOk result (AreBodies heap.now.objects bodies.new.found.entries) }
     {
-        let marks = &cells.as_slice()[..x.index()];
+        let at = x.index();
+        let marks = &cells.as_slice()[..at];
         let mark = mark_cell(heap, arity, marks, x, bodies, work)?;
         let lasts = note_reasons(
             &mut self.notes,
@@ -143,12 +167,25 @@ impl Watch {
             x,
             &mark,
         )?;
-        if cells[x.index()].differs_from(&mark) {
-            self.wake(x)?;
-        }
-        cells[x.index()] = mark;
-        self.lasting[x.index()] = lasts;
+        self.wake_if_changed(x, &cells[at], &mark)?;
+        cells[at] = mark;
+        self.lasting[at] = lasts;
         Ok(())
+    }
+
+    // Has all objects wait that are noted with a part, where its mark has changed.
+    fn wake_if_changed(
+        &mut self,
+        part: Ref,
+        before: &CellMark,
+        after: &CellMark,
+    ) -> Result<(), Memory>
+        ensures { OnOk result (WakesIfChanged self.old self.new part before.now after.now) }
+    {
+        if !before.differs_from(after) {
+            return Ok(());
+        }
+        self.wake(part)
     }
 
     // Marks the objects up to an index that have no marks.
@@ -193,7 +230,7 @@ impl Watch {
         requires bodies { AreBodies heap.now.objects bodies.old.found.entries }
         ensures size { OnOk result ((length cells.new.items ≡ x + 1) × (length self.new.lasting.items ≡ x + 1)) }
         ensures settling { OnOk result (IsSettling arity.now heap.now.objects (mark_in cells.new.items) self.new (Waits self.new)) }
-        ensures none { self.new.waiting.keys ≡ [] }
+        ensures none { OnOk result (self.new.waiting.keys ≡ []) }
         ensures bodies { OnOk result (AreBodies heap.now.objects bodies.new.found.entries) }
     {
         let marks = cells.as_slice();
@@ -225,8 +262,7 @@ pub fn give_up(watch: &mut Watch, marks: &mut Marks)
 
 // Adds these to a set.
 fn add_all(set: &mut BTreeSet<Ref>, cells: &[Ref]) -> Result<(), Memory>
-    ensures kept { OnOk result ((x : ℕ) → IsOneOf set.old.keys x → IsOneOf set.new.keys x) }
-    ensures added { OnOk result ((x : ℕ) → IsOneOf cells.now x → IsOneOf set.new.keys x) }
+    ensures { OnOk result ((x : ℕ) → IsOneOf set.old.keys x ⊎ IsOneOf cells.now x → IsOneOf set.new.keys x) }
 {
     for cell in cells {
         set.insert(*cell)?;

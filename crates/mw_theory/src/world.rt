@@ -8,15 +8,16 @@ ghost use Rattle.mw_model.specs.Events.Theory.{initial, IsSound};
 ghost use Rattle.mw_model.specs.Events.Admission.{add_to_theory};
 ghost use Rattle.mw_heap.specs.Objects.{object_at, IsIn};
 ghost use Rattle.mw_term.specs.Marking.{AreMarks};
+ghost use Rattle.mw_term.specs.Settling.{IsWatch};
 ghost use Rattle.mw_theory.specs.Worlds.{theory_in, IsWorld};
 ghost use Rattle.mw_theory.specs.Knowledge.{parts_of, meant, with_theorem, IsHeld};
 ghost use Rattle.mw_preamble.specs.declared.definition.Definition.{Definition};
 ghost use Rattle.mw_theory.specs.Defining.{IsNewBlockIn};
 
 use crate::beginning::begin;
-use crate::first_name::first_name;
 use crate::mark::later;
 use crate::theory::Theory;
+use crate::waking::settle;
 use mw_heap::{Heap, Mark, Memory, Profile, Ref, looks_for};
 use mw_preamble::Definition;
 use mw_term::Marks;
@@ -48,6 +49,7 @@ impl World {
     // A theory over the heap that has its objects, none of which has a mark.
     fn over(heap: Heap, theory: Theory) -> World
         requires held { IsHeld heap.objects theory }
+        requires watched { IsWatch theory.arity heap.objects theory.watch }
         ensures world { IsWorld result }
         ensures theory { theory_in result ≡ meant heap.objects (parts_of theory) }
         ensures room { length result.heap.objects ≡ result.needed }
@@ -103,7 +105,7 @@ impl World {
     }
 
     /// Adds a block of definitions with the list of its axioms. Of the objects that the theory does not need, only those that came before
-    /// this list stay, and the marks of those before the names of the block.
+    /// this list stay. The marks that the new names may change are made anew.
     pub fn add_definitions(&mut self, block: &[Definition], axioms: Ref) -> Result<(), Memory>
         requires world { IsWorld self.old }
         requires block { (B : Block) × IsNewBlockIn self.old block.now axioms B }
@@ -113,10 +115,15 @@ impl World {
         ensures err_needed { OnErr result (self.new.needed ≡ self.old.needed) }
     {
         self.cut_behind(axioms);
-        let first = first_name(&self.heap, block);
-        forget_marks(&mut self.marks, first);
         self.theory.add_definitions(&mut self.heap, block, axioms)?;
         self.needed = self.heap.mark();
+        settle(
+            &mut self.theory.watch,
+            &mut self.marks,
+            &self.heap,
+            &self.theory.arity,
+            block,
+        );
         Ok(())
     }
 
@@ -135,7 +142,8 @@ impl World {
 
     // Puts a theory in the place of the one that there is. All that the heap holds is needed then, and no object has a mark.
     fn go_on_with(&mut self, theory: Theory)
-        requires { IsHeld self.old.heap.objects theory }
+        requires held { IsHeld self.old.heap.objects theory }
+        requires watched { IsWatch theory.arity self.old.heap.objects theory.watch }
         ensures world { IsWorld self.new }
         ensures theory { theory_in self.new ≡ meant self.old.heap.objects (parts_of theory) }
     {
@@ -182,6 +190,7 @@ fn boxed_heap(alloc: Global) -> Result<Box<Heap>, Memory> {
 // The initial theory of the first profile, in a heap that has the words first, and finds them by their places.
 fn begin_first(heap: &mut Heap) -> Result<Theory, Memory>
     ensures held { IfOk result (IsHeld heap.new.objects) }
+    ensures watched { IfOk result (λ t. IsWatch t.arity heap.new.objects t.watch) }
     ensures theory { IfOk result (λ t. meant heap.new.objects (parts_of t) ≡ initial One) }
 {
     heap.keep_words()?;
@@ -194,12 +203,4 @@ fn cut_marks(marks: &mut Marks, to: Mark)
     ensures marked { (A : ArityTable) (os : List Object) → AreMarks A os marks.old → AreMarks A os marks.new }
 {
     marks.cut(to);
-}
-
-// The same, since they may be other terms under a new table.
-fn forget_marks(marks: &mut Marks, from: Mark)
-    ensures few { length marks.new ≤ from }
-    ensures marked { (A : ArityTable) (os : List Object) → AreMarks A os marks.old → AreMarks A os marks.new }
-{
-    marks.forget(from);
 }
