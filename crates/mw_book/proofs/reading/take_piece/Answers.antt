@@ -11,57 +11,57 @@ use Rattle.mw_book.proofs.reading.take_piece.Goals.{in-Datum+in_ok-answer-in-Dat
 use Rattle.mw_book.proofs.reading.take_piece.Given as given
 use Rattle.mw_book.proofs.reading.take_piece.Goals as goal
 
-pub loop-x-init : goal.loop-x-init
-loop-x-init g c = record { taking = taking_none c.args.answering.now c.args.reader.now.parser c.args.piece.now c.requires.free c.requires.known; awaits = c.requires.awaits }
+pub loop-at-init : goal.loop-at-init
+loop-at-init g c = record { taking = taking_none c.args.answering.now c.args.reader.now.parser c.args.piece.now c.requires.free c.requires.known; awaits = c.requires.awaits }
 
 pub step-step-requires-clause-stands : goal.step-step-requires-clause-stands
-step-step-requires-clause-stands g c = standing c.loop-x.invariant.taking c.requires.stands
+step-step-requires-clause-stands g c = standing c.loop-at.invariant.taking c.requires.stands
 
 pub answer-requires-clause-within : goal.answer-requires-clause-within
 answer-requires-clause-within g c =
-    let s = standing c.loop-x.invariant.taking c.requires.stands in
+    let s = standing c.loop-at.invariant.taking c.requires.stands in
     let os = g.A.Answering.objects c.step-step.new.self in
-    let v = subst (λ u. Says os c.loop-x.reader.parser s.0 s.1 u c.step-step.result.0 c.step-step.result.1 c.step-step.new.reader.parser) (rest_is c.loop-x.at c.args.piece.now) (c.step-step.ensures.says s.0 s.1 s.2) in
-    (subst (λ t. Says os c.loop-x.reader.parser s.0 s.1 (drop c.loop-x.at c.args.piece.now) t c.step-step.result.1 c.step-step.new.reader.parser) c.in-Datum.is v).1.0
+    let v = subst (λ u. Says os c.loop-at.reader.parser s.0 s.1 u c.step-step.result.0 c.step-step.result.1 c.step-step.new.reader.parser) (rest_is c.loop-at.at c.args.piece.now) (c.step-step.ensures.says s.0 s.1 s.2) in
+    (subst (λ t. Says os c.loop-at.reader.parser s.0 s.1 (drop c.loop-at.at c.args.piece.now) t c.step-step.result.1 c.step-step.new.reader.parser) c.in-Datum.is v).1.0
 
 pub answer-requires-clause-in_range : goal.answer-requires-clause-in_range
 answer-requires-clause-in_range g c =
-    let s = standing c.loop-x.invariant.taking c.requires.stands in
+    let s = standing c.loop-at.invariant.taking c.requires.stands in
     let os = g.A.Answering.objects c.step-step.new.self in
-    let v = subst (λ u. Says os c.loop-x.reader.parser s.0 s.1 u c.step-step.result.0 c.step-step.result.1 c.step-step.new.reader.parser) (rest_is c.loop-x.at c.args.piece.now) (c.step-step.ensures.says s.0 s.1 s.2) in
-    let y = subst (λ t. Says os c.loop-x.reader.parser s.0 s.1 (drop c.loop-x.at c.args.piece.now) t c.step-step.result.1 c.step-step.new.reader.parser) c.in-Datum.is v in
+    let v = subst (λ u. Says os c.loop-at.reader.parser s.0 s.1 u c.step-step.result.0 c.step-step.result.1 c.step-step.new.reader.parser) (rest_is c.loop-at.at c.args.piece.now) (c.step-step.ensures.says s.0 s.1 s.2) in
+    let y = subst (λ t. Says os c.loop-at.reader.parser s.0 s.1 (drop c.loop-at.at c.args.piece.now) t c.step-step.result.1 c.step-step.new.reader.parser) c.in-Datum.is v in
     ap is_out_of_range y.1.1 ∙ y.1.2
 
 pub answer-requires-clause-known : goal.answer-requires-clause-known
-answer-requires-clause-known g c = known_read c.loop-x.invariant.taking c.step-step.new.self c.step-step.ensures.kept c.step-step.ensures.count c.step-step.result.0 c.step-step.result.1 c.step-step.new.reader.parser
+answer-requires-clause-known g c = known_read c.loop-at.invariant.taking c.step-step.new.self c.step-step.ensures.kept c.step-step.ensures.count c.step-step.result.0 c.step-step.result.1 c.step-step.new.reader.parser
 
 pub answer_large-requires-clause-shows : goal.answer_large-requires-clause-shows
 answer_large-requires-clause-shows g c =
-    let s = standing c.loop-x.invariant.taking c.requires.stands in
+    let s = standing c.loop-at.invariant.taking c.requires.stands in
     let os = g.A.Answering.objects c.step-step.new.self in
-    let v = subst (λ u. Says os c.loop-x.reader.parser s.0 s.1 u c.step-step.result.0 c.step-step.result.1 c.step-step.new.reader.parser) (rest_is c.loop-x.at c.args.piece.now) (c.step-step.ensures.says s.0 s.1 s.2) in
-    let w = subst (λ t. Says os c.loop-x.reader.parser s.0 s.1 (drop c.loop-x.at c.args.piece.now) t c.step-step.result.1 c.step-step.new.reader.parser) c.in-TooBig.is v in
+    let v = subst (λ u. Says os c.loop-at.reader.parser s.0 s.1 u c.step-step.result.0 c.step-step.result.1 c.step-step.new.reader.parser) (rest_is c.loop-at.at c.args.piece.now) (c.step-step.ensures.says s.0 s.1 s.2) in
+    let w = subst (λ t. Says os c.loop-at.reader.parser s.0 s.1 (drop c.loop-at.at c.args.piece.now) t c.step-step.result.1 c.step-step.new.reader.parser) c.in-TooBig.is v in
     (w.0, w.1.0, w.1.1)
 
 pub answer_large-requires-clause-known : goal.answer_large-requires-clause-known
-answer_large-requires-clause-known g c = known_read c.loop-x.invariant.taking c.step-step.new.self c.step-step.ensures.kept c.step-step.ensures.count c.step-step.result.0 c.step-step.result.1 c.step-step.new.reader.parser
+answer_large-requires-clause-known g c = known_read c.loop-at.invariant.taking c.step-step.new.self c.step-step.ensures.kept c.step-step.ensures.count c.step-step.result.0 c.step-step.result.1 c.step-step.new.reader.parser
 
 pub unreachable-requires : goal.unreachable-requires
 unreachable-requires g c =
-    let s = standing c.loop-x.invariant.taking c.requires.stands in
+    let s = standing c.loop-at.invariant.taking c.requires.stands in
     let os = g.A.Answering.objects c.step-step.new.self in
-    let v = subst (λ u. Says os c.loop-x.reader.parser s.0 s.1 u c.step-step.result.0 c.step-step.result.1 c.step-step.new.reader.parser) (rest_is c.loop-x.at c.args.piece.now) (c.step-step.ensures.says s.0 s.1 s.2) in
-    subst (λ t. Says os c.loop-x.reader.parser s.0 s.1 (drop c.loop-x.at c.args.piece.now) t c.step-step.result.1 c.step-step.new.reader.parser) c.in-End.is v
+    let v = subst (λ u. Says os c.loop-at.reader.parser s.0 s.1 u c.step-step.result.0 c.step-step.result.1 c.step-step.new.reader.parser) (rest_is c.loop-at.at c.args.piece.now) (c.step-step.ensures.says s.0 s.1 s.2) in
+    subst (λ t. Says os c.loop-at.reader.parser s.0 s.1 (drop c.loop-at.at c.args.piece.now) t c.step-step.result.1 c.step-step.new.reader.parser) c.in-End.is v
 
 -- the datum that the step gives
-after : (g : given.Over) (c : goal.Joined-step g) (h : List ℕ) (given : List Object) → Stands (g.A.Answering.objects c.loop-x.answering) c.loop-x.reader.parser h given → (y : Object) × Gives (g.A.Answering.objects c.step-step.new.self) y c.step-step.result.0 × GivesAfter c.loop-x.reader.parser h given (drop c.loop-x.at c.args.piece.now) y c.step-step.result.1 c.step-step.new.reader.parser
+after : (g : given.Over) (c : goal.Joined-step g) (h : List ℕ) (given : List Object) → Stands (g.A.Answering.objects c.loop-at.answering) c.loop-at.reader.parser h given → (y : Object) × Gives (g.A.Answering.objects c.step-step.new.self) y c.step-step.result.0 × GivesAfter c.loop-at.reader.parser h given (drop c.loop-at.at c.args.piece.now) y c.step-step.result.1 c.step-step.new.reader.parser
 after g c h given s =
-    let rest = drop c.loop-x.at c.args.piece.now in
+    let rest = drop c.loop-at.at c.args.piece.now in
     let os = g.A.Answering.objects c.step-step.new.self in
-    let p = c.loop-x.reader.parser in
+    let p = c.loop-at.reader.parser in
     let n = c.step-step.result.1 in
     let q = c.step-step.new.reader.parser in
-    let v = subst (λ u. Says os p h given u c.step-step.result.0 n q) (rest_is c.loop-x.at c.args.piece.now) (c.step-step.ensures.says h given s) in
+    let v = subst (λ u. Says os p h given u c.step-step.result.0 n q) (rest_is c.loop-at.at c.args.piece.now) (c.step-step.ensures.says h given s) in
     let Found : Step → Type 0 = λ t. (y : Object) × Gives os y t × GivesAfter p h given rest y n q in
     elim c.match-step.branch as (λ b. Found c.step-step.result.0) [
       | in-Datum+in_ok-answer-in-Datum w ↦ subst Found (sym w.in-Datum.is) (subst (λ t. Says os p h given rest t n q) w.in-Datum.is v)
@@ -91,20 +91,20 @@ counted g c = elim c.match-step.branch as (λ b. g.A.Answering.count c.match-ste
 pub overflow_add-at : goal.overflow_add-at
 overflow_add-at g c =
     let k = c.step-step.ensures in
-    let e = (taking_next c.loop-x.invariant.taking c.step-step.new.self k.kept k.count c.step-step.result.0 c.step-step.result.1 c.step-step.new.reader.parser c.requires.stands (after g c)).0 in
+    let e = (taking_next c.loop-at.invariant.taking c.step-step.new.self k.kept k.count c.step-step.result.0 c.step-step.result.1 c.step-step.new.reader.parser c.requires.stands (after g c)).0 in
     search rules
 
-pub loop-x-smaller : goal.loop-x-smaller
-loop-x-smaller g c =
+pub loop-at-smaller : goal.loop-at-smaller
+loop-at-smaller g c =
     let k = c.step-step.ensures in
-    (taking_next c.loop-x.invariant.taking c.step-step.new.self k.kept k.count c.step-step.result.0 c.step-step.result.1 c.step-step.new.reader.parser c.requires.stands (after g c)).1
+    (taking_next c.loop-at.invariant.taking c.step-step.new.self k.kept k.count c.step-step.result.0 c.step-step.result.1 c.step-step.new.reader.parser c.requires.stands (after g c)).1
 
-pub loop-x-preserved : goal.loop-x-preserved
-loop-x-preserved g c =
+pub loop-at-preserved : goal.loop-at-preserved
+loop-at-preserved g c =
     let k = c.step-step.ensures in
-    let awaits = c.loop-x.invariant.awaits in
+    let awaits = c.loop-at.invariant.awaits in
     record {
-      taking = taking_more c.loop-x.invariant.taking c.step-step.new.self k.kept k.count c.step-step.result.0 c.step-step.result.1 c.step-step.new.reader.parser c.requires.stands c.match-step.answering (after g c) (answered g c) (counted g c);
+      taking = taking_more c.loop-at.invariant.taking c.step-step.new.self k.kept k.count c.step-step.result.0 c.step-step.result.1 c.step-step.new.reader.parser c.requires.stands c.match-step.answering (after g c) (answered g c) (counted g c);
       awaits = (ap (λ r. r.unread) k.reader_rest ∙ awaits.0, ap (λ r. r.finished) k.reader_rest ∙ awaits.1);
     }
 
@@ -115,9 +115,9 @@ returns-in-More-clause-takes g c =
     let k = c.step-step.ensures in
     let q = c.step-step.new.reader.parser in
     let n = c.step-step.result.1 in
-    let p = c.loop-x.reader.parser in
-    taken_whole c.loop-x.invariant.taking c.step-step.new.self k.kept k.count c.step-step.result.0 n q
-    (λ h given s. subst (λ t. Says os p h given (drop c.loop-x.at piece) t n q) c.in-More.is (subst (λ u. Says os p h given u c.step-step.result.0 n q) (rest_is c.loop-x.at piece) (k.says h given s)))
+    let p = c.loop-at.reader.parser in
+    taken_whole c.loop-at.invariant.taking c.step-step.new.self k.kept k.count c.step-step.result.0 n q
+    (λ h given s. subst (λ t. Says os p h given (drop c.loop-at.at piece) t n q) c.in-More.is (subst (λ u. Says os p h given u c.step-step.result.0 n q) (rest_is c.loop-at.at piece) (k.says h given s)))
 
 pub returns-in-Syntax-clause-takes : goal.returns-in-Syntax-clause-takes
 returns-in-Syntax-clause-takes g c =
@@ -126,6 +126,6 @@ returns-in-Syntax-clause-takes g c =
     let k = c.step-step.ensures in
     let q = c.step-step.new.reader.parser in
     let n = c.step-step.result.1 in
-    let p = c.loop-x.reader.parser in
-    taken_fault c.loop-x.invariant.taking c.step-step.new.self k.kept k.count c.step-step.result.0 n q c.in-Syntax.kind c.in-Syntax.offset
-    (λ h given s. subst (λ t. Says os p h given (drop c.loop-x.at piece) t n q) c.in-Syntax.is (subst (λ u. Says os p h given u c.step-step.result.0 n q) (rest_is c.loop-x.at piece) (k.says h given s)))
+    let p = c.loop-at.reader.parser in
+    taken_fault c.loop-at.invariant.taking c.step-step.new.self k.kept k.count c.step-step.result.0 n q c.in-Syntax.kind c.in-Syntax.offset
+    (λ h given s. subst (λ t. Says os p h given (drop c.loop-at.at piece) t n q) c.in-Syntax.is (subst (λ u. Says os p h given u c.step-step.result.0 n q) (rest_is c.loop-at.at piece) (k.says h given s)))
