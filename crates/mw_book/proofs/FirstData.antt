@@ -4,9 +4,10 @@ use Rattle.std.proofs.lemmas.Bool.{le-leb}
 use Rattle.mw_model.specs.Terms.Object.{Object}
 use Rattle.mw_model.specs.Texts.Lexemes.{Fault, Ends, Goes}
 use Rattle.mw_model.specs.Texts.Grammar.{Book, book, reading, limit, cut_short, trees}
-use Rattle.mw_read.specs.Machine.{Begun}
-use Rattle.mw_read.specs.Parsing.{Fits, meaning_of}
+use Rattle.mw_read.specs.Parsing.{Fits, meaning_of, offset_of}
 use Rattle.mw_read.specs.Standing.{Stands, IsFree, Follows}
+use Rattle.mw_read.specs.declared.parser.Begun.{Begun}
+use Rattle.mw_read.specs.declared.parser.Begun.TheVariants.{Nothing, Comment, Token, Bars, Barred, Hash, AfterToken, AfterBar}
 use Rattle.mw_read.specs.declared.parser.Parser.{Parser}
 use Rattle.mw_read.proofs.Bare.{take_cut}
 use Rattle.mw_read.proofs.Bytes.{onward_book}

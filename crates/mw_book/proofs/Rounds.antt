@@ -135,23 +135,20 @@ module _ {A : Type 0} {objects : A → List Object} {lines : A → List ℕ} {nu
     )
 
     -- A write stopped, or memory ran out: the answers to first data begin a text that is due, and are whole where memory ran out.
-    module _ (begins : Begins) (bytes : List ℕ) (has : Has input bytes) {First : List Object → Type 0} (first_of : (more : List Object) → First more → IsBegunBy bytes more) {s : Ending} {after : Option (List ℕ)} {m n : ℕ} (stops : StopsWritten answered s j between.given First sink after m n) (now : Option (List ℕ)) where
-      abbrev text : List ℕ
-      text = between.written ++ stops.2
-
-      owed : AreAnswers q stops.0 text
+    module _ (begins : Begins) (bytes : List ℕ) (has : Has input bytes) (First : List Object → Type 0) (first_of : (more : List Object) → First more → IsBegunBy bytes more) (s : Ending) (after : Option (List ℕ)) (m n : ℕ) (stops : StopsWritten answered s j between.given First sink after m n) (now : Option (List ℕ)) where
+      owed : AreAnswers q stops.0 (between.written ++ stops.2)
       owed = stops.3 q between.known between.written between.answers
 
       part : IsPartOf q input first after
       part =
           let d = first_of stops.0 stops.1 in
-          let p = begun_part q bytes text first after (begins q bytes text stops.0 d.0 d.1 owed) (takes_then first sink after between.written stops.2 between.takes stops.4) in
-          begun_is_part q stops.0 text owed input first after (bytes, has, p.0, p.1, p.2)
+          let p = begun_part q bytes (between.written ++ stops.2) first after (begins q bytes (between.written ++ stops.2) stops.0 d.0 d.1 owed) (takes_then first sink after between.written stops.2 between.takes stops.4) in
+          begun_is_part q stops.0 (between.written ++ stops.2) owed input first after (bytes, has, p.0, p.1, p.2)
 
       whole : SinkTakes sink after stops.2 → WritesFirst q input first after
       whole t =
           let d = first_of stops.0 stops.1 in
-          first_written q stops.0 text owed input first after (bytes, has, stops.0, d.0, d.1, text, takes_both first sink after between.written stops.2 between.takes t, owed)
+          first_written q stops.0 (between.written ++ stops.2) owed input first after (bytes, has, stops.0, d.0, d.1, between.written ++ stops.2, takes_both first sink after between.written stops.2 between.takes t, owed)
 
       whole_or : Rises m n ⊎ SinkTakes sink after stops.2 → Rises m n ⊎ WritesFirst q input first after
       whole_or (inl r) = inl r
@@ -189,21 +186,18 @@ module _ {A : Type 0} {objects : A → List Object} {lines : A → List ℕ} {nu
       }
 
       pub end_stops : Begins → (s : Ending) → IsHalt s → (after : Option (List ℕ)) (m n : ℕ) → ((g : List ℕ) (given : List Object) → Stands (objects j) p g given → StopsWritten answered s j given (IsBegunBy g) sink after m n) → BookEnds s q input now first after m n
-      end_stops begins s h after m n stops = stopped begins between.bytes all_read (λ more f. f) (stops between.bytes between.given between.stands) now h
+      end_stops begins s h after m n stops = stopped begins between.bytes all_read (IsBegunBy between.bytes) (λ more f. f) s after m n (stops between.bytes between.given between.stands) now h
 
     -- a piece was read
     module _ (piece : List ℕ) (now : Option (List ℕ)) (gives : Gives left now piece) where
       all_given : Gives input now (between.bytes ++ piece)
       all_given = gives_both input left now between.bytes piece between.gives gives
 
-      all_bytes : List ℕ
-      all_bytes = (between.bytes ++ piece) ++ left_of now
-
       all_had : Has input ((between.bytes ++ piece) ++ left_of now)
       all_had = gives_has input now (between.bytes ++ piece) all_given
 
       pub piece_stops : Begins → (s : Ending) → IsHalt s → (after : Option (List ℕ)) (m n : ℕ) → ((g : List ℕ) (given : List Object) → Stands (objects j) p g given → StopsWritten answered s j given (AreFirst (g ++ piece)) sink after m n) → BookEnds s q input now first after m n
-      piece_stops begins s h after m n stops = stopped begins ((between.bytes ++ piece) ++ left_of now) all_had (λ more f. f (left_of now)) (stops between.bytes between.given between.stands) now h
+      piece_stops begins s h after m n stops = stopped begins ((between.bytes ++ piece) ++ left_of now) all_had (AreFirst (between.bytes ++ piece)) (λ more f. f (left_of now)) s after m n (stops between.bytes between.given between.stands) now h
 
       module _ (new : A) (r : Parser) (after : Option (List ℕ)) where
         -- up to a fault

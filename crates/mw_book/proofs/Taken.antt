@@ -20,6 +20,10 @@ use Rattle.mw_book.specs.Due.{AreAnswers}
 use Rattle.mw_book.specs.declared.reading.Taken.TheVariants as takings
 use Rattle.mw_book.proofs.FirstData.{data_of_first, data_of_ended}
 
+-- the book of these bytes begins with these data
+abbrev IsBegunAs : List Object → List ℕ → Type 0
+IsBegunAs given bytes = IsBegunBy bytes given
+
 -- The data that the end of the book completes were answered.
 pub record Finishing {A : Type 0} (objects : A → List Object) (lines : A → List ℕ) (count : A → ℕ) (answered : A → Request → List Object → Type 0) (o : A) (r : Parser) (j : A) (p : Reader) : Type 0 where
   pub reads : (g : List ℕ) (given : List Object) → Stands (objects o) r g given → (more : List Object) × Answers lines answered o given j more × Stands (objects j) p.parser g more
@@ -143,6 +147,74 @@ module _ {A : Type 0} {objects : A → List Object} {lines : A → List ℕ} {co
             answers_more o j k given x.0 x.0 x.1 (kept x.0),
             λ rest. ap trees (take_cut g piece at rest) ∙ v rest,
           )
+
+    -- what was taken of the rest of the piece was taken of the piece
+    module _ (k : A) (q : Parser) where
+      pub taking_both : (n : ℕ) → HasTaken objects lines count answered (takings.Bytes n) j p (drop at piece) k q → Taking objects lines count answered o r piece k q (at + n) × (work q (drop (at + n) piece) < work p (drop at piece))
+      taking_both n h =
+          let t = h.0 in
+          let size = length-drop at piece in
+          let more = drop-drop n at piece in (
+            record {
+              within = (let e : at + n ≤ length piece = omega (arith, t.within, size, taking.within) in e);
+              reads = λ g given s.
+                  let x = taking.reads g given s in
+                  let y = t.reads (g ++ take at piece) x.0 x.2 in (
+                    y.0,
+                    answers_more o j k given x.0 y.0 x.1 y.1,
+                    subst (λ u. Stands (objects k) q u y.0) (append_assoc g (take at piece) (take n (drop at piece)) ∙ ap (λ u. g ++ u) (sym (take-add at n piece))) y.2,
+                  );
+              known = t.known;
+              follows = subst (Follows q) more t.follows;
+              counted = (let w : work q (drop n (drop at piece)) ≡ work q (drop (at + n) piece) = ap (work q) more in omega (arith, w, t.counted, taking.counted));
+            },
+            subst (λ u. work q u < work p (drop at piece)) more h.1,
+          )
+
+      pub taking_fault : (kind : SyntaxKind) (offset : ℕ) → HasTaken objects lines count answered (takings.Fault kind offset) j p (drop at piece) k q → HasTaken objects lines count answered (takings.Fault kind offset) o r piece k q
+      taking_fault kind offset h g given s =
+          let x = taking.reads g given s in
+          let y = h (g ++ take at piece) x.0 x.2 in
+          (y.0, answers_more o j k given x.0 y.0 x.1 y.1, λ rest. ap trees (take_cut g piece at rest) ∙ y.2 rest)
+
+      pub both_due : ((g : List ℕ) (given : List Object) → Stands (objects j) p g given → AreDueFirst lines answered j given (AreFirst (g ++ drop at piece)) k) → (g : List ℕ) (given : List Object) → Stands (objects o) r g given → AreDueFirst lines answered o given (AreFirst (g ++ piece)) k
+      both_due due g given s =
+          let x = taking.reads g given s in
+          let d = due (g ++ take at piece) x.0 x.2 in (
+            d.0,
+            λ rest. subst (IsBegunAs d.0) (append_assoc (g ++ take at piece) (drop at piece) rest ∙ sym (take_cut g piece at rest) ∙ sym (append_assoc g piece rest)) (d.1 rest),
+            λ u a w e. d.2 u (x.1.known u a) w (x.1.due u a w e),
+          )
+
+  -- ---- one step, from the beginning of a piece
+
+  module _ (o : A) (r : Parser) (piece : List ℕ) (follows : Follows r piece) (known : HasAnswered answered o) (k : A) (kept : (given : List Object) → Answers lines answered o given k given) (same : count k ≡ count o) (t : Step) (n : ℕ) (q : Parser) where
+    pub datum_taken : IsStanding (objects o) r → (new : A) →
+        ((g : List ℕ) (given : List Object) → Stands (objects o) r g given → (y : Object) × Gives (objects k) y t × GivesAfter r g given piece y n q) →
+        ((y : Object) → Gives (objects k) y t → (given : List Object) → Answers lines answered k given new (given ++ y ∷ [])) →
+        count new ≡ count k + 1 → HasTaken objects lines count answered (takings.Bytes n) o r piece new q
+    datum_taken s new says answers counted =
+        let none = taking_none o r piece follows known in
+        let e : 0 + n ≡ n = omega arith in (
+          subst (λ m. Taking objects lines count answered o r piece new q m) e (taking_more none k kept same t n q s new says answers counted),
+          subst (λ m. work q (drop m piece) < work r piece) e (taking_next none k kept same t n q s says).1,
+        )
+
+    pub rest_taken : IsStanding (objects o) r → 0 < length piece →
+        ((g : List ℕ) (given : List Object) → Stands (objects o) r g given → Says (objects k) r g given piece steps.More n q) →
+        HasTaken objects lines count answered (takings.Bytes (length piece)) o r piece k q
+    rest_taken s some says = taken_rest (taking_none o r piece follows known) k kept same t n q s some says
+
+    pub fault_taken : (kind : SyntaxKind) (offset : ℕ) →
+        ((g : List ℕ) (given : List Object) → Stands (objects o) r g given → Says (objects k) r g given piece (steps.Syntax kind offset) n q) →
+        HasTaken objects lines count answered (takings.Fault kind offset) o r piece k q
+    fault_taken kind offset says = taken_fault (taking_none o r piece follows known) k kept same t n q kind offset says
+
+    pub known_taken : HasAnswered answered k
+    known_taken = known_more o k (λ given. (given, kept given)) known
+
+    pub datum_due : (g : List ℕ) (given : List Object) → Stands (objects o) r g given → (l : A) → lines l ≡ lines k → AreDueFirst lines answered o given (AreFirst (g ++ piece)) l
+    datum_due = taken_due (taking_none o r piece follows known) k kept same t n q
 
   pub finishing_none : (o : A) (p : Reader) → p.unread ≡ [] → p.finished ≡ true → HasAnswered answered o → Finishing objects lines count answered o p.parser o p
   finishing_none o p e f known = record {

