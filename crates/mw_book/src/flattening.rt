@@ -147,7 +147,7 @@ impl Answering for Flattening {
     }
 
     fn is_urgent(&self) -> bool {
-        false
+        !self.switched && self.kernel.took_long()
     }
 
     fn lines(&self) -> &[u8] {

@@ -96,7 +96,7 @@ impl Answering for Judging {
     }
 
     fn is_urgent(&self) -> bool {
-        false
+        self.kernel.took_long()
     }
 
     fn lines(&self) -> &[u8] {

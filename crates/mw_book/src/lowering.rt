@@ -142,7 +142,7 @@ impl Answering for Lowering {
     }
 
     fn is_urgent(&self) -> bool {
-        false
+        self.kernel.took_long()
     }
 
     fn lines(&self) -> &[u8] {

@@ -1,7 +1,7 @@
 -- The event is judged, and its piece put after the lines where it is accepted.
 use Rattle.std.proofs.Common.{◌∙◌, refl, ap}
 use Rattle.std.proofs.lemmas.Result.{on_ok_weaker}
-use Rattle.mw_model.specs.Commands.Slice.{begins_with}
+use Rattle.mw_commands.specs.Commands.Slice.{begins_with}
 use Rattle.mw_heap.specs.Objects.{object_at}
 use Rattle.mw_kernel.specs.Fates.{fate_of}
 use Rattle.mw_book.proofs.FlattenedOne.{judged_flat}
