@@ -114,10 +114,10 @@ block-awake A B arity os ds ms old new distinct h wakes =
     subst (λ T. IsAwake A T os new) (sym h.arities)
     (awake-names A (add_block B A) (block-extends A B h.made) os old new h.watched wakes.same wakes.kept
     (λ s f within is none.
-        elim (block-named os distinct s within f is ds B A h.means) [
-          | inl e ↦ inl (e ∙ none)
-          | inr o ↦ inr (λ x note. wakes.woken s x o note)
-        ]))
+    elim (block-named os distinct s within f is ds B A h.means) [
+      | inl e ↦ inl (e ∙ none)
+      | inr o ↦ inr (λ x note. wakes.woken s x o note)
+    ]))
 
 pub woken-none : (w : Watch) → WakesNames w w []
 woken-none w = record { same = refl; woken = λ r x o note. absurd o; wait = λ x o. o; kept = λ p x note. inl note }

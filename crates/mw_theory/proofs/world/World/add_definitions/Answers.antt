@@ -46,14 +46,17 @@ settle-requires c =
     let h = held _ _ _ _ c.cut_behind.ensures.world in
     let grows = c.add_definitions.ensures.grows in
     let arities : t.arity ≡ add_block B cut.theory.arity =
-    c.in_ok-add_definitions.ensures.held.arities ∙ (ap (λ u. arity_table u.definitions) (c.in_ok-add_definitions.ensures.theory B n) ∙ ap (add_block B) (sym h.arities)) in
-    (cut.theory.arity, B, record {
-      means = block-grows os new grows ds B n.means;
-      made = ap (λ A. is_block A B) h.arities ∙ (may_be_added os cut.theory h B ds c.args.axioms n).made;
-      arities = arities;
-      marked = AreMarks-grows cut.theory.arity os new cut.marks grows c.cut_behind.ensures.world.marked;
-      watched = subst (λ w. IsWatch cut.theory.arity new w) (sym c.in_ok-add_definitions.ensures.watch) (IsWatch-grows cut.theory.arity os new cut.theory.watch grows (watched _ _ _ _ c.cut_behind.ensures.world));
-    })
+    c.in_ok-add_definitions.ensures.held.arities ∙ (ap (λ u. arity_table u.definitions) (c.in_ok-add_definitions.ensures.theory B n) ∙ ap (add_block B) (sym h.arities)) in (
+      cut.theory.arity,
+      B,
+      record {
+        means = block-grows os new grows ds B n.means;
+        made = ap (λ A. is_block A B) h.arities ∙ (may_be_added os cut.theory h B ds c.args.axioms n).made;
+        arities = arities;
+        marked = AreMarks-grows cut.theory.arity os new cut.marks grows c.cut_behind.ensures.world.marked;
+        watched = subst (λ w. IsWatch cut.theory.arity new w) (sym c.in_ok-add_definitions.ensures.watch) (IsWatch-grows cut.theory.arity os new cut.theory.watch grows (watched _ _ _ _ c.cut_behind.ensures.world));
+      },
+    )
 
 pub returns-clause-world : goal.returns-clause-world
 returns-clause-world c =
