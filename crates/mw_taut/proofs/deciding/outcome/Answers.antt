@@ -1,7 +1,7 @@
 -- At first nothing is chosen and nothing is proved.
 use Rattle.std.proofs.Common.{[], sym, subst}
 use Rattle.std.specs.Prelude.{All}
-use Rattle.mw_model.specs.Commands.Tautology.{equations}
+use Rattle.mw_commands.specs.Commands.Tautology.{equations}
 use Rattle.mw_heap.specs.Objects.{IsIn}
 use Rattle.mw_taut.specs.Cases.{IsPosed}
 use Rattle.mw_taut.proofs.Entering.{if_ok}
