@@ -1,5 +1,5 @@
 -- What a caller cites: what the answers say of the events that add a witness and that add functions.
-use Rattle.std.proofs.Common.{◌≡◌, ℕ, Bool, false, not, List, ◌∷◌, Option, Some, ap, ◌∙◌, subst}
+use Rattle.std.proofs.Common.{◌≡◌, ℕ, Bool, true, false, not, List, ◌∷◌, Option, Some, ap, ◌∙◌, subst}
 use Rattle.mw_model.specs.Terms.Object.{Name, Object, Pair, second_of, third_of, fourth_of, fifth_of}
 use Rattle.mw_model.specs.Terms.Term.{Term, ArityTable, is_closed}
 use Rattle.mw_model.specs.Values.Definition.{Functions, Choice, arity_table}
@@ -11,7 +11,7 @@ use Rattle.mw_model.specs.Events.Admission.{Draft, formals_of, functions, measur
 use Rattle.mw_model.specs.Events.Demand.{Demand, Denied, Wants, wants_some, wants_that, define_demand}
 use Rattle.mw_define.specs.declared.admitted.Owed.{Owed}
 use Rattle.mw_define.specs.Tests.{FailsWitness, by_name, by_formals, by_term, by_variables, PassesWitness}
-use Rattle.mw_define.specs.BlockTests.{the_formal_lists, the_terms_under, FailsBlock, no_names, no_formals, no_terms, not_closed, nested, PassesBlock}
+use Rattle.mw_define.specs.BlockTests.{the_names, the_formal_lists, the_terms_under, FailsBlock, no_names, no_formals, no_terms, not_closed, nested, PassesBlock}
 use Rattle.mw_define.proofs.Witnessed.{names-pair, formals-names}
 
 module _ (t : Theory) where
@@ -89,9 +89,9 @@ module _ (t : Theory) where
     define-denied r (nested fs xss bs ms h k l c n) =
         ap with_names h ∙ (ap (with_formal_lists fs) k ∙ (ap (with_terms fs xss) l ∙ (ap (when_closed fs xss bs ms) c ∙ ap (when_flat fs xss bs ms) n)))
 
+    pub define-owes : (fs : List Name) (xss : List (List Name)) (bs ms : List Term) → the_names (arity_table t.definitions) drafts ≡ Some fs → the_formal_lists (arity_table t.definitions) drafts ≡ Some xss → the_terms_under (arity_table t.definitions) drafts fs xss ≡ Some (bs, ms) → are_closed_by xss bs ms ≡ true → is_nested (functions fs xss bs) (functions fs xss bs) ≡ false → define_demand t drafts ≡ Wants (obligations (functions fs xss bs) (measures fs ms)) (add_to_theory t (Functions (functions fs xss bs)))
+    define-owes fs xss bs ms h k l c n =
+        ap with_names h ∙ (ap (with_formal_lists fs) k ∙ (ap (with_terms fs xss) l ∙ (ap (when_closed fs xss bs ms) c ∙ ap (when_flat fs xss bs ms) n)))
+
     pub define-wants : (os : List Object) (owed : Owed) → (h : PassesBlock (arity_table t.definitions) drafts os owed) → let B = functions h.names h.formals h.bodies in define_demand t drafts ≡ Wants (obligations B (measures h.names h.measures_of)) (add_to_theory t (Functions B))
-    define-wants os owed h =
-        ap with_names h.are_new
-        ∙ (ap (with_formal_lists h.names) h.are_formals
-        ∙ (ap (with_terms h.names h.formals) h.expand
-        ∙ (ap (when_closed h.names h.formals h.bodies h.measures_of) h.closed ∙ ap (when_flat h.names h.formals h.bodies h.measures_of) h.flat)))
+    define-wants os owed h = define-owes h.names h.formals h.bodies h.measures_of h.are_new h.are_formals h.expand h.closed h.flat

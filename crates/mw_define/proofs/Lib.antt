@@ -5,11 +5,11 @@ pub mod Opened
 pub mod Collection
 pub mod Unmentioned
 pub mod Mentioned
-pub mod Mentioning
+pub mod Knowing
 pub mod NestedCalls
 pub mod UnderTests
 pub mod Descends
-pub mod Obligations
+pub mod OwedAtCall
 pub mod Members
 pub mod NewNames
 pub mod Expanding

@@ -7,14 +7,18 @@ use Rattle.mw_model.specs.Terms.Reading.{term_of, terms_of, more_terms, if_of}
 use Rattle.mw_model.specs.Values.Primitive.{is_symbol, is_pair, name_of}
 use Rattle.mw_model.specs.Laws.Rules.{beta_object}
 use Rattle.mw_model.specs.Terms.Substitution.{substitute, actuals_for}
-use Rattle.mw_model.specs.Values.Definition.{function_named}
-use Rattle.mw_model.specs.Events.Obligation.{IsNotNil, IsNil, call_or}
+use Rattle.mw_model.specs.Values.Definition.{Function, function_named}
+use Rattle.mw_model.specs.Events.Obligation.{IsNotNil, IsNil, call_or, actuals_with}
 use Rattle.mw_heap.specs.Objects.{object_at, IsIn, Grows}
 use Rattle.mw_heap.proofs.Objects.{object_at-Grows, IsIn-Grows}
 use Rattle.mw_define.specs.declared.item.Part.TheVariants as part
 use Rattle.mw_define.specs.declared.item.Item.{Item}
-use Rattle.mw_define.specs.Collecting.{the_terms, tests_of, under_all, Opens, AreThree, AreTests, HasTests}
+use Rattle.mw_define.specs.declared.piece.Piece.{Piece}
+use Rattle.mw_define.specs.declared.piece.Piece.TheVariants as piece
+use Rattle.mw_define.specs.Collecting.{the_term, the_terms, tests_of, under_all, part_calls, Opens, AreThree, AreTests, HasTests, HasNames, IsPartOf}
+use Rattle.mw_define.specs.Mentioning.{piece_part, piece_mentions}
 use Rattle.mw_define.proofs.ReadTerms.{more-parts, constant-is, if-is, terms-end, term-leaf, lambda-is, lambda-arguments, lambda-body}
+use Rattle.mw_define.proofs.Unmentioned.{no-calls, quiet-calls, quiet-actuals}
 use Rattle.mw_define.proofs.Collected.{term-calls, terms-calls, if-calls, lambda-calls, more-calls, inside-calls, outside-calls}
 
 -- one more item, after others
@@ -67,6 +71,22 @@ module _ (names : List Name) (os : List Object) (x tests : ℕ) (waiting : List 
     items = tt;
     calls = λ B n. sym (terms-calls B os x tests NoTerms (tests_of (object_at os tests)) (h ∙ ap Some (terms-end (object_at os x) ts i h)) refl);
   }
+
+  -- nor for what mentions no function of the block
+  pub opens-free : (q : Piece) → IsPartOf os names (piece_part q) → ((B : List Function) → HasNames B names → piece_mentions B os q ≡ false) → Opens names os os (piece_part q) tests waiting waiting
+  opens-free q h free = record {
+    more = [];
+    pushed = sym (append-nil waiting);
+    items = tt;
+    calls = λ B n. ap (map (under_all (tests_of (object_at os tests)))) (sym (free-calls B q (free B n)));
+  }
+    where
+      free-calls : (B : List Function) (q : Piece) → piece_mentions B os q ≡ false → part_calls B os (piece_part q) ≡ []
+      free-calls B (piece.Term x) h = no-calls B [] tt (the_term (term_of (object_at os x))) h
+      free-calls B (piece.Terms x) h = quiet-calls (actuals_with B [] ts) (quiet-actuals B [] tt ts h)
+        where
+          ts : Terms
+          ts = the_terms (terms_of (object_at os x))
 
   module _ (tests_in : HasTests os tests) where
     -- the first of a list, and then the others

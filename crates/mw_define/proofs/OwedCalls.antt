@@ -26,7 +26,7 @@ use Rattle.mw_define.proofs.ReadTerms.{read-term, read-terms}
 use Rattle.mw_define.proofs.UnderTests.{tested-is}
 use Rattle.mw_define.proofs.Witnessed.{formals-names}
 use Rattle.mw_define.proofs.NestedCalls.{IsOneCall, one-call}
-use Rattle.mw_define.proofs.Obligations.{owes-obligation}
+use Rattle.mw_define.proofs.OwedAtCall.{owes-obligation}
 use Rattle.mw_define.proofs.Expanding.{expanded-at}
 
 -- what is owed is read back from its object

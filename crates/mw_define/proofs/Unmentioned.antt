@@ -11,11 +11,11 @@ or-parts true b h = cc
 or-parts false b h = (refl, h)
 
 -- nothing that is pending has calls
-abbrev AreQuiet : List Actual → Type 0
+abbrev pub AreQuiet : List Actual → Type 0
 AreQuiet [] = Unit {0}
 AreQuiet (u ∷ us) = (u.calls ≡ []) × AreQuiet us
 
-abbrev IsQuiet : List Pending → Type 0
+abbrev pub IsQuiet : List Pending → Type 0
 IsQuiet [] = Unit {0}
 IsQuiet (p ∷ s) = (p.calls ≡ []) × IsQuiet s
 
@@ -24,7 +24,7 @@ quiet-pend [] us h = tt
 quiet-pend (x ∷ xs) [] h = tt
 quiet-pend (x ∷ xs) (u ∷ us) h = (h.0, quiet-pend xs us h.1)
 
-quiet-calls : (us : List Actual) → AreQuiet us → all_calls us ≡ []
+pub quiet-calls : (us : List Actual) → AreQuiet us → all_calls us ≡ []
 quiet-calls [] h = refl
 quiet-calls (u ∷ us) h = ap₂ (λ l m. l ++ m) h.0 (quiet-calls us h.1)
 
@@ -58,7 +58,7 @@ module _ (B : List Function) where
         let k = quiet-actuals s q ts p.1 in
         ap₂ (λ x y. x ++ y) (quiet-calls (actuals_with B s ts) k) (no-calls (pend xs (actuals_with B s ts)) (quiet-pend xs (actuals_with B s ts) k) b p.0)
 
-    quiet-actuals : (s : List Pending) → IsQuiet s → (ts : Terms) → any_mentions B ts ≡ false → AreQuiet (actuals_with B s ts)
+    pub quiet-actuals : (s : List Pending) → IsQuiet s → (ts : Terms) → any_mentions B ts ≡ false → AreQuiet (actuals_with B s ts)
     quiet-actuals s q NoTerms h = tt
     quiet-actuals s q (More t ts) h =
         let p = or-parts (mentions B t) (any_mentions B ts) h in

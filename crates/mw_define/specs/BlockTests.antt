@@ -1,12 +1,12 @@
 -- The tests of a block of functions, in their order, and what is handed back where they pass.
-use Rattle.std.specs.Prelude.{◌≡◌, true, false, List, ◌⊎◌, map, Option, Some, None}
+use Rattle.std.specs.Prelude.{◌≡◌, ℕ, ◌<◌, ◌≤◌, true, false, List, length, map, Option, Some, None}
 use Rattle.mw_model.specs.Terms.Object.{Name, Object, Symbol}
 use Rattle.mw_model.specs.Terms.Term.{Term, ArityTable, names_object, term_object}
 use Rattle.mw_model.specs.Terms.Reading.{both}
 use Rattle.mw_model.specs.Values.Definition.{Function, function_axioms}
 use Rattle.mw_model.specs.Events.Obligation.{obligations, is_nested}
 use Rattle.mw_model.specs.Events.Expansion.{expand}
-use Rattle.mw_model.specs.Events.Refusal.{Refusal, EVENT, NAME, FORMALS, TERM, VARIABLES, NESTED}
+use Rattle.mw_model.specs.Events.Refusal.{Refusal, EVENT, NAME, FORMALS, TERM, VARIABLES, NESTED, COUNT}
 use Rattle.mw_model.specs.Laws.RulesInduction.{formulas_object}
 use Rattle.mw_model.specs.Events.Admission.{Draft, all_of, new_names, formals_of, add_names, functions, measures, are_closed_by}
 use Rattle.mw_heap.specs.Objects.{object_at, IsIn}
@@ -16,7 +16,7 @@ use Rattle.mw_define.specs.declared.admitted.Admitted.TheVariants as admitted
 use Rattle.mw_define.specs.declared.admitted.Owed.{Owed}
 use Rattle.mw_define.specs.declared.admitted.Entry.{Entry}
 use Rattle.mw_define.specs.Blocks.{Each2, functions_at, are_closed_at, IsClosedEntry}
-use Rattle.mw_define.specs.Owed.{IsOwedList}
+use Rattle.mw_define.specs.Owed.{is_past, obligation_count, IsOwedList}
 use Rattle.mw_define.specs.declared.draft.Draft.{Draft as Given}
 
 module _ (A : ArityTable) (ds : List Draft) where
@@ -64,10 +64,35 @@ pub record PassesBlock (A : ArityTable) (ds : List Draft) (os : List Object) (ow
   pub axioms : object_at os owed.axioms ≡ formulas_object (function_axioms (functions names formals bodies))
   pub entries : Each2 (IsFunctionEntry os) (functions names formals bodies) owed.entries.items
 
+-- n is no more than a bound, where there is one; or it is more
+abbrev pub IsWithin : Option ℕ → ℕ → Type 0
+IsWithin None n = Unit {0}
+IsWithin (Some most) n = n ≤ most
+
+abbrev pub IsPast : Option ℕ → ℕ → Type 0
+IsPast None n = ⊥
+IsPast (Some most) n = most < n
+
 abbrev pub IsBlock : ArityTable → List Draft → List Object → Admitted → Type 0
 IsBlock A ds os (admitted.Obligations owed) = PassesBlock A ds os owed
 IsBlock A ds os (admitted.Refused r) = FailsBlock A ds (refusal_of r)
 IsBlock A ds os admitted.Memory = Unit {0}
+
+-- all of them pass, and no more is owed than may be
+pub record PassesWithin (most : Option ℕ) (A : ArityTable) (ds : List Draft) (os : List Object) (owed : Owed) : Type 0 where
+  pub passes : PassesBlock A ds os owed
+  pub few : IsWithin most (length (obligations (functions passes.names passes.formals passes.bodies) (measures passes.names passes.measures_of)))
+
+-- the first test that fails, where the last is that no more is owed than may be
+pub data FailsWithin (most : Option ℕ) (A : ArityTable) (ds : List Draft) : Refusal → Type 0 where
+  fails : (r : Refusal) → FailsBlock A ds r → FailsWithin most A ds r
+  too_many : (fs : List Name) (xss : List (List Name)) (bs ms : List Term) → the_names A ds ≡ Some fs → the_formal_lists A ds ≡ Some xss → the_terms_under A ds fs xss ≡ Some (bs, ms) → are_closed_by xss bs ms ≡ true → is_nested (functions fs xss bs) (functions fs xss bs) ≡ false → IsPast most (length (obligations (functions fs xss bs) (measures fs ms))) → FailsWithin most A ds COUNT
+
+-- a block that may owe only so many formulas
+abbrev pub IsBlockWithin : Option ℕ → ArityTable → List Draft → List Object → Admitted → Type 0
+IsBlockWithin most A ds os (admitted.Obligations owed) = PassesWithin most A ds os owed
+IsBlockWithin most A ds os (admitted.Refused r) = FailsWithin most A ds (refusal_of r)
+IsBlockWithin most A ds os admitted.Memory = Unit {0}
 
 -- of the list of a block: it is no list of drafts, or the tests of these decide
 abbrev pub IsBlockOf : ArityTable → Option (List Draft) → List Object → Admitted → Type 0
@@ -76,14 +101,23 @@ IsBlockOf A None os (admitted.Refused r) = refusal_of r ≡ EVENT
 IsBlockOf A None os admitted.Memory = Unit {0}
 IsBlockOf A (Some ds) os o = IsBlock A ds os o
 
+abbrev pub IsBlockOfWithin : Option ℕ → ArityTable → Option (List Draft) → List Object → Admitted → Type 0
+IsBlockOfWithin most A None os o = IsBlockOf A None os o
+IsBlockOfWithin most A (Some ds) os o = IsBlockWithin most A ds os o
+
 -- the last tests, of expanded drafts
-pub record PassesExpanded (old new : List Object) (es : List Given) (owed : Owed) : Type 0 where
-  pub obligations : IsOwedList old new es owed.obligations
+pub record PassesExpanded (most : Option ℕ) (old new : List Object) (es : List Given) (owed : Owed) : Type 0 where
+  pub obligations : IsOwedList old new es most owed.obligations
   pub axioms_in : IsIn new owed.axioms
   pub axioms : object_at new owed.axioms ≡ formulas_object (function_axioms (functions_at old es))
   pub entries : Each2 (IsClosedEntry old) es owed.entries.items
 
-abbrev pub IsExpandedBlock : List Object → List Object → List Given → Admitted → Type 0
-IsExpandedBlock old new es (admitted.Obligations owed) = PassesExpanded old new es owed
-IsExpandedBlock old new es (admitted.Refused r) = ((refusal_of r ≡ VARIABLES) × (are_closed_at old es ≡ false)) ⊎ ((refusal_of r ≡ NESTED) × (are_closed_at old es ≡ true) × (is_nested (functions_at old es) (functions_at old es) ≡ true))
-IsExpandedBlock old new es admitted.Memory = ⊥
+pub data FailsExpanded (most : Option ℕ) (old : List Object) (es : List Given) : Refusal → Type 0 where
+  not_closed_at : are_closed_at old es ≡ false → FailsExpanded most old es VARIABLES
+  nested_at : are_closed_at old es ≡ true → is_nested (functions_at old es) (functions_at old es) ≡ true → FailsExpanded most old es NESTED
+  too_many_at : are_closed_at old es ≡ true → is_nested (functions_at old es) (functions_at old es) ≡ false → is_past most (obligation_count old es) ≡ true → FailsExpanded most old es COUNT
+
+abbrev pub IsExpandedBlock : Option ℕ → List Object → List Object → List Given → Admitted → Type 0
+IsExpandedBlock most old new es (admitted.Obligations owed) = PassesExpanded most old new es owed
+IsExpandedBlock most old new es (admitted.Refused r) = FailsExpanded most old es (refusal_of r)
+IsExpandedBlock most old new es admitted.Memory = ⊥

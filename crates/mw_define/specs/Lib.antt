@@ -1,6 +1,7 @@
 pub mod Axioms
 pub mod Collecting
 pub mod Mentioning
+pub mod Knowing
 pub mod Testing
 pub mod Descent
 pub mod Tests

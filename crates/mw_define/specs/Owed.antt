@@ -1,5 +1,5 @@
 -- What a block owes, as references to its formulas.
-use Rattle.std.specs.Prelude.{◌≡◌, ℕ, Bool, true, false, List, [], ◌∷◌, ◌++◌, map, Option, Some, None, MatchOption}
+use Rattle.std.specs.Prelude.{◌≡◌, ℕ, Bool, true, false, ltb, List, [], ◌∷◌, ◌++◌, ◌⊎◌, length, map, Option, Some, None}
 use Rattle.mw_model.specs.Terms.Object.{Object, NIL}
 use Rattle.mw_model.specs.Terms.Term.{Formula, formula_object, firsts, are_distinct}
 use Rattle.mw_model.specs.Terms.Same.{same_formula}
@@ -14,6 +14,9 @@ use Rattle.mw_translate.specs.Lets.{prepend, AreAllIn}
 use Rattle.mw_define.specs.declared.draft.Draft.{Draft as Given}
 use Rattle.mw_define.specs.declared.recursion.Recursion.{Recursion}
 use Rattle.mw_define.specs.declared.recursion.Recursion.TheVariants as recursion
+use Rattle.mw_define.specs.declared.listed.Listed.{Listed}
+use Rattle.mw_define.specs.declared.listed.Listed.TheVariants as listed
+use Rattle.mw_define.specs.declared.obligations.Obligations.{Obligations}
 use Rattle.mw_define.specs.Blocks.{functions_at, measures_at, function_at, measure_at, draft_names, AreExpanded, IsExpanded}
 
 -- formulas that are read back from their objects
@@ -25,14 +28,29 @@ AreReadBack [] = Unit {0}
 AreReadBack (F ∷ Fs) = IsReadBack F × AreReadBack Fs
 
 -- the formulas, each once, in the order in which they first came
-pub record AreOwed (os : List Object) (rs : List ℕ) (Fs : List Formula) : Type 0 where
+pub record AreFirsts (os : List Object) (rs : List ℕ) (Fs : List Formula) : Type 0 where
   pub read : AreReadBack Fs
   pub within : AreAllIn os rs
   pub formulas : map (object_at os) rs ≡ map formula_object (firsts same_formula Fs)
 
--- more formulas came
-abbrev pub Adds : List Object → List Object → List ℕ → List ℕ → List Formula → Type 0
-Adds old new rs more Gs = (Fs : List Formula) → AreOwed old rs Fs → AreOwed new more (Fs ++ Gs)
+-- n is more than a bound, where there is one
+abbrev pub is_past : Option ℕ → ℕ → Bool
+is_past None n = false
+is_past (Some most) n = ltb most n
+
+-- more of the formulas are distinct than may be owed, and so many references are kept too
+pub record AreTooMany (o : Obligations) (Fs : List Formula) : Type 0 where
+  pub kept : is_past o.most (length o.formulas.keys) ≡ true
+  pub distinct : is_past o.most (length (firsts same_formula Fs)) ≡ true
+
+-- all of the formulas are kept, or too many of them
+abbrev pub AreOwed : List Object → Obligations → List Formula → Type 0
+AreOwed os o Fs = AreFirsts os o.formulas.keys Fs ⊎ AreTooMany o Fs
+
+-- more formulas came, and as many may be owed
+pub record Adds (old new : List Object) (o more : Obligations) (Gs : List Formula) : Type 0 where
+  pub most : more.most ≡ o.most
+  pub owed : (Fs : List Formula) → AreOwed old o Fs → AreOwed new more (Fs ++ Gs)
 
 -- expanded drafts with the references to their names, of which none comes twice
 pub record AreBlock (os : List Object) (rs : List ℕ) (es : List Given) : Type 0 where
@@ -56,15 +74,15 @@ abbrev pub calls_of : List Object → List Given → Given → List RecursiveCal
 calls_of os es e = recursive_calls (functions_at os es) (function_at os e)
 
 -- what one function owes was added, and whether it has no recursive calls
-pub record OwesBy (old new : List Object) (es : List Given) (e : Given) (rs more : List ℕ) (none : Bool) : Type 0 where
+pub record OwesBy (old new : List Object) (es : List Given) (e : Given) (o more : Obligations) (none : Bool) : Type 0 where
   pub flat : some_nested (functions_at old es) (calls_of old es e) ≡ false
   pub empty : is_empty (calls_of old es e) ≡ none
-  pub adds : Adds old new rs more (ordinal_formula (measure_of (measures_at old es) (name_of (object_at old e.name))) ∷ owed_at old es e (calls_of old es e))
+  pub adds : Adds old new o more (ordinal_formula (measure_of (measures_at old es) (name_of (object_at old e.name))) ∷ owed_at old es e (calls_of old es e))
 
-abbrev pub OwesOne : List Object → List Object → List Given → Given → List ℕ → List ℕ → Recursion → Type 0
-OwesOne old new es e rs more recursion.Nested = some_nested (functions_at old es) (calls_of old es e) ≡ true
-OwesOne old new es e rs more recursion.Absent = OwesBy old new es e rs more true
-OwesOne old new es e rs more recursion.Present = OwesBy old new es e rs more false
+abbrev pub OwesOne : List Object → List Object → List Given → Given → Obligations → Obligations → Recursion → Type 0
+OwesOne old new es e o more recursion.Nested = some_nested (functions_at old es) (calls_of old es e) ≡ true
+OwesOne old new es e o more recursion.Absent = OwesBy old new es e o more true
+OwesOne old new es e o more recursion.Present = OwesBy old new es e o more false
 
 -- what functions come to with one more
 abbrev pub joined : Recursion → Recursion → Recursion
@@ -73,24 +91,46 @@ joined r recursion.Present = recursion.Present
 joined r recursion.Nested = recursion.Nested
 
 -- what these functions of the block owe was added, and whether they have no recursive calls
-pub record OwesEach (old new : List Object) (es some : List Given) (rs more : List ℕ) (none : Bool) : Type 0 where
+pub record OwesEach (old new : List Object) (es some : List Given) (o more : Obligations) (none : Bool) : Type 0 where
   pub flat : is_nested (functions_at old es) (functions_at old some) ≡ false
   pub empty : calls_none (functions_at old es) (functions_at old some) ≡ none
-  pub adds : Adds old new rs more (owed (functions_at old es) (measures_at old es) (functions_at old some))
+  pub adds : Adds old new o more (owed (functions_at old es) (measures_at old es) (functions_at old some))
 
-abbrev pub OwesAll : List Object → List Object → List Given → List ℕ → List ℕ → Recursion → Type 0
-OwesAll old new es rs more recursion.Nested = is_nested (functions_at old es) (functions_at old es) ≡ true
-OwesAll old new es rs more recursion.Absent = OwesEach old new es es rs more true
-OwesAll old new es rs more recursion.Present = OwesEach old new es es rs more false
+abbrev pub OwesAll : List Object → List Object → List Given → Obligations → Obligations → Recursion → Type 0
+OwesAll old new es o more recursion.Nested = is_nested (functions_at old es) (functions_at old es) ≡ true
+OwesAll old new es o more recursion.Absent = OwesEach old new es es o more true
+OwesAll old new es o more recursion.Present = OwesEach old new es es o more false
 
--- nothing where calls are nested, NIL where there are none, or the list of the formulas
-abbrev pub IsListed : List Object → List Object → Recursion → List ℕ → Option ℕ → Type 0
-IsListed old new recursion.Nested rs o = o ≡ None
-IsListed old new recursion.Absent rs o = MatchOption o ⊥ (λ r. IsIn new r × (object_at new r ≡ NIL))
-IsListed old new recursion.Present rs o = MatchOption o ⊥ (λ r. IsIn new r × (object_at new r ≡ prepend old rs NIL))
+-- a list of formulas
+abbrev pub HasFormulas : (ℕ → Type 0) → Listed → Type 0
+HasFormulas P listed.Nested = ⊥
+HasFormulas P listed.TooMany = ⊥
+HasFormulas P (listed.Formulas r) = P r
 
--- the list of the obligations
-pub record IsOwedList (old new : List Object) (es : List Given) (r : ℕ) : Type 0 where
+-- no list where they are too many, or else that of the formulas
+abbrev pub IsListedUnless : Bool → List Object → List Object → List ℕ → Listed → Type 0
+IsListedUnless true old new rs l = l ≡ listed.TooMany
+IsListedUnless false old new rs l = HasFormulas (λ r. IsIn new r × (object_at new r ≡ prepend old rs NIL)) l
+
+-- no list where calls are nested, NIL where there are none, or the list of the formulas
+abbrev pub IsListed : List Object → List Object → Recursion → Obligations → Listed → Type 0
+IsListed old new recursion.Nested o l = l ≡ listed.Nested
+IsListed old new recursion.Absent o l = HasFormulas (λ r. IsIn new r × (object_at new r ≡ NIL)) l
+IsListed old new recursion.Present o l = IsListedUnless (is_past o.most (length o.formulas.keys)) old new o.formulas.keys l
+
+-- how many obligations a block has
+abbrev pub obligation_count : List Object → List Given → ℕ
+obligation_count os es = length (obligations (functions_at os es) (measures_at os es))
+
+-- the list of the obligations, which are no more than may be owed
+pub record IsOwedList (old new : List Object) (es : List Given) (most : Option ℕ) (r : ℕ) : Type 0 where
   pub flat : is_nested (functions_at old es) (functions_at old es) ≡ false
+  pub few : is_past most (obligation_count old es) ≡ false
   pub within : IsIn new r
   pub obligations : object_at new r ≡ formulas_object (obligations (functions_at old es) (measures_at old es))
+
+-- calls are nested, or more is owed than may be, or there is the list of the obligations
+abbrev pub IsOwing : List Object → List Object → List Given → Option ℕ → Listed → Type 0
+IsOwing old new es most listed.Nested = is_nested (functions_at old es) (functions_at old es) ≡ true
+IsOwing old new es most listed.TooMany = (is_nested (functions_at old es) (functions_at old es) ≡ false) × (is_past most (obligation_count old es) ≡ true)
+IsOwing old new es most (listed.Formulas r) = IsOwedList old new es most r

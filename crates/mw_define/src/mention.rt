@@ -1,5 +1,5 @@
 //! Whether a term mentions a function of a block.
-ghost use Rattle.std.specs.Prelude.{◌≡◌, ◌<◌, List, [], true, false, Some, IfOk};
+ghost use Rattle.std.specs.Prelude.{◌≡◌, List, All, true, false, Some, IfOk, OnOk};
 ghost use Rattle.mw_model.specs.Terms.Object.{Pair, symbol};
 ghost use Rattle.mw_model.specs.Terms.Term.{Term, Terms, Call};
 ghost use Rattle.mw_model.specs.Terms.Reading.{term_of, terms_of};
@@ -9,8 +9,10 @@ ghost use Rattle.mw_heap.specs.Objects.{object_at, IsIn};
 ghost use Rattle.mw_term.specs.Parts.{names_at, AreSymbols};
 ghost use Rattle.mw_define.specs.Collecting.{HasNames};
 ghost use Rattle.mw_define.specs.Mentioning.{IsLook, Splits, IsPiece, piece_mentions};
+ghost use Rattle.mw_define.specs.Knowing.{AreKnown};
 ghost use Rattle.mw_define.specs.declared.piece.Piece.TheVariants as piece;
 
+use crate::known::Known;
 use crate::piece::Piece;
 use indexmap::IndexSet;
 use mw_heap::{Heap, Memory, Ref, View, Word, take_look};
@@ -26,8 +28,6 @@ fn split_lambda(
 ) -> Result<(), Memory>
     requires function_in { IsIn heap.now.objects function }
     requires within { IsIn heap.now.objects arguments }
-    requires function_older { function < x }
-    requires arguments_older { arguments < x }
     requires read { (t : Term) × (term_of (object_at heap.now.objects x) ≡ Some t) }
     requires whole { object_at heap.now.objects x ≡ Pair (object_at heap.now.objects function) (object_at heap.now.objects arguments) }
     requires pair { is_symbol (object_at heap.now.objects function) ≡ false }
@@ -52,7 +52,6 @@ fn look_at_named(
 ) -> Result<bool, Memory>
     requires name_in { IsIn heap.now.objects name }
     requires within { IsIn heap.now.objects arguments }
-    requires arguments_older { arguments < x }
     requires symbol { is_symbol (object_at heap.now.objects name) ≡ true }
     requires symbols { AreSymbols heap.now.objects names.now.keys }
     requires read { (t : Term) × (term_of (object_at heap.now.objects x) ≡ Some t) }
@@ -132,47 +131,57 @@ fn look(
     }
 }
 
-// Whether a function of these names is called in a term or a list of terms, bodies of lambda calls included. Each piece is looked at
-// once, and takes a look.
-pub(crate) fn mentions_some(
+// Notes whether a piece mentions the block, where that follows from what is known of its own pieces. Where it does not, the piece waits
+// below these, to be looked at again when they are known.
+fn settle(
     heap: &Heap,
-    names: &IndexSet<Ref>,
-    root: Piece,
-    looks_left: &mut u64,
-) -> Result<bool, Memory>
-    requires within { IsPiece heap.now.objects root }
-    requires symbols { AreSymbols heap.now.objects names.now.keys }
-    ensures { IfOk result (λ b. (B : List Function) → HasNames B (names_at heap.now.objects names.now.keys) → b ≡ piece_mentions B heap.now.objects root) }
+    piece: &Piece,
+    known: &mut Known,
+    waiting: &mut Vec<Piece>,
+    pieces: &mut Vec<Piece>,
+) -> Result<(), Memory>
+    requires within { IsPiece heap.now.objects piece.now }
+    requires known { AreKnown heap.now.objects known.old.names.keys known.old }
+    requires waiting { All (IsPiece heap.now.objects) waiting.old.items }
+    ensures known { OnOk result (AreKnown heap.now.objects known.old.names.keys known.new) }
+    ensures waiting { OnOk result (All (IsPiece heap.now.objects) waiting.new.items) }
 {
-    let mut looked = IndexSet::new(heap.alloc());
-    let mut waiting = Vec::new(heap.alloc());
-    finds_mention(heap, names, root, &mut looked, &mut waiting, looks_left)
+    pieces.clear();
+    if look(heap, &known.names, *piece, pieces)? {
+        return known.note(piece, true);
+    }
+    if let Some(mentions) = known.find_any(pieces.as_slice()) {
+        return known.note(piece, mentions);
+    }
+    waiting.push(*piece)?;
+    waiting.append(pieces)?;
+    Ok(())
 }
 
-// The same, where no piece was looked at yet and none waits.
-fn finds_mention(
+// Whether a function of the block is called in a term or a list of terms, bodies of lambda calls included. What is found of each of its
+// pieces is noted for all later questions. The question takes a look, even where the answer is known: a caller may ask it of the same tests
+// for each of many calls, and nothing else would end that. Each piece of which nothing was known takes one or two more.
+pub(crate) fn mentions_some(
     heap: &Heap,
-    names: &IndexSet<Ref>,
     root: Piece,
-    looked: &mut IndexSet<Piece>,
-    waiting: &mut Vec<Piece>,
+    known: &mut Known,
     looks_left: &mut u64,
 ) -> Result<bool, Memory>
     requires within { IsPiece heap.now.objects root }
-    requires symbols { AreSymbols heap.now.objects names.now.keys }
-    requires none_looked { looked.old.keys ≡ [] }
-    requires none_waits { waiting.old.items ≡ [] }
-    ensures { IfOk result (λ b. (B : List Function) → HasNames B (names_at heap.now.objects names.now.keys) → b ≡ piece_mentions B heap.now.objects root) }
+    requires known { AreKnown heap.now.objects known.old.names.keys known.old }
+    ensures known { OnOk result (AreKnown heap.now.objects known.old.names.keys known.new) }
+    ensures mentions { IfOk result (λ b. (B : List Function) → HasNames B (names_at heap.now.objects known.old.names.keys) → b ≡ piece_mentions B heap.now.objects root) }
 {
-    waiting.push(root)?;
-    while let Some(piece) = waiting.pop() {
+    let mut waiting = Vec::new(heap.alloc());
+    let mut pieces = Vec::new(heap.alloc());
+    loop {
         take_look(looks_left)?;
-        if !looked.insert(piece)? {
-            continue;
+        if let Some(mentions) = known.find(&root) {
+            return Ok(mentions);
         }
-        if look(heap, names, piece, waiting)? {
-            return Ok(true);
+        let piece = waiting.pop().unwrap_or(root);
+        if known.find(&piece).is_none() {
+            settle(heap, &piece, known, &mut waiting, &mut pieces)?;
         }
     }
-    Ok(false)
 }

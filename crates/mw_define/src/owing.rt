@@ -4,8 +4,9 @@ ghost use Rattle.mw_model.specs.Terms.Term.{Formula, formula_object, is_among};
 ghost use Rattle.mw_model.specs.Values.Primitive.{is_symbol, name_of};
 ghost use Rattle.mw_model.specs.Events.Obligation.{ordinal_formula, measure_of};
 ghost use Rattle.mw_heap.specs.Objects.{object_at, IsIn, Grows};
-ghost use Rattle.mw_term.specs.Parts.{names_at, AreSymbols};
+ghost use Rattle.mw_term.specs.Parts.{names_at};
 ghost use Rattle.mw_define.specs.Collecting.{HasTests, IsPartOf, AreFoundCalls, found_calls};
+ghost use Rattle.mw_define.specs.Knowing.{AreKnown};
 ghost use Rattle.mw_define.specs.Descent.{Owes};
 ghost use Rattle.mw_define.specs.Blocks.{functions_at, measures_at};
 ghost use Rattle.mw_define.specs.Owed.{IsReadBack, Adds, AreBlock, IsNamed, owed_at, calls_of, OwesOne};
@@ -15,43 +16,46 @@ use crate::collect::find_calls;
 use crate::descent::{falls, is_ordinal};
 use crate::draft::Draft;
 use crate::item::FoundCall;
+use crate::known::Known;
 use crate::nested::are_nested;
+use crate::obligations::Obligations;
 use crate::recursion::Recursion;
 use crate::testing::under_each;
 use indexmap::IndexSet;
 use mw_heap::{Heap, Memory, Ref};
 use mw_term::{take_searches, take_searches_since};
 
-// That the measure falls at a call, under those of its tests that mention no function of these names.
+// That the measure falls at a call, under those of its tests that mention no function of the block.
 fn obligation(
     heap: &mut Heap,
-    names: &IndexSet<Ref>,
     call: &FoundCall,
     formals: Ref,
     called_measure: Ref,
     measure: Ref,
+    known: &mut Known,
     looks_left: &mut u64,
 ) -> Result<Ref, Memory>
-    requires symbols { AreSymbols heap.old.objects names.now.keys }
     requires tests { HasTests heap.old.objects call.now.tests }
     requires actuals_in { IsIn heap.old.objects call.now.actuals }
     requires formals_in { IsIn heap.old.objects formals }
     requires called_in { IsIn heap.old.objects called_measure }
     requires measure_in { IsIn heap.old.objects measure }
+    requires known { AreKnown heap.old.objects known.old.names.keys known.old }
     ensures grows { Grows heap.old.objects heap.new.objects }
-    ensures made { IfOk result (λ r. IsIn heap.new.objects r × Owes (names_at heap.old.objects names.now.keys) heap.old.objects formals called_measure call.now.actuals measure call.now.tests (object_at heap.new.objects r)) }
+    ensures known { OnOk result (AreKnown heap.new.objects known.old.names.keys known.new) }
+    ensures made { IfOk result (λ r. IsIn heap.new.objects r × Owes (names_at heap.old.objects known.old.names.keys) heap.old.objects formals called_measure call.now.actuals measure call.now.tests (object_at heap.new.objects r)) }
 {
     let below = falls(heap, formals, called_measure, call.actuals, measure)?;
-    under_each(heap, names, call.tests, below, looks_left)
+    under_each(heap, call.tests, below, known, looks_left)
 }
 
 // Adds a formula where it is not there yet: equal formulas have equal references.
-fn add_formula(heap: &Heap, owed: &mut IndexSet<Ref>, formula: Ref) -> Result<(), Memory>
+fn add_formula(heap: &Heap, owed: &mut Obligations, formula: Ref) -> Result<(), Memory>
     requires { IsIn heap.now.objects formula }
-    ensures { OnOk result ((F : Formula) → object_at heap.now.objects formula ≡ formula_object F → IsReadBack F → Adds heap.now.objects heap.now.objects owed.old.keys owed.new.keys (F ∷ [])) }
+    ensures { OnOk result ((F : Formula) → object_at heap.now.objects formula ≡ formula_object F → IsReadBack F → Adds heap.now.objects heap.now.objects owed.old owed.new (F ∷ [])) }
 {
     heap.order();
-    owed.insert(formula)?;
+    owed.formulas.insert(formula)?;
     Ok(())
 }
 
@@ -70,31 +74,37 @@ fn function_named(heap: &Heap, names: &IndexSet<Ref>, block: &[Draft], name: Ref
     block[index]
 }
 
-// Adds what a function owes at one of its calls. Many calls may share their tests and a measure, which are walked or copied for each.
+// Adds what a function owes at one of its calls, unless too much is owed already. Many calls may share their tests and a measure, which
+// are walked or copied for each.
 fn owe_call(
     heap: &mut Heap,
-    names: &IndexSet<Ref>,
     block: &[Draft],
     function: &Draft,
     call: &FoundCall,
-    owed: &mut IndexSet<Ref>,
+    owed: &mut Obligations,
+    known: &mut Known,
 ) -> Result<(), Memory>
-    requires block { AreBlock heap.old.objects names.now.keys block.now }
+    requires block { AreBlock heap.old.objects known.old.names.keys block.now }
     requires named { IsNamed heap.old.objects block.now function.now.name function.now }
-    requires call { IsPartOf heap.old.objects (names_at heap.old.objects names.now.keys) (part.Call call.now.name call.now.actuals) × HasTests heap.old.objects call.now.tests }
+    requires call { IsPartOf heap.old.objects (names_at heap.old.objects known.old.names.keys) (part.Call call.now.name call.now.actuals) × HasTests heap.old.objects call.now.tests }
+    requires known { AreKnown heap.old.objects known.old.names.keys known.old }
     ensures grows { Grows heap.old.objects heap.new.objects }
-    ensures owed { OnOk result (Adds heap.old.objects heap.new.objects owed.old.keys owed.new.keys (owed_at heap.old.objects block.now function.now (found_calls (functions_at heap.old.objects block.now) heap.old.objects (call.now ∷ [])))) }
+    ensures known { OnOk result (AreKnown heap.new.objects known.old.names.keys known.new) }
+    ensures owed { OnOk result (Adds heap.old.objects heap.new.objects owed.old owed.new (owed_at heap.old.objects block.now function.now (found_calls (functions_at heap.old.objects block.now) heap.old.objects (call.now ∷ [])))) }
 {
+    if owed.are_too_many() {
+        return Ok(());
+    }
     let had = heap.mark();
     let mut looks_left = u64::MAX;
-    let called = function_named(heap, names, block, call.name);
+    let called = function_named(heap, &known.names, block, call.name);
     let formula = obligation(
         heap,
-        names,
         call,
         called.formals,
         called.measure,
         function.measure,
+        known,
         &mut looks_left,
     )?;
     add_formula(heap, owed, formula)?;
@@ -104,20 +114,22 @@ fn owe_call(
 // Adds what a function owes at each of its calls.
 fn owe_calls(
     heap: &mut Heap,
-    names: &IndexSet<Ref>,
     block: &[Draft],
     function: &Draft,
     calls: &[FoundCall],
-    owed: &mut IndexSet<Ref>,
+    owed: &mut Obligations,
+    known: &mut Known,
 ) -> Result<(), Memory>
-    requires block { AreBlock heap.old.objects names.now.keys block.now }
+    requires block { AreBlock heap.old.objects known.old.names.keys block.now }
     requires named { IsNamed heap.old.objects block.now function.now.name function.now }
-    requires calls { AreFoundCalls heap.old.objects (names_at heap.old.objects names.now.keys) calls.now }
+    requires calls { AreFoundCalls heap.old.objects (names_at heap.old.objects known.old.names.keys) calls.now }
+    requires known { AreKnown heap.old.objects known.old.names.keys known.old }
     ensures grows { Grows heap.old.objects heap.new.objects }
-    ensures owed { OnOk result (Adds heap.old.objects heap.new.objects owed.old.keys owed.new.keys (owed_at heap.old.objects block.now function.now (found_calls (functions_at heap.old.objects block.now) heap.old.objects calls.now))) }
+    ensures known { OnOk result (AreKnown heap.new.objects known.old.names.keys known.new) }
+    ensures owed { OnOk result (Adds heap.old.objects heap.new.objects owed.old owed.new (owed_at heap.old.objects block.now function.now (found_calls (functions_at heap.old.objects block.now) heap.old.objects calls.now))) }
 {
     for call in calls {
-        owe_call(heap, names, block, function, call, owed)?;
+        owe_call(heap, block, function, call, owed, known)?;
     }
     Ok(())
 }
@@ -127,11 +139,11 @@ fn owe_ordinal(
     heap: &mut Heap,
     block: &[Draft],
     function: &Draft,
-    owed: &mut IndexSet<Ref>,
+    owed: &mut Obligations,
 ) -> Result<(), Memory>
     requires { IsNamed heap.old.objects block.now function.now.name function.now }
     ensures grows { Grows heap.old.objects heap.new.objects }
-    ensures owed { OnOk result (Adds heap.old.objects heap.new.objects owed.old.keys owed.new.keys (ordinal_formula (measure_of (measures_at heap.old.objects block.now) (name_of (object_at heap.old.objects function.now.name))) ∷ [])) }
+    ensures owed { OnOk result (Adds heap.old.objects heap.new.objects owed.old owed.new (ordinal_formula (measure_of (measures_at heap.old.objects block.now) (name_of (object_at heap.old.objects function.now.name))) ∷ [])) }
 {
     let formula = is_ordinal(heap, function.measure)?;
     add_formula(heap, owed, formula)
@@ -140,20 +152,22 @@ fn owe_ordinal(
 // Adds what a function owes at calls that are not nested: the ordinal first.
 fn owe_flat(
     heap: &mut Heap,
-    names: &IndexSet<Ref>,
     block: &[Draft],
     function: &Draft,
     calls: &[FoundCall],
-    owed: &mut IndexSet<Ref>,
+    owed: &mut Obligations,
+    known: &mut Known,
 ) -> Result<(), Memory>
-    requires block { AreBlock heap.old.objects names.now.keys block.now }
+    requires block { AreBlock heap.old.objects known.old.names.keys block.now }
     requires named { IsNamed heap.old.objects block.now function.now.name function.now }
-    requires calls { AreFoundCalls heap.old.objects (names_at heap.old.objects names.now.keys) calls.now }
+    requires calls { AreFoundCalls heap.old.objects (names_at heap.old.objects known.old.names.keys) calls.now }
+    requires known { AreKnown heap.old.objects known.old.names.keys known.old }
     ensures grows { Grows heap.old.objects heap.new.objects }
-    ensures owed { OnOk result (Adds heap.old.objects heap.new.objects owed.old.keys owed.new.keys (ordinal_formula (measure_of (measures_at heap.old.objects block.now) (name_of (object_at heap.old.objects function.now.name))) ∷ owed_at heap.old.objects block.now function.now (found_calls (functions_at heap.old.objects block.now) heap.old.objects calls.now))) }
+    ensures known { OnOk result (AreKnown heap.new.objects known.old.names.keys known.new) }
+    ensures owed { OnOk result (Adds heap.old.objects heap.new.objects owed.old owed.new (ordinal_formula (measure_of (measures_at heap.old.objects block.now) (name_of (object_at heap.old.objects function.now.name))) ∷ owed_at heap.old.objects block.now function.now (found_calls (functions_at heap.old.objects block.now) heap.old.objects calls.now))) }
 {
     owe_ordinal(heap, block, function, owed)?;
-    owe_calls(heap, names, block, function, calls, owed)
+    owe_calls(heap, block, function, calls, owed, known)
 }
 
 // The most looks at the actuals of one function's calls: where more are needed the answer is out of memory.
@@ -162,24 +176,26 @@ const MOST_LOOKS: u64 = 1 << 24;
 // Adds what a function owes, where none of its calls is in an actual of another. These are all its calls.
 fn owe_found(
     heap: &mut Heap,
-    names: &IndexSet<Ref>,
     block: &[Draft],
     function: &Draft,
     calls: &[FoundCall],
-    owed: &mut IndexSet<Ref>,
+    owed: &mut Obligations,
+    known: &mut Known,
     looks_left: &mut u64,
 ) -> Result<Recursion, Memory>
-    requires block { AreBlock heap.old.objects names.now.keys block.now }
+    requires block { AreBlock heap.old.objects known.old.names.keys block.now }
     requires named { IsNamed heap.old.objects block.now function.now.name function.now }
-    requires calls { AreFoundCalls heap.old.objects (names_at heap.old.objects names.now.keys) calls.now }
+    requires calls { AreFoundCalls heap.old.objects (names_at heap.old.objects known.old.names.keys) calls.now }
     requires all { found_calls (functions_at heap.old.objects block.now) heap.old.objects calls.now ≡ calls_of heap.old.objects block.now function.now }
+    requires known { AreKnown heap.old.objects known.old.names.keys known.old }
     ensures grows { Grows heap.old.objects heap.new.objects }
-    ensures owed { IfOk result (OwesOne heap.old.objects heap.new.objects block.now function.now owed.old.keys owed.new.keys) }
+    ensures known { OnOk result (AreKnown heap.new.objects known.old.names.keys known.new) }
+    ensures owed { IfOk result (OwesOne heap.old.objects heap.new.objects block.now function.now owed.old owed.new) }
 {
-    if are_nested(heap, names, calls, looks_left)? {
+    if are_nested(heap, calls, known, looks_left)? {
         return Ok(Recursion::Nested);
     }
-    owe_flat(heap, names, block, function, calls, owed)?;
+    owe_flat(heap, block, function, calls, owed, known)?;
     if calls.is_empty() {
         Ok(Recursion::Absent)
     } else {
@@ -190,25 +206,27 @@ fn owe_found(
 // The same, where its calls are to be found.
 pub(crate) fn owe_function(
     heap: &mut Heap,
-    names: &IndexSet<Ref>,
     block: &[Draft],
     function: &Draft,
-    owed: &mut IndexSet<Ref>,
+    owed: &mut Obligations,
+    known: &mut Known,
 ) -> Result<Recursion, Memory>
-    requires block { AreBlock heap.old.objects names.now.keys block.now }
+    requires block { AreBlock heap.old.objects known.old.names.keys block.now }
     requires named { IsNamed heap.old.objects block.now function.now.name function.now }
+    requires known { AreKnown heap.old.objects known.old.names.keys known.old }
     ensures grows { Grows heap.old.objects heap.new.objects }
-    ensures owed { IfOk result (OwesOne heap.old.objects heap.new.objects block.now function.now owed.old.keys owed.new.keys) }
+    ensures known { OnOk result (AreKnown heap.new.objects known.old.names.keys known.new) }
+    ensures owed { IfOk result (OwesOne heap.old.objects heap.new.objects block.now function.now owed.old owed.new) }
 {
-    let calls = find_calls(heap, names, function.body)?;
+    let calls = find_calls(heap, function.body, known)?;
     let mut looks_left = MOST_LOOKS;
     let recursion = owe_found(
         heap,
-        names,
         block,
         function,
         calls.as_slice(),
         owed,
+        known,
         &mut looks_left,
     )?;
     take_searches(heap, MOST_LOOKS.saturating_sub(looks_left))?;

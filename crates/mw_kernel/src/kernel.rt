@@ -43,7 +43,11 @@ use std::marker::Model;
 pub struct Kernel {
     world: World,
     checker: Checker,
+    took_long: bool,
 }
+
+// An event takes long where it takes more than so many turns in its runs, or so many looks at cells.
+const LONG: u64 = 1 << 20;
 
 impl Model for Kernel {
     ghost use Rattle.mw_kernel.specs.Knowledge.{Knowledge};
@@ -71,7 +75,11 @@ impl Kernel {
         let world = World::new(alloc)?;
         let machine = Machine::new(alloc);
         let checker = Checker { machine, steps };
-        Ok(Kernel { world, checker })
+        Ok(Kernel {
+            world,
+            checker,
+            took_long: false,
+        })
     }
 
     /// What the reader reads next in a piece of the book, and how many bytes that takes. The theory stays. After `Syntax` and `Memory`
@@ -120,10 +128,27 @@ impl Kernel {
         ensures room { length self.new.objects ≡ self.new.needed }
         ensures kept { IfOk result (λ f. KeepsRoom f self.old.needed self.new.needed) }
     {
-        self.world.allow_looks();
+        let turns = self.checker.machine.turns();
+        let looks = self.world.allow_looks();
         let fate = self.happens(event);
+        self.note_time(turns, looks);
         self.world.cut();
         fate
+    }
+
+    /// Whether the last event took long, as far as its runs and what labels multiply in it tell: a hint for a caller who keeps lines back.
+    /// It promises nothing about time.
+    pub fn took_long(&self) -> bool {
+        self.took_long
+    }
+
+    // Notes whether the event took long, before which the runs had taken so many turns, and which was allowed so many looks.
+    fn note_time(&mut self, turns: u64, looks: u64)
+        ensures { self.new ≡ self.old }
+    {
+        let ran = self.checker.machine.turns().saturating_sub(turns);
+        let looked = self.world.heap.take_looks(looks.saturating_sub(LONG));
+        self.took_long = ran > LONG || looked.is_err();
     }
 
     /// The heap of the theory.

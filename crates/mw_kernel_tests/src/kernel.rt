@@ -1,4 +1,5 @@
-//! What a kernel shows: a new one, one after an event that is refused, one after a theorem, and one after a switch.
+//! What a kernel shows: a new one, one after an event that is refused, one after a theorem, and one after a switch; and after which events
+//! it says that they took long.
 ghost use Rattle.std.specs.Prelude.{IfOk};
 ghost use Rattle.mw_heap.specs.Objects.{IsIn};
 
@@ -11,11 +12,15 @@ use std::alloc::Global;
 const CLAIM: &[u8] = b"(por* (pequal* (f x axioms thms atbl) 'nil) \
     (pnot* (pequal* (logic.provablep (logic.conclusion x) axioms thms atbl) 'nil)))";
 
-// What a test answers on a new kernel.
-fn on_a_kernel<F: FnOnce(&mut Kernel) -> bool>(alloc: Global, test: F) -> Result<bool, Memory>
+// What a test answers on a new kernel with this step limit.
+fn on_a_kernel<F: FnOnce(&mut Kernel) -> bool>(
+    alloc: Global,
+    steps: u64,
+    test: F,
+) -> Result<bool, Memory>
     requires { F.IsAlwaysCallable test }
 {
-    let kernel = Kernel::new(alloc, 0)?;
+    let kernel = Kernel::new(alloc, steps)?;
     let mut kernel = Box::new(alloc, kernel)?;
     Ok(test(&mut kernel))
 }
@@ -126,7 +131,7 @@ fn shows_the_same(kernel: &mut Kernel) -> bool {
 
 #[test]
 fn a_refused_event_changes_nothing_that_is_shown(rt: HostRuntime) {
-    assert!(rt; on_a_kernel(rt.alloc(), shows_the_same) == Ok(true));
+    assert!(rt; on_a_kernel(rt.alloc(), 0, shows_the_same) == Ok(true));
 }
 
 const REFL: &[u8] = b"(verify refl (pequal* x x) (axiom (pequal* x x)))";
@@ -137,7 +142,7 @@ fn shows_a_theorem(kernel: &mut Kernel) -> bool {
 
 #[test]
 fn a_theorem_is_added_to_what_is_shown(rt: HostRuntime) {
-    assert!(rt; on_a_kernel(rt.alloc(), shows_a_theorem) == Ok(true));
+    assert!(rt; on_a_kernel(rt.alloc(), 0, shows_a_theorem) == Ok(true));
 }
 
 // A function of four formals that always answers NIL, the proof that it may judge, and the switch to it.
@@ -174,5 +179,36 @@ fn switches(kernel: &mut Kernel) -> bool {
 
 #[test]
 fn a_switch_shows_its_checker_and_its_level(rt: HostRuntime) {
-    assert!(rt; on_a_kernel(rt.alloc(), switches) == Ok(true));
+    assert!(rt; on_a_kernel(rt.alloc(), 0, switches) == Ok(true));
+}
+
+// An EVAL of nineteen tests within one another by labels, which runs one and a half million instructions and takes no unit.
+const TESTS: &[u8] =
+    b"(eval #20=(if #19=(if #18=(if #17=(if #16=(if #15=(if #14=(if #13=(if #12=(if #11=(if #10=(if \
+    #9=(if #8=(if #7=(if #6=(if #5=(if #4=(if #3=(if #2=(if #1=t #1# nil) #2# nil) #3# nil) #4# \
+    nil) #5# nil) #6# nil) #7# nil) #8# nil) #9# nil) #10# nil) #11# nil) #12# nil) #13# nil) #14# \
+    nil) #15# nil) #16# nil) #17# nil) #18# nil) #19# nil))";
+
+// Whether an event took long, where it is accepted.
+fn took_long(kernel: &mut Kernel, event: &[u8]) -> Result<bool, Memory> {
+    match refusal(kernel, event)? {
+        None => Ok(kernel.took_long()),
+        Some(_) => Err(Memory),
+    }
+}
+
+// Whether just the event of many instructions is said to have taken long.
+fn tells_what_took_long(kernel: &mut Kernel) -> bool {
+    [
+        took_long(kernel, REFL) == Ok(false),
+        took_long(kernel, TESTS) == Ok(true),
+        took_long(kernel, b"(print 1)") == Ok(false),
+    ] == [true; 3]
+}
+
+// At a step limit of ten, room is made for the run, and its instructions have no bound.
+#[test]
+fn a_long_run_is_told(rt: HostRuntime) {
+    assert!(rt; on_a_kernel(rt.alloc(), 10, tells_what_took_long) == Ok(true));
+    assert!(rt; on_a_kernel(rt.alloc(), 20_000, tells_what_took_long) == Ok(true));
 }

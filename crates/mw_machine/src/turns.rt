@@ -1,38 +1,55 @@
 //! Turns, by which a run ends in time.
-ghost use Rattle.std.specs.Prelude.{◌*◌, OnOk, OnErr};
-ghost use Rattle.mw_machine.specs.Turns.{AreTaken, AreFewer, AreEarned};
+ghost use Rattle.std.specs.Prelude.{◌≡◌, ◌+◌, ◌*◌, ◌^◌, ◌-◌, min, OnOk, OnErr};
+ghost use Rattle.mw_machine.specs.Turns.{AreTaken, AreFewer, taken_since};
 
 use mw_heap::Memory;
 
-/// The turns that are left to a run, which takes one for each instruction, a round of them at a time.
+// The turns of any run, for the lambda calls and tests that take no unit, and one round more, since they are taken by rounds.
+const MOST_TURNS: u64 = (1 << 26) + 256;
+
+const TURNS_FOR_A_UNIT: u64 = 64;
+
+/// The turns of a run, which takes one for each instruction, a round of them at a time: those that are left, or, where they are not
+/// limited, those that were taken.
 #[derive(Clone, Copy)]
 pub(crate) enum Turns {
     Limited(u64),
-    Unlimited,
+    Unlimited(u64),
 }
 
 impl Turns {
+    /// The turns of a run of at most so many units.
+    pub(crate) fn for_units(units: u64) -> Turns
+        ensures { result ≡ Turns.Limited (min (2 ^ 26 + 256 + min (units * 64) (2 ^ 64 - 1)) (2 ^ 64 - 1)) }
+    {
+        Turns::Limited(MOST_TURNS.saturating_add(units.saturating_mul(TURNS_FOR_A_UNIT)))
+    }
+
     /// Takes turns. The error is that fewer are left: a run that ends so answers that it is out of memory.
     pub(crate) fn take(&mut self, count: u64) -> Result<(), Memory>
         ensures taken { OnOk result (AreTaken count self.old self.new) }
         ensures fewer { OnErr result (AreFewer count self.old) }
     {
-        let Turns::Limited(left) = *self else {
-            return Ok(());
-        };
-        if left < count {
-            return Err(Memory);
+        match *self {
+            Turns::Limited(left) => {
+                if left < count {
+                    return Err(Memory);
+                }
+                *self = Turns::Limited(left - count);
+            }
+            Turns::Unlimited(taken) => *self = Turns::Unlimited(taken.saturating_add(count)),
         }
-        *self = Turns::Limited(left - count);
         Ok(())
     }
 
-    /// Gives 64 turns for each unit that was taken, so that a run has time in proportion to its units.
-    pub(crate) fn earn(&mut self, units: u64)
-        ensures { AreEarned (64 * units) self.old self.new }
+    /// How many were taken since there were these.
+    pub(crate) fn taken_since(self, before: Turns) -> u64
+        ensures { result ≡ taken_since before self }
     {
-        if let Turns::Limited(left) = *self {
-            *self = Turns::Limited(left.saturating_add(units.saturating_mul(64)));
+        match (before, self) {
+            (Turns::Limited(had), Turns::Limited(left)) => had.saturating_sub(left),
+            (Turns::Unlimited(had), Turns::Unlimited(taken)) => taken.saturating_sub(had),
+            _ => 0,
         }
     }
 }

@@ -23,14 +23,15 @@ pub record Giving : Type 0 where
   pub calls : ℕ
   pub faults : ℕ
 
--- a sink in memory
+-- a sink in memory, which counts its shortages of memory too
 pub record Taking : Type 0 where
   pub taken : List ℕ
   pub cuts : List ℕ
   pub fails : List ℕ
   pub calls : ℕ
   pub faults : ℕ
+  pub shortages : ℕ
 
--- the count of faults of what never fails
+-- the count of faults of what never fails, and of shortages of what needs no memory
 abbrev pub no_faults : ℕ
 no_faults = 0

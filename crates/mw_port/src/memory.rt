@@ -110,6 +110,7 @@ pub struct MemSink {
     fails: Vec<u64>,
     calls: u64,
     faults: u64,
+    shortages: u64,
 }
 
 impl Model for MemSink {
@@ -117,13 +118,13 @@ impl Model for MemSink {
 
     ghost Value = { Taking };
 
-    ghost view = { λ s. record { taken = s.taken.items; cuts = s.cuts.items; fails = s.fails.items; calls = s.calls; faults = s.faults } };
+    ghost view = { λ s. record { taken = s.taken.items; cuts = s.cuts.items; fails = s.fails.items; calls = s.calls; faults = s.faults; shortages = s.shortages } };
 }
 
 impl MemSink {
     /// A sink that took nothing yet. The calls whose numbers, counted from 1, are listed in `fails` fail.
     pub fn new(alloc: Global, fails: Vec<u64>) -> MemSink
-        ensures { result ≡ record { taken = []; cuts = []; fails = fails.items; calls = 0; faults = 0 } }
+        ensures { result ≡ record { taken = []; cuts = []; fails = fails.items; calls = 0; faults = 0; shortages = 0 } }
     {
         MemSink {
             taken: Vec::new(alloc),
@@ -131,12 +132,13 @@ impl MemSink {
             fails,
             calls: 0,
             faults: 0,
+            shortages: 0,
         }
     }
 
     /// The same, where the k-th call takes at most `cuts[k - 1]` bytes, at least 1.
     pub fn with_cuts(alloc: Global, cuts: Vec<usize>, fails: Vec<u64>) -> MemSink
-        ensures { result ≡ record { taken = []; cuts = cuts.items; fails = fails.items; calls = 0; faults = 0 } }
+        ensures { result ≡ record { taken = []; cuts = cuts.items; fails = fails.items; calls = 0; faults = 0; shortages = 0 } }
     {
         MemSink {
             taken: Vec::new(alloc),
@@ -144,6 +146,7 @@ impl MemSink {
             fails,
             calls: 0,
             faults: 0,
+            shortages: 0,
         }
     }
 
@@ -160,6 +163,8 @@ impl Sink for MemSink {
 
     ghost faults = { λ s. s.faults };
 
+    ghost shortages = { λ s. s.shortages };
+
     fn write(&mut self, piece: &[u8]) -> Result<usize, Halt>
         ensures within { IfOk result (λ n. n ≤ length piece.now) }
         ensures some { IfOk result (λ n. 0 < length piece.now → 0 < n) }
@@ -167,6 +172,9 @@ impl Sink for MemSink {
         ensures steady { OnOk result (self.new.faults ≡ self.old.faults) }
         ensures failed { IsErrOf result Halt.Failed → Rises self.old.faults self.new.faults }
         ensures memory { IsErrOf result Halt.Memory → self.new.faults ≡ self.old.faults }
+        ensures enough { OnOk result (self.new.shortages ≡ self.old.shortages) }
+        ensures short { IsErrOf result Halt.Memory → Rises self.old.shortages self.new.shortages }
+        ensures not_short { IsErrOf result Halt.Failed → self.new.shortages ≡ self.old.shortages }
         ensures kept { OnErr result (Some self.new.taken ≡ Some self.old.taken) }
 
         // Which calls fail, how many bytes the others take, and what else stays.
@@ -186,7 +194,10 @@ impl Sink for MemSink {
         let n = moved(&self.cuts, place, piece.len());
         match self.taken.extend_from_slice(&piece[..n]) {
             Ok(()) => Ok(n),
-            Err(_) => Err(Halt::Memory),
+            Err(_) => {
+                self.shortages = self.shortages.saturating_add(1);
+                Err(Halt::Memory)
+            }
         }
     }
 }

@@ -1,6 +1,7 @@
 //! The standard streams: the edge that is trusted. They tell no bytes, but hand on what the stream below them moves.
 ghost use Rattle.std.specs.Prelude.{◌≡◌, ◌<◌, ◌≤◌, length, take, IfOk, OnOk, OnErr, IsErrOf};
 ghost use Rattle.std.specs.Io.KnownBytes.{Consumes, Appends, Keeps, IsAtEnd};
+ghost use Rattle.mw_port.specs.Memories.{no_faults};
 ghost use Rattle.mw_port.specs.Ports.{Rises, Gives, HasEnded, Takes, untold};
 
 use crate::{Failed, Halt, Sink, Source};
@@ -79,6 +80,8 @@ impl<W: Write> Sink for StdSink<W> {
 
     ghost faults = { λ s. s.faults };
 
+    ghost shortages = { λ s. no_faults };
+
     fn write(&mut self, piece: &[u8]) -> Result<usize, Halt>
         ensures within { IfOk result (λ n. n ≤ length piece.now) }
         ensures some { IfOk result (λ n. 0 < length piece.now → 0 < n) }
@@ -86,6 +89,9 @@ impl<W: Write> Sink for StdSink<W> {
         ensures steady { OnOk result (self.new.faults ≡ self.old.faults) }
         ensures failed { IsErrOf result Halt.Failed → Rises self.old.faults self.new.faults }
         ensures memory { IsErrOf result Halt.Memory → self.new.faults ≡ self.old.faults }
+        ensures enough { OnOk result (no_faults ≡ no_faults) }
+        ensures short { IsErrOf result Halt.Memory → Rises no_faults no_faults }
+        ensures not_short { IsErrOf result Halt.Failed → no_faults ≡ no_faults }
         ensures kept { OnErr result (untold ≡ untold) }
 
         // Where the writer tells its bytes, those taken went after them, and none at a fault.

@@ -60,7 +60,7 @@ impl Source for SteadySource {
     }
 }
 
-/// A sink in memory whose calls all succeed, but where memory is refused.
+/// A sink in memory whose calls all succeed, unless it runs out of memory.
 #[derive(Drop)]
 pub struct SteadySink {
     sink: MemSink,
@@ -80,7 +80,7 @@ impl Model for SteadySink {
 impl SteadySink {
     /// A sink that took nothing yet.
     pub fn new(alloc: Global) -> SteadySink
-        ensures { result ≡ record { taken = []; cuts = []; fails = []; calls = 0; faults = 0 } }
+        ensures { result ≡ record { taken = []; cuts = []; fails = []; calls = 0; faults = 0; shortages = 0 } }
     {
         SteadySink {
             sink: MemSink::new(alloc, Vec::new(alloc)),
@@ -100,6 +100,8 @@ impl Sink for SteadySink {
 
     ghost faults = { λ s. no_faults };
 
+    ghost shortages = { λ s. s.shortages };
+
     fn write(&mut self, piece: &[u8]) -> Result<usize, Halt>
         ensures within { IfOk result (λ n. n ≤ length piece.now) }
         ensures some { IfOk result (λ n. 0 < length piece.now → 0 < n) }
@@ -107,6 +109,9 @@ impl Sink for SteadySink {
         ensures steady { OnOk result (no_faults ≡ no_faults) }
         ensures failed { IsErrOf result Halt.Failed → Rises no_faults no_faults }
         ensures memory { IsErrOf result Halt.Memory → no_faults ≡ no_faults }
+        ensures enough { OnOk result (self.new.shortages ≡ self.old.shortages) }
+        ensures short { IsErrOf result Halt.Memory → Rises self.old.shortages self.new.shortages }
+        ensures not_short { IsErrOf result Halt.Failed → self.new.shortages ≡ self.old.shortages }
         ensures kept { OnErr result (Some self.new.taken ≡ Some self.old.taken) }
 
         ensures only_memory { IsErrOf result Halt.Failed → ⊥ }

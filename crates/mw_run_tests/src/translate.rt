@@ -1,7 +1,9 @@
 //! Raw terms, and the terms that they expand to.
+ghost use Rattle.std.specs.Prelude.{◌<◌};
+
 use crate::shared::{CALLS, Nest, add, arities, nested};
 use mw_forms::{boxed, read, read_two};
-use mw_heap::{Heap, Memory};
+use mw_heap::{Heap, Memory, looks_for};
 use mw_term::Arity;
 use mw_translate::{Expanded, expand, expand_under};
 use std::alloc::{AllocError, Global};
@@ -38,6 +40,7 @@ const BINDINGS: &str = "\
 ((let* () (f x y)) (f x y))
 ((let* ((x t)) (f x y)) ((lambda (x y) (f x y)) 't y))
 ((let* ((x (car y)) (x (cdr x)) (y x)) (f x y)) ((lambda (x) ((lambda (x) ((lambda (y x) (f x y)) x x)) (cdr x))) (car y)))
+((let* ((x (car a)) (y (cons b x)) (z (f y c))) (f (cons z d) (f x y))) ((lambda (x b c d) ((lambda (y c d x) ((lambda (z d x y) (f (cons z d) (f x y))) (f y c) d x y)) (cons b x) c d x)) (car a) b c d))
 (((lambda (x) (list x)) (and y 1)) ((lambda (x) (cons x 'nil)) (if y '1 'nil)))
 ";
 
@@ -221,6 +224,57 @@ fn is_nested_right(
     expands_to(heap, arity, raw.as_bytes(), term.as_bytes())
 }
 
+// Wires of a circuit in one LET*. Each is that of an IF of three that came up to so many wires before it, so that as many variables live
+// everywhere.
+fn circuit(alloc: Global, wires: u64, live: u64) -> Result<String, AllocError>
+    requires few_wires { wires < 10000 }
+    requires few_live { live < 10000 }
+    requires some_live { 0 < live }
+{
+    let mut text = String::new(alloc);
+    text.push_str("(let* (")?;
+    for k in 0..wires {
+        let wire = format!(in alloc;
+            "(w{} (if w{k} w{} w{}))",
+            k + live,
+            k + live / 2,
+            k + live - 1
+        )?;
+        text.push_str(wire.as_str())?;
+    }
+    let end = format!(in alloc; ") w{})", wires + live - 1)?;
+    text.push_str(end.as_str())?;
+    Ok(text)
+}
+
+// Whether a circuit of a thousand wires, sixty of which live everywhere, expands with the looks that its event has.
+fn is_circuit_expanded(heap: &mut Heap, arity: &Arity) -> Result<bool, Memory> {
+    let text = circuit(heap.alloc(), 1_000, 60)?;
+    let raw = read(heap, text.as_bytes())?;
+    heap.allow_looks(looks_for(heap.mark().cells()));
+    let expanded = expand(heap, raw, arity, &[]);
+    heap.allow_looks(u64::MAX);
+    Ok(matches!(expanded, Expanded::Term(_)))
+}
+
+// The looks that a cell takes which expansion makes, and the cells of one step that are made before they are counted.
+const LOOKS_FOR_A_CELL: u64 = 32;
+
+const CELLS_OF_A_STEP: u64 = 16;
+
+// Whether a circuit whose wires are too many for the looks that are left ends out of memory, with no more cells made than the looks pay for.
+fn is_large_circuit_stopped(heap: &mut Heap, arity: &Arity) -> Result<bool, Memory> {
+    let text = circuit(heap.alloc(), 400, 400)?;
+    let raw = read(heap, text.as_bytes())?;
+    let had = heap.mark().cells();
+    let looks = 400_000;
+    heap.allow_looks(looks);
+    let expanded = expand(heap, raw, arity, &[]);
+    let made = heap.mark().cells().saturating_sub(had) as u64;
+    heap.allow_looks(u64::MAX);
+    Ok(expanded == Expanded::Memory && made <= looks / LOOKS_FOR_A_CELL + CELLS_OF_A_STEP)
+}
+
 // Whether a text is a term under two tables.
 fn is_term_under(
     heap: &mut Heap,
@@ -293,10 +347,13 @@ fn shared_lists_are_expanded_once(heap: &mut Heap, arity: &Arity) -> Result<bool
     is_nested_right(heap, arity, &LISTS, &CONSES)
 }
 
-// Whether long forms are expanded in time, shared parts are expanded once, newer functions count first, and new functions are called.
-fn other_forms(heap: &mut Heap, arity: &Arity) -> Result<[bool; 5], Memory> {
+// Whether long forms are expanded in time, and large circuits where their looks suffice, shared parts are expanded once, newer functions
+// count first, and new functions are called.
+fn other_forms(heap: &mut Heap, arity: &Arity) -> Result<[bool; 7], Memory> {
     Ok([
         are_long_right(heap, arity)?,
+        is_circuit_expanded(heap, arity)?,
+        is_large_circuit_stopped(heap, arity)?,
         shared_calls_are_kept(heap, arity)?,
         shared_lists_are_expanded_once(heap, arity)?,
         is_newer_called(heap, arity)?,
@@ -305,7 +362,7 @@ fn other_forms(heap: &mut Heap, arity: &Arity) -> Result<[bool; 5], Memory> {
 }
 
 // All of these, under the arities of some functions.
-fn forms(heap: &mut Heap) -> Result<([bool; 4], [bool; 5]), Memory> {
+fn forms(heap: &mut Heap) -> Result<([bool; 4], [bool; 7]), Memory> {
     let arity = arities(heap.alloc())?;
     let short = short_forms(heap, &arity)?;
     Ok((short, other_forms(heap, &arity)?))
@@ -314,6 +371,6 @@ fn forms(heap: &mut Heap) -> Result<([bool; 4], [bool; 5]), Memory> {
 #[test]
 fn raw_terms_expand_to_terms(rt: HostRuntime) -> Result<(), Fail> {
     let mut heap = boxed(rt.alloc())?;
-    assert_eq!(rt; forms(&mut heap)?, ([true; 4], [true; 5]));
+    assert_eq!(rt; forms(&mut heap)?, ([true; 4], [true; 7]));
     Ok(())
 }

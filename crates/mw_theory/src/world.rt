@@ -59,15 +59,17 @@ impl World {
         }
     }
 
-    /// Allows an event as many looks at cells as its own cells give it.
-    pub fn allow_looks(&mut self)
+    /// Allows an event as many looks at cells as its own cells give it. Answers how many these are.
+    pub fn allow_looks(&mut self) -> u64
         requires world { IsWorld self.old }
         ensures world { IsWorld self.new }
         ensures objects { self.new.heap.objects ≡ self.old.heap.objects }
         ensures rest { self.new ≡ record self.old { heap = self.new.heap } }
     {
         let cells = self.heap.mark().cells().saturating_sub(self.needed.cells());
-        self.heap.allow_looks(looks_for(cells));
+        let looks = looks_for(cells);
+        self.heap.allow_looks(looks);
+        looks
     }
 
     /// Adds a theorem. Of the objects that the theory does not need, only those that came before it stay.

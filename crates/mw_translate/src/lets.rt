@@ -130,11 +130,23 @@ fn extended_call(
     joined_call(heap, names, values, list, body)
 }
 
-// The looks that a binding takes, and the LET itself, besides what is walked: the name and the value are copied.
-const LOOKS_FOR_A_BINDING: u64 = 8;
+// The searches that a new cell counts as.
+const SEARCHES_FOR_A_CELL: u64 = 8;
 
-// The free variables of a term that are no formals. The heap's looks pay for what was looked at, here and for the formals, and for the
-// bindings.
+// The cells that each binding may bring, and that the call itself may: a name and a value stand in two lists each, and are copied.
+const CELLS_FOR_A_BINDING: u64 = 5;
+
+// The searches that the cells of a LET count as, of so many bindings and other variables.
+fn searches_for_cells(bindings: usize, others: usize) -> u64 {
+    (bindings as u64)
+        .saturating_add(1)
+        .saturating_mul(CELLS_FOR_A_BINDING)
+        .saturating_add(others as u64)
+        .saturating_mul(SEARCHES_FOR_A_CELL)
+}
+
+// The free variables of a term that are no formals. The heap's looks pay for what was looked at, here and for the formals, and for all cells
+// that the LET is still to make.
 fn counted_others(
     heap: &mut Heap,
     formals: &Formals,
@@ -149,13 +161,9 @@ fn counted_others(
 {
     let mut looks_left = looks_left;
     let others = other_variables(heap, formals, term, &mut looks_left)?;
-    let copies = (formals.len() as u64)
-        .saturating_add(1)
-        .saturating_mul(LOOKS_FOR_A_BINDING);
-    take_searches(
-        heap,
-        u64::MAX.saturating_sub(looks_left).saturating_add(copies),
-    )?;
+    let looked = u64::MAX.saturating_sub(looks_left);
+    let made = searches_for_cells(formals.len(), others.len());
+    take_searches(heap, looked.saturating_add(made))?;
     Ok(others)
 }
 

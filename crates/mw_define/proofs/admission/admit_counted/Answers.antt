@@ -4,7 +4,8 @@ use Rattle.std.proofs.lemmas.Result.{IfOk-weaker}
 use Rattle.mw_model.specs.Terms.Term.{are_distinct}
 use Rattle.mw_term.specs.Parts.{names_at, AreSymbols}
 use Rattle.mw_define.specs.Owed.{AreBlock}
-use Rattle.mw_define.specs.BlockTests.{IsExpandedBlock}
+use Rattle.mw_model.specs.Events.Refusal.{TERM}
+use Rattle.mw_define.specs.BlockTests.{fails, IsExpandedBlock}
 use Rattle.mw_define.proofs.BlockRead.{counted, pairs-symbols}
 use Rattle.mw_define.proofs.BlockTested.{fails-terms, is-block, block-tested}
 use Rattle.mw_heap.proofs.Objects.{Grows-trans}
@@ -23,13 +24,13 @@ expand_all-requires-clause-distinct c =
     ap are_distinct ((counted os c.args.drafts.now c.args.pairs.now c.requires.counted).names ∙ ap (names_at os) (sym n.refs)) ∙ n.distinct
 
 pub returns-in-None-clause-admitted : goal.returns-in-None-clause-admitted
-returns-in-None-clause-admitted c = fails-terms c.args.arity.now c.args.heap.now.objects c.args.drafts.now c.args.names.now.keys c.requires.within c.requires.names c.args.pairs.now c.requires.counted (rw c.in-None.is at c.in_ok-block.ensures.expanded)
+returns-in-None-clause-admitted c = fails TERM (fails-terms c.args.arity.now c.args.heap.now.objects c.args.drafts.now c.args.names.keys c.requires.within c.requires.names c.args.pairs.now c.requires.counted (rw c.in-None.is at c.in_ok-block.ensures.expanded))
 
 pub admit_expanded-requires : goal.admit_expanded-requires
 admit_expanded-requires c =
     let mid = c.expand_all.new.heap.objects in
-    subst (AreBlock mid c.args.names.now.keys) (sym c.as_slice.ensures.value)
-    (is-block c.args.arity.now c.args.heap.now.objects c.args.drafts.now c.args.names.now.keys c.requires.within c.requires.names c.args.pairs.now c.requires.counted mid c.in-Some.block.items c.in_ok-block.ensures.grows (rw c.in-Some.is at c.in_ok-block.ensures.expanded))
+    subst (AreBlock mid c.args.names.keys) (sym c.as_slice.ensures.value)
+    (is-block c.args.arity.now c.args.heap.now.objects c.args.drafts.now c.args.names.keys c.requires.within c.requires.names c.args.pairs.now c.requires.counted mid c.in-Some.block.items c.in_ok-block.ensures.grows (rw c.in-Some.is at c.in_ok-block.ensures.expanded))
 
 pub returns-in-Some-clause-admitted : goal.returns-in-Some-clause-admitted
 returns-in-Some-clause-admitted c =
@@ -37,8 +38,8 @@ returns-in-Some-clause-admitted c =
     let new = c.admit_expanded.new.heap.objects in
     IfOk-weaker c.admit_expanded.result _ _
     (λ o admitted.
-    block-tested c.args.arity.now c.args.heap.now.objects c.args.drafts.now c.args.names.now.keys c.requires.within c.requires.names c.args.pairs.now c.requires.counted mid c.in-Some.block.items c.in_ok-block.ensures.grows (rw c.in-Some.is at c.in_ok-block.ensures.expanded) new c.admit_expanded.ensures.grows o
-    (subst (λ l. IsExpandedBlock mid new l o) c.as_slice.ensures.value admitted))
+    block-tested c.args.arity.now c.args.heap.now.objects c.args.drafts.now c.args.names.keys c.requires.within c.requires.names c.args.pairs.now c.requires.counted mid c.in-Some.block.items c.in_ok-block.ensures.grows (rw c.in-Some.is at c.in_ok-block.ensures.expanded) c.args.most new c.admit_expanded.ensures.grows o
+    (subst (λ l. IsExpandedBlock c.args.most mid new l o) c.as_slice.ensures.value admitted))
     c.admit_expanded.ensures.admitted
 
 pub returns-in-Some-clause-grows : goal.returns-in-Some-clause-grows

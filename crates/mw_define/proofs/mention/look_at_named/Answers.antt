@@ -25,7 +25,7 @@ returns-then-is_word-2 c =
     let is : object_at os c.args.name ≡ symbol "IF" = same_object-eq (object_at os c.args.name) (symbol "IF") (sym c.is_word-2.ensures ∙ c.if-is_word-2.true) in
     let whole = c.requires.whole ∙ ap (λ f. Pair f r) is in
     let p = if-is (terms_of r) c.requires.read.0 (sym (ap term_of whole) ∙ c.requires.read.1) in
-    splits-call (names_at os c.args.names.now.keys) os c.args.x c.args.waiting.now.items c.args.arguments _ _ c.push.new.self.items c.requires.within c.requires.arguments_older p.3 (c.requires.read.1 ∙ ap Some p.4) (λ B n. if-mentions B p.0 p.1 p.2) c.in_ok-push.ensures.items
+    splits-call (names_at os c.args.names.now.keys) os c.args.x c.args.waiting.now.items c.args.arguments _ _ c.push.new.self.items c.requires.within p.3 (c.requires.read.1 ∙ ap Some p.4) (λ B n. if-mentions B p.0 p.1 p.2) c.in_ok-push.ensures.items
 
 pub returns-then-is_among_symbols : goal.returns-then-is_among_symbols
 returns-then-is_among_symbols c = λ B n.
@@ -39,5 +39,5 @@ returns c =
     let os = c.args.heap.now.objects in
     let f = object_at os c.args.name in
     let p = named-call f (object_at os c.args.arguments) c.requires.read.0 c.requires.symbol (sym c.is_word.ensures ∙ c.if-is_word.false) (sym c.is_word-2.ensures ∙ c.if-is_word-2.false) (sym (ap term_of c.requires.whole) ∙ c.requires.read.1) in
-    splits-call (names_at os c.args.names.now.keys) os c.args.x c.args.waiting.now.items c.args.arguments p.0 _ c.push-2.new.self.items c.requires.within c.requires.arguments_older p.1 (c.requires.read.1 ∙ ap Some p.2)
+    splits-call (names_at os c.args.names.now.keys) os c.args.x c.args.waiting.now.items c.args.arguments p.0 _ c.push-2.new.self.items c.requires.within p.1 (c.requires.read.1 ∙ ap Some p.2)
     (λ B n. other-mentions B (name_of f) p.0 (ap (is_among (name_of f)) n ∙ (sym c.is_among_symbols.ensures.among ∙ c.if-is_among_symbols.false))) c.in_ok-push-2.ensures.items

@@ -10,13 +10,14 @@ use Rattle.mw_define.specs.Collecting.{AreFoundCalls, found_calls}
 use Rattle.mw_define.specs.Blocks.{functions_at, measures_at}
 use Rattle.mw_define.specs.Owed.{Adds, owed_at}
 use Rattle.mw_define.proofs.Collection.{founds-Grows}
+use Rattle.mw_define.proofs.Knowing.{known-Grows}
 use Rattle.mw_define.proofs.Witnessed.{names-Grows}
 use Rattle.mw_define.proofs.OwedSoFar.{adds-both}
 use Rattle.mw_define.proofs.OwedBlock.{block-Grows, named-Grows, owed_found-Grows}
 use Rattle.mw_define.proofs.owing.owe_flat.Goals as goal
 
 pub owe_calls-requires-clause-block : goal.owe_calls-requires-clause-block
-owe_calls-requires-clause-block c = block-Grows c.args.heap.now.objects c.owe_ordinal.new.heap.objects c.in_ok-owe_ordinal.ensures.grows c.args.names.now.keys c.args.block.now c.requires.block
+owe_calls-requires-clause-block c = block-Grows c.args.heap.now.objects c.owe_ordinal.new.heap.objects c.in_ok-owe_ordinal.ensures.grows c.args.known.now.names.keys c.args.block.now c.requires.block
 
 pub owe_calls-requires-clause-named : goal.owe_calls-requires-clause-named
 owe_calls-requires-clause-named c = named-Grows c.args.heap.now.objects c.owe_ordinal.new.heap.objects c.in_ok-owe_ordinal.ensures.grows c.args.block.now c.args.function.now.name c.args.function.now c.requires.block.expanded c.requires.named.expanded.within.0 c.requires.named
@@ -25,9 +26,12 @@ pub owe_calls-requires-clause-calls : goal.owe_calls-requires-clause-calls
 owe_calls-requires-clause-calls c =
     let os = c.args.heap.now.objects in
     let new = c.owe_ordinal.new.heap.objects in
-    let rs = c.args.names.now.keys in
+    let rs = c.args.known.now.names.keys in
     let g = c.in_ok-owe_ordinal.ensures.grows in
     subst (λ ns. AreFoundCalls new ns c.args.calls.now) (sym (names-Grows os new rs g c.requires.block.symbols)) (founds-Grows os new (names_at os rs) g c.args.calls.now c.requires.calls)
+
+pub owe_calls-requires-clause-known : goal.owe_calls-requires-clause-known
+owe_calls-requires-clause-known c = known-Grows c.args.heap.now.objects c.owe_ordinal.new.heap.objects c.args.known.now.names.keys c.args.known.now c.in_ok-owe_ordinal.ensures.grows c.requires.known
 
 pub returns-clause-owed : goal.returns-clause-owed
 returns-clause-owed c =
@@ -38,8 +42,8 @@ returns-clause-owed c =
     let e = c.args.function.now in
     let owed = owed_at os es e (found_calls (functions_at os es) os c.args.calls.now) in
     IfOk-weaker c.owe_calls.result _ _
-    (λ _ adds. adds-both os mid new c.args.owed.now.keys c.owe_ordinal.new.owed.keys c.owe_calls.new.owed.keys (ordinal_formula (measure_of (measures_at os es) (name_of (object_at os e.name))) ∷ []) owed c.in_ok-owe_ordinal.ensures.owed
-    (subst (Adds mid new c.owe_ordinal.new.owed.keys c.owe_calls.new.owed.keys) (owed_found-Grows os mid c.in_ok-owe_ordinal.ensures.grows es e (names_at os c.args.names.now.keys) c.args.calls.now c.requires.block.expanded c.requires.named.expanded.within c.requires.calls) adds))
+    (λ _ adds. adds-both os mid new c.args.owed.now c.owe_ordinal.new.owed c.owe_calls.new.owed (ordinal_formula (measure_of (measures_at os es) (name_of (object_at os e.name))) ∷ []) owed c.in_ok-owe_ordinal.ensures.owed
+    (subst (Adds mid new c.owe_ordinal.new.owed c.owe_calls.new.owed) (owed_found-Grows os mid c.in_ok-owe_ordinal.ensures.grows es e (names_at os c.args.known.now.names.keys) c.args.calls.now c.requires.block.expanded c.requires.named.expanded.within c.requires.calls) adds))
     c.owe_calls.ensures.owed
 
 pub returns-clause-grows : goal.returns-clause-grows

@@ -17,6 +17,6 @@ returns-clause-owed c =
     let m = measure_of (measures_at os c.args.block.now) (name_of (object_at os c.args.function.now.name)) in
     let read : term_of (object_at os c.args.function.now.measure) ≡ Some m = c.requires.expanded.measure ∙ ap Some (sym c.requires.measure) in
     IfOk-weaker c.add_formula.result _ _
-    (λ _ adds. adds-later os new new c.args.owed.now.keys c.add_formula.new.owed.keys (ordinal_formula m ∷ []) c.in_ok-formula.ensures.grows
+    (λ _ adds. adds-later os new new c.args.owed.now c.add_formula.new.owed (ordinal_formula m ∷ []) c.in_ok-formula.ensures.grows
     (adds (ordinal_formula m) (c.in_ok-formula.ensures.made.1 m read) (ordinal-read (object_at os c.args.function.now.measure) m read)))
     c.add_formula.ensures

@@ -1,0 +1,36 @@
+//! The obligations of a block.
+ghost use Rattle.std.specs.Prelude.{◌≡◌, [], length};
+ghost use Rattle.mw_define.specs.Owed.{is_past};
+
+use indexmap::IndexSet;
+use mw_heap::Ref;
+use std::alloc::Global;
+
+/// The formulas that a block was found to owe, each once and in order, and how many it may owe, where that is bounded.
+#[derive(Drop)]
+pub(crate) struct Obligations {
+    pub formulas: IndexSet<Ref>,
+    pub most: Option<u64>,
+}
+
+impl Obligations {
+    pub fn new(most: Option<u64>, alloc: Global) -> Obligations
+        ensures formulas { result.formulas.keys ≡ [] }
+        ensures most { result.most ≡ most }
+    {
+        Obligations {
+            formulas: IndexSet::new(alloc),
+            most,
+        }
+    }
+
+    // Whether these are more than the block may owe.
+    pub fn are_too_many(&self) -> bool
+        ensures { result ≡ is_past self.now.most (length self.now.formulas.keys) }
+    {
+        match self.most {
+            Some(most) => self.formulas.len() as u64 > most,
+            None => false,
+        }
+    }
+}
