@@ -1,5 +1,5 @@
 -- What follows for each request from what holds for those that are made.
-use Rattle.std.proofs.Common.{◌≡◌, ℕ, List, ◌++◌, Option, sym, subst}
+use Rattle.std.proofs.Common.{◌≡◌, ℕ, Bool, nat_lt, List, ◌++◌, Option, sym, subst}
 use Rattle.mw_model.specs.Terms.Object.{Object}
 use Rattle.mw_model.specs.Texts.Lexemes.{Fault}
 use Rattle.mw_model.specs.Reports.Request.{Request}
@@ -23,3 +23,6 @@ module _ {P : Type 0} (make : P → Request) where
 
     pub refused_by : (n : ℕ) → ((p : P) → holds p given → n ≡ refused_for (make p) given) → n ≡ refused_for q given
     refused_by n f = subst (λ r. n ≡ refused_for r given) (sym h.1) (f h.0 h.2)
+
+    pub some_refused_by : (b : Bool) → ((p : P) → holds p given → b ≡ nat_lt 0 (refused_for (make p) given)) → b ≡ nat_lt 0 (refused_for q given)
+    some_refused_by b f = subst (λ r. b ≡ nat_lt 0 (refused_for r given)) (sym h.1) (f h.0 h.2)

@@ -5,9 +5,9 @@ use Rattle.mw_request.specs.Commands.{asked, help_text}
 use Rattle.mw_model.specs.Reports.Trial.{trial_book}
 use Rattle.mw_model.specs.Texts.Grammar.{trees}
 use Rattle.mw_model.specs.Reports.Report.{last_line}
-use Rattle.mw_book.specs.Statuses.{IsPartOf}
-use Rattle.mw_book.proofs.Written.{nothing_taken}
-use Rattle.mw_book.proofs.Rounds.{Begins, part_none}
+use Rattle.mw_book.specs.Statuses.{IsPartOf, WritesFirst}
+use Rattle.mw_book.proofs.Written.{nothing_taken, takes_none}
+use Rattle.mw_book.proofs.Rounds.{Begins, part_none, first_none}
 
 none_of : Begins → (q : Request) (input sink : Option (List ℕ)) → IsPartOf q input sink sink
 none_of begins (Check N) input sink = part_none begins (Check N) refl input sink
@@ -22,3 +22,17 @@ none_of begins Usage input sink = nothing_taken help_text sink
 
 pub nothing_written : Begins → (words : List (List ℕ)) (input sink : Option (List ℕ)) → IsPartOf (asked words) input sink sink
 nothing_written begins words input sink = none_of begins (asked words) input sink
+
+no_answers : (q : Request) (input sink : Option (List ℕ)) → WritesFirst q input sink sink
+no_answers (Check N) input sink = first_none (Check N) refl input sink
+no_answers (Trial m N) input sink = takes_none sink
+no_answers Taut input sink = first_none Taut refl input sink
+no_answers (Lower N) input sink = first_none (Lower N) refl input sink
+no_answers (Slice name N) input sink = first_none (Slice name N) refl input sink
+no_answers (Flat N) input sink = first_none (Flat N) refl input sink
+no_answers Recheck input sink = first_none Recheck refl input sink
+no_answers Help input sink = takes_none sink
+no_answers Usage input sink = takes_none sink
+
+pub nothing_answered : (words : List (List ℕ)) (input sink : Option (List ℕ)) → WritesFirst (asked words) input sink sink
+nothing_answered words input sink = no_answers (asked words) input sink

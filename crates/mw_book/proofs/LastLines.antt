@@ -1,5 +1,5 @@
 -- The last lines, and how many of the data were refused.
-use Rattle.std.proofs.Common.{◌≡◌, ℕ, ◌+◌, ◌-◌, List, ◌++◌, Some, None, codes, refl, ap, ap₂}
+use Rattle.std.proofs.Common.{◌≡◌, ℕ, ◌+◌, ◌-◌, ◌||◌, nat_lt, List, ◌++◌, Some, None, codes, refl, ap, ap₂}
 use Rattle.mw_model.specs.Terms.Object.{Object}
 use Rattle.mw_model.specs.Reports.Request.{Request, Check, Taut, Lower, Flat, Recheck}
 use Rattle.mw_kernel.specs.Knowledge.{theory_of}
@@ -18,7 +18,7 @@ use Rattle.mw_book.specs.declared.judging.Judging.{Judging}
 use Rattle.mw_book.specs.declared.lowering.Lowering.{Lowering}
 use Rattle.mw_book.specs.declared.proving.Proving.{Proving}
 use Rattle.mw_book.specs.declared.rechecking.Rechecking.{Rechecking}
-use Rattle.mw_book.proofs.AnsweredBy.{last_by, refused_by}
+use Rattle.mw_book.proofs.AnsweredBy.{last_by, refused_by, some_refused_by}
 use Rattle.mw_book.proofs.Counted.{summary_is as formulas_are}
 use Rattle.mw_book.proofs.Ended.{summary_is}
 use Rattle.mw_book.proofs.FlattenedOne.{flat_summary_is}
@@ -65,8 +65,8 @@ lowered_summary l level e q given h =
 
 -- ---- a book turned to a log
 
-pub flattened_refused : (f : Flattening) (q : Request) (given : List Object) → FlattenedFor f q given → f.others ≡ refused_for q given
-flattened_refused f q given h = refused_by Flat (Flattened f) q given h f.others (λ N k. k.others_counted)
+pub flattened_refused : (f : Flattening) (q : Request) (given : List Object) → FlattenedFor f q given → (f.refused || f.switched) ≡ nat_lt 0 (refused_for q given)
+flattened_refused f q given h = some_refused_by Flat (Flattened f) q given h (f.refused || f.switched) (λ N k. k.some_other)
 
 pub flattened_fault : (f : Flattening) (kind : SyntaxKind) (offset : ℕ) (q : Request) (given : List Object) → FlattenedFor f q given → IsLastText q given (fault_of (Some (kind, offset))) (codes "; " ++ fault_line (kind_of kind) offset)
 flattened_fault f kind offset q given h = last_by Flat (Flattened f) q given h (fault_of (Some (kind, offset))) (codes "; " ++ fault_line (kind_of kind) offset) (λ N k. refl)

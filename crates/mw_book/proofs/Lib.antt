@@ -1,5 +1,7 @@
 pub mod AnsweredBy
+pub mod FirstData
 pub mod Taken
+pub mod Writings
 pub mod Ended
 pub mod Written
 pub mod Rounds

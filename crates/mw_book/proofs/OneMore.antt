@@ -58,6 +58,10 @@ module _ (i t u : Theory) (given : List Object) (y : Object) (f : Fate) (n N : �
       ∙ ap (λ v. lines 1 i given N ++ line (1 + length given) y v) fate-here
       ∙ sym (lines-append 1 i given y N)
 
+-- a line that was made aside, put after the others
+pub line_after : (before aside begun rest after : List ℕ) → after ≡ before ++ (aside ++ rest) → aside ≡ begun → after ≡ (before ++ begun) ++ rest
+line_after before aside begun rest after e i = e ∙ ap (λ l. before ++ (l ++ rest)) i ∙ sym (append_assoc before begun rest)
+
 abbrev pub lines_of : Judging → List ℕ
 lines_of j = j.lines.items
 

@@ -21,7 +21,7 @@ use Rattle.mw_book.specs.Rechecked.{HasEndedDatum, Rechecked, RecheckedFor, deni
 use Rattle.mw_book.specs.declared.rechecking.Rechecking.{Rechecking}
 use Rattle.mw_book.proofs.AnsweredBy.{answers_by}
 use Rattle.mw_book.proofs.Logs.{all_answered, event_more, few_entered, last_entered, log_lines-append, step_more, theory_after-last, with_last_event, with_last_step}
-use Rattle.mw_book.proofs.OneMore.{joined}
+use Rattle.mw_book.proofs.OneMore.{joined, line_after}
 use Rattle.mw_book.proofs.Pieces.{how_many-append}
 
 abbrev pub lines_of : Rechecking → List ℕ
@@ -164,9 +164,9 @@ rechecked_one old new x said comes c e d line given = go (is_step x) refl comes 
 
 -- The line of a datum was begun, if it is an event; then it was answered, and the line ended.
 pub ended_one : (old begun new : Rechecking) (g : Going) (x : Object) (b : Bool) (v : Verdict) →
-    begun ≡ record old { lines = begun.lines } →
+    begun ≡ record old { line = begun.line } →
     b ≡ is_step x →
-    begun.lines.items ≡ old.lines.items ++ cond b [] (line_begun (old.events + 1) x) →
+    begun.line.items ≡ cond b [] (line_begun (old.events + 1) x) →
     ((steps : List Object) → HasCollected old.flat steps → Comes v old.flat g steps x) →
     new.flat ≡ g →
     HasEndedDatum (record begun { flat = g }) new (answer_of v) →
@@ -178,7 +178,8 @@ ended_one old begun new g x b v rest is line comes flat e given =
     (e.counted ∙ ap (λ r. r.taken + 1) rest)
     (e.events_counted ∙ ap (λ r. r.events + events_said said) rest)
     (e.denied_counted ∙ ap (λ r. r.denied + denied_said said) rest)
-    (e.line ∙ ap (λ l. l ++ said_text said) (line ∙ ap (λ s. old.lines.items ++ cond s [] (line_begun (old.events + 1) x)) is))
+    (line_after old.lines.items begun.line.items (cond (is_step x) [] (line_begun (old.events + 1) x)) (said_text said) new.lines.items
+    (e.line ∙ ap (λ r. r.lines.items ++ (begun.line.items ++ said_text said)) rest) (line ∙ ap (λ s. cond s [] (line_begun (old.events + 1) x)) is))
     given
 
 -- what has read more has the same theory and the same steps

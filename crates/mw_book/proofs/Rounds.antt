@@ -1,5 +1,6 @@
 -- What is known between two pieces of a book.
-use Rattle.std.proofs.Common.{◌≡◌, ℕ, ◌+◌, ◌*◌, ◌<◌, ◌≤◌, ◌^◌, true, false, List, [], ◌++◌, length, Option, Some, None, inr, refl, sym, ap, ◌∙◌, subst, arith, true≢false, append_assoc, append-nil, length-append}
+use Rattle.std.proofs.Common.{◌≡◌, ℕ, ◌+◌, ◌*◌, ◌<◌, ◌≤◌, ◌^◌, ◌⊎◌, true, false, List, [], ◌++◌, length, drop, Option, Some, None, inl, inr, refl, sym, ap, ◌∙◌, subst, arith, true≢false, append_assoc, append-nil, length-append}
+use Rattle.std.proofs.lemmas.List.{drop_all, take_all}
 use Rattle.std.specs.Option.{is_some}
 use Rattle.mw_model.specs.Terms.Object.{Object}
 use Rattle.mw_model.specs.Reports.Request.{Request, Check, Trial, Taut, Lower, Slice, Flat, Recheck, Help, Usage}
@@ -7,20 +8,22 @@ use Rattle.mw_model.specs.Texts.Lexemes.{Goes}
 use Rattle.mw_model.specs.Texts.Grammar.{Book, book, reading, trees}
 use Rattle.mw_model.specs.Reports.Report.{Status}
 use Rattle.mw_commands.specs.Headlines.{Promised, IsBegun}
-use Rattle.mw_port.specs.Ports.{Gives, Takes as SinkTakes, HasEnded}
-use Rattle.mw_read.specs.Standing.{Stands, IsStanding, IsFree, work}
+use Rattle.mw_port.specs.Ports.{Gives, Rises, Takes as SinkTakes, HasEnded}
+use Rattle.mw_read.specs.Standing.{Stands, IsStanding, IsFree, Follows, work}
 use Rattle.mw_read.specs.declared.parser.Parser.{Parser}
 use Rattle.mw_read.specs.declared.step.SyntaxKind.{SyntaxKind}
 use Rattle.mw_read.proofs.Beginning.{weight_small}
 use Rattle.mw_read.proofs.Telling.{stands_goes}
-use Rattle.mw_book.specs.Answering.{Answers, HasAnswered, Takes, Ends, ReadWhole}
+use Rattle.mw_book.specs.Answering.{HasAnswered, IsBegunBy, AreFirst, ReadWhole}
+use Rattle.mw_book.specs.Writing.{HasWritten, EndsWritten, StopsWritten}
 use Rattle.mw_book.specs.Books.{Has, TakesSome}
 use Rattle.mw_book.specs.Due.{AreAnswers}
-use Rattle.mw_book.specs.Statuses.{report_status, IsPartOf}
-use Rattle.mw_book.specs.Checks.{BookEnds, SourceCounts, ConcludesWith, IsHalt, IsStop}
+use Rattle.mw_book.specs.Statuses.{report_status, IsPartOf, WritesFirst}
+use Rattle.mw_book.specs.Checks.{BookEnds, SourceCounts, SinkShortages, ConcludesWith, IsHalt, IsStop}
 use Rattle.mw_book.specs.declared.status.Status.{Status as Ending}
 use Rattle.mw_book.specs.declared.status.Status.TheVariants as ending
-use Rattle.mw_read.proofs.Prefixes.{free_fits, first_data}
+use Rattle.mw_read.proofs.Prefixes.{free_fits}
+use Rattle.mw_book.proofs.FirstData.{follows_free, read_so_far}
 use Rattle.mw_book.proofs.Written.{takes_none, takes_both, takes_then, gives_none, gives_both, left_of, gives_has, ended_has, still_ended}
 
 -- that what was answered first begins a text that keeps the promise
@@ -47,10 +50,31 @@ begun_is_part Recheck given text a input old new b = b
 begun_is_part Help given text a input old new b = absurd a
 begun_is_part Usage given text a input old new b = absurd a
 
+-- answers to first data of the book that the source holds, where the request asks for answers
+pub first_written : (q : Request) (given : List Object) (text : List ℕ) → AreAnswers q given text → (input old new : Option (List ℕ)) →
+    (bytes : List ℕ) × Has input bytes × (first more : List Object) × ((trees bytes).events ≡ first ++ more) × (written : List ℕ) × SinkTakes old new written × AreAnswers q first written →
+    WritesFirst q input old new
+first_written (Check N) given text a input old new b = b
+first_written Taut given text a input old new b = b
+first_written (Trial m N) given text a input old new b = absurd a
+first_written (Lower N) given text a input old new b = b
+first_written (Slice s N) given text a input old new b = b
+first_written (Flat N) given text a input old new b = b
+first_written Recheck given text a input old new b = b
+first_written Help given text a input old new b = absurd a
+first_written Usage given text a input old new b = absurd a
+
 -- nothing was written
 pub part_none : Begins → (q : Request) → AreAnswers q [] [] → (input sink : Option (List ℕ)) → IsPartOf q input sink sink
 part_none begins q a input sink =
     begun_is_part q [] [] a input sink sink (left_of input, gives_has input input [] (gives_none input), [], takes_none sink, begins q (left_of input) [] [] (trees (left_of input)).events refl a)
+
+pub first_none : (q : Request) → AreAnswers q [] [] → (input sink : Option (List ℕ)) → WritesFirst q input sink sink
+first_none q a input sink =
+    first_written q [] [] a input sink sink (left_of input, gives_has input input [] (gives_none input), [], (trees (left_of input)).events, refl, [], takes_none sink, a)
+
+pub ends_none : Begins → (q : Request) → AreAnswers q [] [] → (input now sink : Option (List ℕ)) (m n : ℕ) → BookEnds ending.Memory q input now sink sink m n
+ends_none begins q a input now sink m n = (part_none begins q a input sink, inr (first_none q a input sink))
 
 -- Of the book, these bytes were read, all their data answered, and all answers written.
 pub record Between {A : Type 0} (objects : A → List Object) (lines : A → List ℕ) (number : A → ℕ) (answered : A → Request → List Object → Type 0) (q : Request) (input first : Option (List ℕ)) (j : A) (p : Parser) (left sink : Option (List ℕ)) (count : ℕ) : Type 0 where
@@ -100,8 +124,8 @@ module _ {A : Type 0} {objects : A → List Object} {lines : A → List ℕ} {nu
     room_for piece l = omega (arith, between.amount, between.stands.short, weight_small p.begun, l)
 
     -- a read failed
-    pub read_fails : (now : Option (List ℕ)) → now ≡ left → BookEnds ending.ReadFault q input now first sink
-    read_fails now e = (
+    pub read_fails : (now : Option (List ℕ)) → now ≡ left → (m n : ℕ) → BookEnds ending.ReadFault q input now first sink m n
+    read_fails now e m n = (
       between.bytes,
       subst (λ u. Gives input u between.bytes) (sym e) between.gives,
       ap (λ (b : Book). b.fault) between.so_far,
@@ -110,107 +134,120 @@ module _ {A : Type 0} {objects : A → List Object} {lines : A → List ℕ} {nu
       subst (λ (b : Book). AreAnswers q b.events between.written) (sym between.so_far) between.answers,
     )
 
-    -- memory was refused: what was written begins a text that is due for any book that goes on so
-    pub part_here : Begins → IsPartOf q input first sink
-    part_here begins =
-        let rest = left_of left in
-        let bytes = between.bytes ++ rest in
-        let d = first_data (objects j) p between.bytes between.given between.stands rest (between.free rest) in
-        begun_is_part q between.given between.written between.answers input first sink
-        (bytes, gives_has input left between.bytes between.gives, between.written, between.takes, begins q bytes between.written between.given d.0 d.1 between.answers)
+    -- A write stopped, or memory ran out: the answers to first data begin a text that is due, and are whole where memory ran out.
+    module _ (begins : Begins) (bytes : List ℕ) (has : Has input bytes) (First : List Object → Type 0) (first_of : (more : List Object) → First more → IsBegunBy bytes more) (s : Ending) (after : Option (List ℕ)) (m n : ℕ) (stops : StopsWritten answered s j between.given First sink after m n) (now : Option (List ℕ)) where
+      owed : AreAnswers q stops.0 (between.written ++ stops.2)
+      owed = stops.3 q between.known between.written between.answers
 
-    -- with no lines left, what was written is what is due
-    due_here : AreAnswers q between.given (between.written ++ lines j)
-    due_here = subst (AreAnswers q between.given) (sym (ap (λ u. between.written ++ u) between.none_left ∙ append-nil between.written)) between.answers
+      part : IsPartOf q input first after
+      part =
+          let d = first_of stops.0 stops.1 in
+          let p = begun_part q bytes (between.written ++ stops.2) first after (begins q bytes (between.written ++ stops.2) stops.0 d.0 d.1 owed) (takes_then first sink after between.written stops.2 between.takes stops.4) in
+          begun_is_part q stops.0 (between.written ++ stops.2) owed input first after (bytes, has, p.0, p.1, p.2)
+
+      whole : SinkTakes sink after stops.2 → WritesFirst q input first after
+      whole t =
+          let d = first_of stops.0 stops.1 in
+          first_written q stops.0 (between.written ++ stops.2) owed input first after (bytes, has, stops.0, d.0, d.1, between.written ++ stops.2, takes_both first sink after between.written stops.2 between.takes t, owed)
+
+      whole_or : Rises m n ⊎ SinkTakes sink after stops.2 → Rises m n ⊎ WritesFirst q input first after
+      whole_or (inl r) = inl r
+      whole_or (inr t) = inr (whole t)
+
+      ends_so : (e : Ending) → s ≡ e → IsHalt e → BookEnds e q input now first after m n
+      ends_so ending.WriteFault i h = part
+      ends_so ending.Memory i h = (part, whole_or (stops.5 i))
+      ends_so ending.Done i h = absurd h
+      ends_so ending.SomeRefused i h = absurd h
+      ends_so ending.Help i h = absurd h
+      ends_so ending.Usage i h = absurd h
+      ends_so (ending.Syntax k o) i h = absurd h
+      ends_so ending.ReadFault i h = absurd h
+
+      stopped : IsHalt s → BookEnds s q input now first after m n
+      stopped h = ends_so s refl h
 
     -- the book has ended
-    pub whole_end : (now : Option (List ℕ)) → Gives left now [] → HasEnded left → (f : Option (SyntaxKind × ℕ)) (new : A) → Ends lines answered f j between.bytes between.given new → ReadWhole lines answered q input now first sink f new
-    whole_end now gives ended f new h = record {
-      bytes = between.bytes;
-      has = ended_has input left between.bytes between.gives ended;
-      ended = λ e. still_ended left now gives ended;
-      given = h.0;
-      read = h.2;
-      known = h.1.known q between.known;
-      written = between.written;
-      takes = between.takes;
-      due = h.1.due q between.known between.written due_here;
-    }
+    module _ (now : Option (List ℕ)) (gives : Gives left now []) (ended : HasEnded left) where
+      all_read : Has input between.bytes
+      all_read = ended_has input left between.bytes between.gives ended
+
+      pub whole_end : (f : Option (SyntaxKind × ℕ)) (new : A) (after : Option (List ℕ)) → EndsWritten answered f j between.bytes between.given sink new after → ReadWhole answered q input now first after f new
+      whole_end f new after h = record {
+        bytes = between.bytes;
+        has = all_read;
+        ended = λ e. still_ended left now gives ended;
+        given = h.0;
+        read = h.4;
+        known = h.3.known q between.known;
+        written = between.written ++ h.1;
+        takes = takes_both first sink after between.written h.1 between.takes h.2;
+        due = h.3.due q between.known between.written between.answers;
+      }
+
+      pub end_stops : Begins → (s : Ending) → IsHalt s → (after : Option (List ℕ)) (m n : ℕ) → ((g : List ℕ) (given : List Object) → Stands (objects j) p g given → StopsWritten answered s j given (IsBegunBy g) sink after m n) → BookEnds s q input now first after m n
+      end_stops begins s h after m n stops = stopped begins between.bytes all_read (IsBegunBy between.bytes) (λ more f. f) s after m n (stops between.bytes between.given between.stands) now h
 
     -- a piece was read
-    module _ (piece : List ℕ) (now : Option (List ℕ)) (gives : Gives left now piece) (new : A) where
+    module _ (piece : List ℕ) (now : Option (List ℕ)) (gives : Gives left now piece) where
       all_given : Gives input now (between.bytes ++ piece)
       all_given = gives_both input left now between.bytes piece between.gives gives
 
-      due_more : (more : List Object) → Answers lines answered j between.given new more → AreAnswers q more (between.written ++ lines new)
-      due_more more h = h.due q between.known between.written due_here
+      all_had : Has input ((between.bytes ++ piece) ++ left_of now)
+      all_had = gives_has input now (between.bytes ++ piece) all_given
 
-      -- up to a fault
-      pub whole_fault : (f : Option (SyntaxKind × ℕ)) (r : Parser) → is_some f ≡ true → Takes objects lines answered f j between.bytes between.given piece new r → ReadWhole lines answered q input now first sink f new
-      whole_fault None r e h = absurd (true≢false (sym e))
-      whole_fault (Some f) r e h = record {
-        bytes = between.bytes ++ (piece ++ left_of now);
-        has = subst (Has input) (append_assoc between.bytes piece (left_of now)) (gives_has input now (between.bytes ++ piece) all_given);
-        ended = λ n. absurd (some_is_not_none f n);
-        given = h.0;
-        read = h.2 (left_of now);
-        known = h.1.known q between.known;
-        written = between.written;
-        takes = between.takes;
-        due = due_more h.0 h.1;
-      }
-        where
-          some_is_not_none : (x : SyntaxKind × ℕ) → Some x ≡ None → ⊥
-          some_is_not_none x e = true≢false (ap is_some e)
+      pub piece_stops : Begins → (s : Ending) → IsHalt s → (after : Option (List ℕ)) (m n : ℕ) → ((g : List ℕ) (given : List Object) → Stands (objects j) p g given → StopsWritten answered s j given (AreFirst (g ++ piece)) sink after m n) → BookEnds s q input now first after m n
+      piece_stops begins s h after m n stops = stopped begins ((between.bytes ++ piece) ++ left_of now) all_had (AreFirst (between.bytes ++ piece)) (λ more f. f (left_of now)) s after m n (stops between.bytes between.given between.stands) now h
 
-      -- all of it
-      pub taken_all : (f : Option (SyntaxKind × ℕ)) (r : Parser) → is_some f ≡ false → Takes objects lines answered f j between.bytes between.given piece new r → Takes objects lines answered None j between.bytes between.given piece new r
-      taken_all None r e h = h
-      taken_all (Some f) r e h = absurd (true≢false e)
+      module _ (new : A) (r : Parser) (after : Option (List ℕ)) where
+        -- up to a fault
+        pub whole_fault : (f : Option (SyntaxKind × ℕ)) → is_some f ≡ true → HasWritten objects lines number answered f j p piece sink new r after → ReadWhole answered q input now first after f new
+        whole_fault None e h = absurd (true≢false (sym e))
+        whole_fault (Some f) e h =
+            let x = h.1 between.bytes between.given between.stands in
+            record {
+              bytes = between.bytes ++ (piece ++ left_of now);
+              has = subst (Has input) (append_assoc between.bytes piece (left_of now)) all_had;
+              ended = λ n. absurd (some_is_not_none f n);
+              given = x.0;
+              read = x.4 (left_of now);
+              known = x.3.known q between.known;
+              written = between.written ++ x.1;
+              takes = takes_both first sink after between.written x.1 between.takes x.2;
+              due = x.3.due q between.known between.written between.answers;
+            }
+          where
+            some_is_not_none : (x : SyntaxKind × ℕ) → Some x ≡ None → ⊥
+            some_is_not_none x e = true≢false (ap is_some e)
 
-      module _ (r : Parser) (h : Takes objects lines answered None j between.bytes between.given piece new r) (after : Option (List ℕ)) where
-        -- a write stopped
-        pub write_stops : Begins → TakesSome sink after (lines new) → IsPartOf q input first after
-        write_stops begins t =
-            let rest = left_of now in
-            let bytes = (between.bytes ++ piece) ++ rest in
-            let d = first_data (objects new) r (between.bytes ++ piece) h.0 h.2 rest (h.3 rest) in
-            let text = between.written ++ lines new in
-            let a = due_more h.0 h.1 in
-            let part = begun_part q bytes text first after (begins q bytes text h.0 d.0 d.1 a) (takes_then first sink after between.written (lines new) between.takes t) in
-            begun_is_part q h.0 text a input first after (bytes, gives_has input now (between.bytes ++ piece) all_given, part.0, part.1, part.2)
+        pub fault_none_left : (f : Option (SyntaxKind × ℕ)) → HasWritten objects lines number answered f j p piece sink new r after → lines new ≡ []
+        fault_none_left None h = h.none_left
+        fault_none_left (Some f) h = h.0
 
-        -- the lines were written
-        pub between_more : 0 < length piece → SinkTakes sink after (lines new) → number new ≤ number j + work p piece →
-            (last : A) → objects last ≡ objects new → number last ≡ number new → ((given : List Object) → answered new q given → answered last q given) → lines last ≡ [] → Between objects lines number answered q input first last r now after (count + 1)
-        between_more some t counted last same_objects same_number same_known l =
+        -- all of it
+        pub between_more : 0 < length piece → (f : Option (SyntaxKind × ℕ)) → is_some f ≡ false → HasWritten objects lines number answered f j p piece sink new r after → Between objects lines number answered q input first new r now after (count + 1)
+        between_more some (Some f) e h = absurd (true≢false e)
+        between_more some None e h =
+            let x = h.reads between.bytes between.given between.stands in
             let size = length-append between.bytes piece in
+            let none : drop (length piece) piece ≡ [] = drop_all (length piece) piece (omega arith) in
+            let stands = subst (λ u. Stands (objects new) r (between.bytes ++ u) x.0) (take_all (length piece) piece (omega arith)) x.4 in
+            let free = follows_free r (subst (Follows r) none h.follows) in
             record {
               bytes = between.bytes ++ piece;
-              given = h.0;
+              given = x.0;
               gives = all_given;
-              stands = subst (λ os. Stands os r (between.bytes ++ piece) h.0) (sym same_objects) h.2;
-              free = h.3;
-              so_far = h.4;
-              known = same_known h.0 (h.1.known q between.known);
-              written = between.written ++ lines new;
-              takes = takes_both first sink after between.written (lines new) between.takes t;
-              answers = due_more h.0 h.1;
-              none_left = l;
+              stands = stands;
+              free = free;
+              so_far = read_so_far (objects new) r (between.bytes ++ piece) x.0 stands free;
+              known = x.3.known q between.known;
+              written = between.written ++ x.1;
+              takes = takes_both first sink after between.written x.1 between.takes x.2;
+              answers = x.3.due q between.known between.written between.answers;
+              none_left = h.none_left;
               many = (let m : count + 1 ≤ length (between.bytes ++ piece) = omega (arith, size, some, between.many) in m);
-              amount = (let m : number last ≤ 3 * length (between.bytes ++ piece) = omega (arith, size, some, counted, same_number, weight_small p.begun, between.amount) in m);
+              amount = (let m : number new ≤ 3 * length (between.bytes ++ piece) = omega (arith, size, some, h.counted, weight_small p.begun, between.amount) in m);
             }
-
--- a write that stopped ends the run so
-pub halt_ends : (q : Request) (input now first after : Option (List ℕ)) (s : Ending) → IsHalt s → IsPartOf q input first after → BookEnds s q input now first after
-halt_ends q input now first after ending.WriteFault h p = p
-halt_ends q input now first after ending.Memory h p = p
-halt_ends q input now first after ending.Done h p = absurd h
-halt_ends q input now first after ending.SomeRefused h p = absurd h
-halt_ends q input now first after ending.Help h p = absurd h
-halt_ends q input now first after ending.Usage h p = absurd h
-halt_ends q input now first after (ending.Syntax k o) h p = absurd h
-halt_ends q input now first after ending.ReadFault h p = absurd h
 
 pub halt_reads : (s : Ending) (old new : ℕ) → IsHalt s → new ≡ old → SourceCounts s old new
 halt_reads ending.WriteFault old new h e = e
@@ -233,23 +270,23 @@ halt_stops (ending.Syntax k o) h = absurd h
 halt_stops ending.ReadFault h = absurd h
 
 -- a write that stopped took a prefix
-pub concludes_with_halt : (e : Ending) (s : Status) (lines : List ℕ) (IsLast : List ℕ → Type 0) (old new : Option (List ℕ)) → IsHalt e → (last : List ℕ) → IsLast last → TakesSome old new (lines ++ last) → ConcludesWith e s lines IsLast old new
-concludes_with_halt ending.WriteFault s lines IsLast old new h last l t = (last, l, t)
-concludes_with_halt ending.Memory s lines IsLast old new h last l t = inr (last, l, t)
-concludes_with_halt ending.Done s lines IsLast old new h last l t = absurd h
-concludes_with_halt ending.SomeRefused s lines IsLast old new h last l t = absurd h
-concludes_with_halt ending.Help s lines IsLast old new h last l t = absurd h
-concludes_with_halt ending.Usage s lines IsLast old new h last l t = absurd h
-concludes_with_halt (ending.Syntax k o) s lines IsLast old new h last l t = absurd h
-concludes_with_halt ending.ReadFault s lines IsLast old new h last l t = absurd h
+pub concludes_with_halt : (e : Ending) (s : Status) (IsLast : List ℕ → Type 0) (old new : Option (List ℕ)) (m n : ℕ) → IsHalt e → SinkShortages e m n → (last : List ℕ) → IsLast last → TakesSome old new last → ConcludesWith e s IsLast old new m n
+concludes_with_halt ending.WriteFault s IsLast old new m n h k last l t = (last, l, t)
+concludes_with_halt ending.Memory s IsLast old new m n h k last l t = inr (k, last, l, t)
+concludes_with_halt ending.Done s IsLast old new m n h k last l t = absurd h
+concludes_with_halt ending.SomeRefused s IsLast old new m n h k last l t = absurd h
+concludes_with_halt ending.Help s IsLast old new m n h k last l t = absurd h
+concludes_with_halt ending.Usage s IsLast old new m n h k last l t = absurd h
+concludes_with_halt (ending.Syntax x o) s IsLast old new m n h k last l t = absurd h
+concludes_with_halt ending.ReadFault s IsLast old new m n h k last l t = absurd h
 
 -- a whole text was taken
-pub concludes_with_all : (e : Ending) (s : Status) (lines : List ℕ) (IsLast : List ℕ → Type 0) (old new : Option (List ℕ)) → report_status e ≡ Some s → (last : List ℕ) → IsLast last → SinkTakes old new (lines ++ last) → ConcludesWith e s lines IsLast old new
-concludes_with_all ending.Done s lines IsLast old new e last l t = (last, l, (e, t))
-concludes_with_all ending.SomeRefused s lines IsLast old new e last l t = (last, l, (e, t))
-concludes_with_all (ending.Syntax k o) s lines IsLast old new e last l t = (last, l, (e, t))
-concludes_with_all ending.WriteFault s lines IsLast old new e last l t = absurd (let h : None ≡ Some s = e in cc)
-concludes_with_all ending.Memory s lines IsLast old new e last l t = absurd (let h : None ≡ Some s = e in cc)
-concludes_with_all ending.Help s lines IsLast old new e last l t = absurd (let h : None ≡ Some s = e in cc)
-concludes_with_all ending.Usage s lines IsLast old new e last l t = absurd (let h : None ≡ Some s = e in cc)
-concludes_with_all ending.ReadFault s lines IsLast old new e last l t = absurd (let h : None ≡ Some s = e in cc)
+pub concludes_with_all : (e : Ending) (s : Status) (IsLast : List ℕ → Type 0) (old new : Option (List ℕ)) (m n : ℕ) → report_status e ≡ Some s → (last : List ℕ) → IsLast last → SinkTakes old new last → ConcludesWith e s IsLast old new m n
+concludes_with_all ending.Done s IsLast old new m n e last l t = (last, l, (e, t))
+concludes_with_all ending.SomeRefused s IsLast old new m n e last l t = (last, l, (e, t))
+concludes_with_all (ending.Syntax k o) s IsLast old new m n e last l t = (last, l, (e, t))
+concludes_with_all ending.WriteFault s IsLast old new m n e last l t = absurd (let h : None ≡ Some s = e in cc)
+concludes_with_all ending.Memory s IsLast old new m n e last l t = absurd (let h : None ≡ Some s = e in cc)
+concludes_with_all ending.Help s IsLast old new m n e last l t = absurd (let h : None ≡ Some s = e in cc)
+concludes_with_all ending.Usage s IsLast old new m n e last l t = absurd (let h : None ≡ Some s = e in cc)
+concludes_with_all ending.ReadFault s IsLast old new m n e last l t = absurd (let h : None ≡ Some s = e in cc)

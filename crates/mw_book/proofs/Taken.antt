@@ -1,12 +1,11 @@
 -- What was answered of a piece, and after the end of the book.
 use Rattle.std.proofs.Common.{◌≡◌, ℕ, ◌+◌, ◌<◌, ◌≤◌, true, List, [], ◌∷◌, ◌++◌, length, take, drop, Some, None, sym, ap, ◌∙◌, subst, arith, append_assoc, append-nil}
-use Rattle.std.proofs.lemmas.List.{take-append-drop, drop-drop, length-drop}
+use Rattle.std.proofs.lemmas.List.{take_all, take-append-drop, drop-drop, length-drop}
 use Rattle.std.proofs.Math.Seq.{take-add}
 use Rattle.mw_model.specs.Terms.Object.{Object}
-use Rattle.mw_model.specs.Texts.Lexemes.{Goes}
-use Rattle.mw_model.specs.Texts.Grammar.{book, reading, trees}
+use Rattle.mw_model.specs.Texts.Grammar.{trees}
 use Rattle.mw_model.specs.Reports.Request.{Request}
-use Rattle.mw_read.specs.Standing.{Stands, IsStanding, IsFree, Follows, Gives, GivesAfter, Says, work}
+use Rattle.mw_read.specs.Standing.{Stands, IsStanding, Follows, Gives, GivesAfter, Says, work}
 use Rattle.mw_read.specs.Feeding.{GivesNext, Continues}
 use Rattle.mw_read.specs.declared.parser.Parser.{Parser}
 use Rattle.mw_read.specs.declared.reader.Reader.{Reader}
@@ -14,16 +13,16 @@ use Rattle.mw_read.specs.declared.step.Step.{Step}
 use Rattle.mw_read.specs.declared.step.Step.TheVariants as steps
 use Rattle.mw_read.specs.declared.step.SyntaxKind.{SyntaxKind}
 use Rattle.mw_read.proofs.Bare.{take_cut}
+use Rattle.mw_read.proofs.Beginning.{weight_small}
 use Rattle.mw_read.proofs.Feeding.{last_left, last_stands, last_whole, last_fault}
-use Rattle.mw_book.specs.Answering.{Answers, HasAnswered, fault_of, Takes, Ends}
+use Rattle.mw_book.specs.Answering.{Answers, HasAnswered, fault_of, Taking, HasTaken, Ends, IsBegunBy, AreFirst, AreDueFirst}
+use Rattle.mw_book.specs.Due.{AreAnswers}
+use Rattle.mw_book.specs.declared.reading.Taken.TheVariants as takings
+use Rattle.mw_book.proofs.FirstData.{data_of_first, data_of_ended}
 
--- The data of the first bytes of a piece were answered, and the reader stands after those bytes.
-pub record Taking {A : Type 0} (objects : A → List Object) (lines : A → List ℕ) (count : A → ℕ) (answered : A → Request → List Object → Type 0) (o : A) (r : Parser) (piece : List ℕ) (j : A) (p : Parser) (at : ℕ) : Type 0 where
-  pub within : at ≤ length piece
-  pub reads : (g : List ℕ) (given : List Object) → Stands (objects o) r g given → (more : List Object) × Answers lines answered o given j more × Stands (objects j) p (g ++ take at piece) more
-  pub known : HasAnswered answered j
-  pub follows : Follows p (drop at piece)
-  pub counted : count j + work p (drop at piece) ≤ count o + work r piece
+-- the book of these bytes begins with these data
+abbrev IsBegunAs : List Object → List ℕ → Type 0
+IsBegunAs given bytes = IsBegunBy bytes given
 
 -- The data that the end of the book completes were answered.
 pub record Finishing {A : Type 0} (objects : A → List Object) (lines : A → List ℕ) (count : A → ℕ) (answered : A → Request → List Object → Type 0) (o : A) (r : Parser) (j : A) (p : Reader) : Type 0 where
@@ -47,18 +46,22 @@ module _ {A : Type 0} {lines : A → List ℕ} {answered : A → Request → Lis
   known_more a b f h = let m = f h.1 in (h.0, m.0, m.1.known h.0 h.2)
 
 module _ {A : Type 0} {objects : A → List Object} {lines : A → List ℕ} {count : A → ℕ} {answered : A → Request → List Object → Type 0} where
-  pub taking_none : (o : A) (r : Parser) (piece : List ℕ) → IsFree r → HasAnswered answered o → Taking objects lines count answered o r piece o r 0
+  pub taking_none : (o : A) (r : Parser) (piece : List ℕ) → Follows r piece → HasAnswered answered o → Taking objects lines count answered o r piece o r 0
   taking_none o r piece f known = record {
     within = (let e : 0 ≤ length piece = omega arith in e);
     reads = λ g given s. (given, answers_none o given, subst (λ u. Stands (objects o) r u given) (sym (append-nil g)) s);
     known = known;
-    follows = f piece;
+    follows = f;
     counted = (let e : count o + work r piece ≤ count o + work r piece = omega arith in e);
   }
 
   module _ {o : A} {r : Parser} {piece : List ℕ} {j : A} {p : Parser} {at : ℕ} (taking : Taking objects lines count answered o r piece j p at) where
     pub standing : IsStanding (objects o) r → IsStanding (objects j) p
     standing s = let t = taking.reads s.0 s.1 s.2 in (s.0 ++ take at piece, t.0, t.2)
+
+    -- the lines are due
+    pub taking_due : (g : List ℕ) (given : List Object) → Stands (objects o) r g given → AreDueFirst lines answered o given (AreFirst (g ++ piece)) j
+    taking_due g given h = let x = taking.reads g given h in (x.0, data_of_first (objects j) p g piece at x.0 x.2 taking.follows, x.1.due)
 
     -- k has read what comes next
     module _ (k : A) (kept : (given : List Object) → Answers lines answered j given k given) (same : count k ≡ count j) (t : Step) (n : ℕ) (q : Parser) where
@@ -101,24 +104,42 @@ module _ {A : Type 0} {objects : A → List Object} {lines : A → List ℕ} {co
             subst (λ u. work q u < work p (drop at piece)) (drop-drop n at piece) b.less,
           )
 
-      -- the whole piece
-      pub taken_whole : ((g : List ℕ) (given : List Object) → Stands (objects j) p g given → Says (objects k) p g given (drop at piece) steps.More n q) →
-          (g : List ℕ) (given : List Object) → Stands (objects o) r g given → Takes objects lines answered None o g given piece k q
-      taken_whole says g given h =
-          let x = taking.reads g given h in
-          let v = says (g ++ take at piece) x.0 x.2 in
-          let all = append_assoc g (take at piece) (drop at piece) ∙ ap (λ u. g ++ u) (take-append-drop at piece) in (
+      -- however far the step went, these lines are due that were due before it
+      pub taken_due : (g : List ℕ) (given : List Object) → Stands (objects o) r g given → (l : A) → lines l ≡ lines k → AreDueFirst lines answered o given (AreFirst (g ++ piece)) l
+      taken_due g given h l unchanged =
+          let x = taking.reads g given h in (
             x.0,
-            answers_more o j k given x.0 x.0 x.1 (kept x.0),
-            subst (λ u. Stands (objects k) q u x.0) all v.1,
-            v.2,
-            subst (λ u. reading Goes u ≡ book x.0 None) all v.3,
+            data_of_first (objects j) p g piece at x.0 x.2 taking.follows,
+            λ u a w e. subst (λ v. AreAnswers u x.0 (w ++ v)) (sym unchanged) ((kept x.0).due u (x.1.known u a) w (x.1.due u a w e)),
+          )
+
+      -- the rest of the piece, in which no datum ends
+      pub taken_rest : IsStanding (objects o) r → at < length piece →
+          ((g : List ℕ) (given : List Object) → Stands (objects j) p g given → Says (objects k) p g given (drop at piece) steps.More n q) →
+          Taking objects lines count answered o r piece k q (length piece) × (work q (drop (length piece) piece) < work p (drop at piece))
+      taken_rest s some says =
+          let here = standing s in
+          let v = says here.0 here.1 here.2 in
+          let size = length-drop at piece in
+          let none = length-drop (length piece) piece in (
+            record {
+              within = (let e : length piece ≤ length piece = omega arith in e);
+              reads = λ g given h.
+                  let x = taking.reads g given h in
+                  let w = says (g ++ take at piece) x.0 x.2 in
+                  let all = append_assoc g (take at piece) (drop at piece) ∙ ap (λ u. g ++ u) (take-append-drop at piece ∙ sym (take_all (length piece) piece (omega arith))) in
+                  (x.0, answers_more o j k given x.0 x.0 x.1 (kept x.0), subst (λ u. Stands (objects k) q u x.0) all w.1);
+              known = known_read;
+              follows = v.2 (drop (length piece) piece);
+              counted = omega (arith, weight_small q.begun, size, none, some, same, taking.counted);
+            },
+            omega (arith, weight_small q.begun, size, none, some),
           )
 
       -- up to a fault
       pub taken_fault : (kind : SyntaxKind) (offset : ℕ) →
           ((g : List ℕ) (given : List Object) → Stands (objects j) p g given → Says (objects k) p g given (drop at piece) (steps.Syntax kind offset) n q) →
-          (g : List ℕ) (given : List Object) → Stands (objects o) r g given → Takes objects lines answered (Some (kind, offset)) o g given piece k q
+          HasTaken objects lines count answered (takings.Fault kind offset) o r piece k q
       taken_fault kind offset says g given h =
           let x = taking.reads g given h in
           let v = says (g ++ take at piece) x.0 x.2 in (
@@ -126,6 +147,74 @@ module _ {A : Type 0} {objects : A → List Object} {lines : A → List ℕ} {co
             answers_more o j k given x.0 x.0 x.1 (kept x.0),
             λ rest. ap trees (take_cut g piece at rest) ∙ v rest,
           )
+
+    -- what was taken of the rest of the piece was taken of the piece
+    module _ (k : A) (q : Parser) where
+      pub taking_both : (n : ℕ) → HasTaken objects lines count answered (takings.Bytes n) j p (drop at piece) k q → Taking objects lines count answered o r piece k q (at + n) × (work q (drop (at + n) piece) < work p (drop at piece))
+      taking_both n h =
+          let t = h.0 in
+          let size = length-drop at piece in
+          let more = drop-drop n at piece in (
+            record {
+              within = (let e : at + n ≤ length piece = omega (arith, t.within, size, taking.within) in e);
+              reads = λ g given s.
+                  let x = taking.reads g given s in
+                  let y = t.reads (g ++ take at piece) x.0 x.2 in (
+                    y.0,
+                    answers_more o j k given x.0 y.0 x.1 y.1,
+                    subst (λ u. Stands (objects k) q u y.0) (append_assoc g (take at piece) (take n (drop at piece)) ∙ ap (λ u. g ++ u) (sym (take-add at n piece))) y.2,
+                  );
+              known = t.known;
+              follows = subst (Follows q) more t.follows;
+              counted = (let w : work q (drop n (drop at piece)) ≡ work q (drop (at + n) piece) = ap (work q) more in omega (arith, w, t.counted, taking.counted));
+            },
+            subst (λ u. work q u < work p (drop at piece)) more h.1,
+          )
+
+      pub taking_fault : (kind : SyntaxKind) (offset : ℕ) → HasTaken objects lines count answered (takings.Fault kind offset) j p (drop at piece) k q → HasTaken objects lines count answered (takings.Fault kind offset) o r piece k q
+      taking_fault kind offset h g given s =
+          let x = taking.reads g given s in
+          let y = h (g ++ take at piece) x.0 x.2 in
+          (y.0, answers_more o j k given x.0 y.0 x.1 y.1, λ rest. ap trees (take_cut g piece at rest) ∙ y.2 rest)
+
+      pub both_due : ((g : List ℕ) (given : List Object) → Stands (objects j) p g given → AreDueFirst lines answered j given (AreFirst (g ++ drop at piece)) k) → (g : List ℕ) (given : List Object) → Stands (objects o) r g given → AreDueFirst lines answered o given (AreFirst (g ++ piece)) k
+      both_due due g given s =
+          let x = taking.reads g given s in
+          let d = due (g ++ take at piece) x.0 x.2 in (
+            d.0,
+            λ rest. subst (IsBegunAs d.0) (append_assoc (g ++ take at piece) (drop at piece) rest ∙ sym (take_cut g piece at rest) ∙ sym (append_assoc g piece rest)) (d.1 rest),
+            λ u a w e. d.2 u (x.1.known u a) w (x.1.due u a w e),
+          )
+
+  -- ---- one step, from the beginning of a piece
+
+  module _ (o : A) (r : Parser) (piece : List ℕ) (follows : Follows r piece) (known : HasAnswered answered o) (k : A) (kept : (given : List Object) → Answers lines answered o given k given) (same : count k ≡ count o) (t : Step) (n : ℕ) (q : Parser) where
+    pub datum_taken : IsStanding (objects o) r → (new : A) →
+        ((g : List ℕ) (given : List Object) → Stands (objects o) r g given → (y : Object) × Gives (objects k) y t × GivesAfter r g given piece y n q) →
+        ((y : Object) → Gives (objects k) y t → (given : List Object) → Answers lines answered k given new (given ++ y ∷ [])) →
+        count new ≡ count k + 1 → HasTaken objects lines count answered (takings.Bytes n) o r piece new q
+    datum_taken s new says answers counted =
+        let none = taking_none o r piece follows known in
+        let e : 0 + n ≡ n = omega arith in (
+          subst (λ m. Taking objects lines count answered o r piece new q m) e (taking_more none k kept same t n q s new says answers counted),
+          subst (λ m. work q (drop m piece) < work r piece) e (taking_next none k kept same t n q s says).1,
+        )
+
+    pub rest_taken : IsStanding (objects o) r → 0 < length piece →
+        ((g : List ℕ) (given : List Object) → Stands (objects o) r g given → Says (objects k) r g given piece steps.More n q) →
+        HasTaken objects lines count answered (takings.Bytes (length piece)) o r piece k q
+    rest_taken s some says = taken_rest (taking_none o r piece follows known) k kept same t n q s some says
+
+    pub fault_taken : (kind : SyntaxKind) (offset : ℕ) →
+        ((g : List ℕ) (given : List Object) → Stands (objects o) r g given → Says (objects k) r g given piece (steps.Syntax kind offset) n q) →
+        HasTaken objects lines count answered (takings.Fault kind offset) o r piece k q
+    fault_taken kind offset says = taken_fault (taking_none o r piece follows known) k kept same t n q kind offset says
+
+    pub known_taken : HasAnswered answered k
+    known_taken = known_more o k (λ given. (given, kept given)) known
+
+    pub datum_due : (g : List ℕ) (given : List Object) → Stands (objects o) r g given → (l : A) → lines l ≡ lines k → AreDueFirst lines answered o given (AreFirst (g ++ piece)) l
+    datum_due = taken_due (taking_none o r piece follows known) k kept same t n q
 
   pub finishing_none : (o : A) (p : Reader) → p.unread ≡ [] → p.finished ≡ true → HasAnswered answered o → Finishing objects lines count answered o p.parser o p
   finishing_none o p e f known = record {
@@ -144,6 +233,15 @@ module _ {A : Type 0} {objects : A → List Object} {lines : A → List ℕ} {co
     module _ (k : A) (kept : (given : List Object) → Answers lines answered j given k given) (same : count k ≡ count j) (t : Step) (q : Reader) where
       pub known_last : HasAnswered answered k
       known_last = known_more j k (λ given. (given, kept given)) finishing.known
+
+      -- however far the step went, these lines are due that were due before it
+      pub finishing_due : (g : List ℕ) (given : List Object) → Stands (objects o) r g given → (l : A) → lines l ≡ lines k → AreDueFirst lines answered o given (IsBegunBy g) l
+      finishing_due g given h l unchanged =
+          let x = finishing.reads g given h in (
+            x.0,
+            data_of_ended (objects j) p.parser g x.0 x.2,
+            λ u a w e. subst (λ v. AreAnswers u x.0 (w ++ v)) (sym unchanged) ((kept x.0).due u (x.1.known u a) w (x.1.due u a w e)),
+          )
 
       pub finishing_more : IsStanding (objects o) r → (new : A) →
           ((g : List ℕ) (given : List Object) → Stands (objects j) p.parser g given → (y : Object) × Gives (objects k) y t × GivesNext p g given y q) →

@@ -17,7 +17,7 @@ use Rattle.mw_book.specs.declared.judging.Judging.{Judging}
 use Rattle.mw_book.specs.declared.status.Status.{Status as Ending}
 use Rattle.mw_book.specs.declared.status.Status.TheVariants as ending
 use Rattle.mw_book.proofs.Headlines.{same_some}
-use Rattle.mw_book.proofs.Written.{some_then}
+use Rattle.mw_book.proofs.Written.{some_then, takes_some}
 
 -- what never fails counts no fault
 never_rises : (old new : ℕ) → old ≡ no_faults → new ≡ no_faults → Rises old new → ⊥
@@ -35,7 +35,7 @@ memory_alone ending.Help old new p q h s k = absurd h
 memory_alone ending.Usage old new p q h s k = absurd h
 memory_alone (ending.Syntax x o) old new p q h s k = absurd h
 
-module _ (m : ℕ) {N : ℕ} {input now first middle : Option (List ℕ)} {f : Option (SyntaxKind × ℕ)} {lines : Judging → List ℕ} {j : Judging} (w : ReadWhole lines JudgedFor (Check N) input now first middle f j) (holds : input ≡ Some (trial_book m)) where
+module _ (m : ℕ) {N : ℕ} {input now first middle : Option (List ℕ)} {f : Option (SyntaxKind × ℕ)} {j : Judging} (w : ReadWhole JudgedFor (Check N) input now first middle f j) (holds : input ≡ Some (trial_book m)) where
   abbrev here : Book
   here = book w.given (fault_of f)
 
@@ -62,17 +62,13 @@ module _ (m : ℕ) {N : ℕ} {input now first middle : Option (List ℕ)} {f : O
     begun : (old new : Option (List ℕ)) → TakesSome old new text → TakesSome old new (last_line (trees (trial_book m)) N)
     begun old new t = subst (TakesSome old new) (same ∙ last) t
 
-  concluded : EventsKeep → (e : Ending) (old new : Option (List ℕ)) → ConcludesWith e (report_of here N).status [] (λ text. text ≡ last_line here N) old new → TrialEnds e m N old new
-  concluded keeps ending.Done old new c = whole c.0 c.1 keeps old new Done (same_some Done (report_of here N).status c.2.0) c.2.1
-  concluded keeps ending.SomeRefused old new c = whole c.0 c.1 keeps old new SomeRefused (same_some SomeRefused (report_of here N).status c.2.0) c.2.1
-  concluded keeps (ending.Syntax k o) old new c = whole c.0 c.1 keeps old new (Syntax (kind_of k) o) (same_some (Syntax (kind_of k) o) (report_of here N).status c.2.0) c.2.1
-  concluded keeps ending.Help old new c = absurd (let h : None ≡ Some (report_of here N).status = c.2.0 in cc)
-  concluded keeps ending.Usage old new c = absurd (let h : None ≡ Some (report_of here N).status = c.2.0 in cc)
-  concluded keeps ending.ReadFault old new c = absurd (let h : None ≡ Some (report_of here N).status = c.2.0 in cc)
-  concluded keeps ending.WriteFault old new c = begun c.0 c.1 old new c.2
-  concluded keeps ending.Memory old new (inl t) = some_then old new [] (last_line (trees (trial_book m)) N) t
-  concluded keeps ending.Memory old new (inr c) = begun c.0 c.1 old new c.2
-
-  -- where no other lines are left
-  pub trial_ends : EventsKeep → (e : Ending) (lines : List ℕ) (old new : Option (List ℕ)) → lines ≡ [] → ConcludesWith e (report_of here N).status lines (λ text. text ≡ last_line here N) old new → TrialEnds e m N old new
-  trial_ends keeps e lines old new none c = concluded keeps e old new (subst (λ l. ConcludesWith e (report_of here N).status l (λ text. text ≡ last_line here N) old new) none c)
+  pub trial_ends : EventsKeep → (e : Ending) (old new : Option (List ℕ)) (k n : ℕ) → ConcludesWith e (report_of here N).status (λ text. text ≡ last_line here N) old new k n → TrialEnds e m N old new k n
+  trial_ends keeps ending.Done old new k n c = whole c.0 c.1 keeps old new Done (same_some Done (report_of here N).status c.2.0) c.2.1
+  trial_ends keeps ending.SomeRefused old new k n c = whole c.0 c.1 keeps old new SomeRefused (same_some SomeRefused (report_of here N).status c.2.0) c.2.1
+  trial_ends keeps (ending.Syntax x o) old new k n c = whole c.0 c.1 keeps old new (Syntax (kind_of x) o) (same_some (Syntax (kind_of x) o) (report_of here N).status c.2.0) c.2.1
+  trial_ends keeps ending.Help old new k n c = absurd (let h : None ≡ Some (report_of here N).status = c.2.0 in cc)
+  trial_ends keeps ending.Usage old new k n c = absurd (let h : None ≡ Some (report_of here N).status = c.2.0 in cc)
+  trial_ends keeps ending.ReadFault old new k n c = absurd (let h : None ≡ Some (report_of here N).status = c.2.0 in cc)
+  trial_ends keeps ending.WriteFault old new k n c = begun c.0 c.1 old new c.2
+  trial_ends keeps ending.Memory old new k n (inl t) = (some_then old new [] (last_line (trees (trial_book m)) N) (takes_some old new [] t), inr t)
+  trial_ends keeps ending.Memory old new k n (inr c) = (begun c.1 c.2 old new c.3, inl c.0)

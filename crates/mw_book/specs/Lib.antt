@@ -2,6 +2,7 @@ pub mod Books
 pub mod Answered
 pub mod Due
 pub mod Answering
+pub mod Writing
 pub mod Statuses
 pub mod Numbers
 pub mod Knowing

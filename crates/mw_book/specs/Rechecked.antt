@@ -37,9 +37,9 @@ denied_said None = 0
 denied_said (Some Yes) = 0
 denied_said (Some (No o)) = 1
 
--- A datum was counted of which this was said, and its line, if it has one, was ended.
+-- A datum was counted of which this was said, and its line, if it has one, was ended and put after the others.
 pub record HasEndedDatum (old new : Rechecking) (said : Option Answer) : Type 0 where
-  pub line : new.lines.items ≡ old.lines.items ++ said_text said
+  pub line : new.lines.items ≡ old.lines.items ++ (old.line.items ++ said_text said)
   pub counted : new.taken ≡ old.taken + 1
   pub events_counted : new.events ≡ old.events + events_said said
   pub denied_counted : new.denied ≡ old.denied + denied_said said

@@ -1,5 +1,6 @@
 -- How the program ends, and what is then true.
-use Rattle.std.specs.Prelude.{◌≡◌, ℕ, Bool, true, false, List, Option, Some, None}
+use Rattle.std.specs.Prelude.{◌≡◌, ℕ, Bool, true, false, List, [], ◌++◌, Option, Some, None}
+use Rattle.mw_model.specs.Terms.Object.{Object}
 use Rattle.mw_model.specs.Reports.Request.{Request, Check, Trial, Taut, Lower, Slice, Flat, Recheck, Help, Usage}
 use Rattle.mw_request.specs.Commands.{asked, help_text}
 use Rattle.mw_model.specs.Texts.Lexemes.{Goes}
@@ -55,6 +56,18 @@ IsPartOf request book old new = (bytes : List ℕ) × Has book bytes × (written
 
 abbrev pub IsCutShort : List (List ℕ) → Option (List ℕ) → Option (List ℕ) → Option (List ℕ) → Type 0
 IsCutShort words book old new = IsPartOf (asked words) book old new
+
+-- What was written is exactly the answers to some first data of the book that the source holds, so that it ends with a whole answer; nothing where
+-- the request reads no book.
+abbrev pub WritesFirst : Request → Option (List ℕ) → Option (List ℕ) → Option (List ℕ) → Type 0
+WritesFirst (Trial m N) book old new = Takes old new []
+WritesFirst Help book old new = Takes old new []
+WritesFirst Usage book old new = Takes old new []
+WritesFirst request book old new =
+    (bytes : List ℕ) × Has book bytes × (given more : List Object) × ((trees bytes).events ≡ given ++ more) × (written : List ℕ) × Takes old new written × AreAnswers request given written
+
+abbrev pub WritesAnswers : List (List ℕ) → Option (List ℕ) → Option (List ℕ) → Option (List ℕ) → Type 0
+WritesAnswers words book old new = WritesFirst (asked words) book old new
 
 -- The bytes that the source gave hold no fault, and what is due was written for all data that are complete in them.
 abbrev pub WritesSoFar : Request → Option (List ℕ) → Option (List ℕ) → Option (List ℕ) → Option (List ℕ) → Type 0

@@ -1,5 +1,5 @@
 //! Answering the data of a book as they are read.
-ghost use Rattle.std.specs.Prelude.{◌≡◌, ℕ, ◌+◌, ◌<◌, ◌≤◌, ◌^◌, true, false, List, [], ◌∷◌, ◌++◌, length, None, IfOk, OnOk};
+ghost use Rattle.std.specs.Prelude.{◌≡◌, ℕ, ◌+◌, ◌<◌, ◌≤◌, ◌^◌, true, false, nat_lt, List, [], ◌∷◌, ◌++◌, length, None, IfOk, OnOk, OnErr};
 ghost use Rattle.mw_model.specs.Terms.Object.{Object};
 ghost use Rattle.mw_model.specs.Events.Fate.{is_out_of_range};
 ghost use Rattle.mw_model.specs.Reports.Request.{Request};
@@ -48,22 +48,28 @@ pub(crate) trait Answering {
         ensures count { count self.new ≡ count self.old }
         ensures continues { (g : List ℕ) (given : List Object) → Stands (objects self.old) reader.old.parser g given → Continues (objects self.new) reader.old g given result reader.new };
 
-    /// Answers a datum.
+    /// Answers a datum. An error leaves the lines as they were.
     fn answer(&mut self, x: Ref) -> Result<(), Memory>
         requires within { IsIn (objects self.old) x }
         requires in_range { is_out_of_range (object_at (objects self.old) x) ≡ false }
         requires room { count self.old + 1 < 2 ^ 64 }
         requires known { HasAnswered answered self.old }
         ensures answers { OnOk result ((given : List Object) → Answers unwritten answered self.old given self.new (given ++ object_at (objects self.old) x ∷ [])) }
-        ensures counted { OnOk result (count self.new ≡ count self.old + 1) };
+        ensures counted { OnOk result (count self.new ≡ count self.old + 1) }
+        ensures kept { OnErr result (unwritten self.new ≡ unwritten self.old) };
 
-    /// Answers a datum with a natural past the range, of which the reader shows the word and the label.
+    /// Answers a datum with a natural past the range, of which the reader shows the word and the label. An error leaves the lines as they
+    /// were.
     fn answer_large(&mut self, word: Option<Ref>, label: Option<Ref>) -> Result<(), Memory>
         requires shows { (x : Object) × (is_out_of_range x ≡ true) × ShowsEvent (objects self.old) word label x }
         requires room { count self.old + 1 < 2 ^ 64 }
         requires known { HasAnswered answered self.old }
         ensures answers { OnOk result ((x : Object) → is_out_of_range x ≡ true → ShowsEvent (objects self.old) word label x → (given : List Object) → Answers unwritten answered self.old given self.new (given ++ x ∷ [])) }
-        ensures counted { OnOk result (count self.new ≡ count self.old + 1) };
+        ensures counted { OnOk result (count self.new ≡ count self.old + 1) }
+        ensures kept { OnErr result (unwritten self.new ≡ unwritten self.old) };
+
+    /// Whether the last datum took long to answer, so that its line is written before more is read. Nothing is promised of it.
+    fn is_urgent(&self) -> bool;
 
     /// The lines that were not written yet.
     fn lines(&self) -> &[u8]
@@ -76,10 +82,10 @@ pub(crate) trait Answering {
         ensures count { count self.new ≡ count self.old }
         ensures answered { (q : Request) (given : List Object) → answered self.old q given → answered self.new q given };
 
-    /// Puts the last text after the lines that were not written yet, for a book with this fault or with none. Answers how many data were
-    /// refused, or not proved, or how many theorems are missing; of a log how many events got a no, and how many steps are left over.
-    fn end(&mut self, fault: Option<(SyntaxKind, u64)>) -> Result<u64, Memory>
+    /// Puts the last text after the lines that were not written yet, for a book with this fault or with none. Answers whether a datum was
+    /// refused, or not proved, or the theorem is missing; of a log whether an event got a no, or steps are left over.
+    fn end(&mut self, fault: Option<(SyntaxKind, u64)>) -> Result<bool, Memory>
         requires known { HasAnswered answered self.old }
-        ensures refused { fault ≡ None → IfOk result (λ n. (q : Request) (given : List Object) → answered self.old q given → n ≡ refused_for q given) }
+        ensures refused { fault ≡ None → IfOk result (λ b. (q : Request) (given : List Object) → answered self.old q given → b ≡ nat_lt 0 (refused_for q given)) }
         ensures last { OnOk result ((q : Request) (given : List Object) → answered self.old q given → (text : List ℕ) × IsLastText q given (fault_of fault) text × (unwritten self.new ≡ unwritten self.old ++ text)) };
 }

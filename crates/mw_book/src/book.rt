@@ -1,22 +1,24 @@
 //! A book from its bytes to the answers to its data.
-ghost use Rattle.std.specs.Prelude.{◌≡◌, ℕ, List, [], ◌++◌, Some, OnOk, OnErr, IfOk, IfErr};
+ghost use Rattle.std.specs.Prelude.{◌≡◌, ℕ, ◌+◌, ◌<◌, ◌^◌, List, [], ◌++◌, length, nat_lt, Some, None, OnOk, OnErr, IfOk, IfErr};
 ghost use Rattle.mw_model.specs.Terms.Object.{Object};
 ghost use Rattle.mw_model.specs.Reports.Request.{Request};
 ghost use Rattle.mw_model.specs.Reports.Report.{status_of as status_with};
 ghost use Rattle.mw_port.specs.Ports.{Takes};
-ghost use Rattle.mw_read.specs.Standing.{Stands, IsFree};
+ghost use Rattle.mw_read.specs.Standing.{Stands, IsStanding, IsFree, Follows, work};
 ghost use Rattle.mw_read.specs.Feeding.{IsAwaiting};
 ghost use Rattle.mw_book.specs.Books.{TakesSome};
 ghost use Rattle.mw_book.specs.Due.{AreAnswers, IsLastText, refused_for};
-ghost use Rattle.mw_book.specs.Answering.{HasAnswered, ReadWhole, fault_of};
+ghost use Rattle.mw_book.specs.Answering.{HasAnswered, AreFirst, IsBegunBy, ReadWhole, fault_of};
+ghost use Rattle.mw_book.specs.Writing.{HasWritten, EndsWritten, StopsWritten};
 ghost use Rattle.mw_book.specs.Statuses.{report_status};
-ghost use Rattle.mw_book.specs.Checks.{BookEnds, SourceCounts, SinkCounts, ConcludesWith, IsHalt, IsStop};
+ghost use Rattle.mw_book.specs.Checks.{BookEnds, SourceCounts, SinkCounts, SinkShortages, ConcludesWith, IsHalt, IsStop};
 
 use crate::Status;
 use crate::answering::Answering;
 use crate::output::{status_of, write_all};
 use crate::promise::answers_promised;
-use crate::reading::{finish, take_piece};
+use crate::reading::{Taken, finish, take_piece};
+use mw_heap::Memory;
 use mw_port::{Sink, Source};
 use mw_read::{Reader, SyntaxKind};
 use std::alloc::Global;
@@ -27,7 +29,7 @@ const LIMIT: u64 = 1 << 40;
 // How many bytes are read at a time.
 const PIECE: usize = 4096;
 
-/// Answers the book on the source and writes the answers, that to each datum before more is read.
+/// Answers the book on the source and writes the answers, those to all data that are complete before more is read.
 pub(crate) fn answer_book<A: Answering, S: Source, K: Sink>(
     alloc: Global,
     answering: &mut A,
@@ -38,7 +40,7 @@ pub(crate) fn answer_book<A: Answering, S: Source, K: Sink>(
     requires due { AreAnswers (A.request answering.old) [] [] }
     requires none_left { A.unwritten answering.old ≡ [] }
     requires count { A.count answering.old ≡ 0 }
-    ensures ends { BookEnds result (A.request answering.old) (S.left source.old) (S.left source.new) (K.taken sink.old) (K.taken sink.new) }
+    ensures ends { BookEnds result (A.request answering.old) (S.left source.old) (S.left source.new) (K.taken sink.old) (K.taken sink.new) (K.shortages sink.old) (K.shortages sink.new) }
     ensures source_counts { SourceCounts result (S.faults source.old) (S.faults source.new) }
     ensures sink_counts { SinkCounts result (K.faults sink.old) (K.faults sink.new) }
 {
@@ -49,7 +51,7 @@ pub(crate) fn answer_book<A: Answering, S: Source, K: Sink>(
     }
 }
 
-/// Reads the book to its end or its first fault, which is answered. All lines but those of the last piece are written.
+/// Reads the book to its end or its first fault, which is answered. All lines are written, also where it runs out of memory.
 pub(crate) fn read_all<A: Answering, S: Source, K: Sink>(
     alloc: Global,
     answering: &mut A,
@@ -60,10 +62,12 @@ pub(crate) fn read_all<A: Answering, S: Source, K: Sink>(
     requires due { AreAnswers (A.request answering.old) [] [] }
     requires none_left { A.unwritten answering.old ≡ [] }
     requires count { A.count answering.old ≡ 0 }
-    ensures whole { IfOk result (λ f. ReadWhole A.unwritten A.answered (A.request answering.old) (S.left source.old) (S.left source.new) (K.taken sink.old) (K.taken sink.new) f answering.new) }
+    ensures whole { IfOk result (λ f. ReadWhole A.answered (A.request answering.old) (S.left source.old) (S.left source.new) (K.taken sink.old) (K.taken sink.new) f answering.new) }
+    ensures none_left { OnOk result (A.unwritten answering.new ≡ []) }
     ensures steady { OnOk result ((S.faults source.new ≡ S.faults source.old) × (K.faults sink.new ≡ K.faults sink.old)) }
+    ensures enough { OnOk result (K.shortages sink.new ≡ K.shortages sink.old) }
     ensures stops { IfErr result IsStop }
-    ensures ends { IfErr result (λ s. BookEnds s (A.request answering.old) (S.left source.old) (S.left source.new) (K.taken sink.old) (K.taken sink.new)) }
+    ensures ends { IfErr result (λ s. BookEnds s (A.request answering.old) (S.left source.old) (S.left source.new) (K.taken sink.old) (K.taken sink.new) (K.shortages sink.old) (K.shortages sink.new)) }
     ensures source_counts { IfErr result (λ s. SourceCounts s (S.faults source.old) (S.faults source.new)) }
     ensures sink_counts { IfErr result (λ s. SinkCounts s (K.faults sink.old) (K.faults sink.new)) }
 {
@@ -85,10 +89,12 @@ fn read_pieces<A: Answering, S: Source, K: Sink>(
     requires stands { (os : List Object) → Stands os reader.old.parser [] [] }
     requires free { IsFree reader.old.parser }
     requires awaits { IsAwaiting reader.old }
-    ensures whole { IfOk result (λ f. ReadWhole A.unwritten A.answered (A.request answering.old) (S.left source.old) (S.left source.new) (K.taken sink.old) (K.taken sink.new) f answering.new) }
+    ensures whole { IfOk result (λ f. ReadWhole A.answered (A.request answering.old) (S.left source.old) (S.left source.new) (K.taken sink.old) (K.taken sink.new) f answering.new) }
+    ensures none_left { OnOk result (A.unwritten answering.new ≡ []) }
     ensures steady { OnOk result ((S.faults source.new ≡ S.faults source.old) × (K.faults sink.new ≡ K.faults sink.old)) }
+    ensures enough { OnOk result (K.shortages sink.new ≡ K.shortages sink.old) }
     ensures stops { IfErr result IsStop }
-    ensures ends { IfErr result (λ s. BookEnds s (A.request answering.old) (S.left source.old) (S.left source.new) (K.taken sink.old) (K.taken sink.new)) }
+    ensures ends { IfErr result (λ s. BookEnds s (A.request answering.old) (S.left source.old) (S.left source.new) (K.taken sink.old) (K.taken sink.new) (K.shortages sink.old) (K.shortages sink.new)) }
     ensures source_counts { IfErr result (λ s. SourceCounts s (S.faults source.old) (S.faults source.new)) }
     ensures sink_counts { IfErr result (λ s. SinkCounts s (K.faults sink.old) (K.faults sink.new)) }
 {
@@ -99,20 +105,77 @@ fn read_pieces<A: Answering, S: Source, K: Sink>(
             return Err(Status::ReadFault);
         };
         if n == 0 {
-            let Ok(fault) = finish(answering, reader) else {
-                return Err(Status::Memory);
-            };
-            return Ok(fault);
+            return answer_end(answering, reader, sink);
         }
-        let Ok(fault) = take_piece(answering, reader, &buffer[..n]) else {
-            return Err(Status::Memory);
-        };
+        let fault = answer_piece(answering, reader, &buffer[..n], sink)?;
         if fault.is_some() {
             return Ok(fault);
         }
-        write_lines(answering, sink)?;
     }
     unreachable!()
+}
+
+// Reads a piece of the book and answers its data. The answers are written at the end of the piece, and after a datum that took long. Where
+// the piece has the first fault of the book, that is answered with its offset.
+fn answer_piece<A: Answering, K: Sink>(
+    answering: &mut A,
+    reader: &mut Reader,
+    piece: &[u8],
+    sink: &mut K,
+) -> Result<Option<(SyntaxKind, u64)>, Status>
+    requires stands { IsStanding (A.objects answering.old) reader.old.parser }
+    requires awaits { IsAwaiting reader.old }
+    requires free { IsFree reader.old.parser }
+    requires room { A.count answering.old + work reader.old.parser piece.now < 2 ^ 62 }
+    requires known { HasAnswered A.answered answering.old }
+    requires none_left { A.unwritten answering.old ≡ [] }
+    ensures written { IfOk result (λ f. HasWritten A.objects A.unwritten A.count A.answered f answering.old reader.old.parser piece.now (K.taken sink.old) answering.new reader.new.parser (K.taken sink.new)) }
+    ensures awaits { OnOk result (IsAwaiting reader.new) }
+    ensures steady { OnOk result (K.faults sink.new ≡ K.faults sink.old) }
+    ensures enough { OnOk result (K.shortages sink.new ≡ K.shortages sink.old) }
+    ensures halt { IfErr result IsHalt }
+    ensures stops { IfErr result (λ s. (g : List ℕ) (given : List Object) → Stands (A.objects answering.old) reader.old.parser g given → StopsWritten A.answered s answering.old given (AreFirst (g ++ piece.now)) (K.taken sink.old) (K.taken sink.new) (K.shortages sink.old) (K.shortages sink.new)) }
+    ensures sink_counts { IfErr result (λ s. SinkCounts s (K.faults sink.old) (K.faults sink.new)) }
+{
+    let mut at = 0;
+    while at < piece.len() {
+        let taken = take_piece(answering, reader, &piece[at..]);
+        write_lines(answering, sink)?;
+        match taken {
+            Ok(Taken::Bytes(n)) => at += n,
+            Ok(Taken::Fault(kind, offset)) => return Ok(Some((kind, offset))),
+            Err(Memory) => return Err(Status::Memory),
+        }
+    }
+    Ok(None)
+}
+
+// Answers the datum that the end of the book completes, where it does, and writes the answer. Where the book has a fault, that is answered
+// with its offset.
+fn answer_end<A: Answering, K: Sink>(
+    answering: &mut A,
+    reader: &mut Reader,
+    sink: &mut K,
+) -> Result<Option<(SyntaxKind, u64)>, Status>
+    requires stands { IsStanding (A.objects answering.old) reader.old.parser }
+    requires awaits { IsAwaiting reader.old }
+    requires room { A.count answering.old + work reader.old.parser [] < 2 ^ 62 }
+    requires known { HasAnswered A.answered answering.old }
+    requires none_left { A.unwritten answering.old ≡ [] }
+    ensures ends { IfOk result (λ f. (g : List ℕ) (given : List Object) → Stands (A.objects answering.old) reader.old.parser g given → EndsWritten A.answered f answering.old g given (K.taken sink.old) answering.new (K.taken sink.new)) }
+    ensures none_left { OnOk result (A.unwritten answering.new ≡ []) }
+    ensures steady { OnOk result (K.faults sink.new ≡ K.faults sink.old) }
+    ensures enough { OnOk result (K.shortages sink.new ≡ K.shortages sink.old) }
+    ensures halt { IfErr result IsHalt }
+    ensures stops { IfErr result (λ s. (g : List ℕ) (given : List Object) → Stands (A.objects answering.old) reader.old.parser g given → StopsWritten A.answered s answering.old given (IsBegunBy g) (K.taken sink.old) (K.taken sink.new) (K.shortages sink.old) (K.shortages sink.new)) }
+    ensures sink_counts { IfErr result (λ s. SinkCounts s (K.faults sink.old) (K.faults sink.new)) }
+{
+    let finished = finish(answering, reader);
+    write_lines(answering, sink)?;
+    match finished {
+        Ok(fault) => Ok(fault),
+        Err(Memory) => Err(Status::Memory),
+    }
 }
 
 // Writes the lines that were not written yet.
@@ -122,6 +185,8 @@ fn write_lines<A: Answering, K: Sink>(answering: &mut A, sink: &mut K) -> Result
     ensures some { OnErr result (TakesSome (K.taken sink.old) (K.taken sink.new) (A.unwritten answering.old)) }
     ensures halt { IfErr result IsHalt }
     ensures sink_counts { IfErr result (λ s. SinkCounts s (K.faults sink.old) (K.faults sink.new)) }
+    ensures enough { OnOk result (K.shortages sink.new ≡ K.shortages sink.old) }
+    ensures short { IfErr result (λ s. SinkShortages s (K.shortages sink.old) (K.shortages sink.new)) }
     ensures none_left { A.unwritten answering.new ≡ [] }
     ensures objects { A.objects answering.new ≡ A.objects answering.old }
     ensures count { A.count answering.new ≡ A.count answering.old }
@@ -132,32 +197,33 @@ fn write_lines<A: Answering, K: Sink>(answering: &mut A, sink: &mut K) -> Result
     written.map_err(status_of)
 }
 
-/// Writes the lines that were not written yet and the last text.
+/// Writes the last text.
 pub(crate) fn conclude<A: Answering, K: Sink>(
     answering: &mut A,
     fault: Option<(SyntaxKind, u64)>,
     sink: &mut K,
 ) -> Status
     requires known { HasAnswered A.answered answering.old }
-    ensures concludes { (q : Request) (given : List Object) → A.answered answering.old q given → ConcludesWith result (status_with (fault_of fault) (refused_for q given)) (A.unwritten answering.old) (IsLastText q given (fault_of fault)) (K.taken sink.old) (K.taken sink.new) }
+    requires none_left { A.unwritten answering.old ≡ [] }
+    ensures concludes { (q : Request) (given : List Object) → A.answered answering.old q given → ConcludesWith result (status_with (fault_of fault) (refused_for q given)) (IsLastText q given (fault_of fault)) (K.taken sink.old) (K.taken sink.new) (K.shortages sink.old) (K.shortages sink.new) }
     ensures sink_counts { SinkCounts result (K.faults sink.old) (K.faults sink.new) }
 {
-    let Ok(refused) = answering.end(fault) else {
+    let Ok(some_refused) = answering.end(fault) else {
         return Status::Memory;
     };
     match write_lines(answering, sink) {
-        Ok(()) => status_after(fault, refused),
+        Ok(()) => status_after(fault, some_refused),
         Err(status) => status,
     }
 }
 
-// How the program ends after a book with this fault, or with none, of whose data so many were refused.
-fn status_after(fault: Option<(SyntaxKind, u64)>, refused: u64) -> Status
-    ensures { report_status result ≡ Some (status_with (fault_of fault) refused) }
+// How the program ends after a book with this fault, or with none, where some of the data were refused, or none.
+fn status_after(fault: Option<(SyntaxKind, u64)>, some_refused: bool) -> Status
+    ensures { (n : ℕ) → (fault ≡ None → some_refused ≡ nat_lt 0 n) → report_status result ≡ Some (status_with (fault_of fault) n) }
 {
     match fault {
         Some((kind, offset)) => Status::Syntax(kind, offset),
-        None if refused == 0 => Status::Done,
-        None => Status::SomeRefused,
+        None if some_refused => Status::SomeRefused,
+        None => Status::Done,
     }
 }

@@ -6,7 +6,6 @@ ghost use Rattle.mw_port.specs.Memories.{no_faults};
 ghost use Rattle.mw_book.specs.Checks.{BookEnds, TrialEnds, SourceCounts, SinkCounts};
 
 use crate::Status;
-use crate::answering::Answering;
 use crate::book::{answer_book, conclude, read_all};
 use crate::judging::Judging;
 use crate::nowhere::Nowhere;
@@ -22,7 +21,7 @@ pub(crate) fn check<S: Source, K: Sink>(
     source: &mut S,
     sink: &mut K,
 ) -> Status
-    ensures ends { BookEnds result (Check steps) (S.left source.old) (S.left source.new) (K.taken sink.old) (K.taken sink.new) }
+    ensures ends { BookEnds result (Check steps) (S.left source.old) (S.left source.new) (K.taken sink.old) (K.taken sink.new) (K.shortages sink.old) (K.shortages sink.new) }
     ensures source_counts { SourceCounts result (S.faults source.old) (S.faults source.new) }
     ensures sink_counts { SinkCounts result (K.faults sink.old) (K.faults sink.new) }
 {
@@ -42,7 +41,7 @@ pub(crate) fn trial<S: Source, K: Sink>(
     sink: &mut K,
 ) -> Status
     requires never_fails { (s : S) → S.faults s ≡ no_faults }
-    ensures ends { (m : ℕ) → S.left source.old ≡ Some (trial_book m) → TrialEnds result m steps (K.taken sink.old) (K.taken sink.new) }
+    ensures ends { (m : ℕ) → S.left source.old ≡ Some (trial_book m) → TrialEnds result m steps (K.taken sink.old) (K.taken sink.new) (K.shortages sink.old) (K.shortages sink.new) }
     ensures sink_counts { SinkCounts result (K.faults sink.old) (K.faults sink.new) }
 {
     let Ok(mut boxed) = Judging::new(alloc, steps) else {
@@ -51,10 +50,7 @@ pub(crate) fn trial<S: Source, K: Sink>(
     let judging: &mut Judging = &mut boxed;
     reached_sound();
     match read_all(alloc, judging, source, &mut Nowhere) {
-        Ok(fault) => {
-            judging.drop_lines();
-            conclude(judging, fault, sink)
-        }
+        Ok(fault) => conclude(judging, fault, sink),
         Err(status) => status,
     }
 }

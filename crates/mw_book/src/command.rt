@@ -5,8 +5,8 @@ ghost use Rattle.mw_request.specs.Commands.{asked, help_text};
 ghost use Rattle.mw_request.specs.Words.{meaning_of};
 ghost use Rattle.mw_port.specs.Ports.{Rises, Takes, HasEnded};
 ghost use Rattle.mw_book.specs.Books.{TakesSome};
-ghost use Rattle.mw_book.specs.Checks.{TrialEnds, SinkCounts, IsHalt};
-ghost use Rattle.mw_book.specs.Statuses.{report_status, reads_book, Reports, ReportsSoFar, IsCutShort};
+ghost use Rattle.mw_book.specs.Checks.{TrialEnds, SinkCounts, SinkShortages, IsHalt};
+ghost use Rattle.mw_book.specs.Statuses.{report_status, reads_book, Reports, ReportsSoFar, IsCutShort, WritesAnswers};
 ghost use Rattle.mw_book.specs.Runs.{Fulfils, HelpEnds};
 
 use crate::Status;
@@ -37,8 +37,9 @@ const HELP: &[u8] =
 /// sink then took these whole, or the last line: what a report calls accepted, or gives a yes, is true in the standard model, and the events that
 /// the next three wrote are accepted when they are read again, as those of the log get a yes. `Help` comes where the words ask how the program is used, and `Usage` where
 /// they ask for nothing that it does. `ReadFault` and `WriteFault` come where the source, or the sink, counted a fault in this call, and
-/// `Memory` where memory was refused: what the sink took is a prefix of a text that was due, and at a fault in reading what is due
-/// for all data that are complete in the bytes read, which hold no fault of the text.
+/// `Memory` where memory ran out, or a bound was passed that is answered so: what the sink took is a prefix of a text that was due, and at a
+/// fault in reading what is due for all data that are complete in the bytes read, which hold no fault of the text. At `Memory` it is exactly the
+/// answers to some first data of the book, unless the sink counted a shortage in this call.
 pub fn run<S: Source, K: Sink>(
     alloc: Global,
     words: &[Text],
@@ -53,6 +54,7 @@ pub fn run<S: Source, K: Sink>(
     ensures read_fault { result ≡ Status.ReadFault → Rises (S.faults source.old) (S.faults source.new) × ReportsSoFar words.now (S.left source.old) (S.left source.new) (K.taken sink.old) (K.taken sink.new) }
     ensures write_fault { result ≡ Status.WriteFault → Rises (K.faults sink.old) (K.faults sink.new) × IsCutShort words.now (S.left source.old) (K.taken sink.old) (K.taken sink.new) }
     ensures memory { result ≡ Status.Memory → IsCutShort words.now (S.left source.old) (K.taken sink.old) (K.taken sink.new) }
+    ensures answers { result ≡ Status.Memory → Rises (K.shortages sink.old) (K.shortages sink.new) ⊎ WritesAnswers words.now (S.left source.old) (K.taken sink.old) (K.taken sink.new) }
     ensures source_steady { result ≢ Status.ReadFault → S.faults source.new ≡ S.faults source.old }
     ensures sink_steady { result ≢ Status.WriteFault → K.faults sink.new ≡ K.faults sink.old }
 {
@@ -70,7 +72,7 @@ fn fulfil<S: Source, K: Sink>(
     source: &mut S,
     sink: &mut K,
 ) -> Status
-    ensures { Fulfils (meaning_of request) result (S.left source.old) (S.left source.new) (K.taken sink.old) (K.taken sink.new) (S.faults source.old) (S.faults source.new) (K.faults sink.old) (K.faults sink.new) }
+    ensures { Fulfils (meaning_of request) result (S.left source.old) (S.left source.new) (K.taken sink.old) (K.taken sink.new) (S.faults source.old) (S.faults source.new) (K.faults sink.old) (K.faults sink.new) (K.shortages sink.old) (K.shortages sink.new) }
 {
     match request {
         Request::Check { steps } => check(alloc, steps, source, sink),
@@ -87,7 +89,7 @@ fn fulfil<S: Source, K: Sink>(
 
 // Judges the trial book of so many events and writes the last line of its report.
 fn judge_trial<K: Sink>(alloc: Global, events: u64, steps: u64, sink: &mut K) -> Status
-    ensures ends { TrialEnds result events steps (K.taken sink.old) (K.taken sink.new) }
+    ensures ends { TrialEnds result events steps (K.taken sink.old) (K.taken sink.new) (K.shortages sink.old) (K.shortages sink.new) }
     ensures sink_counts { SinkCounts result (K.faults sink.old) (K.faults sink.new) }
 {
     let mut source = TrialSource::new(events);
@@ -96,7 +98,7 @@ fn judge_trial<K: Sink>(alloc: Global, events: u64, steps: u64, sink: &mut K) ->
 
 // Writes how the program is used, and ends so.
 fn help_then<K: Sink>(status: Status, sink: &mut K) -> Status
-    ensures { HelpEnds status result (K.taken sink.old) (K.taken sink.new) (K.faults sink.old) (K.faults sink.new) }
+    ensures { HelpEnds status result (K.taken sink.old) (K.taken sink.new) (K.faults sink.old) (K.faults sink.new) (K.shortages sink.old) (K.shortages sink.new) }
 {
     match write_help(sink) {
         Ok(()) => status,
@@ -111,6 +113,7 @@ fn write_help<K: Sink>(sink: &mut K) -> Result<(), Status>
     ensures some { OnErr result (TakesSome (K.taken sink.old) (K.taken sink.new) help_text) }
     ensures halt { IfErr result IsHalt }
     ensures sink_counts { IfErr result (λ s. SinkCounts s (K.faults sink.old) (K.faults sink.new)) }
+    ensures short { IfErr result (λ s. SinkShortages s (K.shortages sink.old) (K.shortages sink.new)) }
 {
     write_all(sink, HELP).map_err(status_of)
 }

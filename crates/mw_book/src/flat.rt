@@ -17,7 +17,7 @@ pub(crate) fn flat<S: Source, K: Sink>(
     source: &mut S,
     sink: &mut K,
 ) -> Status
-    ensures ends { BookEnds result (Flat steps) (S.left source.old) (S.left source.new) (K.taken sink.old) (K.taken sink.new) }
+    ensures ends { BookEnds result (Flat steps) (S.left source.old) (S.left source.new) (K.taken sink.old) (K.taken sink.new) (K.shortages sink.old) (K.shortages sink.new) }
     ensures source_counts { SourceCounts result (S.faults source.old) (S.faults source.new) }
     ensures sink_counts { SinkCounts result (K.faults sink.old) (K.faults sink.new) }
 {

@@ -1,16 +1,16 @@
 //! Judging events as they are read, and turning those that are accepted to steps.
-ghost use Rattle.std.specs.Prelude.{◌≡◌, ◌+◌, ◌<◌, ◌^◌, ◌&&◌, not, true, [], ◌++◌, IfOk, OnOk};
+ghost use Rattle.std.specs.Prelude.{◌≡◌, ◌+◌, ◌<◌, ◌^◌, false, List, [], ◌∷◌, ◌++◌, IfOk, OnOk, OnErr};
+ghost use Rattle.mw_model.specs.Terms.Object.{Object};
 ghost use Rattle.mw_model.specs.Reports.Request.{Flat};
-ghost use Rattle.mw_model.specs.Events.Fate.{event_word};
 ghost use Rattle.mw_model.specs.Reports.Report.{is_accepted};
-ghost use Rattle.mw_commands.specs.Commands.Flattening.{OwesFlat, is_logged_word};
 ghost use Rattle.mw_heap.specs.Objects.{object_at, IsIn};
 ghost use Rattle.mw_kernel.specs.Fates.{fate_of};
 ghost use Rattle.mw_lines.specs.Lines.{flat_line};
-ghost use Rattle.mw_book.specs.Flattened.{Flattened, FlattenedFor, HasEndedEvent};
+ghost use Rattle.mw_book.specs.Answering.{Answers};
+ghost use Rattle.mw_book.specs.Flattened.{Flattened, FlattenedFor, HasEndedEvent, lines_of};
 
 use crate::answering::Answering;
-use mw_heap::{Memory, Ref, Refusal, Word};
+use mw_heap::{Memory, Ref, Word};
 use mw_kernel::{Fate, Kernel};
 use mw_lines::{write_fault, write_number};
 use mw_logged::write_flat;
@@ -25,8 +25,8 @@ pub(crate) struct Flattening {
     events: u64,
     // the events that were written
     written: u64,
-    // the events that have no place in a log: those that were refused, and switches
-    others: u64,
+    // some event was refused
+    refused: bool,
     // a switch was accepted: from then on events are only counted
     switched: bool,
     lines: Vec<u8>,
@@ -58,7 +58,7 @@ impl Flattening {
             kernel: Kernel::new(alloc, steps)?,
             events: 0,
             written: 0,
-            others: 0,
+            refused: false,
             switched: false,
             lines: Vec::new(alloc),
             piece: Vec::new(alloc),
@@ -67,38 +67,45 @@ impl Flattening {
         Ok(Box::new(alloc, flattening)?)
     }
 
-    // Writes the piece of an event aside, unless a switch was accepted. Answers whether the event is one of a log.
-    fn write_piece(&mut self, x: Ref) -> Result<bool, Memory>
+    // Judges an event. Its steps, and the event with their numbers, are written aside before that. Where they are too many or too long to
+    // be written, only an event that is accepted and would be written ends out of memory.
+    fn judge(&mut self, x: Ref) -> Result<(), Memory>
         requires within { IsIn self.old.kernel.objects x }
-        ensures logged { IfOk result (λ b. b ≡ (not self.old.switched && is_logged_word (event_word (object_at self.old.kernel.objects x)))) }
-        ensures piece { IfOk result (λ b. b ≡ true → OwesFlat (object_at self.old.kernel.objects x) self.new.piece.items) }
-        ensures rest { self.new ≡ record self.old { piece = self.new.piece; copies = self.new.copies } }
+        requires plain { self.old.switched ≡ false }
+        requires events { self.old.events + 1 < 2 ^ 64 }
+        requires written { self.old.written + 1 < 2 ^ 64 }
+        ensures answers { OnOk result ((given : List Object) → Answers lines_of FlattenedFor self.old given self.new (given ++ object_at self.old.kernel.objects x ∷ [])) }
+        ensures counted { OnOk result (self.new.events ≡ self.old.events + 1) }
+        ensures kept { OnErr result (self.new.lines.items ≡ self.old.lines.items) }
     {
-        if self.switched {
-            return Ok(false);
-        }
-        write_flat(self.kernel.heap(), x, &mut self.copies, &mut self.piece)
+        let is_switch = self.kernel.heap().is_headed(x, Word::Switch);
+        let logged = write_flat(self.kernel.heap(), x, &mut self.copies, &mut self.piece);
+        let fate = self.kernel.event(x)?;
+        self.end_event(&fate, logged, is_switch)
     }
 
     // Puts the piece of an event that is accepted after the lines, if it is one of a log, and counts the event.
-    fn end_event(&mut self, fate: &Fate, is_logged: bool, is_switch: bool) -> Result<(), Memory>
+    fn end_event(
+        &mut self,
+        fate: &Fate,
+        logged: Result<bool, Memory>,
+        is_switch: bool,
+    ) -> Result<(), Memory>
         requires events { self.old.events + 1 < 2 ^ 64 }
         requires written { self.old.written + 1 < 2 ^ 64 }
-        requires others { self.old.others + 1 < 2 ^ 64 }
         ensures kernel { self.new.kernel ≡ self.old.kernel }
-        ensures ended { OnOk result (HasEndedEvent self.old self.new (is_accepted (fate_of fate.now)) is_logged is_switch) }
+        ensures ended { OnOk result (HasEndedEvent self.old self.new (is_accepted (fate_of fate.now)) logged is_switch) }
+        ensures kept { OnErr result (self.new.lines.items ≡ self.old.lines.items) }
     {
         match fate {
-            Fate::Accepted(_) if is_switch => {
-                self.switched = true;
-                self.others += 1;
+            Fate::Accepted(_) if is_switch => self.switched = true,
+            Fate::Accepted(_) => {
+                if logged? {
+                    self.lines.extend_from_slice(&self.piece)?;
+                    self.written += 1;
+                }
             }
-            Fate::Accepted(_) if is_logged => {
-                self.lines.extend_from_slice(&self.piece)?;
-                self.written += 1;
-            }
-            Fate::Accepted(_) => {}
-            Fate::Refused(_) => self.others += 1,
+            Fate::Refused(_) => self.refused = true,
         }
         self.events += 1;
         Ok(())
@@ -108,7 +115,7 @@ impl Flattening {
 impl Answering for Flattening {
     ghost objects = { λ f. f.kernel.objects };
 
-    ghost unwritten = { λ f. f.lines.items };
+    ghost unwritten = { lines_of };
 
     ghost count = { λ f. f.events };
 
@@ -125,14 +132,22 @@ impl Answering for Flattening {
     }
 
     fn answer(&mut self, x: Ref) -> Result<(), Memory> {
-        let is_switch = self.kernel.heap().is_headed(x, Word::Switch);
-        let is_logged = self.write_piece(x)?;
-        let fate = self.kernel.event(x)?;
-        self.end_event(&fate, is_logged, is_switch)
+        if !self.switched {
+            return self.judge(x);
+        }
+        self.kernel.forget();
+        self.events += 1;
+        Ok(())
     }
 
     fn answer_large(&mut self, _word: Option<Ref>, _label: Option<Ref>) -> Result<(), Memory> {
-        self.end_event(&Fate::Refused(Refusal::Range), false, false)
+        self.refused = true;
+        self.events += 1;
+        Ok(())
+    }
+
+    fn is_urgent(&self) -> bool {
+        !self.switched && self.kernel.took_long()
     }
 
     fn lines(&self) -> &[u8] {
@@ -143,12 +158,12 @@ impl Answering for Flattening {
         self.lines.clear();
     }
 
-    fn end(&mut self, fault: Option<(SyntaxKind, u64)>) -> Result<u64, Memory> {
+    fn end(&mut self, fault: Option<(SyntaxKind, u64)>) -> Result<bool, Memory> {
         self.lines.extend_from_slice(b"; ")?;
         match fault {
             Some((kind, offset)) => write_fault(&mut self.lines, kind, offset)?,
             None => write_counts(&mut self.lines, self.events, self.written)?,
         }
-        Ok(self.others)
+        Ok(self.refused || self.switched)
     }
 }

@@ -1,5 +1,5 @@
 //! Judging data as they are read.
-ghost use Rattle.std.specs.Prelude.{◌≡◌, ◌+◌, ◌<◌, ◌^◌, cond, [], ◌∷◌, ◌++◌, OnOk, IfOk};
+ghost use Rattle.std.specs.Prelude.{◌≡◌, ◌+◌, ◌<◌, ◌^◌, cond, [], ◌∷◌, ◌++◌, OnOk, OnErr, IfOk};
 ghost use Rattle.mw_model.specs.Reports.Request.{Check};
 ghost use Rattle.mw_model.specs.Reports.Report.{fate_text, is_accepted};
 ghost use Rattle.mw_kernel.specs.Fates.{fate_of};
@@ -20,6 +20,8 @@ pub(crate) struct Judging {
     events: u64,
     refused: u64,
     lines: Vec<u8>,
+    // the line of the event, which joins the others when it is whole
+    line: Vec<u8>,
 }
 
 impl Judging {
@@ -33,20 +35,23 @@ impl Judging {
             events: 0,
             refused: 0,
             lines: Vec::new(alloc),
+            line: Vec::new(alloc),
         };
         Ok(Box::new(alloc, judging)?)
     }
 
-    // Ends the line of an event with its fate, and counts it.
+    // Ends the line of an event with its fate, puts it after the others, and counts the event.
     fn end_event(&mut self, fate: &Fate) -> Result<(), Memory>
         requires events { self.old.events + 1 < 2 ^ 64 }
         requires refused { self.old.refused + 1 < 2 ^ 64 }
         ensures kernel { self.new.kernel ≡ self.old.kernel }
-        ensures line { OnOk result (self.new.lines.items ≡ self.old.lines.items ++ (fate_text (fate_of fate.now) ++ 10 ∷ [])) }
+        ensures line { OnOk result (self.new.lines.items ≡ self.old.lines.items ++ (self.old.line.items ++ (fate_text (fate_of fate.now) ++ 10 ∷ []))) }
+        ensures kept { OnErr result (self.new.lines.items ≡ self.old.lines.items) }
         ensures counted { OnOk result (self.new.events ≡ self.old.events + 1) }
         ensures refused_counted { OnOk result (self.new.refused ≡ self.old.refused + cond (is_accepted (fate_of fate.now)) 0 1) }
     {
-        end_line(&mut self.lines, fate)?;
+        end_line(&mut self.line, fate)?;
+        self.lines.extend_from_slice(&self.line)?;
         self.events += 1;
         if let Fate::Refused(_) = fate {
             self.refused += 1;
@@ -77,15 +82,21 @@ impl Answering for Judging {
     fn answer(&mut self, x: Ref) -> Result<(), Memory> {
         let (word, label) = shown(self.kernel.heap(), x);
         let number = self.events + 1;
-        begin_line(&mut self.lines, self.kernel.heap(), number, word, label)?;
+        self.line.clear();
+        begin_line(&mut self.line, self.kernel.heap(), number, word, label)?;
         let fate = self.kernel.event(x)?;
         self.end_event(&fate)
     }
 
     fn answer_large(&mut self, word: Option<Ref>, label: Option<Ref>) -> Result<(), Memory> {
         let number = self.events + 1;
-        begin_line(&mut self.lines, self.kernel.heap(), number, word, label)?;
+        self.line.clear();
+        begin_line(&mut self.line, self.kernel.heap(), number, word, label)?;
         self.end_event(&Fate::Refused(Refusal::Range))
+    }
+
+    fn is_urgent(&self) -> bool {
+        self.kernel.took_long()
     }
 
     fn lines(&self) -> &[u8] {
@@ -96,7 +107,7 @@ impl Answering for Judging {
         self.lines.clear();
     }
 
-    fn end(&mut self, fault: Option<(SyntaxKind, u64)>) -> Result<u64, Memory> {
+    fn end(&mut self, fault: Option<(SyntaxKind, u64)>) -> Result<bool, Memory> {
         match fault {
             Some((kind, offset)) => write_fault(&mut self.lines, kind, offset)?,
             None => {
@@ -104,6 +115,6 @@ impl Answering for Judging {
                 write_summary(&mut self.lines, self.events, self.refused, level)?;
             }
         }
-        Ok(self.refused)
+        Ok(self.refused > 0)
     }
 }

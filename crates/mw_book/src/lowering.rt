@@ -1,5 +1,5 @@
 //! Judging events whose derivations are turned to proofs, as they are read.
-ghost use Rattle.std.specs.Prelude.{◌≡◌, ◌+◌, ◌<◌, ◌^◌, cond, [], ◌∷◌, ◌++◌, codes, OnOk, IfOk};
+ghost use Rattle.std.specs.Prelude.{◌≡◌, ◌+◌, ◌<◌, ◌^◌, cond, [], ◌∷◌, ◌++◌, codes, OnOk, OnErr, IfOk};
 ghost use Rattle.mw_model.specs.Terms.Object.{Object};
 ghost use Rattle.mw_model.specs.Reports.Request.{Lower as ToLower};
 ghost use Rattle.mw_model.specs.Laws.Rewriting.{IsRewritten};
@@ -90,14 +90,15 @@ impl Lowering {
         requires refused { self.old.refused + 1 < 2 ^ 64 }
         ensures kernel { self.new.kernel ≡ self.old.kernel }
         ensures line { OnOk result (self.new.lines.items ≡ self.old.lines.items ++ cond (is_accepted (fate_of fate.now)) self.old.datum.items (self.old.remark.items ++ (fate_text (fate_of fate.now) ++ 10 ∷ []))) }
+        ensures kept { OnErr result (self.new.lines.items ≡ self.old.lines.items) }
         ensures counted { OnOk result (self.new.events ≡ self.old.events + 1) }
         ensures refused_counted { OnOk result (self.new.refused ≡ self.old.refused + cond (is_accepted (fate_of fate.now)) 0 1) }
     {
         match fate {
             Fate::Accepted(_) => self.lines.extend_from_slice(&self.datum)?,
             Fate::Refused(_) => {
+                end_line(&mut self.remark, fate)?;
                 self.lines.extend_from_slice(&self.remark)?;
-                end_line(&mut self.lines, fate)?;
                 self.refused += 1;
             }
         }
@@ -140,6 +141,10 @@ impl Answering for Lowering {
         self.end_event(&Fate::Refused(Refusal::Range))
     }
 
+    fn is_urgent(&self) -> bool {
+        self.kernel.took_long()
+    }
+
     fn lines(&self) -> &[u8] {
         &self.lines
     }
@@ -148,7 +153,7 @@ impl Answering for Lowering {
         self.lines.clear();
     }
 
-    fn end(&mut self, fault: Option<(SyntaxKind, u64)>) -> Result<u64, Memory> {
+    fn end(&mut self, fault: Option<(SyntaxKind, u64)>) -> Result<bool, Memory> {
         self.lines.extend_from_slice(b"; ")?;
         match fault {
             Some((kind, offset)) => write_fault(&mut self.lines, kind, offset)?,
@@ -157,6 +162,6 @@ impl Answering for Lowering {
                 write_summary(&mut self.lines, self.events, self.refused, level)?;
             }
         }
-        Ok(self.refused)
+        Ok(self.refused > 0)
     }
 }

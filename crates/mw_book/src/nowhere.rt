@@ -13,6 +13,8 @@ impl Sink for Nowhere {
 
     ghost faults = { λ s. no_faults };
 
+    ghost shortages = { λ s. no_faults };
+
     fn write(&mut self, piece: &[u8]) -> Result<usize, Halt> {
         Ok(piece.len())
     }

@@ -13,6 +13,8 @@ pub(crate) fn write_all<K: Sink>(sink: &mut K, text: &[u8]) -> Result<(), Halt>
     ensures steady { OnOk result (K.faults sink.new ≡ K.faults sink.old) }
     ensures failed { IsErrOf result Halt.Failed → Rises (K.faults sink.old) (K.faults sink.new) }
     ensures memory { IsErrOf result Halt.Memory → K.faults sink.new ≡ K.faults sink.old }
+    ensures enough { OnOk result (K.shortages sink.new ≡ K.shortages sink.old) }
+    ensures short { IsErrOf result Halt.Memory → Rises (K.shortages sink.old) (K.shortages sink.new) }
     ensures some { OnErr result (TakesSome (K.taken sink.old) (K.taken sink.new) text.now) }
 {
     let mut at = 0;

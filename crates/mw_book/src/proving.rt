@@ -1,5 +1,5 @@
 //! Proving formulas as they are read.
-ghost use Rattle.std.specs.Prelude.{◌≡◌, ◌+◌, ◌<◌, ◌^◌, cond, List, [], ◌∷◌, ◌++◌, OnOk, IfOk};
+ghost use Rattle.std.specs.Prelude.{◌≡◌, ◌+◌, ◌<◌, ◌^◌, cond, List, [], ◌∷◌, ◌++◌, OnOk, OnErr, IfOk};
 ghost use Rattle.mw_model.specs.Terms.Object.{Object};
 ghost use Rattle.mw_model.specs.Reports.Request.{Taut};
 ghost use Rattle.mw_commands.specs.Commands.TautologyBook.{initial_arities};
@@ -27,6 +27,8 @@ pub(crate) struct Proving {
     formulas: u64,
     unproved: u64,
     lines: Vec<u8>,
+    // the answer to the datum, which joins the others when it is whole
+    piece: Vec<u8>,
 }
 
 // The arities of the initial theory.
@@ -64,6 +66,7 @@ impl Proving {
             formulas: 0,
             unproved: 0,
             lines: Vec::new(alloc),
+            piece: Vec::new(alloc),
         };
         Ok(Box::new(alloc, proving)?)
     }
@@ -90,9 +93,12 @@ impl Proving {
         ensures answers { OnOk result ((x : Object) → ShowsWord self.old.heap.objects word x → IsVerdict self.old.heap.objects x verdict.now → (given : List Object) → Answers lines_of ProvedFor self.old given self.new (given ++ x ∷ [])) }
         ensures counted { OnOk result (self.new.formulas ≡ self.old.formulas + 1) }
         ensures proving { OnOk result (IsProving self.new) }
+        ensures kept { OnErr result (self.new.lines ≡ self.old.lines) }
     {
         let number = self.formulas + 1;
-        write_answer(&mut self.lines, &self.heap, number, word, verdict)?;
+        self.piece.clear();
+        write_answer(&mut self.piece, &self.heap, number, word, verdict)?;
+        self.lines.extend_from_slice(&self.piece)?;
         self.count(verdict.is_theorem());
         Ok(())
     }
@@ -153,6 +159,10 @@ impl Answering for Proving {
         self.write(word, &Verdict::Shape)
     }
 
+    fn is_urgent(&self) -> bool {
+        false
+    }
+
     fn lines(&self) -> &[u8] {
         &self.lines
     }
@@ -161,12 +171,12 @@ impl Answering for Proving {
         self.lines.clear();
     }
 
-    fn end(&mut self, fault: Option<(SyntaxKind, u64)>) -> Result<u64, Memory> {
+    fn end(&mut self, fault: Option<(SyntaxKind, u64)>) -> Result<bool, Memory> {
         self.lines.extend_from_slice(b"; ")?;
         match fault {
             Some((kind, offset)) => write_fault(&mut self.lines, kind, offset)?,
             None => write_formulas(&mut self.lines, self.formulas, self.unproved)?,
         }
-        Ok(self.unproved)
+        Ok(self.unproved > 0)
     }
 }

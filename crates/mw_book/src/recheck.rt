@@ -11,7 +11,7 @@ use std::alloc::Global;
 
 /// Judges the log on the source and writes its report, the line of each event before more is read.
 pub(crate) fn recheck<S: Source, K: Sink>(alloc: Global, source: &mut S, sink: &mut K) -> Status
-    ensures ends { BookEnds result Recheck (S.left source.old) (S.left source.new) (K.taken sink.old) (K.taken sink.new) }
+    ensures ends { BookEnds result Recheck (S.left source.old) (S.left source.new) (K.taken sink.old) (K.taken sink.new) (K.shortages sink.old) (K.shortages sink.new) }
     ensures source_counts { SourceCounts result (S.faults source.old) (S.faults source.new) }
     ensures sink_counts { SinkCounts result (K.faults sink.old) (K.faults sink.new) }
 {

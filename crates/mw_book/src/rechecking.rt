@@ -1,11 +1,11 @@
 //! Judging the data of a log as they are read.
-ghost use Rattle.std.specs.Prelude.{◌≡◌, ◌+◌, ◌<◌, ◌≤◌, ◌^◌, cond, [], ◌++◌, IfOk, OnOk};
+ghost use Rattle.std.specs.Prelude.{◌≡◌, ◌+◌, ◌<◌, ◌≤◌, ◌^◌, cond, [], ◌++◌, IfOk, OnOk, OnErr};
 ghost use Rattle.mw_model.specs.Terms.Object.{Object};
 ghost use Rattle.mw_model.specs.Reports.Request.{Recheck};
 ghost use Rattle.mw_read.specs.Shown.{ShowsEvent};
 ghost use Rattle.mw_flat.specs.Verdicts.{answer_of};
 ghost use Rattle.mw_lines.specs.Lines.{answers_line, line_begun};
-ghost use Rattle.mw_book.specs.Rechecked.{HasEndedDatum, Rechecked, RecheckedFor};
+ghost use Rattle.mw_book.specs.Rechecked.{HasEndedDatum, Rechecked, RecheckedFor, said_text, events_said, denied_said};
 
 use crate::answering::Answering;
 use mw_flat::{Flat, Verdict, is_step_word};
@@ -24,6 +24,8 @@ pub(crate) struct Rechecking {
     // the events that got a no
     denied: u64,
     lines: Vec<u8>,
+    // the line of the datum, which joins the others when it is whole
+    line: Vec<u8>,
 }
 
 // The same word, since what holds a reference is moved where it is passed on.
@@ -65,6 +67,7 @@ impl Rechecking {
             events: 0,
             denied: 0,
             lines: Vec::new(alloc),
+            line: Vec::new(alloc),
         };
         Ok(Box::new(alloc, rechecking)?)
     }
@@ -78,38 +81,56 @@ impl Rechecking {
     ) -> Result<(), Memory>
         requires shows { (x : Object) × ShowsEvent self.old.flat.objects word label x }
         requires room { self.old.events + 1 < 2 ^ 64 }
-        ensures begun { OnOk result ((x : Object) → ShowsEvent self.old.flat.objects word label x → self.new.lines.items ≡ self.old.lines.items ++ cond is_step [] (line_begun (self.old.events + 1) x)) }
-        ensures rest { self.new ≡ record self.old { lines = self.new.lines } }
+        ensures begun { OnOk result ((x : Object) → ShowsEvent self.old.flat.objects word label x → self.new.line.items ≡ cond is_step [] (line_begun (self.old.events + 1) x)) }
+        ensures rest { self.new ≡ record self.old { line = self.new.line } }
     {
+        self.line.clear();
         if is_step {
             return Ok(());
         }
         let number = self.events + 1;
-        begin_line(&mut self.lines, self.flat.heap(), number, word, label)
+        begin_line(&mut self.line, self.flat.heap(), number, word, label)
     }
 
-    // Ends the line of an event with the answer to it, and counts the datum.
+    // Ends the line of an event with the answer to it, and counts the event.
+    fn end_event(&mut self, verdict: Verdict) -> Result<(), Memory>
+        requires events { self.old.events + 1 < 2 ^ 64 }
+        requires denied { self.old.denied + 1 < 2 ^ 64 }
+        ensures flat { self.new.flat ≡ self.old.flat }
+        ensures taken { self.new.taken ≡ self.old.taken }
+        ensures lines { self.new.lines ≡ self.old.lines }
+        ensures line { OnOk result (self.new.line.items ≡ self.old.line.items ++ said_text (answer_of verdict)) }
+        ensures events_counted { OnOk result (self.new.events ≡ self.old.events + events_said (answer_of verdict)) }
+        ensures denied_counted { OnOk result (self.new.denied ≡ self.old.denied + denied_said (answer_of verdict)) }
+    {
+        match verdict {
+            Verdict::Noted => {}
+            Verdict::Yes => {
+                self.line.extend_from_slice(b"yes\n")?;
+                self.events += 1;
+            }
+            Verdict::No(objection) => {
+                self.line.extend_from_slice(b"no ")?;
+                self.line.extend_from_slice(objection.word().as_bytes())?;
+                self.line.push(b'\n')?;
+                self.events += 1;
+                self.denied += 1;
+            }
+        }
+        Ok(())
+    }
+
+    // Ends the line of a datum, puts it after the others, and counts the datum.
     fn end_datum(&mut self, verdict: Verdict) -> Result<(), Memory>
         requires taken { self.old.taken + 1 < 2 ^ 64 }
         requires events { self.old.events + 1 < 2 ^ 64 }
         requires denied { self.old.denied + 1 < 2 ^ 64 }
         ensures flat { self.new.flat ≡ self.old.flat }
         ensures ended { OnOk result (HasEndedDatum self.old self.new (answer_of verdict)) }
+        ensures kept { OnErr result (self.new.lines.items ≡ self.old.lines.items) }
     {
-        match verdict {
-            Verdict::Noted => {}
-            Verdict::Yes => {
-                self.lines.extend_from_slice(b"yes\n")?;
-                self.events += 1;
-            }
-            Verdict::No(objection) => {
-                self.lines.extend_from_slice(b"no ")?;
-                self.lines.extend_from_slice(objection.word().as_bytes())?;
-                self.lines.push(b'\n')?;
-                self.events += 1;
-                self.denied += 1;
-            }
-        }
+        self.end_event(verdict)?;
+        self.lines.extend_from_slice(&self.line)?;
         self.taken += 1;
         Ok(())
     }
@@ -149,6 +170,10 @@ impl Answering for Rechecking {
         self.end_datum(verdict)
     }
 
+    fn is_urgent(&self) -> bool {
+        false
+    }
+
     fn lines(&self) -> &[u8] {
         &self.lines
     }
@@ -157,7 +182,7 @@ impl Answering for Rechecking {
         self.lines.clear();
     }
 
-    fn end(&mut self, fault: Option<(SyntaxKind, u64)>) -> Result<u64, Memory> {
+    fn end(&mut self, fault: Option<(SyntaxKind, u64)>) -> Result<bool, Memory> {
         // what is refused was answered, so that the sum is in the range of that number
         let _answered = self.taken;
         let left = self.flat.left();
@@ -166,6 +191,6 @@ impl Answering for Rechecking {
             Some((kind, offset)) => write_fault(&mut self.lines, kind, offset)?,
             None => write_answers(&mut self.lines, self.events, self.denied, left)?,
         }
-        Ok(refused)
+        Ok(refused > 0)
     }
 }

@@ -93,6 +93,10 @@ impl Answering for Slicing {
         Ok(())
     }
 
+    fn is_urgent(&self) -> bool {
+        false
+    }
+
     fn lines(&self) -> &[u8] {
         &self.lines
     }
@@ -101,11 +105,11 @@ impl Answering for Slicing {
         self.lines.clear();
     }
 
-    fn end(&mut self, fault: Option<(SyntaxKind, u64)>) -> Result<u64, Memory> {
+    fn end(&mut self, fault: Option<(SyntaxKind, u64)>) -> Result<bool, Memory> {
         if let Some((kind, offset)) = fault {
             self.lines.extend_from_slice(b"; ")?;
             write_fault(&mut self.lines, kind, offset)?;
-            return Ok(0);
+            return Ok(false);
         }
         match self.slicer.pick(self.name.as_bytes()) {
             Picked::Events(places) => {
@@ -115,11 +119,11 @@ impl Answering for Slicing {
                     places.as_slice(),
                     self.events,
                 )?;
-                Ok(0)
+                Ok(false)
             }
             Picked::Absent => {
                 write_absent(&mut self.lines, self.events)?;
-                Ok(1)
+                Ok(true)
             }
             Picked::Memory => Err(Memory),
         }

@@ -21,7 +21,7 @@ pub enum Status {
     ReadFault,
     /// A write failed.
     WriteFault,
-    /// Memory was refused.
+    /// Out of memory, or past a bound that is answered so.
     Memory,
 }
 

@@ -151,6 +151,15 @@ impl Kernel {
         self.took_long = ran > LONG || looked.is_err();
     }
 
+    /// Drops the objects that were read and made since the last event. The theory stays.
+    pub fn forget(&mut self)
+        ensures theory { theory_of self.new ≡ theory_of self.old }
+        ensures steps { self.new.steps ≡ self.old.steps }
+        ensures room { length self.new.objects ≡ self.new.needed }
+    {
+        self.world.cut();
+    }
+
     /// The heap of the theory.
     pub fn heap(&self) -> &Heap
         ensures { result.now.objects ≡ self.now.objects }

@@ -273,7 +273,7 @@ fn write_event(
 
 /// Writes the steps that the proofs of an event are made of, and then the event with their numbers in place of the proofs, each on a
 /// line; nothing for an event whose word no log has. Answers whether it has such a word. The piece is emptied first. The error is that of
-/// `flatten`, or memory that is refused: then part of this may stand.
+/// `flatten`, whose bounds an event may pass that no judge accepts, or out of memory: then part of this may stand.
 pub fn write_flat(
     heap: &Heap,
     event: Ref,

@@ -1,14 +1,17 @@
--- What a caller cites of marks: of no objects, as the heap grows, after a cut, and where the arity table has a new name.
-use Rattle.std.proofs.Common.{◌≡◌, ℕ, ◌<◌, ◌≤◌, cond, List, [], ◌∷◌, length, take, Some, refl, sym, ap, ◌∙◌, arith}
+-- What a caller cites of marks: of no objects, as the heap grows, after a cut, and where names come.
+use Rattle.std.proofs.Common.{◌≡◌, ℕ, ◌<◌, ◌≤◌, ◌⊎◌, List, [], length, take, Some, None, sym, ap, ◌∙◌, subst, arith}
 use Rattle.std.proofs.lemmas.List.{length-take-le}
-use Rattle.mw_model.specs.Terms.Object.{Name, Object, Natural, Symbol, Pair, same_name}
+use Rattle.mw_model.specs.Terms.Object.{Name, Object, Symbol}
 use Rattle.mw_model.specs.Terms.Term.{ArityTable, arity_of}
-use Rattle.mw_model.proofs.Names.{name_differ-from}
-use Rattle.mw_heap.specs.Objects.{object_at, IsIn, Grows, AreDistinct, ArePartsOlder}
+use Rattle.mw_heap.specs.Objects.{object_at, IsIn, Grows}
 use Rattle.mw_heap.proofs.Lists.{slice_get-take}
 use Rattle.mw_heap.proofs.Objects.{length-Grows, object_at-Grows, object_at-take}
 use Rattle.mw_term.specs.Marking.{ObjectMark, AreMarks, mark_of_object}
-use Rattle.mw_term.proofs.SameArities.{HasSameArities, same_mark}
+use Rattle.mw_term.specs.Watching.{passes, right_mark, Extends, AreExplained, AreLasting}
+use Rattle.mw_term.specs.Settling.{Waits, IsNotedWith, IsAwake, IsWatch}
+use Rattle.mw_term.specs.declared.watch.Watch.{Watch}
+use Rattle.mw_term.proofs.Watching.{explained-names, lasting-names, grown-reason}
+use Rattle.mw_term.proofs.Settled.{within-lasting, none-in}
 
 module _ (A : ArityTable) where
   pub AreMarks-none : (os : List Object) → AreMarks A os []
@@ -36,25 +39,40 @@ module _ (A : ArityTable) where
     each = λ i j. h.each i j ∙ ap (λ x. Some (mark_of_object A x)) (sym (object_at-take n os i (omega (arith, j, below))));
   }
 
-module _ (os : List Object) (ms : List ObjectMark) (older : ArePartsOlder os) where
-  -- marks are right by another table too, where it gives the same arity to each symbol that has a mark
-  pub AreMarks-table : (A B : ArityTable) → ((i : ℕ) (s : Name) → i < length ms → object_at os i ≡ Symbol s → arity_of A s ≡ arity_of B s) → AreMarks A os ms → AreMarks B os ms
-  AreMarks-table A B same h = record { within = h.within; each = λ i below. h.each i below ∙ ap Some (same_mark A B (object_at os i) (arities (object_at os i) i below refl)) }
-    where
-      arities : (x : Object) (i : ℕ) → i < length ms → object_at os i ≡ x → HasSameArities A B x
-      arities (Natural n) i below e = tt
-      arities (Symbol s) i below e = same i s below e
-      arities (Pair a b) i below e =
-          let parts = older i a b (omega (arith, below, h.within)) e in
-          let (p, before_p, is_a) = parts.0 in
-          let (q, before_q, is_b) = parts.1 in
-          (arities a p (omega (arith, below, before_p)) is_a, arities b q (omega (arith, below, before_q)) is_b)
+-- what is noted stays right as the heap grows
+pub IsWatch-grows : (A : ArityTable) (old new : List Object) (w : Watch) → Grows old new → IsWatch A old w → IsWatch A new w
+IsWatch-grows A old new w g h = record {
+  settled = record {
+    explained = record {
+      within = omega (arith, length-Grows old new g, inside);
+      are_true = λ x k l said. said;
+      explained = λ x k l waits denied.
+          grown-reason A old new g (length w.lasting.items) inside (IsNotedWith w) x k l (h.settled.explained.explained x k l waits (ap (λ o. passes A o k) (sym (same x l)) ∙ denied));
+    };
+    lasting = λ x k is denied B more.
+        let l = within-lasting w.lasting.items x is in
+        ap (λ o. passes B o k) (same x l) ∙ h.settled.lasting x k is (ap (λ o. passes A o k) (sym (same x l)) ∙ denied) B more;
+  };
+  none = h.none;
+}
+  where
+    inside : length w.lasting.items ≤ length old
+    inside = h.settled.explained.within
 
-  -- a new name changes no mark of what stands before its symbol, which is no part of that
-  pub AreMarks-name : AreDistinct os → (A : ArityTable) (r : ℕ) (f : Name) (n : ℕ) → IsIn os r → object_at os r ≡ Symbol f → length ms ≤ r → AreMarks A os ms → AreMarks ((f, n) ∷ A) os ms
-  AreMarks-name distinct A r f n within is after h = AreMarks-table A ((f, n) ∷ A) same h
-    where
-      same : (i : ℕ) (s : Name) → i < length ms → object_at os i ≡ Symbol s → arity_of A s ≡ cond (same_name f s) (Some n) (arity_of A s)
-      same i s below e =
-          let other = name_differ-from f s (λ k. omega (arith, below, after, distinct i r (omega (arith, below, after, within)) within (e ∙ (ap Symbol (sym k) ∙ sym is)))) in
-          sym (ap (λ b. cond b (Some n) (arity_of A s)) other)
+    same : (x : ℕ) → x < length w.lasting.items → object_at new x ≡ object_at old x
+    same x l = object_at-Grows old new g x (omega (arith, l, inside))
+
+-- names have come, and all that was noted with their symbols was woken
+pub awake-names : (A B : ArityTable) → Extends A B → (os : List Object) (old new : Watch) → IsWatch A os old → new.lasting ≡ old.lasting → ((w x : ℕ) → IsNotedWith old w x → IsNotedWith new w x ⊎ Waits new x)
+    → ((s : ℕ) (f : Name) → IsIn os s → object_at os s ≡ Symbol f → arity_of A f ≡ None → (arity_of B f ≡ None) ⊎ ((x : ℕ) → IsNotedWith old s x → Waits new x)) → IsAwake A B os new
+awake-names A B more os old new h same kept named = record {
+  explained =
+      explained-names A B more os (length new.lasting.items) (right_mark A os) (IsNotedWith old) (IsNotedWith new) (Waits new) kept (λ s f l is absent. named s f (omega (arith, l, size, h.settled.explained.within)) is absent) (Waits old) (λ x o. absurd (none-in old h.none x o))
+      (subst (λ n. AreExplained A os n (right_mark A os) (IsNotedWith old) (Waits old)) (sym size) h.settled.explained);
+  lasting =
+      lasting-names A B more os (length new.lasting.items) (right_mark A os) (IsNotedWith old) (IsNotedWith new) (Waits new) kept (λ s f l is absent. named s f (omega (arith, l, size, h.settled.explained.within)) is absent) new.lasting.items
+      (subst (λ v. AreLasting A os (right_mark A os) v.items) (sym same) h.settled.lasting);
+}
+  where
+    size : length new.lasting.items ≡ length old.lasting.items
+    size = ap (λ v. length v.items) same

@@ -11,6 +11,10 @@ pub mod Heads
 mod Gathering
 mod HeldBodies
 pub mod TermOccurrences
-mod SameArities
+pub mod Watching
+mod Reasons
+mod Noted
+mod Settled
+mod Woken
 pub mod CallerLemmas
 pub mod SubstitutionLists

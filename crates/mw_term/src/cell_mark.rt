@@ -63,6 +63,13 @@ impl CellMark {
         CellMark::new(is_term, is_terms, false, false)
     }
 
+    /// Whether another mark is not this one.
+    pub(crate) fn differs_from(&self, other: &CellMark) -> bool
+        ensures { result ≡ false → self.now ≡ other.now }
+    {
+        self.bits != other.bits
+    }
+
     pub(crate) fn is_term(&self) -> bool
         ensures { result ≡ self.now.is_term }
     {

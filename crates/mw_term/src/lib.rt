@@ -13,9 +13,12 @@ mod list;
 mod looks;
 mod marks;
 mod names;
+mod notes;
+mod noting;
 mod part;
 mod substitutions;
 mod variables;
+mod watch;
 mod work;
 
 pub use arity::Arity;
@@ -27,3 +30,4 @@ pub use marks::{Marks, is_formula, is_term, mark_terms};
 pub use names::is_function_symbol;
 pub use substitutions::is_substitution;
 pub use variables::Vars;
+pub use watch::{Watch, give_up};

@@ -63,8 +63,8 @@ fn mark_pair(
     }
 }
 
-// The mark of x, where the marks of the objects before it stand.
-fn mark_cell(
+/// The mark of x, where the marks of the objects before it stand.
+pub(crate) fn mark_cell(
     heap: &Heap,
     arity: &Arity,
     marks: &[CellMark],
@@ -112,21 +112,15 @@ fn mark_up_to(
 }
 
 /// What the first objects of a heap are under an arity table: terms, formulas or neither. Seen as a list of marks, of which `AreMarks`
-/// says for which heap and table they hold: as the heap grows they stay right, and `extend` adds those of the new objects.
+/// says for which heap and table they hold: as the heap grows they stay right, and `extend` adds those of the new objects. A `Watch` makes
+/// them right under a table with new names.
 #[derive(Drop)]
 pub struct Marks {
-    cells: Vec<CellMark>,
-    // how many of the heap's first objects have had marks: of those that have none now they were forgotten
-    had: usize,
-    // how many marks may still be made anew
-    anew: u64,
+    pub(crate) cells: Vec<CellMark>,
+    // whether memory was refused as they were made right: then no object gets a mark
+    is_without_memory: bool,
     alloc: Global,
 }
-
-// The marks that may be made anew in all, and how many more for each new one.
-const MOST_ANEW: u64 = 1 << 26;
-
-const ANEW_FOR_A_CELL: u64 = 256;
 
 impl Model for Marks {
     ghost use Rattle.std.specs.Prelude.{List};
@@ -161,8 +155,18 @@ impl Marks {
     {
         Marks {
             cells: Vec::new(alloc),
-            had: 0,
-            anew: MOST_ANEW,
+            is_without_memory: false,
+            alloc,
+        }
+    }
+
+    /// The marks of no objects, to which none are added: `extend` answers that memory is refused.
+    pub(crate) fn without_memory(alloc: Global) -> Marks
+        ensures { result ≡ [] }
+    {
+        Marks {
+            cells: Vec::new(alloc),
+            is_without_memory: true,
             alloc,
         }
     }
@@ -174,24 +178,8 @@ impl Marks {
         self.cells.len()
     }
 
-    // Counts the marks up to this end: those that are made anew are taken from what is allowed.
-    fn count_anew(&mut self, end: usize) -> Result<(), Memory>
-        ensures { self.new ≡ self.old }
-    {
-        let anew = end.min(self.had).saturating_sub(self.cells.len()) as u64;
-        if anew > self.anew {
-            return Err(Memory);
-        }
-        let new = end.saturating_sub(self.had) as u64;
-        let earned = new.saturating_mul(ANEW_FOR_A_CELL);
-        self.anew = (self.anew - anew).saturating_add(earned);
-        self.had = self.had.max(end);
-        Ok(())
-    }
-
     /// Adds the marks of the objects of the heap below a mark, at the cost of `mark_terms` for these. The error is memory that is
-    /// refused, also where the allowance of `mark_terms` is used up, and where more marks than 2^26, and 256 for each new one, were
-    /// forgotten and made anew. Then the marks stay.
+    /// refused, also where the allowance of `mark_terms` is used up, and always after `give_up`. Then the marks stay.
     pub fn extend(&mut self, heap: &Heap, arity: &Arity, below: Mark) -> Result<(), Memory>
         requires marked { AreMarks arity.now heap.now.objects self.old }
         requires from { length self.old ≤ below }
@@ -200,7 +188,9 @@ impl Marks {
         ensures length { OnOk result (length self.new ≡ below) }
         ensures err { OnErr result (self.new ≡ self.old) }
     {
-        self.count_anew(below.cells())?;
+        if self.is_without_memory {
+            return Err(Memory);
+        }
         let had = self.cells.len();
         // each look searches a table, which is as much work as four comparisons
         let looks = looks_for(below.cells() - had) / 4;
@@ -225,14 +215,6 @@ impl Marks {
         ensures { self.new ≡ take to self.old }
     {
         self.cells.truncate(to.cells());
-        self.had = self.had.min(to.cells());
-    }
-
-    /// Forgets the marks of the objects from a mark on, since they may be other terms under a new table.
-    pub fn forget(&mut self, from: Mark)
-        ensures { self.new ≡ take from self.old }
-    {
-        self.cells.truncate(from.cells());
     }
 }
 

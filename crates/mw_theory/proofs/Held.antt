@@ -11,7 +11,9 @@ use Rattle.mw_heap.specs.Objects.{object_at, IsIn, Grows}
 use Rattle.mw_heap.specs.Variants.{profile_of}
 use Rattle.mw_heap.proofs.Objects.{length-Grows, IsIn-Grows, object_at-Grows, take-Grows, Grows-refl, Grows-take}
 use Rattle.mw_term.specs.Marking.{ObjectMark, AreMarks}
-use Rattle.mw_term.proofs.CallerLemmas.{AreMarks-grows, AreMarks-cut}
+use Rattle.mw_term.specs.Settling.{IsWatch}
+use Rattle.mw_term.specs.declared.watch.Watch.{Watch}
+use Rattle.mw_term.proofs.CallerLemmas.{AreMarks-grows, AreMarks-cut, IsWatch-grows}
 use Rattle.mw_heap.specs.Lists.{list_object}
 use Rattle.mw_code.specs.Tables.{StandsFor}
 use Rattle.mw_code.specs.declared.table.Table.{Table}
@@ -94,20 +96,44 @@ held-recoded os t new h c =
       sound = h.sound;
     })
 
+-- with another watch
+pub held-watched : (os : List Object) (t : Kept) (w : Watch) → IsHeld os t → IsHeld os (record t { watch = w })
+held-watched os t w h = record {
+  axioms_in = h.axioms_in;
+  theorems_in = h.theorems_in;
+  arity_list_in = h.arity_list_in;
+  each_axiom_in = h.each_axiom_in;
+  each_theorem_in = h.each_theorem_in;
+  axioms_known = h.axioms_known;
+  theorems_known = h.theorems_known;
+  equality = h.equality;
+  arities = h.arities;
+  arities_listed = h.arities_listed;
+  entered = h.entered;
+  coded = h.coded;
+  named = h.named;
+  first = h.first;
+  sound = h.sound;
+}
+
 kept_same : (n : ℕ) (old new : List Object) → Grows old new → n ≤ length old → take n new ≡ take n old
 kept_same n old new g l = ap (take n) g.1 ∙ take-append-le n old g.0 l
 
 -- a kernel that needs the whole heap
-pub needs-all : (os : List Object) (t : Kept) (ms : List ObjectMark) → IsHeld os t → AreMarks t.arity os ms → IsKernel os (length os) t ms
-needs-all os t ms h m = record {
+pub needs-all : (os : List Object) (t : Kept) (ms : List ObjectMark) → IsHeld os t → AreMarks t.arity os ms → IsWatch t.arity os t.watch → IsKernel os (length os) t ms
+needs-all os t ms h m w = record {
   kept = omega arith;
   held = subst (λ o. IsHeld o t) (sym (take-Grows os os (Grows-refl os))) h;
   marked = m;
+  watched = subst (λ o. IsWatch t.arity o t.watch) (sym (take-Grows os os (Grows-refl os))) w;
 }
 
 module _ (os : List Object) (n : ℕ) (t : Kept) (marks : List ObjectMark) (h : IsKernel os n t marks) where
   pub held : IsHeld os t
   held = held-grows (take n os) os (Grows-take n os) t h.held
+
+  pub watched : IsWatch t.arity os t.watch
+  watched = IsWatch-grows t.arity (take n os) os t.watch (Grows-take n os) h.watched
 
   module _ (new : List Object) (grows : Grows os new) where
     pub grown_theory : meant new (parts_of t) ≡ meant os (parts_of t)
@@ -119,6 +145,7 @@ module _ (os : List Object) (n : ℕ) (t : Kept) (marks : List ObjectMark) (h : 
       kept = omega (arith, h.kept, length-Grows os new grows);
       held = subst (λ o. IsHeld o other) (sym (kept_same n os new grows h.kept)) (held-recoded (take n os) t other h.held c);
       marked = m;
+      watched = subst (λ u. IsWatch u.arity (take n new) u.watch) (sym c.rest) (subst (λ o. IsWatch t.arity o t.watch) (sym (kept_same n os new grows h.kept)) h.watched);
     }
 
     pub grown-other : (other : Kept) → HasOtherCode t other → IsKernel new n other marks
@@ -130,6 +157,7 @@ module _ (os : List Object) (n : ℕ) (t : Kept) (marks : List ObjectMark) (h : 
       kept = omega (arith, h.kept, length-Grows os new grows);
       held = subst (λ o. IsHeld o t) (sym (kept_same n os new grows h.kept)) h.held;
       marked = m;
+      watched = subst (λ o. IsWatch t.arity o t.watch) (sym (kept_same n os new grows h.kept)) h.watched;
     }
 
     pub grown : IsKernel new n t marks
@@ -145,6 +173,7 @@ module _ (os : List Object) (n : ℕ) (t : Kept) (marks : List ObjectMark) (h : 
       kept = omega (arith, needed, length-take-le m os within);
       held = subst (λ o. IsHeld o t) (sym cut_same) h.held;
       marked = AreMarks-cut t.arity os ms m few within marked;
+      watched = subst (λ o. IsWatch t.arity o t.watch) (sym cut_same) h.watched;
     }
 
     pub cut_held : IsHeld (take m os) t

@@ -1,4 +1,5 @@
 pub mod BlockAdded
+pub mod BlockCut
 pub mod BlockPairs
 pub mod CallerLemmas
 pub mod CutBack
@@ -15,7 +16,7 @@ pub mod Listing
 pub mod Mapped
 pub mod Profiles
 pub mod Results
-pub mod FirstName
+mod Waking
 pub mod Worlds
 pub mod Defined
 pub mod Refusing

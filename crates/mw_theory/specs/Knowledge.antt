@@ -10,6 +10,7 @@ use Rattle.mw_model.specs.Events.Fate.{is_initial}
 use Rattle.mw_heap.specs.Objects.{object_at, IsIn}
 use Rattle.mw_heap.specs.Variants.{profile_of}
 use Rattle.mw_term.specs.Marking.{ObjectMark, AreMarks}
+use Rattle.mw_term.specs.Settling.{IsWatch}
 use Rattle.mw_heap.specs.Lists.{list_object}
 use Rattle.mw_code.specs.Tables.{StandsFor}
 use Rattle.mw_preamble.specs.declared.definition.Definition.{Definition}
@@ -86,8 +87,10 @@ pub record IsHeld (os : List Object) (t : Kept) : Type 0 where
   pub first : t.is_initial ≡ is_first (meant os (parts_of t))
   pub sound : IsSound (meant os (parts_of t))
 
--- The objects that the theory needs come first, and all that is kept of it is right over them. The marks are under its arity table.
+-- The objects that the theory needs come first, and all that is kept of it is right over them. The marks are under its arity table, and of
+-- those that it needs is noted what a new name could make other terms and formulas of.
 pub record IsKernel (os : List Object) (needed : ℕ) (t : Kept) (marks : List ObjectMark) : Type 0 where
   pub kept : needed ≤ length os
   pub held : IsHeld (take needed os) t
   pub marked : AreMarks t.arity os marks
+  pub watched : IsWatch t.arity (take needed os) t.watch

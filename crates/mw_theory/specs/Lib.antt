@@ -6,7 +6,7 @@ pub mod Words
 pub mod Adding
 pub mod Admitting
 pub mod Defining
-pub mod FirstName
+pub mod Waking
 pub mod Worlds
 pub mod Proofs
 pub mod Settling

@@ -7,6 +7,7 @@ ghost use Rattle.mw_model.specs.Events.Fate.{is_one};
 ghost use Rattle.mw_heap.specs.Objects.{object_at, IsIn, Grows};
 ghost use Rattle.mw_heap.specs.Lists.{list_object};
 ghost use Rattle.mw_heap.specs.Variants.{profile_of};
+ghost use Rattle.mw_term.specs.Settling.{IsWatch};
 ghost use Rattle.mw_preamble.specs.Admitted.{definitions_of, axioms_in_order};
 ghost use Rattle.mw_theory.specs.Knowledge.{parts_of, meant, put_all, IsHeld};
 
@@ -17,24 +18,27 @@ use mw_axioms::build;
 use mw_heap::{Heap, Memory, Profile, Ref};
 use mw_preamble::{Preamble, admit_all};
 use mw_rules::Known;
-use mw_term::Arity;
+use mw_term::{Arity, Watch};
 use mw_truth::soundness::initial_sound;
 
 /// The initial theory of a profile.
 pub fn begin(heap: &mut Heap, profile: Profile) -> Result<Theory, Memory>
     ensures grows { Grows heap.old.objects heap.new.objects }
     ensures held { IfOk result (IsHeld heap.new.objects) }
+    ensures watched { IfOk result (λ t. IsWatch t.arity heap.new.objects t.watch) }
     ensures theory { IfOk result (λ t. meant heap.new.objects (parts_of t) ≡ initial (profile_of profile)) }
 {
     initial_sound();
     let preamble = admit_all(heap, profile)?;
     let mut known = Known::new(heap.alloc());
     let lists = first_lists(heap, profile, &preamble, &mut known)?;
+    let watch = Watch::new(heap.alloc());
     Ok(Theory {
         profile,
         known_axioms: known,
         known_theorems: Known::new(heap.alloc()),
         arity: preamble.arity,
+        watch,
         axioms: lists.axioms,
         theorems: lists.theorems,
         arity_list: lists.arity_list,

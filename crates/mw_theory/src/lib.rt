@@ -7,7 +7,6 @@ mod beginning;
 mod coding;
 mod define;
 mod event;
-mod first_name;
 mod front;
 mod judge;
 mod mark;
@@ -19,6 +18,7 @@ mod settling;
 mod symbol;
 mod theory;
 mod verify;
+mod waking;
 mod word;
 mod world;
 

@@ -14,7 +14,7 @@ use mw_code::Table;
 use mw_heap::{Heap, Memory, Profile, Ref};
 use mw_preamble::{Definition, Entries};
 use mw_rules::Known;
-use mw_term::Arity;
+use mw_term::{Arity, Watch};
 
 /// A theory, beside the heap that has its objects.
 #[derive(Drop)]
@@ -23,6 +23,8 @@ pub struct Theory {
     pub known_axioms: Known,
     pub known_theorems: Known,
     pub arity: Arity,
+    /// What a new name could make other terms and formulas of.
+    pub watch: Watch,
     // the same as lists in the heap
     pub axioms: Ref,
     pub theorems: Ref,
@@ -47,6 +49,7 @@ impl Theory {
         ensures held { OnOk result (IsHeld heap.new.objects self.new) }
         ensures theory { OnOk result (meant heap.new.objects (parts_of self.new) ≡ with_theorem (meant heap.old.objects (parts_of self.old)) (object_at heap.old.objects formula)) }
         ensures arity { OnOk result (self.new.arity ≡ self.old.arity) }
+        ensures watch { OnOk result (self.new.watch ≡ self.old.watch) }
         ensures err { OnErr result (self.new ≡ self.old) }
     {
         let theorems = with_front(heap, formula, self.theorems)?;
@@ -56,7 +59,8 @@ impl Theory {
         Ok(())
     }
 
-    /// Adds a block of definitions with the list of its axioms. Where memory is refused the theory stays; its code may be laid out anew.
+    /// Adds a block of definitions with the list of its axioms; the watch is left to be settled. Where memory is refused the theory stays; its
+    /// code may be laid out anew.
     pub fn add_definitions(
         &mut self,
         heap: &mut Heap,
@@ -68,6 +72,7 @@ impl Theory {
         ensures grows { Grows heap.old.objects heap.new.objects }
         ensures held { OnOk result (IsHeld heap.new.objects self.new) }
         ensures theory { (B : Block) → IsNewBlock heap.old.objects (parts_of self.old) block.now axioms B → OnOk result (meant heap.new.objects (parts_of self.new) ≡ add_to_theory (meant heap.old.objects (parts_of self.old)) B) }
+        ensures watch { OnOk result (self.new.watch ≡ self.old.watch) }
         ensures err { OnErr result (HasOtherCode self.old self.new) }
     {
         let members = list_members(heap, axioms)?;

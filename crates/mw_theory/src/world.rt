@@ -8,14 +8,16 @@ ghost use Rattle.mw_model.specs.Events.Theory.{initial, IsSound};
 ghost use Rattle.mw_model.specs.Events.Admission.{add_to_theory};
 ghost use Rattle.mw_heap.specs.Objects.{object_at, IsIn};
 ghost use Rattle.mw_term.specs.Marking.{AreMarks};
+ghost use Rattle.mw_term.specs.Settling.{IsWatch};
 ghost use Rattle.mw_theory.specs.Worlds.{theory_in, IsWorld};
 ghost use Rattle.mw_theory.specs.Knowledge.{parts_of, meant, with_theorem, IsHeld};
+ghost use Rattle.mw_preamble.specs.declared.definition.Definition.{Definition};
 ghost use Rattle.mw_theory.specs.Defining.{IsNewBlockIn};
 
 use crate::beginning::begin;
-use crate::first_name::first_name;
 use crate::mark::later;
 use crate::theory::Theory;
+use crate::waking::settle;
 use mw_heap::{Heap, Mark, Memory, Profile, Ref, looks_for};
 use mw_preamble::Definition;
 use mw_term::Marks;
@@ -47,6 +49,7 @@ impl World {
     // A theory over the heap that has its objects, none of which has a mark.
     fn over(heap: Heap, theory: Theory) -> World
         requires held { IsHeld heap.objects theory }
+        requires watched { IsWatch theory.arity heap.objects theory.watch }
         ensures world { IsWorld result }
         ensures theory { theory_in result ≡ meant heap.objects (parts_of theory) }
         ensures room { length result.heap.objects ≡ result.needed }
@@ -88,7 +91,23 @@ impl World {
         Ok(())
     }
 
-    /// Adds a block of definitions with the list of its axioms. The marks of the objects before its names stay.
+    // Forgets what stands after the list of the axioms of a block and all that the theory needs. The parts of the block are parts of its
+    // axioms, and so they stand before that list.
+    fn cut_behind(&mut self, axioms: Ref)
+        requires world { IsWorld self.old }
+        requires within { IsIn self.old.heap.objects axioms }
+        ensures world { IsWorld self.new }
+        ensures block { (ds : List Definition) (B : Block) → IsNewBlockIn self.old ds axioms B → IsNewBlockIn self.new ds axioms B }
+        ensures theory { theory_in self.new ≡ theory_in self.old }
+        ensures needed { self.new.needed ≡ self.old.needed }
+    {
+        self.heap.order();
+        let end = self.heap.mark_after(axioms);
+        self.cut_to(later(end, self.needed));
+    }
+
+    /// Adds a block of definitions with the list of its axioms. Of the objects that the theory does not need, only those that came before
+    /// this list stay. The marks that the new names may change are made anew.
     pub fn add_definitions(&mut self, block: &[Definition], axioms: Ref) -> Result<(), Memory>
         requires world { IsWorld self.old }
         requires block { (B : Block) × IsNewBlockIn self.old block.now axioms B }
@@ -97,10 +116,16 @@ impl World {
         ensures err { OnErr result (theory_in self.new ≡ theory_in self.old) }
         ensures err_needed { OnErr result (self.new.needed ≡ self.old.needed) }
     {
-        let first = first_name(&self.heap, block);
-        forget_marks(&mut self.marks, first);
+        self.cut_behind(axioms);
         self.theory.add_definitions(&mut self.heap, block, axioms)?;
         self.needed = self.heap.mark();
+        settle(
+            &mut self.theory.watch,
+            &mut self.marks,
+            &self.heap,
+            &self.theory.arity,
+            block,
+        );
         Ok(())
     }
 
@@ -119,7 +144,8 @@ impl World {
 
     // Puts a theory in the place of the one that there is. All that the heap holds is needed then, and no object has a mark.
     fn go_on_with(&mut self, theory: Theory)
-        requires { IsHeld self.old.heap.objects theory }
+        requires held { IsHeld self.old.heap.objects theory }
+        requires watched { IsWatch theory.arity self.old.heap.objects theory.watch }
         ensures world { IsWorld self.new }
         ensures theory { theory_in self.new ≡ meant self.old.heap.objects (parts_of theory) }
     {
@@ -166,6 +192,7 @@ fn boxed_heap(alloc: Global) -> Result<Box<Heap>, Memory> {
 // The initial theory of the first profile, in a heap that has the words first, and finds them by their places.
 fn begin_first(heap: &mut Heap) -> Result<Theory, Memory>
     ensures held { IfOk result (IsHeld heap.new.objects) }
+    ensures watched { IfOk result (λ t. IsWatch t.arity heap.new.objects t.watch) }
     ensures theory { IfOk result (λ t. meant heap.new.objects (parts_of t) ≡ initial One) }
 {
     heap.keep_words()?;
@@ -178,12 +205,4 @@ fn cut_marks(marks: &mut Marks, to: Mark)
     ensures marked { (A : ArityTable) (os : List Object) → AreMarks A os marks.old → AreMarks A os marks.new }
 {
     marks.cut(to);
-}
-
-// The same, since they may be other terms under a new table.
-fn forget_marks(marks: &mut Marks, from: Mark)
-    ensures few { length marks.new ≤ from }
-    ensures marked { (A : ArityTable) (os : List Object) → AreMarks A os marks.old → AreMarks A os marks.new }
-{
-    marks.forget(from);
 }

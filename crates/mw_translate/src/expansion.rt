@@ -19,7 +19,8 @@ pub enum Expanded {
 /// Expands a raw term under two arity tables, the newer one in front. It takes time and memory in proportion to the distinct objects
 /// that make up the raw term and its expansion, but that each LET copies its names and values and looks for the variables of its
 /// expanded body anew, and each head of a lambda call for those of its body: what several of them share counts once for each. What is
-/// looked at takes looks from those that the heap allows, and what is made eight; where none is left the answer is out of memory.
+/// looked at takes looks from those that the heap allows, and what is made eight times as many, those of a LET before it is made; where none
+/// is left the answer is out of memory.
 pub fn expand_under(heap: &mut Heap, raw: Ref, newer: &Arity, older: &Arity) -> Expanded
     requires { IsIn heap.old.objects raw }
     ensures grows { Grows heap.old.objects heap.new.objects }

@@ -133,20 +133,23 @@ fn extended_call(
 // The searches that a new cell counts as.
 const SEARCHES_FOR_A_CELL: u64 = 8;
 
-// The cells that each binding may bring, and that the call itself may: a name and a value stand in two lists each, and are copied.
-const CELLS_FOR_A_BINDING: u64 = 5;
+// A formal and an actual.
+const CELLS_FOR_A_BINDING: u64 = 2;
+
+// The list of the body, the head with its formals, the call, the lists of a name and a value in a LET*, NIL and LAMBDA.
+const CELLS_FOR_A_CALL: u64 = 8;
 
 // The searches that the cells of a LET count as, of so many bindings and other variables.
 fn searches_for_cells(bindings: usize, others: usize) -> u64 {
     (bindings as u64)
-        .saturating_add(1)
         .saturating_mul(CELLS_FOR_A_BINDING)
         .saturating_add(others as u64)
+        .saturating_add(CELLS_FOR_A_CALL)
         .saturating_mul(SEARCHES_FOR_A_CELL)
 }
 
 // The free variables of a term that are no formals. The heap's looks pay for what was looked at, here and for the formals, and for all cells
-// that the LET is still to make.
+// that the LET makes after this.
 fn counted_others(
     heap: &mut Heap,
     formals: &Formals,

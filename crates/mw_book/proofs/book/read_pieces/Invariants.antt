@@ -10,4 +10,5 @@ invariant-loop g l = record {
   source_steady : g.S.Source.faults l.source ≡ g.S.Source.faults l.fn.source;
   size : length l.buffer ≡ 4096;
   sink_steady : g.K.Sink.faults l.sink ≡ g.K.Sink.faults l.fn.sink;
+  enough : g.K.Sink.shortages l.sink ≡ g.K.Sink.shortages l.fn.sink;
 }

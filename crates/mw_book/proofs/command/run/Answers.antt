@@ -1,5 +1,6 @@
--- What the request is owed is what the words are owed; where memory is refused before anything is done, nothing was written.
-use Rattle.mw_book.proofs.Asked.{nothing_written}
+-- What the request is owed is what the words are owed; where memory runs out before anything is done, nothing was written.
+use Rattle.std.proofs.Common.{inr}
+use Rattle.mw_book.proofs.Asked.{nothing_written, nothing_answered}
 use Rattle.mw_book.proofs.Fulfilled.{on_words}
 use Rattle.mw_book.proofs.command.run.Goals as goal
 
@@ -27,6 +28,9 @@ returns-in-Ok-clause-write_fault g c = (on_words _ _ c.in-Ok.ensures c.fulfil.en
 pub returns-in-Ok-clause-memory : goal.returns-in-Ok-clause-memory
 returns-in-Ok-clause-memory g c = (on_words _ _ c.in-Ok.ensures c.fulfil.ensures).memory
 
+pub returns-in-Ok-clause-answers : goal.returns-in-Ok-clause-answers
+returns-in-Ok-clause-answers g c = (on_words _ _ c.in-Ok.ensures c.fulfil.ensures).answers
+
 pub returns-in-Ok-clause-source_steady : goal.returns-in-Ok-clause-source_steady
 returns-in-Ok-clause-source_steady g c = (on_words _ _ c.in-Ok.ensures c.fulfil.ensures).source_steady
 
@@ -35,3 +39,6 @@ returns-in-Ok-clause-sink_steady g c = (on_words _ _ c.in-Ok.ensures c.fulfil.en
 
 pub returns-in-Err-clause-memory : goal.returns-in-Err-clause-memory
 returns-in-Err-clause-memory g c = λ e. nothing_written c.answers_promised.ensures.begun c.args.words.now (g.S.Source.left c.args.source.now) (g.K.Sink.taken c.args.sink.now)
+
+pub returns-in-Err-clause-answers : goal.returns-in-Err-clause-answers
+returns-in-Err-clause-answers g c = λ e. inr (nothing_answered c.args.words.now (g.S.Source.left c.args.source.now) (g.K.Sink.taken c.args.sink.now))

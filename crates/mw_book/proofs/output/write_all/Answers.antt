@@ -21,4 +21,5 @@ loop-at-preserved g c =
           (Takes-more (taken c.args.sink.now) (taken c.loop-at.sink) (taken c.write.new.self) (take at text) (take n (take (length text - at) (drop at text)))
           c.loop-at.invariant.took c.in_ok-at.ensures.took);
       steady = c.in_ok-at.ensures.steady ∙ c.loop-at.invariant.steady;
+      enough = c.in_ok-at.ensures.enough ∙ c.loop-at.invariant.enough;
     }

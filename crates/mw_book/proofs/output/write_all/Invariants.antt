@@ -7,6 +7,7 @@ invariant-loop-at g l = record {
   within : l.at ≤ length l.text;
   took : Takes (g.K.Sink.taken l.fn.sink) (g.K.Sink.taken l.sink) (take l.at l.text);
   steady : g.K.Sink.faults l.sink ≡ g.K.Sink.faults l.fn.sink;
+  enough : g.K.Sink.shortages l.sink ≡ g.K.Sink.shortages l.fn.sink;
 }
 
 abbrev pub decreases-loop-at : goal.decreases-loop-at

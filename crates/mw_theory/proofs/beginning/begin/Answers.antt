@@ -24,6 +24,7 @@ made c = record {
   known_axioms = c.first_lists.new.known;
   known_theorems = c.new.result;
   arity = c.in_ok-preamble.preamble.arity;
+  watch = c.new-watch.result;
   axioms = c.in_ok-lists.lists.axioms;
   theorems = c.in_ok-lists.lists.theorems;
   arity_list = c.in_ok-lists.lists.arity_list;

@@ -1,12 +1,13 @@
 -- The event is judged.
-use Rattle.std.proofs.Common.{[], ◌∷◌, ◌++◌, sym, ap, subst, ◌∙◌, arith}
+use Rattle.std.proofs.Common.{◌+◌, [], ◌∷◌, ◌++◌, sym, ap, subst, ◌∙◌, arith}
 use Rattle.mw_model.specs.Reports.Report.{fate_text}
 use Rattle.mw_heap.specs.Objects.{object_at}
 use Rattle.mw_read.specs.Shown.{ShowsEvent}
 use Rattle.mw_kernel.specs.Knowledge.{theory_of}
 use Rattle.mw_kernel.specs.Fates.{fate_of}
+use Rattle.mw_lines.specs.Lines.{line_begun}
 use Rattle.mw_book.proofs.Clauses.{OnOk-three}
-use Rattle.mw_book.proofs.OneMore.{judged_one, known_few}
+use Rattle.mw_book.proofs.OneMore.{judged_one, known_few, line_after}
 use Rattle.mw_book.proofs.judging.JudgingAnswering.answer.Goals as goal
 
 pub end_event-requires-clause-refused : goal.end_event-requires-clause-refused
@@ -25,4 +26,4 @@ returns-clause-answers c =
     let end = c.end_event.ensures in
     OnOk-three c.end_event.result end.line end.counted end.refused_counted (λ line counted refused given.
     judged_one old c.end_event.new.self y f event.fate (ap theory_of end.kernel ∙ event.theory) (ap (λ k. k.steps) end.kernel ∙ event.steps) counted refused
-    (line ∙ ap (λ l. l ++ (fate_text f ++ 10 ∷ [])) (c.in_ok-begin_line.ensures y shows)) given)
+    (line_after old.lines.items _ (line_begun (old.events + 1) y) (fate_text f ++ 10 ∷ []) _ line (c.in_ok-begin_line.ensures y shows ∙ ap (λ l. l ++ line_begun (old.events + 1) y) c.clear.ensures.items)) given)

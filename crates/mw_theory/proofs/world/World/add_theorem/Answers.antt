@@ -2,9 +2,10 @@
 use Rattle.std.proofs.Common.{sym, ap, ap₂, ◌∙◌, subst, arith}
 use Rattle.mw_model.specs.Events.Theory.{IsSound}
 use Rattle.mw_term.specs.Marking.{AreMarks}
-use Rattle.mw_term.proofs.CallerLemmas.{AreMarks-grows}
+use Rattle.mw_term.specs.Settling.{IsWatch}
+use Rattle.mw_term.proofs.CallerLemmas.{AreMarks-grows, IsWatch-grows}
 use Rattle.mw_theory.specs.Knowledge.{parts_of, meant, with_theorem, IsKernel}
-use Rattle.mw_theory.proofs.Held.{held, grown, grown_theory, needs-all}
+use Rattle.mw_theory.proofs.Held.{held, watched, grown, grown_theory, needs-all}
 use Rattle.mw_theory.proofs.Worlds.{in-cut, same-cut, mark-within}
 use Rattle.mw_theory.proofs.Results.{OnErr-from}
 use Rattle.mw_theory.proofs.world.World.add_theorem.Goals as goal
@@ -40,8 +41,10 @@ returns-clause-world c =
     let new = c.add_theorem.new.heap.objects in
     let t = c.add_theorem.new.self in
     let marked = AreMarks-grows cut.theory.arity cut.heap.objects new cut.marks c.add_theorem.ensures.grows c.cut_to.ensures.world.marked in
+    let noted = IsWatch-grows cut.theory.arity cut.heap.objects new cut.theory.watch c.add_theorem.ensures.grows (watched _ _ _ _ c.cut_to.ensures.world) in
     subst (λ n. IsKernel new n t cut.marks) (sym c.mark-self.ensures)
-    (needs-all new t cut.marks c.in_ok-add_theorem.ensures.held (subst (λ A. AreMarks A new cut.marks) (sym c.in_ok-add_theorem.ensures.arity) marked))
+    (needs-all new t cut.marks c.in_ok-add_theorem.ensures.held (subst (λ A. AreMarks A new cut.marks) (sym c.in_ok-add_theorem.ensures.arity) marked)
+    (subst (λ A. IsWatch A new t.watch) (sym c.in_ok-add_theorem.ensures.arity) (subst (IsWatch cut.theory.arity new) (sym c.in_ok-add_theorem.ensures.watch) noted)))
 
 pub returns-clause-theory : goal.returns-clause-theory
 returns-clause-theory c =

@@ -10,4 +10,4 @@ returns-clause-world c =
     let os = c.args.self.now.heap.objects in
     let t = c.args.theory in
     subst (λ ms. IsKernel os c.mark-self.result t ms) (sym c.new.ensures)
-    (subst (λ n. IsKernel os n t []) (sym c.mark-self.ensures) (needs-all os t [] c.requires (AreMarks-none t.arity os)))
+    (subst (λ n. IsKernel os n t []) (sym c.mark-self.ensures) (needs-all os t [] c.requires.held (AreMarks-none t.arity os) c.requires.watched))

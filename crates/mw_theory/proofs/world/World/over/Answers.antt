@@ -10,4 +10,4 @@ returns-clause-world c =
     let q = c.args.heap.objects in
     let t = c.args.theory in
     subst (λ ms. IsKernel q c.mark.result t ms) (sym c.new.ensures)
-    (subst (λ n. IsKernel q n t []) (sym c.mark.ensures) (needs-all q t [] c.requires.held (AreMarks-none t.arity q)))
+    (subst (λ n. IsKernel q n t []) (sym c.mark.ensures) (needs-all q t [] c.requires.held (AreMarks-none t.arity q) c.requires.watched))
