@@ -1,5 +1,5 @@
-//! What a kernel shows: a new one, one after an event that is refused, one after a theorem, and one after a switch; and after which events
-//! it says that they took long.
+//! What a kernel shows: a new one, one after an event that is refused, one after a theorem, and one after a switch; after which events it
+//! says that they took long; and what it takes for terms as names come.
 ghost use Rattle.std.specs.Prelude.{IfOk};
 ghost use Rattle.mw_heap.specs.Objects.{IsIn};
 
@@ -211,4 +211,94 @@ fn tells_what_took_long(kernel: &mut Kernel) -> bool {
 fn a_long_run_is_told(rt: HostRuntime) {
     assert!(rt; on_a_kernel(rt.alloc(), 10, tells_what_took_long) == Ok(true));
     assert!(rt; on_a_kernel(rt.alloc(), 20_000, tells_what_took_long) == Ok(true));
+}
+
+// Calls of two functions within one another, quoted before the functions are defined.
+const QUOTED: &[u8] = b"(verify quoted \
+    #1=(pequal* #2='((outer (inner x)) (inner (outer x)) (outer . x) ((lambda (x) (inner x)) y)) #2#) \
+    (instantiation #1# ((axiom (pequal* x x))) ((x . #2#))))";
+
+const OUTER: &[u8] = b"(define outer (x) x nil ())";
+
+const INNER: &[u8] = b"(define inner (x) x nil ())";
+
+// That a term equals itself, for four of the quoted ones.
+const OF_OUTER: &[u8] = b"(verify of-outer #1=(pequal* #2=(outer x) #2#) \
+    (instantiation #1# ((axiom (pequal* x x))) ((x . #2#))))";
+
+const OF_INNER: &[u8] = b"(verify of-inner #1=(pequal* #2=((lambda (x) (inner x)) y) #2#) \
+    (instantiation #1# ((axiom (pequal* x x))) ((x . #2#))))";
+
+const OUTER_FIRST: &[u8] = b"(verify outer-first #1=(pequal* #2=(outer (inner x)) #2#) \
+    (instantiation #1# ((axiom (pequal* x x))) ((x . #2#))))";
+
+const INNER_FIRST: &[u8] = b"(verify inner-first #1=(pequal* #2=(inner (outer x)) #2#) \
+    (instantiation #1# ((axiom (pequal* x x))) ((x . #2#))))";
+
+const IMPROPER: &[u8] = b"(verify improper #1=(pequal* #2=(outer . x) #2#) \
+    (instantiation #1# ((axiom (pequal* x x))) ((x . #2#))))";
+
+// Which of these are refused since they are no formulas: of each function alone, of both, and of what is no list.
+fn refused(kernel: &mut Kernel) -> [Result<bool, Memory>; 5] {
+    [
+        is_no_formula(kernel, OF_OUTER),
+        is_no_formula(kernel, OF_INNER),
+        is_no_formula(kernel, OUTER_FIRST),
+        is_no_formula(kernel, INNER_FIRST),
+        is_no_formula(kernel, IMPROPER),
+    ]
+}
+
+// Whether an event is refused since its claim is no formula. The error is memory that is refused, or another reason.
+fn is_no_formula(kernel: &mut Kernel, event: &[u8]) -> Result<bool, Memory> {
+    match refusal(kernel, event)? {
+        None => Ok(false),
+        Some(Refusal::Formula) => Ok(true),
+        Some(_) => Err(Memory),
+    }
+}
+
+// Whether just the claims about what is defined are formulas, where the two functions are quoted before and defined in this order; `after_first`
+// are the claims that are none once the first is defined.
+fn takes_as_defined(
+    kernel: &mut Kernel,
+    first: &[u8],
+    second: &[u8],
+    after_first: [Result<bool, Memory>; 5],
+) -> bool {
+    let quoted = refusal(kernel, QUOTED) == Ok(None);
+    let before = refused(kernel) == [Ok(true); 5];
+    let one = refusal(kernel, first) == Ok(None);
+    let between = refused(kernel) == after_first;
+    let other = refusal(kernel, second) == Ok(None);
+    let after = refused(kernel) == [Ok(false), Ok(false), Ok(false), Ok(false), Ok(true)];
+    [quoted, before, one, between, other, after] == [true; 6]
+}
+
+fn takes_outer_first(kernel: &mut Kernel) -> bool {
+    takes_as_defined(
+        kernel,
+        OUTER,
+        INNER,
+        [Ok(false), Ok(true), Ok(true), Ok(true), Ok(true)],
+    )
+}
+
+fn takes_inner_first(kernel: &mut Kernel) -> bool {
+    takes_as_defined(
+        kernel,
+        INNER,
+        OUTER,
+        [Ok(true), Ok(false), Ok(true), Ok(true), Ok(true)],
+    )
+}
+
+#[test]
+fn what_was_quoted_is_a_term_once_its_names_are_defined(rt: HostRuntime) {
+    assert!(rt; on_a_kernel(rt.alloc(), 0, takes_outer_first) == Ok(true));
+}
+
+#[test]
+fn names_may_be_defined_in_the_other_order(rt: HostRuntime) {
+    assert!(rt; on_a_kernel(rt.alloc(), 0, takes_inner_first) == Ok(true));
 }

@@ -104,7 +104,7 @@ fn extends_and_cuts(
 {
     marks.extend(heap, arity, heap.mark())?;
     let all = marks.len();
-    marks.forget(to);
+    marks.cut(to);
     let fewer = marks.len();
     marks.extend(heap, arity, heap.mark())?;
     let anew = marks.len();

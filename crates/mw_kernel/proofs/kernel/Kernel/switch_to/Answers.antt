@@ -6,7 +6,7 @@ use Rattle.mw_heap.specs.Objects.{object_at, IsIn}
 use Rattle.mw_theory.specs.Knowledge.{IsKernel}
 use Rattle.mw_kernel.specs.Knowledge.{theory_of}
 use Rattle.mw_kernel.specs.Switching.{with_checker}
-use Rattle.mw_theory.proofs.CallerLemmas.{held, needs-all, in-cut, same-cut, mark-within}
+use Rattle.mw_theory.proofs.CallerLemmas.{held, watched, needs-all, in-cut, same-cut, mark-within}
 use Rattle.mw_kernel.proofs.Switching.{checker-held, checker-meant}
 use Rattle.mw_kernel.proofs.kernel.Kernel.switch_to.Goals as goal
 
@@ -22,7 +22,7 @@ invariant_of-self c =
     let theory = c.cut_to.ensures.theory ∙ ap theory_of c.self.view_is in
     let t = record (w.theory) { checker = Some x; level = c.args.level; is_initial = false } in
     let checked = checker-held w.heap.objects w.theory (held _ _ _ _ c.cut_to.ensures.world) x c.args.level (within, ap is_symbol name ∙ c.requires.symbol) (c.requires.level ∙ ap (λ t. t.level + 1) (sym theory)) (subst IsSound (sym (ap₂ with_checker theory (ap name_of name))) c.requires.sound) in
-    subst (λ n. IsKernel w.heap.objects n t w.marks) (sym c.mark-world.ensures) (needs-all w.heap.objects t w.marks checked c.cut_to.ensures.world.marked)
+    subst (λ n. IsKernel w.heap.objects n t w.marks) (sym c.mark-world.ensures) (needs-all w.heap.objects t w.marks checked c.cut_to.ensures.world.marked (watched _ _ _ _ c.cut_to.ensures.world))
 
 pub returns-clause-theory : goal.returns-clause-theory
 returns-clause-theory c =
