@@ -1,6 +1,11 @@
 //! Blocks of functions and witnesses: what they owe and add, and why they are refused.
+ghost use Rattle.std.specs.Prelude.{◌<◌, ◌≤◌};
+
 use crate::shared::{CALLS, arities, nested};
-use mw_define::{Admitted, Draft, admit_block, admit_function, admit_witness};
+use mw_define::{
+    Admitted, Draft, admit_block, admit_block_within, admit_function, admit_function_within,
+    admit_witness,
+};
 use mw_forms::{boxed, read, read_four, read_three, read_two};
 use mw_heap::{Heap, Memory, Ref};
 use mw_term::Arity;
@@ -109,20 +114,63 @@ fn are_refused(heap: &mut Heap, arity: &Arity) -> Result<bool, Memory> {
     Ok(true)
 }
 
-// Whether a function alone owes what its block of one does.
-fn is_function_right(heap: &mut Heap, arity: &Arity) -> Result<bool, Memory> {
-    let (_, obligations, axioms) = read_three(heap, WALK.as_bytes())?;
+fn read_walk(heap: &mut Heap) -> Result<Draft, Memory> {
     let (name, formals, body, measure) = read_four(
         heap,
         b"(walk (x) (and x (walk (cdr x))) (cdr x))",
     )?;
-    let draft = Draft {
+    Ok(Draft {
         name,
         formals,
         body,
         measure,
-    };
+    })
+}
+
+// Whether a function alone owes what its block of one does.
+fn is_function_right(heap: &mut Heap, arity: &Arity) -> Result<bool, Memory> {
+    let (_, obligations, axioms) = read_three(heap, WALK.as_bytes())?;
+    let draft = read_walk(heap)?;
     Ok(owes(&admit_function(heap, draft, arity), obligations, axioms))
+}
+
+// Whether a block, and a function, that owes two formulas passes where it may owe two and not where it may owe one.
+fn are_two_allowed(heap: &mut Heap, arity: &Arity) -> Result<bool, Memory> {
+    let (defs, obligations, axioms) = read_three(heap, WALK.as_bytes())?;
+    let draft = read_walk(heap)?;
+    Ok(
+        owes(
+            &admit_block_within(heap, defs, arity, 2),
+            obligations,
+            axioms,
+        ) && refuses(&admit_block_within(heap, defs, arity, 1), "COUNT")
+            && owes(
+                &admit_function_within(heap, draft, arity, 2),
+                obligations,
+                axioms,
+            )
+            && refuses(&admit_function_within(heap, draft, arity, 1), "COUNT"),
+    )
+}
+
+// A block without recursive calls, which owes nothing, one of whose second function the calls are nested, and one without a term.
+const SWAP: &[u8] = b"((swap (x y) (list y x) 0))";
+
+const SECOND_NESTED: &[u8] = b"((g (x) (g (cdr x)) x) (h (x) (h (h x)) x))";
+
+const NO_TERM: &[u8] = b"((g (x) (g (cdr x) x) x))";
+
+// Whether the tests before that of the number of obligations are made as ever where a block may owe nothing.
+fn is_none_allowed(heap: &mut Heap, arity: &Arity) -> Result<bool, Memory> {
+    let none = heap.nil()?;
+    let swap = read(heap, SWAP)?;
+    let nested = read(heap, SECOND_NESTED)?;
+    let no_term = read(heap, NO_TERM)?;
+    Ok(
+        owes_as_obligations(&admit_block_within(heap, swap, arity, 0), none)
+            && refuses(&admit_block_within(heap, nested, arity, 0), "NESTED")
+            && refuses(&admit_block_within(heap, no_term, arity, 0), "TERM"),
+    )
 }
 
 // Whether a witness owes nothing and has its axiom.
@@ -155,20 +203,74 @@ fn is_shared_body_right(heap: &mut Heap, arity: &Arity) -> Result<bool, Memory> 
     owe_nothing(heap, arity, defs.as_bytes())
 }
 
-// Whether blocks owe ordinals and descents, the first test that fails is the reason, a function is a block of one, a witness has an axiom, and
-// a shared body is looked at once.
-fn definitions_under(heap: &mut Heap, arity: &Arity) -> Result<[bool; 5], Memory> {
+fn with_binding(alloc: Global, text: &str, k: u64) -> Result<String, AllocError>
+    requires above { 2 ≤ k }
+    requires below { k < 100 }
+{
+    let last = k - 1;
+    let other = k - 2;
+    format!(in alloc;
+        "{text} (t{k} (if (f t{last} x) (cons t{last} t{other}) (f t{last} t{other})))"
+    )
+}
+
+// A function that calls itself after twenty bindings of LET*, each of which holds the two before it three times: with these put in, the last
+// one has more than 2^32 parts.
+fn bound_body(alloc: Global) -> Result<String, AllocError> {
+    let mut bindings = format!(in alloc; "(t0 (f h (car x))) (t1 (f t0 h))")?;
+    for k in 2..20 {
+        bindings = with_binding(alloc, bindings.as_str(), k)?;
+    }
+    format!(in alloc; "((mix (x h) (if x (let* ({bindings}) (mix (cdr x) t19)) h) x))")
+}
+
+// Whether bindings are looked at once on the way to a call.
+fn is_bound_body_right(heap: &mut Heap, arity: &Arity) -> Result<bool, Memory> {
+    let defs = bound_body(heap.alloc())?;
+    let defs = read(heap, defs.as_bytes())?;
+    let obligations = read(
+        heap,
+        b"((pequal* (ordp x) 't) (por* (pequal* x 'nil) (pequal* (ord< (cdr x) x) 't)))",
+    )?;
+    Ok(owes_as_obligations(&admit_block(heap, defs, arity), obligations))
+}
+
+// A function of 2,000 cases that calls itself in each, under the tests of those before.
+fn many_cases(alloc: Global) -> Result<String, AllocError> {
+    let mut text = format!(in alloc; "((many (x) (cond")?;
+    for k in 0..2000 {
+        let case = format!(in alloc; " ((f (car x) '{k}) (many (cdr x)))")?;
+        text.push_str(case.as_str())?;
+    }
+    text.push_str(") x))")?;
+    Ok(text)
+}
+
+// Whether no more obligations are made than are allowed: all of these would have two million tests.
+fn are_many_cases_refused(heap: &mut Heap, arity: &Arity) -> Result<bool, Memory> {
+    let defs = many_cases(heap.alloc())?;
+    let defs = read(heap, defs.as_bytes())?;
+    Ok(refuses(&admit_block_within(heap, defs, arity, 20), "COUNT"))
+}
+
+// Whether blocks owe ordinals and descents, the first test that fails is the reason, a function is a block of one, a witness has an axiom, a
+// shared body and bindings are looked at once, and no block passes that owes more than it may.
+fn definitions_under(heap: &mut Heap, arity: &Arity) -> Result<[bool; 9], Memory> {
     Ok([
         are_right(heap, arity)?,
         are_refused(heap, arity)?,
         is_function_right(heap, arity)?,
         is_witness_right(heap, arity)?,
         is_shared_body_right(heap, arity)?,
+        is_bound_body_right(heap, arity)?,
+        are_two_allowed(heap, arity)?,
+        is_none_allowed(heap, arity)?,
+        are_many_cases_refused(heap, arity)?,
     ])
 }
 
 // The same, under the arities of some functions.
-fn definitions(heap: &mut Heap) -> Result<[bool; 5], Memory> {
+fn definitions(heap: &mut Heap) -> Result<[bool; 9], Memory> {
     let arity = arities(heap.alloc())?;
     definitions_under(heap, &arity)
 }
@@ -176,6 +278,6 @@ fn definitions(heap: &mut Heap) -> Result<[bool; 5], Memory> {
 #[test]
 fn definitions_owe_or_are_refused(rt: HostRuntime) -> Result<(), Fail> {
     let mut heap = boxed(rt.alloc())?;
-    assert_eq!(rt; definitions(&mut heap)?, [true; 5]);
+    assert_eq!(rt; definitions(&mut heap)?, [true; 9]);
     Ok(())
 }

@@ -1,8 +1,8 @@
 -- What an event that defines comes to, by the tests of its definitions and of its proofs.
-use Rattle.std.proofs.Common.{◌≡◌, ℕ, Bool, true, false, cond, List, [], ◌∷◌, length, map, option_map, Option, Some, None, is_some, refl, sym, ap, ap₂, ◌∙◌, subst, true≢false}
-use Rattle.mw_model.specs.Terms.Object.{Object, NIL, same_object, has_members}
+use Rattle.std.proofs.Common.{◌≡◌, ℕ, ◌≤◌, arith, Bool, true, false, cond, List, [], ◌∷◌, length, map, option_map, Option, Some, None, is_some, refl, sym, ap, ap₂, ◌∙◌, subst, true≢false}
+use Rattle.mw_model.specs.Terms.Object.{Object, NIL, has_members}
 use Rattle.mw_model.specs.Terms.Term.{ArityTable, Formula}
-use Rattle.mw_model.specs.Laws.RulesInduction.{formulas_object}
+use Rattle.mw_model.specs.Laws.RulesInduction.{length_object}
 use Rattle.mw_model.specs.Values.Definition.{Function as Defined, Block, Functions, Choice, arity_table}
 use Rattle.mw_model.specs.Events.Obligation.{obligations}
 use Rattle.mw_model.specs.Events.Theory.{Theory, IsSound}
@@ -17,8 +17,8 @@ use Rattle.mw_term.specs.Marking.{ObjectMark}
 use Rattle.mw_define.specs.declared.admitted.Admitted.TheVariants as admitted
 use Rattle.mw_define.specs.declared.admitted.Owed.{Owed}
 use Rattle.mw_define.specs.Tests.{FailsWitness, PassesWitness}
-use Rattle.mw_define.specs.BlockTests.{PassesBlock, IsBlockOf}
-use Rattle.mw_define.proofs.CallerLemmas.{define-denied, define-wants, skolem-refused, skolem-accepted}
+use Rattle.mw_define.specs.BlockTests.{PassesBlock, FailsWithin, fails, too_many, IsBlockOf, IsBlockOfWithin}
+use Rattle.mw_define.proofs.CallerLemmas.{define-denied, define-owes, define-wants, skolem-refused, skolem-accepted}
 use Rattle.mw_define.proofs.EntryLemmas.{block-entries, witness-entry}
 use Rattle.mw_preamble.specs.declared.definition.Definition.{Definition}
 use Rattle.mw_preamble.specs.declared.definition.Definition.TheVariants.{Witness}
@@ -33,6 +33,7 @@ use Rattle.mw_theory.specs.Admitting.{AreWithin, drafts_given, function_of_entry
 use Rattle.mw_theory.specs.Defining.{IsNewBlock}
 use Rattle.mw_theory.proofs.Held.{held, grown_theory}
 use Rattle.mw_theory.proofs.Drafting.{given-grows, functions-mean}
+use Rattle.mw_theory.proofs.ProofLists.{length_formulas, fewer}
 use Rattle.mw_theory.specs.Words.{skolem_event}
 use Rattle.mw_theory.specs.declared.admitting.Drafts.{Drafts}
 
@@ -57,6 +58,17 @@ pub record IsPassed (A : ArityTable) (given : Option (List Draft)) (os : List Ob
   pub given_is : given ≡ Some drafts
   pub passes : PassesBlock A drafts os owed
 
+-- what passes where it may owe only so much
+pub given-within : (most : ℕ) (A : ArityTable) (given : Option (List Draft)) (os : List Object) (owed : Owed) → IsBlockOfWithin (Some most) A given os (admitted.Obligations owed) → IsBlockOf A given os (admitted.Obligations owed)
+given-within most A None os owed h = h
+given-within most A (Some ds) os owed h = h.passes
+
+pub owes-few : (most : ℕ) (A : ArityTable) (given : Option (List Draft)) (os : List Object) (owed : Owed) → IsBlockOfWithin (Some most) A given os (admitted.Obligations owed) → length_object (object_at os owed.obligations) ≤ most
+owes-few most A None os owed h = absurd h
+owes-few most A (Some ds) os owed h =
+    let q = h.passes in
+    omega (arith, h.few, ap length_object q.obligations, length_formulas (obligations (functions q.names q.formals q.bodies) (measures q.names q.measures_of)))
+
 pub given-passed : (A : ArityTable) (given : Option (List Draft)) (os : List Object) (owed : Owed) → IsBlockOf A given os (admitted.Obligations owed) → IsPassed A given os owed
 given-passed A None os owed h = absurd h
 given-passed A (Some ds) os owed h = record { drafts = ds; given_is = refl; passes = h }
@@ -67,6 +79,20 @@ module _ (J : Judge) (t : Theory) (proofs : Object) (os : List Object) where
   refused-given None r h = ap (refuse t) (sym h)
   refused-given (Some ds) r h = ap (settled (by_formula J) t 0 proofs) (define-denied t ds (refusal_of r) h)
 
+  -- the same where no more may be owed than there are proofs
+  refused-within : (most : ℕ) (ds : List Draft) (q : Refusal) → length_object proofs ≤ most → FailsWithin (Some most) (arity_table t.definitions) ds q → settled (by_formula J) t 0 proofs (define_demand t ds) ≡ refuse t q
+  refused-within most ds q few (fails r h) = ap (settled (by_formula J) t 0 proofs) (define-denied t ds r h)
+  refused-within most ds q few (too_many fs xss bs ms names formals terms closed flat past) =
+      let Fs = obligations (functions fs xss bs) (measures fs ms) in
+      ap (settled (by_formula J) t 0 proofs) (define-owes t ds fs xss bs ms names formals terms closed flat)
+      ∙ must_unless t (has_members (length Fs) proofs) (judged_each J t Fs proofs) (Some COUNT) (Functions (functions fs xss bs))
+      (ap (λ b. cond b (judged_each J t Fs proofs) (Some COUNT)) (fewer (length Fs) proofs (omega (arith, few, past))))
+
+  pub refused-given-within : (most : ℕ) (given : Option (List Draft)) (r : Reason) → length_object proofs ≤ most → IsBlockOfWithin (Some most) (arity_table t.definitions) given os (admitted.Refused r) → defined J t given proofs ≡ refuse t (refusal_of r)
+  unfolding need
+  refused-given-within most None r few h = ap (refuse t) (sym h)
+  refused-given-within most (Some ds) r few h = refused-within most ds (refusal_of r) few h
+
   pub judged-given : (given : Option (List Draft)) (owed : Owed) (h : IsPassed (arity_table t.definitions) given os owed) (r : Option Refusal) → judged_all J t (obligations (functions h.passes.names h.passes.formals h.passes.bodies) (measures h.passes.names h.passes.measures_of)) proofs ≡ r → defined J t given proofs ≡ after_proofs t r (Functions (functions h.passes.names h.passes.formals h.passes.bodies))
   unfolding need
   judged-given given owed h r told =
@@ -76,13 +102,9 @@ module _ (J : Judge) (t : Theory) (proofs : Object) (os : List Object) where
       ∙ must_unless t (has_members (length Fs) proofs) (judged_each J t Fs proofs) r (Functions (functions h.passes.names h.passes.formals h.passes.bodies)) told)
 
 -- no proofs are just as many as are owed where nothing is
-judged-none : (J : Judge) (t : Theory) (Fs : List Formula) → same_object (formulas_object Fs) NIL ≡ true → judged_all J t Fs NIL ≡ None
+judged-none : (J : Judge) (t : Theory) (Fs : List Formula) → length Fs ≤ 0 → judged_all J t Fs NIL ≡ None
 judged-none J t [] h = refl
-judged-none J t (F ∷ Fs) h = cc
-
-judged-some : (J : Judge) (t : Theory) (Fs : List Formula) → same_object (formulas_object Fs) NIL ≡ false → judged_all J t Fs NIL ≡ Some COUNT
-judged-some J t [] h = cc
-judged-some J t (F ∷ Fs) h = refl
+judged-none J t (F ∷ Fs) h = absurd (omega (arith, h))
 
 -- by the tests of the functions and of the proofs it is refused, or accepted with some block
 pub definitions-judged : (J : Judge) (t : Theory) (proofs : Object) (os : List Object) (given : Option (List Draft)) (owed : Owed) (p : IsPassed (arity_table t.definitions) given os owed) (r : Option Refusal) → r ≡ judged_all J t (obligations (functions p.passes.names p.passes.formals p.passes.bodies) (measures p.passes.names p.passes.measures_of)) proofs → IsDefined J t given proofs r
@@ -160,6 +182,9 @@ module _ (os : List Object) (n : ℕ) (t : Kept) (marks : List ObjectMark) (h : 
     pub functions-fail : (J : Judge) (proofs : Object) (r : Reason) → IsBlockOf t.arity (drafts_given os drafts) new (admitted.Refused r) → defined J now (drafts_given os drafts) proofs ≡ refuse now (refusal_of r)
     functions-fail J proofs r fails = refused-given J now proofs new (drafts_given os drafts) r (subst (λ B. IsBlockOf B (drafts_given os drafts) new (admitted.Refused r)) arities fails)
 
+    pub functions-fail-within : (J : Judge) (proofs : Object) (most : ℕ) (r : Reason) → length_object proofs ≤ most → IsBlockOfWithin (Some most) t.arity (drafts_given os drafts) new (admitted.Refused r) → defined J now (drafts_given os drafts) proofs ≡ refuse now (refusal_of r)
+    functions-fail-within J proofs most r few h = refused-given-within J now proofs new most (drafts_given os drafts) r few (subst (λ B. IsBlockOfWithin (Some most) B (drafts_given os drafts) new (admitted.Refused r)) arities h)
+
     -- they pass their tests
     module _ (owed : Owed) (tested : IsBlockOf t.arity (drafts_given os drafts) new (admitted.Obligations owed)) where
       passed : IsPassed (arity_table now.definitions) (drafts_given os drafts) new owed
@@ -174,14 +199,11 @@ module _ (os : List Object) (n : ℕ) (t : Kept) (marks : List ObjectMark) (h : 
       functions-pass J proofs a = accepted-these J now proofs new (drafts_given os drafts) owed passed a.0 a.1
 
       -- without proofs they are accepted where nothing is owed
-      pub alone-passes : (J : Judge) → same_object (object_at new owed.obligations) NIL ≡ true → defined J now (drafts_given os drafts) NIL ≡ accept (add_to_theory now block_of)
+      pub alone-passes : (J : Judge) → length_object (object_at new owed.obligations) ≤ 0 → defined J now (drafts_given os drafts) NIL ≡ accept (add_to_theory now block_of)
       unfolding block_of
-      alone-passes J none = judged-given J now NIL new (drafts_given os drafts) owed passed None (judged-none J now _ (sym (ap (λ o. same_object o NIL) passed.passes.obligations) ∙ none))
+      alone-passes J none = judged-given J now NIL new (drafts_given os drafts) owed passed None (judged-none J now _ (omega (arith, none, ap length_object passed.passes.obligations, length_formulas (obligations (functions passed.passes.names passed.passes.formals passed.passes.bodies) (measures passed.passes.names passed.passes.measures_of)))))
 
-      pub alone-fails : (J : Judge) → same_object (object_at new owed.obligations) NIL ≡ false → defined J now (drafts_given os drafts) NIL ≡ refuse now COUNT
-      alone-fails J some = judged-given J now NIL new (drafts_given os drafts) owed passed (Some COUNT) (judged-some J now _ (sym (ap (λ o. same_object o NIL) passed.passes.obligations) ∙ some))
-
-      pub alone-accepted : (J : Judge) → same_object (object_at new owed.obligations) NIL ≡ true → IsSound (defined J now (drafts_given os drafts) NIL).1 → IsAccepted J now (drafts_given os drafts) NIL
+      pub alone-accepted : (J : Judge) → length_object (object_at new owed.obligations) ≤ 0 → IsSound (defined J now (drafts_given os drafts) NIL).1 → IsAccepted J now (drafts_given os drafts) NIL
       alone-accepted J none sound = let e = alone-passes J none in (block_of, e, subst (λ r. IsSound r.1) e sound)
 
       -- they are a new block

@@ -1,5 +1,5 @@
 -- Proofs that are judged one after another, by the objects of their formulas.
-use Rattle.std.proofs.Common.{◌≡◌, ℕ, ◌<◌, true, false, cond, Option, Some, None, List, [], ◌∷◌, length, option_map, refl, sym, ap, ap₂, ◌∙◌, arith, one-add, is_some, true≢false}
+use Rattle.std.proofs.Common.{◌≡◌, ℕ, zero, suc, ◌<◌, true, false, cond, Option, Some, None, List, [], ◌∷◌, length, option_map, refl, sym, ap, ap₂, ◌∙◌, arith, one-add, is_some, true≢false}
 use Rattle.mw_model.specs.Terms.Object.{Object, Natural, Symbol, Pair, NIL, same_object, car, cdr, has_members}
 use Rattle.mw_model.specs.Terms.Term.{Formula, formula_object}
 use Rattle.mw_model.specs.Values.Primitive.{is_pair}
@@ -36,6 +36,18 @@ judged_none_for J t (Pair f fs) ps h = cc
 pub length_formulas : (Fs : List Formula) → length_object (formulas_object Fs) ≡ length Fs
 length_formulas [] = refl
 length_formulas (F ∷ Fs) = omega (arith, length_formulas Fs)
+
+pub no_members : (x : Object) → is_pair x ≡ false → length_object x ≡ 0
+no_members (Natural n) h = refl
+no_members (Symbol s) h = refl
+no_members (Pair a b) h = cc
+
+-- fewer pairs are not as many members
+pub fewer : (n : ℕ) (x : Object) → length_object x < n → has_members n x ≡ false
+fewer zero x h = absurd (omega (arith, h))
+fewer (suc n) (Natural m) h = refl
+fewer (suc n) (Symbol s) h = refl
+fewer (suc n) (Pair a b) h = fewer n b (omega (arith, h))
 
 pub as_many-next : (x y a b c d : Object) → x ≡ Pair a b → y ≡ Pair c d → has_members (length_object x) y ≡ has_members (length_object b) d
 as_many-next x y a b c d e f = ap₂ (λ u v. has_members (length_object u) v) e f ∙ ap (λ n. has_members n (Pair c d)) (one-add (length_object b))

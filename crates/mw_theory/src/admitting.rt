@@ -1,11 +1,13 @@
 //! Functions that an event defines.
-ghost use Rattle.std.specs.Prelude.{◌≡◌, ◌≤◌, length, slice_get, map, IfOk, IfSome};
+ghost use Rattle.std.specs.Prelude.{◌≡◌, ◌≤◌, length, slice_get, map, Some, IfOk, IfSome};
 ghost use Rattle.mw_heap.specs.Objects.{object_at, Grows};
-ghost use Rattle.mw_define.specs.BlockTests.{IsBlockOf};
+ghost use Rattle.mw_define.specs.BlockTests.{IsBlockOf, IsBlockOfWithin};
 ghost use Rattle.mw_theory.specs.Admitting.{AreWithin, AreBefore, drafts_given, function_of_entry};
 
 use crate::mark::later;
-use mw_define::{Admitted, Draft, Entry, admit_block, admit_function};
+use mw_define::{
+    Admitted, Draft, Entry, admit_block, admit_block_within, admit_function, admit_function_within,
+};
 use mw_heap::{Heap, Mark, Memory, Ref};
 use mw_preamble::Definition;
 use mw_term::Arity;
@@ -27,6 +29,19 @@ pub fn admit(heap: &mut Heap, drafts: Drafts, arity: &Arity) -> Admitted
     match drafts {
         Drafts::One(draft) => admit_function(heap, draft, arity),
         Drafts::All(definitions) => admit_block(heap, definitions, arity),
+    }
+}
+
+/// Tests these functions for an event that has proofs for at most so many obligations: as `admit`, but for the last test, that no more are
+/// owed, whose refusal is Count. Once there is one too many, no further ones are made.
+pub fn admit_within(heap: &mut Heap, drafts: Drafts, arity: &Arity, most: u64) -> Admitted
+    requires { AreWithin heap.old.objects drafts }
+    ensures grows { Grows heap.old.objects heap.new.objects }
+    ensures admitted { IsBlockOfWithin (Some most) arity.now (drafts_given heap.old.objects drafts) heap.new.objects result }
+{
+    match drafts {
+        Drafts::One(draft) => admit_function_within(heap, draft, arity, most),
+        Drafts::All(definitions) => admit_block_within(heap, definitions, arity, most),
     }
 }
 

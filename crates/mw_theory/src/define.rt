@@ -8,9 +8,9 @@ ghost use Rattle.mw_theory.specs.Knowledge.{parts_of, meant, IsHeld};
 ghost use Rattle.mw_theory.specs.Admitting.{AreWithin, drafts_given};
 ghost use Rattle.mw_theory.specs.Settling.{IsDefined};
 
-use crate::admitting::{Drafts, admit};
+use crate::admitting::{Drafts, admit_within};
 use crate::judge::Judge;
-use crate::proofs::refusal_of_proofs;
+use crate::proofs::{count_members, refusal_of_proofs};
 use crate::theory::Theory;
 use mw_define::Admitted;
 use mw_heap::{Heap, Memory, Ref, Refusal};
@@ -38,7 +38,8 @@ pub(crate) fn refusal_of_definitions<J: Judge>(
     ensures ready { (os : List Object) → J.ready judge.old os → J.ready judge.new os }
     ensures defined { (os : List Object) → Grows os heap.old.objects → J.ready judge.old os → IfOk result (λ r. IsDefined (J.judges judge.old os) (meant heap.old.objects (parts_of theory.now)) (drafts_given heap.old.objects drafts.now) (object_at heap.old.objects proofs) (option_map refusal_of r)) }
 {
-    match admit(heap, *drafts, &theory.arity) {
+    let most = count_members(heap, proofs);
+    match admit_within(heap, *drafts, &theory.arity, most) {
         Admitted::Obligations(owed) => refusal_of_proofs(
             heap,
             owed.obligations,

@@ -43,6 +43,20 @@ pub(crate) fn refusal_of_proofs<J: Judge>(
     first_refusal(heap, obligations, proofs, theory, marks, judge)
 }
 
+/// How many members a list has, whether or not it is a proper one.
+pub(crate) fn count_members(heap: &Heap, list: Ref) -> u64
+    requires { IsIn heap.now.objects list }
+    ensures { result ≡ length_object (object_at heap.now.objects list) }
+{
+    let mut count = 0;
+    let mut rest = list;
+    while let View::Pair(_, more) = heap.view(rest) {
+        count += 1;
+        rest = more;
+    }
+    count
+}
+
 // Whether it is a proper list of as many members as the other list has.
 fn has_as_many(heap: &Heap, list: Ref, other: Ref) -> bool
     requires list { IsIn heap.now.objects list }

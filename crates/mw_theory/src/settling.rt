@@ -11,7 +11,7 @@ ghost use Rattle.mw_theory.specs.Admitting.{AreWithin, drafts_given};
 ghost use Rattle.mw_theory.specs.Settling.{defined, IsAccepted, skolem_at, verified, fate_by};
 ghost use Rattle.mw_theory.specs.Words.{profile_event};
 
-use crate::admitting::{Drafts, admit, functions_of, mark_after, witness_of};
+use crate::admitting::{Drafts, admit, admit_within, functions_of, mark_after, witness_of};
 use crate::define::refusal_of_definitions;
 use crate::judge::Judge;
 use crate::mark::later;
@@ -110,14 +110,11 @@ impl World {
         ensures err { OnErr result (theory_in self.new ≡ theory_in self.old) }
         ensures kept { IfOk result (λ r. IfSome r (λ q. self.new.needed ≡ self.old.needed)) }
     {
-        let owed = match admit(&mut self.heap, drafts, &self.theory.arity) {
+        let owed = match admit_within(&mut self.heap, drafts, &self.theory.arity, 0) {
             Admitted::Obligations(owed) => owed,
             Admitted::Refused(reason) => return Ok(Some(reason)),
             Admitted::Memory => return Err(Memory),
         };
-        if !self.heap.is_nil(Some(owed.obligations)) {
-            return Ok(Some(Refusal::Count));
-        }
         let block = functions_of(self.heap.alloc(), owed.entries.as_slice())?;
         self.add_definitions(block.as_slice(), owed.axioms)?;
         Ok(None)

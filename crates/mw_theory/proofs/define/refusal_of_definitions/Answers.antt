@@ -1,5 +1,5 @@
 -- The tests of the functions, and then those of their proofs.
-use Rattle.std.proofs.Common.{ap₂, ◌∙◌, subst}
+use Rattle.std.proofs.Common.{Some, ap₂, ◌∙◌, subst, arith}
 use Rattle.std.proofs.lemmas.Result.{IfOk-weaker}
 use Rattle.mw_model.specs.Values.Definition.{arity_table}
 use Rattle.mw_model.specs.Events.Obligation.{obligations}
@@ -7,53 +7,54 @@ use Rattle.mw_model.specs.Events.Admission.{functions, measures}
 use Rattle.mw_heap.specs.Objects.{object_at}
 use Rattle.mw_heap.proofs.Objects.{IsIn-Grows, object_at-Grows, Grows-trans}
 use Rattle.mw_term.proofs.CallerLemmas.{AreMarks-grows}
-use Rattle.mw_define.specs.BlockTests.{IsBlockOf}
+use Rattle.mw_define.specs.BlockTests.{IsBlockOf, IsBlockOfWithin}
 use Rattle.mw_define.specs.declared.admitted.Admitted.TheVariants as admitted
 use Rattle.mw_theory.specs.Knowledge.{parts_of, meant}
 use Rattle.mw_theory.specs.Proofs.{judged_all}
 use Rattle.mw_theory.specs.Admitting.{drafts_given}
 use Rattle.mw_theory.proofs.Held.{meant-grows, held-grows}
-use Rattle.mw_theory.proofs.Defined.{given-passed, refused-given, definitions-judged}
+use Rattle.mw_theory.proofs.Defined.{given-within, given-passed, refused-given-within, definitions-judged}
 use Rattle.mw_theory.proofs.define.refusal_of_definitions.Goals as goal
 
 pub refusal_of_proofs-requires-clause-held : goal.refusal_of_proofs-requires-clause-held
-refusal_of_proofs-requires-clause-held g c = held-grows _ _ c.admit.ensures.grows _ c.requires.held
+refusal_of_proofs-requires-clause-held g c = held-grows _ _ c.admit_within.ensures.grows _ c.requires.held
 
 pub returns-in-Refused-clause-defined : goal.returns-in-Refused-clause-defined
 returns-in-Refused-clause-defined g c = λ before grows ready.
     let os = c.args.heap.now.objects in
     let given = drafts_given os c.args.drafts.now in
     let reason = c.in-Refused.reason in
-    refused-given (g.J.Judge.judges c.args.judge.now before) (meant os (parts_of c.args.theory.now)) (object_at os c.args.proofs) c.admit.new.heap.objects given reason
-    (subst (λ B. IsBlockOf B given c.admit.new.heap.objects (admitted.Refused reason)) c.requires.held.arities c.in-Refused.ensures.admitted)
+    let most = c.count_members-most.result in
+    refused-given-within (g.J.Judge.judges c.args.judge.now before) (meant os (parts_of c.args.theory.now)) (object_at os c.args.proofs) c.admit_within.new.heap.objects most given reason (omega (arith, c.count_members-most.ensures))
+    (subst (λ B. IsBlockOfWithin (Some most) B given c.admit_within.new.heap.objects (admitted.Refused reason)) c.requires.held.arities c.in-Refused.ensures.admitted)
 
 pub returns-in-Obligations-clause-defined : goal.returns-in-Obligations-clause-defined
 returns-in-Obligations-clause-defined g c = λ before grows ready.
     let os = c.args.heap.now.objects in
-    let new = c.admit.new.heap.objects in
+    let new = c.admit_within.new.heap.objects in
     let given = drafts_given os c.args.drafts.now in
     let t = meant os (parts_of c.args.theory.now) in
     let owed = c.in-Obligations.owed in
-    let p = given-passed (arity_table t.definitions) given new owed (subst (λ B. IsBlockOf B given new (admitted.Obligations owed)) c.requires.held.arities c.in-Obligations.ensures.admitted) in
+    let p = given-passed (arity_table t.definitions) given new owed (subst (λ B. IsBlockOf B given new (admitted.Obligations owed)) c.requires.held.arities (given-within c.count_members-most.result c.args.theory.now.arity given new owed c.in-Obligations.ensures.admitted)) in
     let q = p.passes in
     let Fs = obligations (functions q.names q.formals q.bodies) (measures q.names q.measures_of) in
-    let same = ap₂ (λ u x. judged_all (g.J.Judge.judges c.args.judge.now before) u Fs x) (meant-grows os new c.admit.ensures.grows c.args.theory.now c.requires.held) (object_at-Grows os new c.admit.ensures.grows c.args.proofs c.requires.proofs) in
-    IfOk-weaker c.refusal_of_proofs.result _ _ (λ r is. definitions-judged (g.J.Judge.judges c.args.judge.now before) t (object_at os c.args.proofs) new given owed p _ (is Fs q.obligations ∙ same)) (c.refusal_of_proofs.ensures.refusal before (Grows-trans before os new grows c.admit.ensures.grows) ready)
+    let same = ap₂ (λ u x. judged_all (g.J.Judge.judges c.args.judge.now before) u Fs x) (meant-grows os new c.admit_within.ensures.grows c.args.theory.now c.requires.held) (object_at-Grows os new c.admit_within.ensures.grows c.args.proofs c.requires.proofs) in
+    IfOk-weaker c.refusal_of_proofs.result _ _ (λ r is. definitions-judged (g.J.Judge.judges c.args.judge.now before) t (object_at os c.args.proofs) new given owed p _ (is Fs q.obligations ∙ same)) (c.refusal_of_proofs.ensures.refusal before (Grows-trans before os new grows c.admit_within.ensures.grows) ready)
 
 pub refusal_of_proofs-requires-clause-ready : goal.refusal_of_proofs-requires-clause-ready
-refusal_of_proofs-requires-clause-ready g c = let (os, grows, ready) = c.requires.ready in (os, Grows-trans os c.args.heap.now.objects c.admit.new.heap.objects grows c.admit.ensures.grows, ready)
+refusal_of_proofs-requires-clause-ready g c = let (os, grows, ready) = c.requires.ready in (os, Grows-trans os c.args.heap.now.objects c.admit_within.new.heap.objects grows c.admit_within.ensures.grows, ready)
 
 pub refusal_of_proofs-requires-clause-proofs : goal.refusal_of_proofs-requires-clause-proofs
-refusal_of_proofs-requires-clause-proofs g c = IsIn-Grows _ _ c.admit.ensures.grows _ c.requires.proofs
+refusal_of_proofs-requires-clause-proofs g c = IsIn-Grows _ _ c.admit_within.ensures.grows _ c.requires.proofs
 
 pub refusal_of_proofs-requires-clause-marked : goal.refusal_of_proofs-requires-clause-marked
-refusal_of_proofs-requires-clause-marked g c = AreMarks-grows _ _ _ _ c.admit.ensures.grows c.requires.marked
+refusal_of_proofs-requires-clause-marked g c = AreMarks-grows _ _ _ _ c.admit_within.ensures.grows c.requires.marked
 
 pub returns-in-Refused-clause-marked : goal.returns-in-Refused-clause-marked
-returns-in-Refused-clause-marked g c = AreMarks-grows _ _ _ _ c.admit.ensures.grows c.requires.marked
+returns-in-Refused-clause-marked g c = AreMarks-grows _ _ _ _ c.admit_within.ensures.grows c.requires.marked
 
 pub returns-in-Memory-clause-marked : goal.returns-in-Memory-clause-marked
-returns-in-Memory-clause-marked g c = AreMarks-grows _ _ _ _ c.admit.ensures.grows c.requires.marked
+returns-in-Memory-clause-marked g c = AreMarks-grows _ _ _ _ c.admit_within.ensures.grows c.requires.marked
 
 pub returns-in-Obligations-clause-grows : goal.returns-in-Obligations-clause-grows
-returns-in-Obligations-clause-grows g c = Grows-trans _ _ _ c.admit.ensures.grows c.refusal_of_proofs.ensures.grows
+returns-in-Obligations-clause-grows g c = Grows-trans _ _ _ c.admit_within.ensures.grows c.refusal_of_proofs.ensures.grows

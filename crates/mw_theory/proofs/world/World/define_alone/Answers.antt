@@ -1,79 +1,72 @@
--- The tests of the functions, and that nothing is owed, and then the step that adds them.
-use Rattle.std.proofs.Common.{map, sym, ap, ◌∙◌}
+-- The tests of the functions, of which the last is that nothing is owed, and then the step that adds them.
+use Rattle.std.proofs.Common.{map, sym, ap, ◌∙◌, arith}
 use Rattle.mw_model.specs.Terms.Object.{NIL}
-use Rattle.mw_theory.specs.Admitting.{function_of_entry}
+use Rattle.mw_theory.specs.Admitting.{drafts_given, function_of_entry}
 use Rattle.mw_theory.proofs.Held.{grown}
 use Rattle.mw_theory.proofs.Results.{OnErr-from}
-use Rattle.mw_theory.proofs.Defined.{theory-same, functions-fail, alone-passes, alone-fails, alone-accepted, functions-block, block-leads}
+use Rattle.mw_theory.proofs.Defined.{given-within, owes-few, theory-same, functions-fail-within, alone-passes, alone-accepted, functions-block, block-leads}
 use Rattle.mw_theory.proofs.world.World.define_alone.Goals as goal
 
 pub returns-in-Refused-clause-world : goal.returns-in-Refused-clause-world
-returns-in-Refused-clause-world c = grown _ _ _ _ c.requires.world c.admit.new.heap.objects c.admit.ensures.grows
+returns-in-Refused-clause-world c = grown _ _ _ _ c.requires.world c.admit_within.new.heap.objects c.admit_within.ensures.grows
 
 pub returns-in-Refused-clause-fate : goal.returns-in-Refused-clause-fate
 returns-in-Refused-clause-fate c = λ J.
-    sym (ap (λ r. r.0) (functions-fail _ _ _ _ c.requires.world c.admit.new.heap.objects c.admit.ensures.grows c.args.drafts J NIL c.in-Refused.reason c.in-Refused.ensures.admitted))
+    sym (ap (λ r. r.0) (functions-fail-within _ _ _ _ c.requires.world c.admit_within.new.heap.objects c.admit_within.ensures.grows c.args.drafts J NIL 0 c.in-Refused.reason (omega arith) c.in-Refused.ensures.admitted))
 
 pub returns-in-Refused-clause-theory : goal.returns-in-Refused-clause-theory
 returns-in-Refused-clause-theory c = λ J.
-    theory-same _ _ _ _ c.requires.world c.admit.new.heap.objects c.admit.ensures.grows
-    ∙ sym (ap (λ r. r.1) (functions-fail _ _ _ _ c.requires.world c.admit.new.heap.objects c.admit.ensures.grows c.args.drafts J NIL c.in-Refused.reason c.in-Refused.ensures.admitted))
+    theory-same _ _ _ _ c.requires.world c.admit_within.new.heap.objects c.admit_within.ensures.grows
+    ∙ sym (ap (λ r. r.1) (functions-fail-within _ _ _ _ c.requires.world c.admit_within.new.heap.objects c.admit_within.ensures.grows c.args.drafts J NIL 0 c.in-Refused.reason (omega arith) c.in-Refused.ensures.admitted))
 
 pub returns-in-Memory-clause-world : goal.returns-in-Memory-clause-world
-returns-in-Memory-clause-world c = grown _ _ _ _ c.requires.world c.admit.new.heap.objects c.admit.ensures.grows
+returns-in-Memory-clause-world c = grown _ _ _ _ c.requires.world c.admit_within.new.heap.objects c.admit_within.ensures.grows
 
 pub returns-in-Memory-clause-err : goal.returns-in-Memory-clause-err
-returns-in-Memory-clause-err c = theory-same _ _ _ _ c.requires.world c.admit.new.heap.objects c.admit.ensures.grows
+returns-in-Memory-clause-err c = theory-same _ _ _ _ c.requires.world c.admit_within.new.heap.objects c.admit_within.ensures.grows
 
 pub returns-in_err-block-clause-world : goal.returns-in_err-block-clause-world
-returns-in_err-block-clause-world c = grown _ _ _ _ c.requires.world c.admit.new.heap.objects c.admit.ensures.grows
+returns-in_err-block-clause-world c = grown _ _ _ _ c.requires.world c.admit_within.new.heap.objects c.admit_within.ensures.grows
 
 pub returns-in_err-block-clause-err : goal.returns-in_err-block-clause-err
-returns-in_err-block-clause-err c = OnErr-from _ _ (theory-same _ _ _ _ c.requires.world c.admit.new.heap.objects c.admit.ensures.grows)
+returns-in_err-block-clause-err c = OnErr-from _ _ (theory-same _ _ _ _ c.requires.world c.admit_within.new.heap.objects c.admit_within.ensures.grows)
 
 pub add_definitions-requires-clause-world : goal.add_definitions-requires-clause-world
-add_definitions-requires-clause-world c = grown _ _ _ _ c.requires.world c.admit.new.heap.objects c.admit.ensures.grows
-
-pub returns-then-not-is_nil-clause-world : goal.returns-then-not-is_nil-clause-world
-returns-then-not-is_nil-clause-world c = grown _ _ _ _ c.requires.world c.admit.new.heap.objects c.admit.ensures.grows
-
-pub returns-then-not-is_nil-clause-fate : goal.returns-then-not-is_nil-clause-fate
-returns-then-not-is_nil-clause-fate c = λ J.
-    let some = sym c.is_nil.ensures ∙ c.if-not-is_nil.true in
-    sym (ap (λ r. r.0) (alone-fails _ _ _ _ c.requires.world c.admit.new.heap.objects c.admit.ensures.grows c.args.drafts c.in-Obligations.owed c.in-Obligations.ensures.admitted J some))
-
-pub returns-then-not-is_nil-clause-theory : goal.returns-then-not-is_nil-clause-theory
-returns-then-not-is_nil-clause-theory c = λ J.
-    let new = c.admit.new.heap.objects in
-    let g = c.admit.ensures.grows in
-    let some = sym c.is_nil.ensures ∙ c.if-not-is_nil.true in
-    theory-same _ _ _ _ c.requires.world new g ∙ sym (ap (λ r. r.1) (alone-fails _ _ _ _ c.requires.world new g c.args.drafts c.in-Obligations.owed c.in-Obligations.ensures.admitted J some))
+add_definitions-requires-clause-world c = grown _ _ _ _ c.requires.world c.admit_within.new.heap.objects c.admit_within.ensures.grows
 
 pub add_definitions-requires-clause-block : goal.add_definitions-requires-clause-block
 add_definitions-requires-clause-block c =
     let (J, sound) = c.requires.sound in
-    let new = c.admit.new.heap.objects in
-    let g = c.admit.ensures.grows in
+    let new = c.admit_within.new.heap.objects in
+    let g = c.admit_within.ensures.grows in
     let owed = c.in-Obligations.owed in
-    let tested = c.in-Obligations.ensures.admitted in
-    let a = alone-accepted _ _ _ _ c.requires.world new g c.args.drafts owed tested J (sym c.is_nil.ensures ∙ c.if-not-is_nil.false) sound in
+    let given = drafts_given c.args.self.now.heap.objects c.args.drafts in
+    let tested = given-within 0 c.args.self.now.theory.arity given new owed c.in-Obligations.ensures.admitted in
+    let none = owes-few 0 c.args.self.now.theory.arity given new owed c.in-Obligations.ensures.admitted in
+    let a = alone-accepted _ _ _ _ c.requires.world new g c.args.drafts owed tested J none sound in
     (_, functions-block _ _ _ _ c.requires.world new g c.args.drafts owed tested J NIL a c.as_slice-2.result.now (c.as_slice-2.ensures.value ∙ (c.in_ok-block.ensures ∙ ap (map function_of_entry) c.as_slice.ensures.value)))
 
 pub returns-in_err-add_definitions-clause-err : goal.returns-in_err-add_definitions-clause-err
-returns-in_err-add_definitions-clause-err c = OnErr-from _ _ (c.in_err-add_definitions.ensures.err ∙ theory-same _ _ _ _ c.requires.world c.admit.new.heap.objects c.admit.ensures.grows)
+returns-in_err-add_definitions-clause-err c = OnErr-from _ _ (c.in_err-add_definitions.ensures.err ∙ theory-same _ _ _ _ c.requires.world c.admit_within.new.heap.objects c.admit_within.ensures.grows)
 
 pub returns-clause-fate : goal.returns-clause-fate
 returns-clause-fate c = λ J.
-    sym (ap (λ r. r.0) (alone-passes _ _ _ _ c.requires.world c.admit.new.heap.objects c.admit.ensures.grows c.args.drafts c.in-Obligations.owed c.in-Obligations.ensures.admitted J (sym c.is_nil.ensures ∙ c.if-not-is_nil.false)))
+    let new = c.admit_within.new.heap.objects in
+    let owed = c.in-Obligations.owed in
+    let given = drafts_given c.args.self.now.heap.objects c.args.drafts in
+    let tested = given-within 0 c.args.self.now.theory.arity given new owed c.in-Obligations.ensures.admitted in
+    let none = owes-few 0 c.args.self.now.theory.arity given new owed c.in-Obligations.ensures.admitted in
+    sym (ap (λ r. r.0) (alone-passes _ _ _ _ c.requires.world new c.admit_within.ensures.grows c.args.drafts owed tested J none))
 
 pub returns-clause-theory : goal.returns-clause-theory
 returns-clause-theory c = λ J.
     let (K, sound) = c.requires.sound in
-    let new = c.admit.new.heap.objects in
-    let g = c.admit.ensures.grows in
+    let new = c.admit_within.new.heap.objects in
+    let g = c.admit_within.ensures.grows in
     let owed = c.in-Obligations.owed in
-    let tested = c.in-Obligations.ensures.admitted in
-    let none = sym c.is_nil.ensures ∙ c.if-not-is_nil.false in
+    let given = drafts_given c.args.self.now.heap.objects c.args.drafts in
+    let tested = given-within 0 c.args.self.now.theory.arity given new owed c.in-Obligations.ensures.admitted in
+    let none = owes-few 0 c.args.self.now.theory.arity given new owed c.in-Obligations.ensures.admitted in
     let a = alone-accepted _ _ _ _ c.requires.world new g c.args.drafts owed tested K none sound in
     let block = functions-block _ _ _ _ c.requires.world new g c.args.drafts owed tested K NIL a c.as_slice-2.result.now (c.as_slice-2.ensures.value ∙ (c.in_ok-block.ensures ∙ ap (map function_of_entry) c.as_slice.ensures.value)) in
     c.in_ok-add_definitions.ensures.theory _ block
