@@ -42,7 +42,8 @@ fn answer_of(
     }
 }
 
-fn answer_in(
+/// What a term comes to in so many steps. The error is memory that is refused.
+pub(crate) fn answer_in(
     heap: &mut Heap,
     table: &mut Table,
     machine: &mut Machine,

@@ -6,6 +6,8 @@ mod bench;
 #[cfg(test)]
 mod terms;
 #[cfg(test)]
+mod turns;
+#[cfg(test)]
 mod values;
 #[cfg(test)]
 mod widths;
