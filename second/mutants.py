@@ -75,7 +75,8 @@ def part_of(random, log, most_bytes):
         return log
     start = random.choice([0, random.randrange(len(log) - most_bytes)])
     start = log.rfind(b"\n", 0, start) + 1
-    return log[start:log.find(b"\n", start + most_bytes // 2) + 1]
+    end = log.rfind(b"\n", start, start + most_bytes) + 1
+    return log[start:end or start + most_bytes]
 
 
 def mutant(random, logs, most_bytes):

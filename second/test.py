@@ -7,7 +7,8 @@ docs/AXIOMS.md lists, and on mutants of all these.
 
 PROGRAM is crates/milawa/out/milawa of this repository where MILAWA is not set. Further books are
 turned to logs as those of books/ are. The last line is `N passed, M failed`; the status is 0 if
-nothing failed. It needs a C compiler, `cc` or what CC names."""
+nothing failed. The first line has the processor seconds that both programs took for the largest
+log. It needs a C compiler, `cc` or what CC names."""
 
 import os
 import random
@@ -126,6 +127,16 @@ def is_agreed(log):
     return run([MILAWA, "recheck"], log) == run([SECOND], log)
 
 
+def seconds(command, log):
+    """The processor seconds that a command takes for this log."""
+    def used():
+        usage = resource.getrusage(resource.RUSAGE_CHILDREN)
+        return usage.ru_utime + usage.ru_stime
+    before = used()
+    run(command, log)
+    return used() - before
+
+
 def ends_with(status, stdin, stdout):
     """Do both programs end with this status where they read and write these files?"""
     commands = [[MILAWA, "recheck"], [SECOND]]
@@ -169,6 +180,9 @@ def failures(further):
         yield f"{name}: the report that is due", run([SECOND], log)[0].decode("latin-1") != due
     for name, log in logs.items():
         yield name, not is_agreed(log)
+    largest = max(logs.values(), key=len)
+    print(f"largest log: {len(largest) / 1e6:.1f} MB, milawa recheck"
+          f" {seconds([MILAWA, 'recheck'], largest):.2f} s, this {seconds([SECOND], largest):.2f} s")
     for name, is_so in ways_to_end():
         yield name, not is_so
     chosen = random.Random(20090901)
