@@ -186,36 +186,6 @@ module _ {A : Type 0} {objects : A → List Object} {lines : A → List ℕ} {co
             λ u a w e. d.2 u (x.1.known u a) w (x.1.due u a w e),
           )
 
-  -- ---- one step, from the beginning of a piece
-
-  module _ (o : A) (r : Parser) (piece : List ℕ) (follows : Follows r piece) (known : HasAnswered answered o) (k : A) (kept : (given : List Object) → Answers lines answered o given k given) (same : count k ≡ count o) (t : Step) (n : ℕ) (q : Parser) where
-    pub datum_taken : IsStanding (objects o) r → (new : A) →
-        ((g : List ℕ) (given : List Object) → Stands (objects o) r g given → (y : Object) × Gives (objects k) y t × GivesAfter r g given piece y n q) →
-        ((y : Object) → Gives (objects k) y t → (given : List Object) → Answers lines answered k given new (given ++ y ∷ [])) →
-        count new ≡ count k + 1 → HasTaken objects lines count answered (takings.Bytes n) o r piece new q
-    datum_taken s new says answers counted =
-        let none = taking_none o r piece follows known in
-        let e : 0 + n ≡ n = omega arith in (
-          subst (λ m. Taking objects lines count answered o r piece new q m) e (taking_more none k kept same t n q s new says answers counted),
-          subst (λ m. work q (drop m piece) < work r piece) e (taking_next none k kept same t n q s says).1,
-        )
-
-    pub rest_taken : IsStanding (objects o) r → 0 < length piece →
-        ((g : List ℕ) (given : List Object) → Stands (objects o) r g given → Says (objects k) r g given piece steps.More n q) →
-        HasTaken objects lines count answered (takings.Bytes (length piece)) o r piece k q
-    rest_taken s some says = taken_rest (taking_none o r piece follows known) k kept same t n q s some says
-
-    pub fault_taken : (kind : SyntaxKind) (offset : ℕ) →
-        ((g : List ℕ) (given : List Object) → Stands (objects o) r g given → Says (objects k) r g given piece (steps.Syntax kind offset) n q) →
-        HasTaken objects lines count answered (takings.Fault kind offset) o r piece k q
-    fault_taken kind offset says = taken_fault (taking_none o r piece follows known) k kept same t n q kind offset says
-
-    pub known_taken : HasAnswered answered k
-    known_taken = known_more o k (λ given. (given, kept given)) known
-
-    pub datum_due : (g : List ℕ) (given : List Object) → Stands (objects o) r g given → (l : A) → lines l ≡ lines k → AreDueFirst lines answered o given (AreFirst (g ++ piece)) l
-    datum_due = taken_due (taking_none o r piece follows known) k kept same t n q
-
   pub finishing_none : (o : A) (p : Reader) → p.unread ≡ [] → p.finished ≡ true → HasAnswered answered o → Finishing objects lines count answered o p.parser o p
   finishing_none o p e f known = record {
     reads = λ g given s. (given, answers_none o given, s);
@@ -285,3 +255,33 @@ module _ {A : Type 0} {objects : A → List Object} {lines : A → List ℕ} {co
             answers_more o j k given x.0 x.0 x.1 (kept x.0),
             last_fault p g x.0 finishing.all_read (fault_of (Some (kind, offset))) (says g x.0 x.2),
           )
+
+-- ---- one step, from the beginning of a piece
+
+module _ {A : Type 0} (objects : A → List Object) (lines : A → List ℕ) (count : A → ℕ) (answered : A → Request → List Object → Type 0) (o : A) (r : Parser) (piece : List ℕ) (follows : Follows r piece) (known : HasAnswered answered o) (k : A) (kept : (given : List Object) → Answers lines answered o given k given) (same : count k ≡ count o) (t : Step) (n : ℕ) (q : Parser) where
+  pub datum_taken : IsStanding (objects o) r → (new : A) →
+      ((g : List ℕ) (given : List Object) → Stands (objects o) r g given → (y : Object) × Gives (objects k) y t × GivesAfter r g given piece y n q) →
+      ((y : Object) → Gives (objects k) y t → (given : List Object) → Answers lines answered k given new (given ++ y ∷ [])) →
+      count new ≡ count k + 1 → HasTaken objects lines count answered (takings.Bytes n) o r piece new q
+  datum_taken s new says answers counted =
+      let none = taking_none o r piece follows known in
+      let e : 0 + n ≡ n = omega arith in (
+        subst (λ m. Taking objects lines count answered o r piece new q m) e (taking_more none k kept same t n q s new says answers counted),
+        subst (λ m. work q (drop m piece) < work r piece) e (taking_next none k kept same t n q s says).1,
+      )
+
+  pub rest_taken : IsStanding (objects o) r → 0 < length piece →
+      ((g : List ℕ) (given : List Object) → Stands (objects o) r g given → Says (objects k) r g given piece steps.More n q) →
+      HasTaken objects lines count answered (takings.Bytes (length piece)) o r piece k q
+  rest_taken s some says = taken_rest (taking_none o r piece follows known) k kept same t n q s some says
+
+  pub fault_taken : (kind : SyntaxKind) (offset : ℕ) →
+      ((g : List ℕ) (given : List Object) → Stands (objects o) r g given → Says (objects k) r g given piece (steps.Syntax kind offset) n q) →
+      HasTaken objects lines count answered (takings.Fault kind offset) o r piece k q
+  fault_taken kind offset says = taken_fault (taking_none o r piece follows known) k kept same t n q kind offset says
+
+  pub known_taken : HasAnswered answered k
+  known_taken = known_more o k (λ given. (given, kept given)) known
+
+  pub datum_due : (g : List ℕ) (given : List Object) → Stands (objects o) r g given → (l : A) → lines l ≡ lines k → AreDueFirst lines answered o given (AreFirst (g ++ piece)) l
+  datum_due = taken_due (taking_none o r piece follows known) k kept same t n q

@@ -128,5 +128,5 @@ ends_written {A} {lines} {answered} o k l g given f before after none t same h =
     (h.0, lines k, t, writes_more lines answered o o k l given given h.0 [] (writes_none answered o given) none h.1 same, h.2)
 
 -- or writing, or answering, stopped there
-pub end_stops : {A : Type 0} {lines : A → List ℕ} {answered : A → Request → List Object → Type 0} (e : Ending) (o k : A) (given : List Object) (First : List Object → Type 0) (before after : Option (List ℕ)) (m n : ℕ) → lines o ≡ [] → AreDueFirst lines answered o given First k → TakesSome before after (lines k) → (e ≡ ending.Memory → Rises m n ⊎ Takes before after (lines k)) → StopsWritten answered e o given First before after m n
-end_stops {A} {lines} {answered} e o k given First before after m n none d some all = stops_more lines answered e o o k given given [] First First before before after m n (writes_none answered o given) none d (λ more f. f) (takes_none before) some all
+pub end_stops : {A : Type 0} (lines : A → List ℕ) (answered : A → Request → List Object → Type 0) (e : Ending) (o k : A) (given : List Object) (First : List Object → Type 0) (before after : Option (List ℕ)) (m n : ℕ) → lines o ≡ [] → AreDueFirst lines answered o given First k → TakesSome before after (lines k) → (e ≡ ending.Memory → Rises m n ⊎ Takes before after (lines k)) → StopsWritten answered e o given First before after m n
+end_stops lines answered e o k given First before after m n none d some all = stops_more lines answered e o o k given given [] First First before before after m n (writes_none answered o given) none d (λ more f. f) (takes_none before) some all

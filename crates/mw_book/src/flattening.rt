@@ -1,5 +1,5 @@
 //! Judging events as they are read, and turning those that are accepted to steps.
-ghost use Rattle.std.specs.Prelude.{◌≡◌, ◌+◌, ◌<◌, ◌^◌, false, List, [], ◌∷◌, ◌++◌, IfOk, OnOk, OnErr};
+ghost use Rattle.std.specs.Prelude.{◌≡◌, ◌+◌, ◌<◌, ◌^◌, cond, false, List, [], ◌∷◌, ◌++◌, IfOk, OnOk, OnErr};
 ghost use Rattle.mw_model.specs.Terms.Object.{Object};
 ghost use Rattle.mw_model.specs.Reports.Request.{Flat};
 ghost use Rattle.mw_model.specs.Reports.Report.{is_accepted};
@@ -84,6 +84,21 @@ impl Flattening {
         self.end_event(&fate, logged, is_switch)
     }
 
+    // Puts the piece of an event after the lines, if it is one of a log.
+    fn put_piece(&mut self, is_logged: bool) -> Result<(), Memory>
+        requires written { self.old.written + 1 < 2 ^ 64 }
+        ensures line { OnOk result (self.new.lines.items ≡ self.old.lines.items ++ cond is_logged self.old.piece.items []) }
+        ensures counted { OnOk result (self.new.written ≡ self.old.written + cond is_logged 1 0) }
+        ensures kept { OnErr result (self.new.lines.items ≡ self.old.lines.items) }
+        ensures rest { self.new ≡ record self.old { lines = self.new.lines; written = self.new.written } }
+    {
+        if is_logged {
+            self.lines.extend_from_slice(&self.piece)?;
+            self.written += 1;
+        }
+        Ok(())
+    }
+
     // Puts the piece of an event that is accepted after the lines, if it is one of a log, and counts the event.
     fn end_event(
         &mut self,
@@ -99,12 +114,7 @@ impl Flattening {
     {
         match fate {
             Fate::Accepted(_) if is_switch => self.switched = true,
-            Fate::Accepted(_) => {
-                if logged? {
-                    self.lines.extend_from_slice(&self.piece)?;
-                    self.written += 1;
-                }
-            }
+            Fate::Accepted(_) => self.put_piece(logged?)?,
             Fate::Refused(_) => self.refused = true,
         }
         self.events += 1;

@@ -93,7 +93,7 @@ impl Proving {
         ensures answers { OnOk result ((x : Object) → ShowsWord self.old.heap.objects word x → IsVerdict self.old.heap.objects x verdict.now → (given : List Object) → Answers lines_of ProvedFor self.old given self.new (given ++ x ∷ [])) }
         ensures counted { OnOk result (self.new.formulas ≡ self.old.formulas + 1) }
         ensures proving { OnOk result (IsProving self.new) }
-        ensures kept { OnErr result (self.new.lines ≡ self.old.lines) }
+        ensures kept { OnErr result (self.new.lines.items ≡ self.old.lines.items) }
     {
         let number = self.formulas + 1;
         self.piece.clear();

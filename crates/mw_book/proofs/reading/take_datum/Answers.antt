@@ -21,7 +21,7 @@ answer-requires-clause-in_range g c =
 
 pub answer-requires-clause-known : goal.answer-requires-clause-known
 answer-requires-clause-known g c =
-    known_taken c.args.answering.now c.args.reader.now.parser c.args.piece.now c.requires.follows c.requires.known c.step-step.new.self c.step-step.ensures.kept c.step-step.ensures.count c.step-step.result.0 c.step-step.result.1 c.step-step.new.reader.parser
+    known_taken g.A.Answering.objects g.A.Answering.unwritten g.A.Answering.count g.A.Answering.answered c.args.answering.now c.args.reader.now.parser c.args.piece.now c.requires.follows c.requires.known c.step-step.new.self c.step-step.ensures.kept c.step-step.ensures.count c.step-step.result.0 c.step-step.result.1 c.step-step.new.reader.parser
 
 pub answer_large-requires-clause-shows : goal.answer_large-requires-clause-shows
 answer_large-requires-clause-shows g c =
@@ -31,7 +31,7 @@ answer_large-requires-clause-shows g c =
 
 pub answer_large-requires-clause-known : goal.answer_large-requires-clause-known
 answer_large-requires-clause-known g c =
-    known_taken c.args.answering.now c.args.reader.now.parser c.args.piece.now c.requires.follows c.requires.known c.step-step.new.self c.step-step.ensures.kept c.step-step.ensures.count c.step-step.result.0 c.step-step.result.1 c.step-step.new.reader.parser
+    known_taken g.A.Answering.objects g.A.Answering.unwritten g.A.Answering.count g.A.Answering.answered c.args.answering.now c.args.reader.now.parser c.args.piece.now c.requires.follows c.requires.known c.step-step.new.self c.step-step.ensures.kept c.step-step.ensures.count c.step-step.result.0 c.step-step.result.1 c.step-step.new.reader.parser
 
 pub unreachable-requires : goal.unreachable-requires
 unreachable-requires g c =
@@ -42,7 +42,7 @@ pub returns-in_ok-answer-in-Datum-clause-takes : goal.returns-in_ok-answer-in-Da
 returns-in_ok-answer-in-Datum-clause-takes g c =
     let k = c.step-step.ensures in
     let v = c.in_ok-answer-in-Datum.ensures in
-    datum_taken c.args.answering.now c.args.reader.now.parser c.args.piece.now c.requires.follows c.requires.known c.step-step.new.self k.kept k.count (steps.Datum c.in-Datum.x) c.step-step.result.1 c.step-step.new.reader.parser c.requires.stands c.answer.new.self
+    datum_taken g.A.Answering.objects g.A.Answering.unwritten g.A.Answering.count g.A.Answering.answered c.args.answering.now c.args.reader.now.parser c.args.piece.now c.requires.follows c.requires.known c.step-step.new.self k.kept k.count (steps.Datum c.in-Datum.x) c.step-step.result.1 c.step-step.new.reader.parser c.requires.stands c.answer.new.self
     (λ h given s. subst (λ t. Says (g.A.Answering.objects c.step-step.new.self) c.args.reader.now.parser h given c.args.piece.now t c.step-step.result.1 c.step-step.new.reader.parser) c.in-Datum.is (k.says h given s))
     (λ y h given. subst (λ x. Answers g.A.Answering.unwritten g.A.Answering.answered c.step-step.new.self given c.answer.new.self (given ++ x ∷ [])) h.1 (v.answers given))
     v.counted
@@ -51,20 +51,20 @@ pub returns-in_ok-answer-in-Datum-clause-due : goal.returns-in_ok-answer-in-Datu
 returns-in_ok-answer-in-Datum-clause-due g c =
     let k = c.step-step.ensures in
     let v = c.in_ok-answer-in-Datum.ensures in
-    taking_due (datum_taken c.args.answering.now c.args.reader.now.parser c.args.piece.now c.requires.follows c.requires.known c.step-step.new.self k.kept k.count (steps.Datum c.in-Datum.x) c.step-step.result.1 c.step-step.new.reader.parser c.requires.stands c.answer.new.self
+    taking_due (datum_taken g.A.Answering.objects g.A.Answering.unwritten g.A.Answering.count g.A.Answering.answered c.args.answering.now c.args.reader.now.parser c.args.piece.now c.requires.follows c.requires.known c.step-step.new.self k.kept k.count (steps.Datum c.in-Datum.x) c.step-step.result.1 c.step-step.new.reader.parser c.requires.stands c.answer.new.self
     (λ h given s. subst (λ t. Says (g.A.Answering.objects c.step-step.new.self) c.args.reader.now.parser h given c.args.piece.now t c.step-step.result.1 c.step-step.new.reader.parser) c.in-Datum.is (k.says h given s))
     (λ y h given. subst (λ x. Answers g.A.Answering.unwritten g.A.Answering.answered c.step-step.new.self given c.answer.new.self (given ++ x ∷ [])) h.1 (v.answers given))
     v.counted).0
 
 pub returns-in_err-answer-in-Datum-clause-due : goal.returns-in_err-answer-in-Datum-clause-due
 returns-in_err-answer-in-Datum-clause-due g c h given s =
-    datum_due c.args.answering.now c.args.reader.now.parser c.args.piece.now c.requires.follows c.requires.known c.step-step.new.self c.step-step.ensures.kept c.step-step.ensures.count c.step-step.result.0 c.step-step.result.1 c.step-step.new.reader.parser h given s c.answer.new.self c.in_err-answer-in-Datum.ensures.kept
+    datum_due g.A.Answering.objects g.A.Answering.unwritten g.A.Answering.count g.A.Answering.answered c.args.answering.now c.args.reader.now.parser c.args.piece.now c.requires.follows c.requires.known c.step-step.new.self c.step-step.ensures.kept c.step-step.ensures.count c.step-step.result.0 c.step-step.result.1 c.step-step.new.reader.parser h given s c.answer.new.self c.in_err-answer-in-Datum.ensures.kept
 
 pub returns-in_ok-answer_large-in-TooBig-clause-takes : goal.returns-in_ok-answer_large-in-TooBig-clause-takes
 returns-in_ok-answer_large-in-TooBig-clause-takes g c =
     let k = c.step-step.ensures in
     let v = c.in_ok-answer_large-in-TooBig.ensures in
-    datum_taken c.args.answering.now c.args.reader.now.parser c.args.piece.now c.requires.follows c.requires.known c.step-step.new.self k.kept k.count (steps.TooBig c.in-TooBig.word c.in-TooBig.label) c.step-step.result.1 c.step-step.new.reader.parser c.requires.stands c.answer_large.new.self
+    datum_taken g.A.Answering.objects g.A.Answering.unwritten g.A.Answering.count g.A.Answering.answered c.args.answering.now c.args.reader.now.parser c.args.piece.now c.requires.follows c.requires.known c.step-step.new.self k.kept k.count (steps.TooBig c.in-TooBig.word c.in-TooBig.label) c.step-step.result.1 c.step-step.new.reader.parser c.requires.stands c.answer_large.new.self
     (λ h given s. subst (λ t. Says (g.A.Answering.objects c.step-step.new.self) c.args.reader.now.parser h given c.args.piece.now t c.step-step.result.1 c.step-step.new.reader.parser) c.in-TooBig.is (k.says h given s))
     (λ y h given. v.answers y h.0 h.1 given)
     v.counted
@@ -73,35 +73,35 @@ pub returns-in_ok-answer_large-in-TooBig-clause-due : goal.returns-in_ok-answer_
 returns-in_ok-answer_large-in-TooBig-clause-due g c =
     let k = c.step-step.ensures in
     let v = c.in_ok-answer_large-in-TooBig.ensures in
-    taking_due (datum_taken c.args.answering.now c.args.reader.now.parser c.args.piece.now c.requires.follows c.requires.known c.step-step.new.self k.kept k.count (steps.TooBig c.in-TooBig.word c.in-TooBig.label) c.step-step.result.1 c.step-step.new.reader.parser c.requires.stands c.answer_large.new.self
+    taking_due (datum_taken g.A.Answering.objects g.A.Answering.unwritten g.A.Answering.count g.A.Answering.answered c.args.answering.now c.args.reader.now.parser c.args.piece.now c.requires.follows c.requires.known c.step-step.new.self k.kept k.count (steps.TooBig c.in-TooBig.word c.in-TooBig.label) c.step-step.result.1 c.step-step.new.reader.parser c.requires.stands c.answer_large.new.self
     (λ h given s. subst (λ t. Says (g.A.Answering.objects c.step-step.new.self) c.args.reader.now.parser h given c.args.piece.now t c.step-step.result.1 c.step-step.new.reader.parser) c.in-TooBig.is (k.says h given s))
     (λ y h given. v.answers y h.0 h.1 given)
     v.counted).0
 
 pub returns-in_err-answer_large-in-TooBig-clause-due : goal.returns-in_err-answer_large-in-TooBig-clause-due
 returns-in_err-answer_large-in-TooBig-clause-due g c h given s =
-    datum_due c.args.answering.now c.args.reader.now.parser c.args.piece.now c.requires.follows c.requires.known c.step-step.new.self c.step-step.ensures.kept c.step-step.ensures.count c.step-step.result.0 c.step-step.result.1 c.step-step.new.reader.parser h given s c.answer_large.new.self c.in_err-answer_large-in-TooBig.ensures.kept
+    datum_due g.A.Answering.objects g.A.Answering.unwritten g.A.Answering.count g.A.Answering.answered c.args.answering.now c.args.reader.now.parser c.args.piece.now c.requires.follows c.requires.known c.step-step.new.self c.step-step.ensures.kept c.step-step.ensures.count c.step-step.result.0 c.step-step.result.1 c.step-step.new.reader.parser h given s c.answer_large.new.self c.in_err-answer_large-in-TooBig.ensures.kept
 
 pub returns-in-More-clause-takes : goal.returns-in-More-clause-takes
 returns-in-More-clause-takes g c =
     let k = c.step-step.ensures in
-    rest_taken c.args.answering.now c.args.reader.now.parser c.args.piece.now c.requires.follows c.requires.known c.step-step.new.self k.kept k.count steps.More c.step-step.result.1 c.step-step.new.reader.parser c.requires.stands c.requires.some
+    rest_taken g.A.Answering.objects g.A.Answering.unwritten g.A.Answering.count g.A.Answering.answered c.args.answering.now c.args.reader.now.parser c.args.piece.now c.requires.follows c.requires.known c.step-step.new.self k.kept k.count steps.More c.step-step.result.1 c.step-step.new.reader.parser c.requires.stands c.requires.some
     (λ h given s. subst (λ t. Says (g.A.Answering.objects c.step-step.new.self) c.args.reader.now.parser h given c.args.piece.now t c.step-step.result.1 c.step-step.new.reader.parser) c.in-More.is (k.says h given s))
 
 pub returns-in-More-clause-due : goal.returns-in-More-clause-due
 returns-in-More-clause-due g c h given s =
-    datum_due c.args.answering.now c.args.reader.now.parser c.args.piece.now c.requires.follows c.requires.known c.step-step.new.self c.step-step.ensures.kept c.step-step.ensures.count c.step-step.result.0 c.step-step.result.1 c.step-step.new.reader.parser h given s c.step-step.new.self refl
+    datum_due g.A.Answering.objects g.A.Answering.unwritten g.A.Answering.count g.A.Answering.answered c.args.answering.now c.args.reader.now.parser c.args.piece.now c.requires.follows c.requires.known c.step-step.new.self c.step-step.ensures.kept c.step-step.ensures.count c.step-step.result.0 c.step-step.result.1 c.step-step.new.reader.parser h given s c.step-step.new.self refl
 
 pub returns-in-Syntax-clause-takes : goal.returns-in-Syntax-clause-takes
 returns-in-Syntax-clause-takes g c =
     let k = c.step-step.ensures in
-    fault_taken c.args.answering.now c.args.reader.now.parser c.args.piece.now c.requires.follows c.requires.known c.step-step.new.self k.kept k.count (steps.Syntax c.in-Syntax.kind c.in-Syntax.offset) c.step-step.result.1 c.step-step.new.reader.parser c.in-Syntax.kind c.in-Syntax.offset
+    fault_taken g.A.Answering.objects g.A.Answering.unwritten g.A.Answering.count g.A.Answering.answered c.args.answering.now c.args.reader.now.parser c.args.piece.now c.requires.follows c.requires.known c.step-step.new.self k.kept k.count (steps.Syntax c.in-Syntax.kind c.in-Syntax.offset) c.step-step.result.1 c.step-step.new.reader.parser c.in-Syntax.kind c.in-Syntax.offset
     (λ h given s. subst (λ t. Says (g.A.Answering.objects c.step-step.new.self) c.args.reader.now.parser h given c.args.piece.now t c.step-step.result.1 c.step-step.new.reader.parser) c.in-Syntax.is (k.says h given s))
 
 pub returns-in-Syntax-clause-due : goal.returns-in-Syntax-clause-due
 returns-in-Syntax-clause-due g c h given s =
-    datum_due c.args.answering.now c.args.reader.now.parser c.args.piece.now c.requires.follows c.requires.known c.step-step.new.self c.step-step.ensures.kept c.step-step.ensures.count c.step-step.result.0 c.step-step.result.1 c.step-step.new.reader.parser h given s c.step-step.new.self refl
+    datum_due g.A.Answering.objects g.A.Answering.unwritten g.A.Answering.count g.A.Answering.answered c.args.answering.now c.args.reader.now.parser c.args.piece.now c.requires.follows c.requires.known c.step-step.new.self c.step-step.ensures.kept c.step-step.ensures.count c.step-step.result.0 c.step-step.result.1 c.step-step.new.reader.parser h given s c.step-step.new.self refl
 
 pub returns-in-Memory-clause-due : goal.returns-in-Memory-clause-due
 returns-in-Memory-clause-due g c h given s =
-    datum_due c.args.answering.now c.args.reader.now.parser c.args.piece.now c.requires.follows c.requires.known c.step-step.new.self c.step-step.ensures.kept c.step-step.ensures.count c.step-step.result.0 c.step-step.result.1 c.step-step.new.reader.parser h given s c.step-step.new.self refl
+    datum_due g.A.Answering.objects g.A.Answering.unwritten g.A.Answering.count g.A.Answering.answered c.args.answering.now c.args.reader.now.parser c.args.piece.now c.requires.follows c.requires.known c.step-step.new.self c.step-step.ensures.kept c.step-step.ensures.count c.step-step.result.0 c.step-step.result.1 c.step-step.new.reader.parser h given s c.step-step.new.self refl
