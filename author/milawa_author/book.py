@@ -6,21 +6,20 @@
     book.prove_by_list("app-associative", "(= (app (app x y) z) (app x (app y z)))", "x", unfold=["app"])
     print(book.text())
 """
-import sys
 from collections.abc import Iterable, Mapping, Sequence
-from pathlib import Path
-from typing import NamedTuple, Optional
+from typing import Optional
 
 from . import limits
 from .admission import Function, admit_block, admit_checker, admit_witness
 from .errors import EventError, FormError, Refused, RuleError
+from .events import Event, Sizes, calling_line, largest_natural
 from .logic import kernel
 from .logic.kernel import Proof
 from .logic.measures import distinct_steps, tree_steps
 from .logic.notation import as_formula, expand, term
 from .logic.objects import Object, Pair, items, make_list
-from .logic.terms import variables
-from .logic.text import read, write
+from .logic.terms import is_equation, left, literals, variables
+from .logic.text import read
 from .logic.theory import Definition, Test, Theory
 from .program import Report, run_program
 from .prover.evaluation import evaluate
@@ -28,55 +27,10 @@ from .prover.induction import induct_on_list, induct_on_natural
 from .prover.ranks import solve_obligation
 from .prover.search import prove
 from .rules.equality import LEMMAS
+from .rules.instances import definition_instance, instance, primitive_axiom
 from .rules.lowering import lower_methods
 from .rules.tautology import tautology
 from .sharing import share
-
-PACKAGE = str(Path(__file__).resolve().parent)
-
-
-class Event:
-    """One event: its object `form`, the proofs in it, its `text`, and the line of Python that asked for it."""
-
-    def __init__(self, form: Pair, proofs: Sequence[Proof], place: str):
-        self.form, self.proofs, self.place, self.text = form, list(proofs), place, write(form)
-
-    def __str__(self):
-        name = items(self.form)[1]
-        return f"{self.form.first} {name if isinstance(name, str) else ''} ({self.place})"
-
-
-class Sizes(NamedTuple):
-    """How large a book is; steps are counted in each event by itself."""
-
-    events: int
-    bytes: int
-    steps: int              # distinct ones
-    steps_as_trees: int
-
-    def __str__(self):
-        return "{} events, {} bytes, {} steps, {} as trees".format(*self)
-
-
-def _place() -> str:
-    """The line of Python outside of the package that asked for an event."""
-    frame = sys._getframe(2)
-    while frame.f_back and frame.f_code.co_filename.startswith(PACKAGE):
-        frame = frame.f_back
-    return f"{frame.f_code.co_filename}:{frame.f_lineno}"
-
-
-def _largest_natural(x: Object) -> int:
-    largest, seen, work = 0, set(), [x]
-    while work:
-        y = work.pop()
-        if isinstance(y, int):
-            largest = max(largest, y)
-        elif isinstance(y, Pair) and y not in seen:
-            seen.add(y)
-            work += [y.first, y.rest]
-    return largest
-
 
 class Book:
     """A book in the making.  Each call that adds an event checks first what the program would check: it raises
@@ -145,6 +99,47 @@ class Book:
         for name, (formula, lemma) in LEMMAS.items():
             if formula not in self.theory.theorems:
                 self.verify(name, lemma(self.theory))
+
+    # ---- instances, for `use` and `rules` ------------------------------------------------------------------
+
+    def at(self, name: str, /, **terms: str) -> Proof:
+        """An instance of a theorem of the book: `x="(cdr y)"` puts that term for X, and `as_=..` one for AS, which is no
+        name in Python.  Raises RuleError where the book has no theorem of that name, or that no such variable."""
+        return self._instance(self._lemma(name), terms)
+
+    def axiom_at(self, number: int, /, **terms: str) -> Proof:
+        """An instance of an axiom of the primitives, by its number in docs/AXIOMS.md, 1 to 53; terms as for `at`."""
+        return self._instance(primitive_axiom(self.theory, number), terms)
+
+    def definition_at(self, name: str, *actuals: str) -> Proof:
+        """`(f actuals) = body` with the actuals put for the formals.  Raises RuleError where there is no such function,
+        or it takes another number of actuals."""
+        return definition_instance(self.theory, name, [term(t) for t in actuals])
+
+    def rule(self, name: str, pattern: Optional[str] = None) -> tuple[Pair, Proof]:
+        """A theorem of the book as a rule for the prover, which instantiates it for each term of the form of the
+        pattern; without one, of the left side of the equation in which the theorem ends."""
+        lemma = self._lemma(name)
+        if pattern is not None:
+            return term(pattern), lemma
+        last = literals(lemma.conclusion)[-1]
+        if not is_equation(last):
+            raise RuleError("RULE", "the theorem does not end in an equation; give a pattern", lemma.conclusion)
+        return left(last), lemma
+
+    def _lemma(self, name: str) -> Proof:
+        lemma = self.lemmas.get(name.upper())
+        if lemma is None:
+            raise RuleError("AT", f"the book has no theorem {name.upper()}")
+        return lemma
+
+    @staticmethod
+    def _instance(lemma: Proof, terms: Mapping[str, str]) -> Proof:
+        substitution = {name.removesuffix("_").upper(): term(text) for name, text in terms.items()}
+        for variable in substitution:
+            if variable not in variables(lemma.conclusion):
+                raise RuleError("AT", f"there is no variable {variable}", lemma.conclusion)
+        return instance(lemma, substitution)
 
     # ---- definitions -------------------------------------------------------------------------------------
 
@@ -228,11 +223,11 @@ class Book:
 
     @staticmethod
     def _check_range(x: Object) -> None:
-        if _largest_natural(x) >= limits.NATURALS:
+        if largest_natural(x) >= limits.NATURALS:
             raise EventError("RANGE", "an event holds a natural of 2^128 or more")
 
     def _add(self, form: Pair, proofs: Sequence[Proof] = ()) -> None:
-        self.events.append(Event(form, proofs, _place()))
+        self.events.append(Event(form, proofs, calling_line()))
 
     # ---- text, sizes, checking ---------------------------------------------------------------------------
 

@@ -11,8 +11,7 @@ from ..logic.terms import is_disjunction, is_equation, left, right
 from .checkers import Checker
 from .equations import ASSUMPTION
 from .instances import add_assumption, add_instance
-from .texts import (all_provable, at, definition, equation_rules, formula_rules, is_formula, is_term, provable,
-                    prove_along)
+from .texts import all_provable, equation_rules, formula_rules, is_formula, is_term, provable, prove_along
 
 
 def _follow(x: Object, y: Object, premises: list[Pair], context: Optional[Pair]) -> Optional[str]:
@@ -59,22 +58,22 @@ def verify_chains(book: Book) -> None:
     rules = formula_rules(book) + equation_rules(book)
     book.prove("provable-strip",
                f"(implies {is_formula('p')} {provable('f')} {provable('(logic.por p (ladder.strip f p))')})",
-               unfold=["ladder.strip"], use=[at(book, "PROVABLE-EXPANSION", a="f", b="p")], rules=rules)
+               unfold=["ladder.strip"], use=[book.at("PROVABLE-EXPANSION", a="f", b="p")], rules=rules)
     second, third = f"(second {HEAD})", f"(third {HEAD})"
-    transitive = [at(book, "PROVABLE-DISJOINED-TRANSITIVITY-OF-PEQUAL", p="p", a="x", b=z, c="y")
+    transitive = [book.at("PROVABLE-DISJOINED-TRANSITIVITY-OF-PEQUAL", p="p", a="x", b=z, c="y")
                   for z in (second, third)]
     prove_along(book, "provable-chain",
                 f"(implies {ASSUMPTION} {is_formula('p')} {is_term('x')} {all_provable('as')}"
                 f" (ladder.chainp x y as p) {provable('(logic.por p (logic.pequal x y))')})",
                 "as", [{"as": "(cdr as)", "x": third}, {"as": "(cdr as)", "x": second}], rules=rules, depth=9,
-                use=[definition(book, "ladder.chainp", "x", "y", "as", "p"), at(book, "PROVABLE-STRIP", f="(car as)"),
-                     at(book, "FIRST-OF-PROVABLES"), at(book, "REST-OF-PROVABLES"),
-                     at(book, "PROVABLE-REFLEXIVITY", a="x"), at(book, "PROVABLE-EXPANSION", a="(logic.pequal x x)", b="p"),
-                     at(book, "PROVABLE-DISJOINED-COMMUTE-PEQUAL", p="p", a=second, b="x"), *transitive])
+                use=[book.definition_at("ladder.chainp", "x", "y", "as", "p"), book.at("PROVABLE-STRIP", f="(car as)"),
+                     book.at("FIRST-OF-PROVABLES"), book.at("REST-OF-PROVABLES"),
+                     book.at("PROVABLE-REFLEXIVITY", a="x"), book.at("PROVABLE-EXPANSION", a="(logic.pequal x x)", b="p"),
+                     book.at("PROVABLE-DISJOINED-COMMUTE-PEQUAL", p="p", a=second, b="x"), *transitive])
     book.prove("term-of-chain",
                f"(implies {is_formula('p')} {all_provable('as')} (consp as) (ladder.chainp x y as p) {is_term('x')})",
-               use=[definition(book, "ladder.chainp", "x", "y", "as", "p"), at(book, "PROVABLE-STRIP", f="(car as)"),
-                    at(book, "FIRST-OF-PROVABLES")], rules=rules, depth=9)
+               use=[book.definition_at("ladder.chainp", "x", "y", "as", "p"), book.at("PROVABLE-STRIP", f="(car as)"),
+                    book.at("FIRST-OF-PROVABLES")], rules=rules, depth=9)
 
 
 def add_disjoined_chain(checker: Checker) -> None:
@@ -84,8 +83,8 @@ def add_disjoined_chain(checker: Checker) -> None:
                 " (ladder.has-under p (cdr as))) nil))", "(rank as)")
     prove_along(book, "formula-of-has-under",
                 f"(implies (ladder.has-under p as) {all_provable('as')} {is_formula('p')})", "as", [{"as": "(cdr as)"}],
-                use=[definition(book, "ladder.has-under", "p", "as"), at(book, "FIRST-OF-PROVABLES"),
-                     at(book, "REST-OF-PROVABLES")], rules=formula_rules(book) + equation_rules(book), depth=9)
+                use=[book.definition_at("ladder.has-under", "p", "as"), book.at("FIRST-OF-PROVABLES"),
+                     book.at("REST-OF-PROVABLES")], rules=formula_rules(book) + equation_rules(book), depth=9)
     book.define("(ladder.disjoined-chain-okp (c as atbl)"
                 " (let ((p (second c)) (x (second (third c))) (y (third (third c))))"
                 " (and (equal c (logic.por p (logic.pequal x y))) (consp as) (ladder.chainp x y as p)"
@@ -95,8 +94,8 @@ def add_disjoined_chain(checker: Checker) -> None:
                        f"(implies {ASSUMPTION} (ladder.disjoined-chain-okp c as atbl) {all_provable('as')}"
                        f" {provable('c')})",
                        unfold=["ladder.disjoined-chain-okp"],
-                       use=[at(book, "PROVABLE-CHAIN", p=p, x=x, y=y), at(book, "TERM-OF-CHAIN", p=p, x=x, y=y),
-                            at(book, "FORMULA-OF-HAS-UNDER", p=p)])
+                       use=[book.at("PROVABLE-CHAIN", p=p, x=x, y=y), book.at("TERM-OF-CHAIN", p=p, x=x, y=y),
+                            book.at("FORMULA-OF-HAS-UNDER", p=p)])
     checker.add_step("DISJOINED-CHAIN", "(if e nil (ladder.disjoined-chain-okp c as atbl))", disjoined_chain_test, sound)
 
 
@@ -109,8 +108,8 @@ def add_plain_chain(checker: Checker) -> None:
     sound = book.prove("chain-okp-is-sound",
                        f"(implies {ASSUMPTION} (ladder.chain-okp c as) {all_provable('as')} {provable('c')})",
                        unfold=["ladder.chain-okp"], rules=formula_rules(book), depth=9,
-                       use=[at(book, "PROVABLE-CHAIN", p=p, x=x, y=y), at(book, "TERM-OF-CHAIN", p=p, x=x, y=y),
-                            at(book, "FIRST-OF-PROVABLES"), at(book, "PROVABLE-MODUS-PONENS", a="(first as)", b="c")])
+                       use=[book.at("PROVABLE-CHAIN", p=p, x=x, y=y), book.at("TERM-OF-CHAIN", p=p, x=x, y=y),
+                            book.at("FIRST-OF-PROVABLES"), book.at("PROVABLE-MODUS-PONENS", a="(first as)", b="c")])
     checker.add_step("CHAIN", "(if e nil (ladder.chain-okp c as))", chain_test, sound)
 
 

@@ -16,15 +16,13 @@ from ..book import Book
 from ..errors import RuleError
 from ..logic.kernel import Proof, theorem
 from ..logic.measures import distinct_steps
-from ..logic.notation import term
-from ..logic.objects import items
 from ..logic.terms import equation
 from ..logic.theory import Test, Theory
-from ..rules import equality, propositional  # noqa: F401  (their rules are in SCHEMES)
+from ..rules import disjunctions, equality  # noqa: F401  (what is in SCHEMES)
 from ..rules.schemes import SCHEMES, Scheme
 from .arities import names_constant
 from .patterns import all_letters, dotted_letters, encode, letters, places
-from .texts import (ENV, all_provable, at, core, definition, formula_rules, is_formula, is_term, list_of, list_rules,
+from .texts import (ENV, all_provable, core, formula_rules, is_formula, is_term, list_of, list_rules,
                     provable, prove_along)
 
 BASE = {name: Scheme(name, premises, conclusion, given) for name, premises, conclusion, given in (
@@ -54,7 +52,7 @@ class Checker:
         """The step function of the twelve methods, which is sound."""
         book, step = self.book, "ladder.step"
         book.define(f"({step} (m c as e {ENV}) (if {is_formula('c')} {core('m', 'c', 'as', 'e')} nil))")
-        book.prove(f"sound-{step}", self.sound_step(step), unfold=[step], use=[at(book, "PROVABLE-BY-CORE")])
+        book.prove(f"sound-{step}", self.sound_step(step), unfold=[step], use=[book.at("PROVABLE-BY-CORE")])
         return step
 
     @staticmethod
@@ -82,7 +80,7 @@ class Checker:
         premises = list_of([dotted_letters(encode(p), paths) for p in scheme.premises])
         new_parts = " ".join(dotted_letters(self.is_good(scheme, g), paths) for g in scheme.given)
         test = f"(let ({bindings}) (and (equal e nil) (equal c {conclusion}) (equal as {premises}) {new_parts}))"
-        use = at(self.book, "PROVABLE-" + scheme.name, **{l.lower(): path for l, path in paths.items()})
+        use = self.book.at("PROVABLE-" + scheme.name, **{l.lower(): path for l, path in paths.items()})
         self.add_step(scheme.name, test, scheme.test, use, rules=list_rules(self.book), depth=9)
 
     @staticmethod
@@ -110,7 +108,7 @@ class Checker:
                 below.match(pattern, p.conclusion, env)
             below.match(below.conclusion, step.conclusion, env)
             terms = {l.lower(): encode(f, formulas) for l, f in env.items()}
-            use.append(at(self.book, "PROVABLE-" + step.method, **terms))
+            use.append(self.book.at("PROVABLE-" + step.method, **terms))
         self.book.prove("provable-" + scheme.name,
                         f"(implies {' '.join(self.given(scheme))} {provable(encode(scheme.conclusion))})",
                         use=use, rules=formula_rules(self.book) + self.rules, depth=9)
@@ -147,7 +145,7 @@ class Checker:
         book.define(f"({self.step} (m c as e {ENV}) (if (equal m '{method.lower()}) {guarded}"
                     f" ({before} m c as e {ENV})))")
         book.prove(f"sound-{self.step}", self.sound_step(self.step), unfold=[self.step],
-                   use=[sound, at(book, "SOUND-" + before.upper())], **options)
+                   use=[sound, book.at("SOUND-" + before.upper())], **options)
         self.methods[method] = python_test
 
     # -- the checker -----------------------------------------------------------------------------------------------
@@ -169,8 +167,8 @@ class Checker:
         checker, table = f"{name}.proofp", f"(ladder.cached {names_constant()} atbl)"
         book.define(f"({checker} (x {ENV}) ({walk} 'proof x axioms thms {table}))")
         book.prove(f"claim-of-{name}", claim(checker.upper()), unfold=[checker, goal, "logic.conclusion"],
-                   use=[at(book, f"SOUND-{walk}", flag="'proof", atbl=table),
-                        at(book, "PROVABLE-OF-CACHED", names=names_constant(), x="(second x)")])
+                   use=[book.at(f"SOUND-{walk}", flag="'proof", atbl=table),
+                        book.at("PROVABLE-OF-CACHED", names=names_constant(), x="(second x)")])
         if is_switched:
             book.switch(checker, self.methods)
 
@@ -178,12 +176,12 @@ class Checker:
         """By induction on proofs and lists of proofs: what the walk passes has a provable conclusion, or provable
         conclusions."""
         book = self.book
-        sound = at(book, f"SOUND-{self.step}", m="(first x)", c="(second x)", e="(fourth x)",
-                   **{"as": "(logic.conclusions (third x))"})
+        sound = book.at(f"SOUND-{self.step}", m="(first x)", c="(second x)", e="(fourth x)",
+                   as_="(logic.conclusions (third x))")
         prove_along(book, f"sound-{walk}", f"(implies ({walk} flag x {ENV}) ({goal} flag x {ENV}))", "x",
                     [{"flag": "'list", "x": "(third x)"}, {"flag": "'proof", "x": "(car x)"},
                      {"flag": "'list", "x": "(cdr x)"}],
                     unfold={goal: "always", "logic.conclusions": "decided", "logic.conclusion": "always"},
-                    use=[definition(book, walk, "flag", "x", "axioms", "thms", "atbl"), sound,
-                         at(book, "ALL-PROVABLE-OF-NIL"),
-                         at(book, "ALL-PROVABLE-OF-CONS", x="(second (car x))", xs="(logic.conclusions (cdr x))")])
+                    use=[book.definition_at(walk, "flag", "x", "axioms", "thms", "atbl"), sound,
+                         book.at("ALL-PROVABLE-OF-NIL"),
+                         book.at("ALL-PROVABLE-OF-CONS", x="(second (car x))", xs="(logic.conclusions (cdr x))")])

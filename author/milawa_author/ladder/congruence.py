@@ -12,7 +12,7 @@ from ..logic.terms import disjunction, equation, is_call, is_disjunction, is_equ
 from .calls import verify_functional_equality
 from .checkers import Checker
 from .equations import ASSUMPTION, add_pattern_rules
-from .texts import all_provable, at, axiom_at, definition, equation_rules, formula_rules, provable, prove_along
+from .texts import all_provable, equation_rules, formula_rules, provable, prove_along
 
 # Two calls L and R of one function, as tests.
 CALLS = "(consp l) (consp r) (symbolp (car l)) (if (equal (car l) 'quote) nil t) (equal (car l) (car r))"
@@ -66,19 +66,19 @@ def verify_arguments(book: Book) -> None:
                 " (equal as nil)))", "(rank xs)")
     for part, goal in (("first", provable("(car as)")), ("rest", all_provable("(cdr as)"))):
         book.prove(f"{part}-of-provables", f"(implies {all_provable('as')} (consp as) {goal})",
-                   use=[axiom_at(book, 14, x="as"), at(book, f"{part}-OF-ALL-PROVABLE", x="(car as)", xs="(cdr as)")])
+                   use=[book.axiom_at(14, x="as"), book.at(f"{part}-OF-ALL-PROVABLE", x="(car as)", xs="(cdr as)")])
     rest, both = "(logic.feq (cdr xs) (cdr ys) e)", {"xs": "(cdr xs)", "ys": "(cdr ys)"}
     under = "(logic.por p (logic.feq xs ys e))"
     prove_along(book, "provable-by-arguments",
                 f"(implies {ASSUMPTION} (ladder.arguments-okp p xs ys as) {all_provable('as')} {provable(under)}"
                 f" {provable('(logic.por p e)')})", "xs", [both, {**both, "as": "(cdr as)"}],
                 rules=formula_rules(book) + equation_rules(book), depth=9,
-                use=[definition(book, "logic.feq", "xs", "ys", "e"),
-                     definition(book, "ladder.arguments-okp", "p", "xs", "ys", "as"),
-                     at(book, "FIRST-OF-PROVABLES"), at(book, "REST-OF-PROVABLES"),
-                     at(book, "PROVABLE-REFLEXIVITY", a="(car xs)"),
-                     at(book, "PROVABLE-DISJOINED-MODUS-PONENS", p="p", a=xy, b=rest),
-                     at(book, "PROVABLE-EXPANSION", a=xy, b="p")])
+                use=[book.definition_at("logic.feq", "xs", "ys", "e"),
+                     book.definition_at("ladder.arguments-okp", "p", "xs", "ys", "as"),
+                     book.at("FIRST-OF-PROVABLES"), book.at("REST-OF-PROVABLES"),
+                     book.at("PROVABLE-REFLEXIVITY", a="(car xs)"),
+                     book.at("PROVABLE-DISJOINED-MODUS-PONENS", p="p", a=xy, b=rest),
+                     book.at("PROVABLE-EXPANSION", a=xy, b="p")])
 
 
 def add_disjoined_congruence(checker: Checker) -> None:
@@ -94,9 +94,9 @@ def add_disjoined_congruence(checker: Checker) -> None:
                        f" {provable('c')})",
                        unfold=["ladder.disjoined-congruence-okp"], depth=9,
                        rules=formula_rules(book) + equation_rules(book),
-                       use=[at(book, "PROVABLE-FUNCTIONAL-EQUALITY", l=f"(second {e})", r=f"(third {e})"),
-                            at(book, "PROVABLE-EXPANSION", a=feq, b="(second c)"),
-                            at(book, "PROVABLE-BY-ARGUMENTS", p="(second c)", xs=f"(cdr (second {e}))",
+                       use=[book.at("PROVABLE-FUNCTIONAL-EQUALITY", l=f"(second {e})", r=f"(third {e})"),
+                            book.at("PROVABLE-EXPANSION", a=feq, b="(second c)"),
+                            book.at("PROVABLE-BY-ARGUMENTS", p="(second c)", xs=f"(cdr (second {e}))",
                                ys=f"(cdr (third {e}))", e=f"(logic.pequal (second {e}) (third {e}))")])
     checker.add_step("DISJOINED-CONGRUENCE", "(if e nil (ladder.disjoined-congruence-okp c as atbl))",
                      disjoined_congruence_test, sound)
@@ -112,11 +112,11 @@ def add_plain_congruence(checker: Checker) -> None:
     sound = book.prove("congruence-okp-is-sound",
                        f"(implies {ASSUMPTION} (ladder.congruence-okp c as atbl) {all_provable('as')} {provable('c')})",
                        unfold=["ladder.congruence-okp"], depth=9, rules=formula_rules(book) + equation_rules(book),
-                       use=[at(book, "PROVABLE-FUNCTIONAL-EQUALITY", l="(second c)", r="(third c)"),
-                            at(book, "PROVABLE-EXPANSION", a=feq, b="c"),
-                            at(book, "PROVABLE-BY-ARGUMENTS", p="c", xs="(cdr (second c))", ys="(cdr (third c))",
+                       use=[book.at("PROVABLE-FUNCTIONAL-EQUALITY", l="(second c)", r="(third c)"),
+                            book.at("PROVABLE-EXPANSION", a=feq, b="c"),
+                            book.at("PROVABLE-BY-ARGUMENTS", p="c", xs="(cdr (second c))", ys="(cdr (third c))",
                                e="(logic.pequal (second c) (third c))"),
-                            at(book, "PROVABLE-CONTRACTION", a="c")])
+                            book.at("PROVABLE-CONTRACTION", a="c")])
     checker.add_step("CONGRUENCE", "(if e nil (ladder.congruence-okp c as atbl))", congruence_test, sound)
 
 

@@ -14,7 +14,7 @@ from ..logic.terms import disjunction, negation
 from ..rules.disjunctions import covers, is_inside
 from ..rules.instances import primitive_axiom
 from .checkers import Checker
-from .texts import all_provable, at, definition, formula_rules, is_formula, list_rules, provable, prove_along
+from .texts import all_provable, formula_rules, is_formula, list_rules, provable, prove_along
 
 
 def subset_test(conclusion: Pair, premises: list[Pair], extras: Object) -> Optional[str]:
@@ -64,23 +64,23 @@ def verify_disjunctions(book: Book) -> None:
         halves = [{variable: f"(second {variable})"}, {variable: f"(third {variable})"}]
         prove_along(book, name, goal, variable, halves, use=use, rules=rules, depth=9)
 
-    inside = definition(book, "ladder.insidep", "a", "c")
-    covered = definition(book, "ladder.coversp", "a", "c")
-    atom = definition(book, "logic.formulap", "c", "atbl")
+    inside = book.definition_at("ladder.insidep", "a", "c")
+    covered = book.definition_at("ladder.coversp", "a", "c")
+    atom = book.definition_at("logic.formulap", "c", "atbl")
     by_halves("formula-inside", f"(implies (ladder.insidep a c) {is_formula('c')} {is_formula('a')})", "c", [inside])
     by_halves("formula-covered", f"(implies (ladder.coversp a c) {is_formula('c')} {is_formula('a')})", "a",
-              [covered, at(book, "FORMULA-INSIDE")])
+              [covered, book.at("FORMULA-INSIDE")])
     claimed = provable("(logic.por (logic.pnot a) c)")
     by_halves("inside-implies", f"(implies (ladder.insidep a c) {is_formula('c')} {claimed})", "c",
-              [inside, atom, at(book, "PROVABLE-PROPOSITIONAL-SCHEMA", a="a"),
-               at(book, "PROVABLE-DISJOINED-RIGHT-EXPANSION", p="(logic.pnot a)", a="(second c)", b="(third c)"),
-               at(book, "PROVABLE-DISJOINED-LEFT-EXPANSION", p="(logic.pnot a)", a="(third c)", b="(second c)")])
+              [inside, atom, book.at("PROVABLE-PROPOSITIONAL-SCHEMA", a="a"),
+               book.at("PROVABLE-DISJOINED-RIGHT-EXPANSION", p="(logic.pnot a)", a="(second c)", b="(third c)"),
+               book.at("PROVABLE-DISJOINED-LEFT-EXPANSION", p="(logic.pnot a)", a="(third c)", b="(second c)")])
     by_halves("covered-implies", f"(implies (ladder.coversp a c) {is_formula('c')} {claimed})", "a",
-              [covered, at(book, "INSIDE-IMPLIES"),
-               at(book, "PROVABLE-MERGE-IMPLICATIONS", a="(second a)", b="(third a)", c="c")])
+              [covered, book.at("INSIDE-IMPLIES"),
+               book.at("PROVABLE-MERGE-IMPLICATIONS", a="(second a)", b="(third a)", c="c")])
     book.prove("provable-covered",
                f"(implies {provable('a')} (ladder.coversp a c) {is_formula('c')} {provable('c')})", rules=rules,
-               use=[at(book, "COVERED-IMPLIES"), at(book, "PROVABLE-MODUS-PONENS", a="a", b="c")])
+               use=[book.at("COVERED-IMPLIES"), book.at("PROVABLE-MODUS-PONENS", a="a", b="c")])
 
 
 def add_disjunction_rules(checker: Checker) -> None:
@@ -92,16 +92,16 @@ def add_disjunction_rules(checker: Checker) -> None:
     sound = book.prove("subset-okp-is-sound",
                        f"(implies (ladder.subset-okp c as e atbl) {all_provable('as')} {provable('c')})",
                        unfold=["ladder.subset-okp"], rules=rules, depth=9,
-                       use=[primitive_axiom(book.theory, 14, x="AS"), at(book, "PROVABLE-COVERED", a="(first as)"),
-                            at(book, "FORMULA-COVERED", a="c", c="(first as)")])
+                       use=[primitive_axiom(book.theory, 14, x="AS"), book.at("PROVABLE-COVERED", a="(first as)"),
+                            book.at("FORMULA-COVERED", a="c", c="(first as)")])
     checker.add_step("SUBSET", "(ladder.subset-okp c as e atbl)", subset_test, sound)
     a, b, l = "(first as)", "(second as)", "(first e)"
     one, two = f"(logic.por {l} c)", f"(logic.por (logic.pnot {l}) c)"
     sound = book.prove("resolve-okp-is-sound",
                        f"(implies (ladder.resolve-okp c as e atbl) {all_provable('as')} {provable('c')})",
                        unfold=["ladder.resolve-okp"], rules=rules, depth=9,
-                       use=[at(book, "PROVABLE-COVERED", a=a, c=one), at(book, "PROVABLE-COVERED", a=b, c=two),
-                            at(book, "FORMULA-INSIDE", a=l, c=a),
-                            at(book, "FORMULA-COVERED", a="c", c=f"(logic.por {a} {b})"),
-                            at(book, "PROVABLE-CUT", a=l, b="c", c="c"), at(book, "PROVABLE-CONTRACTION", a="c")])
+                       use=[book.at("PROVABLE-COVERED", a=a, c=one), book.at("PROVABLE-COVERED", a=b, c=two),
+                            book.at("FORMULA-INSIDE", a=l, c=a),
+                            book.at("FORMULA-COVERED", a="c", c=f"(logic.por {a} {b})"),
+                            book.at("PROVABLE-CUT", a=l, b="c", c="c"), book.at("PROVABLE-CONTRACTION", a="c")])
     checker.add_step("RESOLVE", "(ladder.resolve-okp c as e atbl)", resolve_test, sound)

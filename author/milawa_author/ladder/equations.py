@@ -11,7 +11,7 @@ from ..logic.terms import is_disjunction, is_equation, left, right
 from ..logic.text import write
 from ..rules.schemes import SCHEMES
 from .checkers import Checker
-from .texts import (ENV, at, definition, equation_rules, formula_rules, is_formula, is_term, provable, quoted)
+from .texts import ENV, equation_rules, formula_rules, is_formula, is_term, provable, quoted
 
 ASSUMPTION = "(ladder.equality-axiomsp axioms)"
 PATTERN_RULES = """reflexivity equality-axiom commute-pequal transitivity-of-pequal disjoined-commute-pequal
@@ -20,7 +20,7 @@ PATTERN_RULES = """reflexivity equality-axiom commute-pequal transitivity-of-peq
 
 def verify_equations(book: Book) -> None:
     """FORMULAP of equations."""
-    use = [definition(book, "logic.formulap", "(logic.pequal a b)", "atbl")]
+    use = [book.definition_at("logic.formulap", "(logic.pequal a b)", "atbl")]
     shape = ["logic.pequal", "logic.lenp", "logic.listp", "logic.len"]
     whole = is_formula("(logic.pequal a b)")
     book.prove("formula-pequal", f"(implies {is_term('a')} {is_term('b')} {whole})", unfold=shape, use=use)
@@ -50,7 +50,7 @@ def constant_formula(book: Book, f: Pair) -> Proof:
         return book.prove(name, is_formula(quoted(f)), unfold=EVALUATE)
     word = "por" if is_disjunction(f) else "pnot"
     use = [constant_formula(book, p) for p in _parts(f)]
-    use.append(at(book, f"FORMULA-{word}", **{l: quoted(p) for l, p in zip("ab", _parts(f))}))
+    use.append(book.at(f"FORMULA-{word}", **{l: quoted(p) for l, p in zip("ab", _parts(f))}))
     return book.prove(name, is_formula(quoted(f)), unfold=[f"logic.{word}"], use=use)
 
 
@@ -63,7 +63,7 @@ def constant_substitute(book: Book, f: Pair, pairs: str, image: Callable[[Pair],
     if is_equation(f):
         return book.prove(name, goal, unfold=SUBSTITUTE)
     use = [constant_substitute(book, p, pairs, image) for p in _parts(f)]
-    use.append(definition(book, "logic.formula-substitute", quoted(f), pairs))
+    use.append(book.definition_at("logic.formula-substitute", quoted(f), pairs))
     return book.prove(name, goal, use=use)
 
 
@@ -77,8 +77,8 @@ def verify_axioms(book: Book) -> None:
         is_one = constant_formula(book, f)
         book.prove(f"provable-axiom-{name}", f"(implies {ASSUMPTION} {provable(c)})",
                    unfold=["ladder.core", "logic.len", "ladder.equality-axiomsp"],
-                   use=[at(book, "PROVABLE-BY-CORE", m="'axiom", c=c, **{"as": "'nil"}, e="'nil"),
-                        at(book, "ALL-PROVABLE-OF-NIL"), is_one])
+                   use=[book.at("PROVABLE-BY-CORE", m="'axiom", c=c, as_="'nil", e="'nil"),
+                        book.at("ALL-PROVABLE-OF-NIL"), is_one])
 
 
 def verify_instances(book: Book) -> None:
@@ -105,13 +105,13 @@ def verify_instance(book: Book, name: str, f: Pair, number: str, pairs: str, let
     book.prove(f"core-{name}",
                f"(implies {terms} (ladder.core 'instantiation {conclusion} (cons {quoted(f)} 'nil) {pairs} {ENV}))",
                unfold=["ladder.core", "logic.len", "logic.instantiation-okp"],
-               use=[substituted, at(book, f"SIGMA-OF-{name}")])
+               use=[substituted, book.at(f"SIGMA-OF-{name}")])
     book.prove(f"provable-{name}", f"(implies {ASSUMPTION} {terms} {provable(conclusion)})",
                rules=formula_rules(book) + equation_rules(book), depth=9,
-               use=[at(book, "PROVABLE-BY-CORE", m="'instantiation", c=conclusion, e=pairs,
-                       **{"as": f"(cons {quoted(f)} 'nil)"}),
-                    at(book, f"CORE-{name}"), at(book, f"PROVABLE-AXIOM-{number}"),
-                    at(book, "ALL-PROVABLE-OF-CONS", x=quoted(f), xs="'nil"), at(book, "ALL-PROVABLE-OF-NIL")])
+               use=[book.at("PROVABLE-BY-CORE", m="'instantiation", c=conclusion, e=pairs,
+                       as_=f"(cons {quoted(f)} 'nil)"),
+                    book.at(f"CORE-{name}"), book.at(f"PROVABLE-AXIOM-{number}"),
+                    book.at("ALL-PROVABLE-OF-CONS", x=quoted(f), xs="'nil"), book.at("ALL-PROVABLE-OF-NIL")])
 
 
 def add_pattern_rules(checker: Checker) -> None:

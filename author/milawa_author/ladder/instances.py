@@ -12,7 +12,7 @@ from ..logic.terms import negation
 from ..logic.theory import Test, Theory
 from ..rules.disjunctions import is_inside
 from .checkers import Checker
-from .texts import (ENV, at, core, definition, equation_rules, formula_rules, is_formula, is_term, provable, prove_along)
+from .texts import ENV, core, equation_rules, formula_rules, is_formula, is_term, provable, prove_along
 
 
 def assumption_test(conclusion: Pair, premises: list[Pair], extras: Object) -> Optional[str]:
@@ -43,8 +43,8 @@ def instance_test(theory: Theory) -> Test:
 def add_assumption(checker: Checker) -> None:
     """Adds ASSUMPTION, from the implications of INSIDEP."""
     book, x = checker.book, "(first e)"
-    use = [at(book, "INSIDE-IMPLIES", a=x, c="c"), at(book, "INSIDE-IMPLIES", a=f"(logic.pnot {x})", c="c"),
-           at(book, "PROVABLE-CUT", a=f"(logic.pnot {x})", b="c", c="c"), at(book, "PROVABLE-CONTRACTION", a="c")]
+    use = [book.at("INSIDE-IMPLIES", a=x, c="c"), book.at("INSIDE-IMPLIES", a=f"(logic.pnot {x})", c="c"),
+           book.at("PROVABLE-CUT", a=f"(logic.pnot {x})", b="c", c="c"), book.at("PROVABLE-CONTRACTION", a="c")]
     book.define("(ladder.assumption-okp (c as e atbl) (and (equal as nil) (ladder.insidep (first e) c)"
                 " (ladder.insidep (logic.pnot (first e)) c) (logic.formulap c atbl)))")
     sound = book.prove("assumption-okp-is-sound", f"(implies (ladder.assumption-okp c as e atbl) {provable('c')})",
@@ -58,21 +58,21 @@ def verify_term_substitution(book: Book) -> None:
     prove_along(book, "term-of-lookup",
                 f"(implies (logic.sigmap s atbl) (logic.lookup x s) {is_term('(cdr (logic.lookup x s))')})",
                 "s", [{"s": "(cdr s)"}],
-                use=[definition(book, "logic.sigmap", "s", "atbl"), definition(book, "logic.lookup", "x", "s")])
+                use=[book.definition_at("logic.sigmap", "s", "atbl"), book.definition_at("logic.lookup", "x", "s")])
     image_of_list = image.format("'list", "x")
     prove_along(book, "len-of-substitute", f"(= (logic.len {image_of_list}) (logic.len x))", "x", [{"x": "(cdr x)"}],
-                use=[definition(book, "logic.flag-substitute", "'list", "x", "s"), definition(book, "logic.len", "x")],
+                use=[book.definition_at("logic.flag-substitute", "'list", "x", "s"), book.definition_at("logic.len", "x")],
                 unfold=["logic.len"])
     whole = image.format("flag", "x")
     prove_along(book, "term-of-substitute",
                 "(implies (logic.sigmap s atbl) (logic.flag-termp flag x atbl)"
                 f" (logic.flag-termp flag {whole} atbl))",
                 "x", [{"flag": "'list", "x": "(cdr x)"}, {"flag": "'term", "x": "(car x)"}],
-                use=[definition(book, "logic.flag-termp", "flag", "x", "atbl"),
-                     definition(book, "logic.flag-termp", "flag", whole, "atbl"),
-                     definition(book, "logic.flag-substitute", "flag", "x", "s"), at(book, "TERM-OF-LOOKUP"),
-                     definition(book, "logic.termp", "(cdr (logic.lookup x s))", "atbl"),
-                     at(book, "LEN-OF-SUBSTITUTE", x="(cdr x)")])
+                use=[book.definition_at("logic.flag-termp", "flag", "x", "atbl"),
+                     book.definition_at("logic.flag-termp", "flag", whole, "atbl"),
+                     book.definition_at("logic.flag-substitute", "flag", "x", "s"), book.at("TERM-OF-LOOKUP"),
+                     book.definition_at("logic.termp", "(cdr (logic.lookup x s))", "atbl"),
+                     book.at("LEN-OF-SUBSTITUTE", x="(cdr x)")])
 
 
 def verify_substitution(book: Book) -> None:
@@ -80,33 +80,33 @@ def verify_substitution(book: Book) -> None:
     verify_term_substitution(book)
     terms = []
     for half in ("(second a)", "(third a)"):
-        terms += [at(book, "TERM-OF-SUBSTITUTE", flag="'term", x=half), definition(book, "logic.substitute", half, "s"),
-                  definition(book, "logic.termp", half, "atbl"),
-                  definition(book, "logic.termp", f"(logic.substitute {half} s)", "atbl")]
+        terms += [book.at("TERM-OF-SUBSTITUTE", flag="'term", x=half), book.definition_at("logic.substitute", half, "s"),
+                  book.definition_at("logic.termp", half, "atbl"),
+                  book.definition_at("logic.termp", f"(logic.substitute {half} s)", "atbl")]
     image = is_formula("(logic.formula-substitute a s)")
     prove_along(book, "formula-of-instance", f"(implies (logic.sigmap s atbl) {is_formula('a')} {image})",
                 "a", [{"a": "(second a)"}, {"a": "(third a)"}], depth=9,
-                use=[definition(book, "logic.formulap", "a", "atbl"),
-                     definition(book, "logic.formula-substitute", "a", "s"), *terms],
+                use=[book.definition_at("logic.formulap", "a", "atbl"),
+                     book.definition_at("logic.formula-substitute", "a", "s"), *terms],
                 rules=formula_rules(book) + equation_rules(book))
 
 
 def verify_appeals(book: Book) -> None:
     """PROVABLE-AXIOM, PROVABLE-THEOREM and PROVABLE-INSTANTIATION, from the methods AXIOM, THEOREM and INSTANTIATION."""
-    nothing = at(book, "ALL-PROVABLE-OF-NIL")
+    nothing = book.at("ALL-PROVABLE-OF-NIL")
     for method, pool in (("axiom", "axioms"), ("theorem", "thms")):
         book.prove(f"provable-{method}", f"(implies (logic.memberp c {pool}) {is_formula('c')} {provable('c')})",
                    unfold=["ladder.core", "logic.len"],
-                   use=[at(book, "PROVABLE-BY-CORE", m=f"'{method}", c="c", **{"as": "'nil"}, e="'nil"), nothing,
-                        definition(book, "ladder.core", f"'{method}", "c", "'nil", "'nil", "axioms", "thms", "atbl")])
+                   use=[book.at("PROVABLE-BY-CORE", m=f"'{method}", c="c", as_="'nil", e="'nil"), nothing,
+                        book.definition_at("ladder.core", f"'{method}", "c", "'nil", "'nil", "axioms", "thms", "atbl")])
     one, instantiation = "(cons a 'nil)", "'instantiation"
     book.prove("core-instantiation",
                f"(= {core(instantiation, 'c', one, 's')} (logic.instantiation-okp c a s atbl))",
                unfold=["ladder.core", "logic.len"])
     book.prove("provable-instantiation",
                f"(implies {provable('a')} (logic.instantiation-okp c a s atbl) {is_formula('c')} {provable('c')})",
-               use=[at(book, "PROVABLE-BY-CORE", m=instantiation, c="c", **{"as": one}, e="s"), nothing,
-                    at(book, "CORE-INSTANTIATION"), at(book, "ALL-PROVABLE-OF-CONS", x="a", xs="'nil")])
+               use=[book.at("PROVABLE-BY-CORE", m=instantiation, c="c", as_=one, e="s"), nothing,
+                    book.at("CORE-INSTANTIATION"), book.at("ALL-PROVABLE-OF-CONS", x="a", xs="'nil")])
 
 
 def add_instance(checker: Checker) -> None:
@@ -120,7 +120,7 @@ def add_instance(checker: Checker) -> None:
                 f" (logic.instantiation-okp c {f} {s} atbl)))")
     sound = book.prove("instance-okp-is-sound",
                        f"(implies (ladder.instance-okp c as e {ENV}) {provable('c')})", unfold=["ladder.instance-okp"],
-                       use=[at(book, "PROVABLE-AXIOM", c=f), at(book, "PROVABLE-THEOREM", c=f),
-                            at(book, "PROVABLE-INSTANTIATION", a=f, s=s), at(book, "FORMULA-OF-INSTANCE", a=f, s=s),
-                            definition(book, "logic.instantiation-okp", "c", f, s, "atbl")])
+                       use=[book.at("PROVABLE-AXIOM", c=f), book.at("PROVABLE-THEOREM", c=f),
+                            book.at("PROVABLE-INSTANTIATION", a=f, s=s), book.at("FORMULA-OF-INSTANCE", a=f, s=s),
+                            book.definition_at("logic.instantiation-okp", "c", f, s, "atbl")])
     checker.add_step("INSTANCE", f"(ladder.instance-okp c as e {ENV})", instance_test(book.theory), sound)

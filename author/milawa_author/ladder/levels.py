@@ -25,7 +25,7 @@ from .congruence import add_equality_rules
 from .disjunctions import add_disjunction_rules
 from .reflection import verify_reflection
 from .refutation import add_refutation_rules
-from .texts import ENV, at
+from .texts import ENV
 
 PROPOSITIONAL_RULES = """expansion contraction associativity cut propositional-schema
     commute-or right-expansion modus-ponens modus-ponens-2 right-associativity disjoined-left-expansion
@@ -99,6 +99,6 @@ def make_wrap() -> Book:
     verify_reflection(book)
     book.define(f"(wrap (x {ENV}) (logic.proofp x {ENV}))")
     book.prove("claim-of-wrap", claim("WRAP"), unfold=["wrap", "logic.proofp", "logic.conclusion"],
-               use=[at(book, "PROVABLE-BY-PROOF", p="x")])
+               use=[book.at("PROVABLE-BY-PROOF", p="x")])
     book.switch("wrap", {})
     return book

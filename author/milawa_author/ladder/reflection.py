@@ -8,8 +8,7 @@ from ..book import Book
 from ..rules.instances import definition_axiom, instance
 from ..logic.notation import term
 from .arities import verify_cached
-from .texts import (ENV, all_provable, at, core, definition, formula_rules, is_formula, list_of, provable, rule, witness,
-                    witnesses)
+from .texts import ENV, all_provable, core, formula_rules, is_formula, list_of, provable, witness, witnesses
 
 
 def verify_provability(book: Book) -> None:
@@ -22,8 +21,8 @@ def verify_provability(book: Book) -> None:
                f"(implies {provable('x')} (logic.flag-proofp 'proof {witness('x')} {ENV}))", **names)
     book.prove("witness-concludes", f"(implies {provable('x')} (= (car (cdr {witness('x')})) x))", **names)
     book.prove("formula-of-provable", f"(implies {provable('x')} {is_formula('x')})",
-               use=[at(book, "WITNESS-IS-PROOF"), at(book, "WITNESS-CONCLUDES"),
-                    definition(book, "logic.flag-proofp", "'proof", witness("x"), "axioms", "thms", "atbl")])
+               use=[book.at("WITNESS-IS-PROOF"), book.at("WITNESS-CONCLUDES"),
+                    book.definition_at("logic.flag-proofp", "'proof", witness("x"), "axioms", "thms", "atbl")])
 
 
 def verify_lists(book: Book) -> None:
@@ -39,16 +38,16 @@ def verify_lists(book: Book) -> None:
                f"(implies {all_provable('xs')} (= (logic.conclusions {witnesses('xs')}) xs))", unfold=once)
     book.prove("all-provable-of-nil", all_provable("'nil"),
                unfold=once + ["ladder.witnesses", "logic.conclusions"],
-               use=[definition(book, "logic.flag-proofp", "'list", "'nil", "axioms", "thms", "atbl")])
+               use=[book.definition_at("logic.flag-proofp", "'list", "'nil", "axioms", "thms", "atbl")])
     both = {"unfold": {"ladder.all-provablep": "always", "ladder.witnesses": "decided", "logic.conclusions": "decided",
                        "logic.conclusion": "always"},
-            "use": [definition(book, "logic.flag-proofp", "'list",
+            "use": [book.definition_at("logic.flag-proofp", "'list",
                                f"(cons {witness('x')} {witnesses('xs')})", "axioms", "thms", "atbl")]}
     pair = all_provable("(cons x xs)")
     book.prove("all-provable-of-cons", f"(implies {provable('x')} {all_provable('xs')} {pair})", unfold=both["unfold"],
-               use=both["use"] + [at(book, "WITNESS-IS-PROOF"), at(book, "WITNESS-CONCLUDES")])
+               use=both["use"] + [book.at("WITNESS-IS-PROOF"), book.at("WITNESS-CONCLUDES")])
     book.prove("first-of-all-provable", f"(implies {pair} {provable('x')})", unfold=both["unfold"],
-               use=both["use"] + [at(book, "PROVABLE-BY-PROOF", p=witness("x"))])
+               use=both["use"] + [book.at("PROVABLE-BY-PROOF", p=witness("x"))])
     book.prove("rest-of-all-provable", f"(implies {pair} {all_provable('xs')})", **both)
 
 
@@ -56,7 +55,7 @@ def verify_formulas(book: Book) -> None:
     """FORMULAP of negations and disjunctions, and of their parts."""
     shape = ["logic.por", "logic.pnot", "logic.lenp", "logic.listp", "logic.len"]
     for name, whole, parts in (("por", "(logic.por a b)", "ab"), ("pnot", "(logic.pnot a)", "a")):
-        use = [definition(book, "logic.formulap", whole, "atbl")]
+        use = [book.definition_at("logic.formulap", whole, "atbl")]
         given = " ".join(is_formula(p) for p in parts)
         book.prove(f"formula-{name}", f"(implies {given} {is_formula(whole)})", unfold=shape, use=use)
         for p in parts:
@@ -95,9 +94,9 @@ def verify_core(book: Book) -> None:
     book.prove("provable-by-core",
                f"(implies {core('m', 'c', 'as', 'e')} {is_formula('c')} {all_provable('as')} {provable('c')})",
                unfold=["logic.listp", "logic.len", "logic.memberp"],
-               use=[at(book, "PROVABLE-BY-PROOF", p=made), at(book, "STEP-IS-CORE", x=made),
-                    at(book, "WITNESSES-ARE-PROOFS", xs="as"), at(book, "WITNESSES-CONCLUDE", xs="as"),
-                    definition(book, "logic.flag-proofp", "'proof", made, "axioms", "thms", "atbl")])
+               use=[book.at("PROVABLE-BY-PROOF", p=made), book.at("STEP-IS-CORE", x=made),
+                    book.at("WITNESSES-ARE-PROOFS", xs="as"), book.at("WITNESSES-CONCLUDE", xs="as"),
+                    book.definition_at("logic.flag-proofp", "'proof", made, "axioms", "thms", "atbl")])
 
 
 METHODS = {     # method: premises, conclusion, formulas that the conclusion brings in, functions to unfold
@@ -119,9 +118,9 @@ def verify_methods(book: Book) -> None:
         book.prove(f"provable-{method}",
                    "(implies {} {})".format(" ".join([is_formula(g) for g in given] + [provable(p) for p in premises]),
                                             provable(conclusion)),
-                   rules=formula_rules(book) + [rule(book, all_provable("(cons x xs)"), "ALL-PROVABLE-OF-CONS")],
-                   use=[at(book, "PROVABLE-BY-CORE", m=f"'{method}", c=conclusion, **{"as": xs}, e="'nil"),
-                        at(book, f"CORE-{method.upper()}"), at(book, "ALL-PROVABLE-OF-NIL")], depth=6)
+                   rules=formula_rules(book) + [book.rule("ALL-PROVABLE-OF-CONS", all_provable("(cons x xs)"))],
+                   use=[book.at("PROVABLE-BY-CORE", m=f"'{method}", c=conclusion, as_=xs, e="'nil"),
+                        book.at(f"CORE-{method.upper()}"), book.at("ALL-PROVABLE-OF-NIL")], depth=6)
 
 
 def verify_reflection(book: Book) -> None:

@@ -14,7 +14,7 @@ from ..logic.terms import disjunction, is_negation, left, negation
 from ..logic.theory import Test, Theory
 from ..rules.disjunctions import covers, is_inside
 from .checkers import Checker
-from .texts import ENV, all_provable, at, definition, formula_rules, is_formula, provable, prove_along
+from .texts import ENV, all_provable, formula_rules, is_formula, provable, prove_along
 
 
 # ---- the tests on formulas ---------------------------------------------------------------------------------
@@ -79,27 +79,27 @@ WHOLE, REST = "(ladder.together ls c)", "(ladder.together (cdr ls) c)"
 
 def verify_together(book: Book) -> None:
     """TOGETHER, the disjunction of a list and a formula: when it is a formula, and what it absorbs."""
-    rules, together = formula_rules(book), definition(book, "ladder.together", "ls", "c")
-    unit = definition(book, "ladder.unitp", "ls", "as", "c", "k")
+    rules, together = formula_rules(book), book.definition_at("ladder.together", "ls", "c")
+    unit = book.definition_at("ladder.unitp", "ls", "as", "c", "k")
     prove_along(book, "inside-together", f"(ladder.insidep c {WHOLE})", "ls", [{"ls": "(cdr ls)"}], rules=rules, depth=9,
-                use=[together, definition(book, "ladder.insidep", "c", WHOLE)], unfold=["logic.por"])
+                use=[together, book.definition_at("ladder.insidep", "c", WHOLE)], unfold=["logic.por"])
     prove_along(book, "formula-together",
                 f"(implies (ladder.unitp ls as c k) {is_formula('k')} {is_formula('c')} {is_formula(WHOLE)})",
                 "ls", [{"ls": "(cdr ls)", "as": "(cdr as)"}], rules=rules, depth=9,
-                use=[together, unit, at(book, "FORMULA-INSIDE", a="(car ls)", c="k")])
+                use=[together, unit, book.at("FORMULA-INSIDE", a="(car ls)", c="k")])
     prove_along(book, "formula-together-of-provables",
                 f"(implies {all_provable('as')} {is_formula('k')} {is_formula('(ladder.together as k)')})",
                 "as", [{"as": "(cdr as)"}], rules=rules, depth=9,
-                use=[definition(book, "ladder.together", "as", "k"), at(book, "FIRST-OF-PROVABLES"),
-                     at(book, "REST-OF-PROVABLES")])
+                use=[book.definition_at("ladder.together", "as", "k"), book.at("FIRST-OF-PROVABLES"),
+                     book.at("REST-OF-PROVABLES")])
     book.prove("covered-by-itself", "(ladder.coversp a a)",
-               use=[definition(book, "ladder.coversp", "a", "a"), definition(book, "ladder.insidep", "a", "a")])
+               use=[book.definition_at("ladder.coversp", "a", "a"), book.definition_at("ladder.insidep", "a", "a")])
     for name, pair in (("left", f"(logic.por {REST} c)"), ("right", f"(logic.por c {REST})")):
         book.prove(f"together-absorbs-{name}",
                    f"(implies {provable(pair)} {is_formula(REST)} {provable(REST)})", unfold=["logic.por"], rules=rules,
-                   use=[at(book, "PROVABLE-COVERED", a=pair, c=REST), definition(book, "ladder.coversp", pair, REST),
-                        at(book, "COVERED-BY-ITSELF", a=REST), definition(book, "ladder.coversp", "c", REST),
-                        at(book, "INSIDE-TOGETHER", ls="(cdr ls)")])
+                   use=[book.at("PROVABLE-COVERED", a=pair, c=REST), book.definition_at("ladder.coversp", pair, REST),
+                        book.at("COVERED-BY-ITSELF", a=REST), book.definition_at("ladder.coversp", "c", REST),
+                        book.at("INSIDE-TOGETHER", ls="(cdr ls)")])
 
 
 def verify_refutation(book: Book) -> None:
@@ -110,22 +110,22 @@ def verify_refutation(book: Book) -> None:
                 f"(implies (ladder.unitp ls as c k) {all_provable('as')} {is_formula('k')} {is_formula('c')}"
                 f" {provable(WHOLE)} {provable('c')})",
                 "ls", [{"ls": "(cdr ls)", "as": "(cdr as)"}], rules=rules, depth=9,
-                use=[definition(book, "ladder.together", "ls", "c"),
-                     definition(book, "ladder.unitp", "ls", "as", "c", "k"),
-                     definition(book, "ladder.refutesp", f, l, "c"), at(book, "FORMULA-INSIDE", a=l, c="k"),
-                     at(book, "FIRST-OF-PROVABLES"), at(book, "REST-OF-PROVABLES"),
-                     at(book, "FORMULA-TOGETHER", ls="(cdr ls)", **{"as": "(cdr as)"}),
-                     at(book, "PROVABLE-COVERED", a=f, c=f"(logic.por (logic.pnot {l}) c)"),
-                     at(book, "PROVABLE-COVERED", a=f, c=f"(logic.por (second {l}) c)"),
-                     at(book, "PROVABLE-CUT", a=l, b=REST, c="c"),
-                     at(book, "PROVABLE-CUT", a=f"(second {l})", b="c", c=REST),
-                     at(book, "TOGETHER-ABSORBS-LEFT"), at(book, "TOGETHER-ABSORBS-RIGHT")])
+                use=[book.definition_at("ladder.together", "ls", "c"),
+                     book.definition_at("ladder.unitp", "ls", "as", "c", "k"),
+                     book.definition_at("ladder.refutesp", f, l, "c"), book.at("FORMULA-INSIDE", a=l, c="k"),
+                     book.at("FIRST-OF-PROVABLES"), book.at("REST-OF-PROVABLES"),
+                     book.at("FORMULA-TOGETHER", ls="(cdr ls)", as_="(cdr as)"),
+                     book.at("PROVABLE-COVERED", a=f, c=f"(logic.por (logic.pnot {l}) c)"),
+                     book.at("PROVABLE-COVERED", a=f, c=f"(logic.por (second {l}) c)"),
+                     book.at("PROVABLE-CUT", a=l, b=REST, c="c"),
+                     book.at("PROVABLE-CUT", a=f"(second {l})", b="c", c=REST),
+                     book.at("TOGETHER-ABSORBS-LEFT"), book.at("TOGETHER-ABSORBS-RIGHT")])
     book.prove("clause-is-sound",
                f"(implies (ladder.clause-okp k as c ls atbl) {all_provable('as')} {provable('k')} {provable('c')})",
                unfold=["ladder.clause-okp"], rules=rules, depth=9,
-               use=[at(book, "FORMULA-TOGETHER"), at(book, "FORMULA-TOGETHER-OF-PROVABLES"),
-                    at(book, "FORMULA-COVERED", a="c", c="(ladder.together as k)"),
-                    at(book, "PROVABLE-COVERED", a="k", c=WHOLE), at(book, "PROVABLE-BY-UNITS")])
+               use=[book.at("FORMULA-TOGETHER"), book.at("FORMULA-TOGETHER-OF-PROVABLES"),
+                    book.at("FORMULA-COVERED", a="c", c="(ladder.together as k)"),
+                    book.at("PROVABLE-COVERED", a="k", c=WHOLE), book.at("PROVABLE-BY-UNITS")])
 
 
 def add_unit(checker: Checker) -> None:
@@ -134,8 +134,8 @@ def add_unit(checker: Checker) -> None:
     sound = book.prove("unit-is-sound",
                        f"(implies (consp as) (ladder.clause-okp (car as) (cdr as) c e atbl) {all_provable('as')}"
                        f" {provable('c')})",
-                       use=[at(book, "CLAUSE-IS-SOUND", k="(car as)", ls="e", **{"as": "(cdr as)"}),
-                            at(book, "FIRST-OF-PROVABLES"), at(book, "REST-OF-PROVABLES")])
+                       use=[book.at("CLAUSE-IS-SOUND", k="(car as)", ls="e", as_="(cdr as)"),
+                            book.at("FIRST-OF-PROVABLES"), book.at("REST-OF-PROVABLES")])
     checker.add_step("UNIT", "(if (consp as) (ladder.clause-okp (car as) (cdr as) c e atbl) nil)", unit_test, sound)
 
 
@@ -149,10 +149,10 @@ def add_lemma(checker: Checker) -> None:
     sound = book.prove("lemma-is-sound",
                        f"(implies (ladder.lemma-okp c as e {ENV}) {all_provable('as')} {provable('c')})",
                        unfold=["ladder.lemma-okp", "logic.instantiation-okp"],
-                       use=[at(book, "PROVABLE-AXIOM", c=f), at(book, "PROVABLE-THEOREM", c=f),
-                            at(book, "PROVABLE-INSTANTIATION", c=k, a=f, s=s),
-                            at(book, "FORMULA-OF-INSTANCE", a=f, s=s),
-                            at(book, "CLAUSE-IS-SOUND", k=k, ls="(third e)")])
+                       use=[book.at("PROVABLE-AXIOM", c=f), book.at("PROVABLE-THEOREM", c=f),
+                            book.at("PROVABLE-INSTANTIATION", c=k, a=f, s=s),
+                            book.at("FORMULA-OF-INSTANCE", a=f, s=s),
+                            book.at("CLAUSE-IS-SOUND", k=k, ls="(third e)")])
     checker.add_step("LEMMA", f"(ladder.lemma-okp c as e {ENV})", lemma_test(book.theory), sound)
 
 

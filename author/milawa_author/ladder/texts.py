@@ -9,7 +9,6 @@ from ..logic.objects import Object, Pair
 from ..logic.terms import call, holds
 from ..logic.text import write
 from ..prover.induction import induct
-from ..rules.instances import definition_instance, instance, primitive_axiom
 
 ENV = "axioms thms atbl"
 
@@ -64,26 +63,6 @@ def list_of(parts: list[str]) -> str:
 
 # ---- theorems of a book ------------------------------------------------------------------------------------
 
-def at(book: Book, name: str, **substitution: str) -> Proof:
-    """An instance of a theorem of the book; the terms are given as texts."""
-    return instance(book.lemmas[name.upper()], {v.upper(): term(t) for v, t in substitution.items()})
-
-
-def definition(book: Book, name: str, *actuals: str) -> Proof:
-    """f(actuals) = its body, for terms given as texts."""
-    return definition_instance(book.theory, name, [term(t) for t in actuals])
-
-
-def axiom_at(book: Book, number: int, **substitution: str) -> Proof:
-    """An instance of an axiom of the primitives, by its number; the terms are given as texts."""
-    return primitive_axiom(book.theory, number, **{v: term(t) for v, t in substitution.items()})
-
-
-def rule(book: Book, pattern: str, name: str) -> tuple[Pair, Proof]:
-    """A theorem as a rule for the prover, instantiated where the pattern matches."""
-    return term(pattern), book.lemmas[name.upper()]
-
-
 def prove_along(book: Book, name: str, goal: str, variable: str, hypotheses: list[dict[str, str]], **options) -> Proof:
     """VERIFY by induction on the rank of a variable that is a pair, with these substitutions (texts) in the
     hypotheses; the options are those of the prover, with more splits."""
@@ -96,17 +75,17 @@ def prove_along(book: Book, name: str, goal: str, variable: str, hypotheses: lis
 def formula_rules(book: Book) -> list[tuple[Pair, Proof]]:
     """The prover's rules on FORMULAP of disjunctions and negations."""
     por, pnot = is_formula("(logic.por a b)"), is_formula("(logic.pnot a)")
-    return [rule(book, por, "FORMULA-POR"), rule(book, por, "FORMULA-POR-A"), rule(book, por, "FORMULA-POR-B"),
-            rule(book, pnot, "FORMULA-PNOT"), rule(book, pnot, "FORMULA-PNOT-A"),
-            rule(book, provable("x"), "FORMULA-OF-PROVABLE")]
+    return [book.rule("FORMULA-POR", por), book.rule("FORMULA-POR-A", por), book.rule("FORMULA-POR-B", por),
+            book.rule("FORMULA-PNOT", pnot), book.rule("FORMULA-PNOT-A", pnot),
+            book.rule("FORMULA-OF-PROVABLE", provable("x"))]
 
 
 def equation_rules(book: Book) -> list[tuple[Pair, Proof]]:
     """The prover's rules on FORMULAP of equations."""
     whole = is_formula("(logic.pequal a b)")
-    return [rule(book, whole, name) for name in ("FORMULA-PEQUAL", "FORMULA-PEQUAL-A", "FORMULA-PEQUAL-B")]
+    return [book.rule(name, whole) for name in ("FORMULA-PEQUAL", "FORMULA-PEQUAL-A", "FORMULA-PEQUAL-B")]
 
 
 def list_rules(book: Book) -> list[tuple[Pair, Proof]]:
     """The prover's rules on the members of a list of provable formulas."""
-    return [rule(book, all_provable("(cons x xs)"), name) for name in ("FIRST-OF-ALL-PROVABLE", "REST-OF-ALL-PROVABLE")]
+    return [book.rule(name, all_provable("(cons x xs)")) for name in ("FIRST-OF-ALL-PROVABLE", "REST-OF-ALL-PROVABLE")]

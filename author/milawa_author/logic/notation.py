@@ -4,7 +4,7 @@ Terms: AND, OR, COND, LIST, LET, LET*, FIRST to FIFTH, and T, NIL and numbers wi
 Formulas: `(= a b)`, `(!= a b)`, `(not F)`, `(or F G ..)`, `(implies F G .. H)`, where H is said to follow from
 those before it; and a term in a formula's place says that it is not nil.
 """
-from collections.abc import Generator
+from collections.abc import Callable, Generator
 
 from ..errors import FormError, quotation
 from .objects import Object, Pair, items, make_list
@@ -14,16 +14,24 @@ from .text import read
 NTH = ("FIRST", "SECOND", "THIRD", "FOURTH", "FIFTH")
 
 
-def _walk(start: Generator) -> Object:
-    """Runs a recursion on a stack of its own: `yield g` is the value of the generator g."""
-    stack, value = [start], None
+Rule = Callable[[Object], Generator]
+
+
+def _walk(rule: Rule, start: Object) -> Object:
+    """What a recursion makes of an object, on a stack of its own: in the rule `yield part` is what it makes of a part.
+    A part that stands at several places is looked at once."""
+    done, stack, value = {}, [(start, rule(start))], None
     while stack:
+        raw, generator = stack[-1]
         try:
-            stack.append(stack[-1].send(value))
-            value = None
+            part = generator.send(value)
         except StopIteration as end:
             stack.pop()
-            value = end.value
+            value = done[raw] = end.value
+            continue
+        value = done.get(part)
+        if value is None:
+            stack.append((part, rule(part)))
     return value
 
 
@@ -31,7 +39,7 @@ def expand(raw: Object) -> Object:
     """The term of a raw term, its abbreviations expanded.  Raises FormError where it has not the form of one.
 
     Names and numbers of actuals are not looked at: the kernel does that."""
-    return _walk(_expand(raw))
+    return _walk(_expand, raw)
 
 
 def _shape(holds: bool, raw: Object, wanted: str) -> None:
@@ -51,10 +59,10 @@ def _expand(raw: Object) -> Generator:
         _shape(len(parts) == 1, raw, "(quote x)")
         return raw
     if head in _EXPANSIONS:
-        return (yield _EXPANSIONS[head](raw, parts))
+        return (yield from _EXPANSIONS[head](raw, parts))
     if head in NTH:
         _shape(len(parts) == 1, raw, f"({head.lower()} x)")
-        t = yield _expand(parts[0])
+        t = yield parts[0]
         for _ in range(NTH.index(head)):
             t = call("CDR", t)
         return call("CAR", t)
@@ -62,10 +70,10 @@ def _expand(raw: Object) -> Generator:
         lambda_members = items(head)
         _shape(lambda_members is not None and len(lambda_members) == 3, raw, "((lambda (x ..) body) a ..)")
         word, formals, body = lambda_members
-        head = make_list(word, formals, (yield _expand(body)))
+        head = make_list(word, formals, (yield body))
     actuals = []
     for part in parts:
-        actuals.append((yield _expand(part)))
+        actuals.append((yield part))
     return call(head, *actuals)
 
 
@@ -74,7 +82,7 @@ def _expand_and(raw: Object, parts: tuple) -> Generator:
         return T
     tests = []
     for part in parts:
-        tests.append((yield _expand(part)))
+        tests.append((yield part))
     t = tests.pop()
     while tests:
         t = call("IF", tests.pop(), t, NIL)
@@ -86,7 +94,7 @@ def _expand_or(raw: Object, parts: tuple) -> Generator:
         return NIL
     tests = []
     for part in parts:
-        tests.append((yield _expand(part)))
+        tests.append((yield part))
     t = tests.pop()
     while tests:
         test = tests.pop()
@@ -99,7 +107,7 @@ def _expand_cond(raw: Object, parts: tuple) -> Generator:
     for part in parts:
         pair = items(part)
         _shape(pair is not None and len(pair) == 2, part, "(test value)")
-        clauses.append(((yield _expand(pair[0])), (yield _expand(pair[1]))))
+        clauses.append(((yield pair[0]), (yield pair[1])))
     t = NIL
     for test, value in reversed(clauses):
         t = call("IF", test, value, t)
@@ -109,7 +117,7 @@ def _expand_cond(raw: Object, parts: tuple) -> Generator:
 def _expand_list(raw: Object, parts: tuple) -> Generator:
     members = []
     for part in parts:
-        members.append((yield _expand(part)))
+        members.append((yield part))
     t = NIL
     for member in reversed(members):
         t = call("CONS", member, t)
@@ -125,12 +133,12 @@ def _bindings(raw: Object, parts: tuple) -> list[tuple]:
 
 def _expand_let(raw: Object, parts: tuple) -> Generator:
     bindings = _bindings(raw, parts)
-    body = yield _expand(parts[1])
+    body = yield parts[1]
     names = [name for name, _ in bindings]
     further = [v for v in variables(body) if v not in names]
     actuals = []
     for _, bound in bindings:
-        actuals.append((yield _expand(bound)))
+        actuals.append((yield bound))
     function = make_list("LAMBDA", make_list(*names, *further), body)
     return make_list(function, *actuals, *further)
 
@@ -140,7 +148,7 @@ def _expand_let_star(raw: Object, parts: tuple) -> Generator:
     inner = parts[1]
     for name, bound in reversed(bindings):
         inner = make_list("LET", make_list(make_list(name, bound)), inner)
-    return (yield _expand(inner))
+    return (yield inner)
 
 
 _EXPANSIONS = {"AND": _expand_and, "OR": _expand_or, "COND": _expand_cond, "LIST": _expand_list, "LET": _expand_let,
@@ -149,7 +157,7 @@ _EXPANSIONS = {"AND": _expand_and, "OR": _expand_or, "COND": _expand_cond, "LIST
 
 def expand_formula(raw: Object) -> Pair:
     """The formula of a datum in the notation of this module.  Raises FormError where it has not the form of one."""
-    return _walk(_expand_formula(raw))
+    return _walk(_expand_formula, raw)
 
 
 def _expand_formula(raw: Object) -> Generator:
@@ -161,12 +169,12 @@ def _expand_formula(raw: Object) -> Generator:
         return negation(e) if head == "!=" else e
     if head in ("NOT", "PNOT*"):
         _shape(len(members) == 2, raw, "(not F)")
-        return negation((yield _expand_formula(members[1])))
+        return negation((yield members[1]))
     if head in ("OR", "POR*", "IMPLIES"):
         _shape(len(members) >= 2, raw, "(or F ..) or (implies F .. G)")
         parts = []
         for m in members[1:]:
-            parts.append((yield _expand_formula(m)))
+            parts.append((yield m))
         if head == "IMPLIES":
             parts[:-1] = map(complement, parts[:-1])
         return disjunction(*parts)

@@ -23,10 +23,14 @@ class Pair:
 Object = Union[int, str, Pair]
 
 _pairs: dict[tuple, Pair] = {}
+_symbols: set[str] = set()                      # those that were checked
 
 
 def _check(x: object) -> None:
-    if isinstance(x, Pair) or isinstance(x, str) and _SYMBOL.match(x):
+    if isinstance(x, Pair) or x in _symbols:
+        return
+    if isinstance(x, str) and _SYMBOL.match(x):
+        _symbols.add(x)
         return
     if not isinstance(x, int) or isinstance(x, bool) or x < 0:
         raise TypeError(f"{x!r} is no object: a natural (int), the name of a symbol (str) or a Pair is wanted")

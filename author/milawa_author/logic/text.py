@@ -187,3 +187,26 @@ def _write_pair(y: Pair, shared: set[Pair], out: list, work: list) -> None:
         pieces += [(" . ",), z]
     pieces.append((")",))
     work.extend(reversed(pieces))
+
+
+def printed(x: Object) -> str:
+    """The text of an object as the program's reports show it: in upper case, and without quotes and labels."""
+    out, work = [], [x]
+    while work:
+        y = work.pop()
+        if isinstance(y, tuple):
+            out.append(y[0])
+        elif isinstance(y, Pair):
+            out.append("(")
+            pieces, z = [y.first], y.rest
+            while isinstance(z, Pair):
+                pieces += [(" ",), z.first]
+                z = z.rest
+            if z != "NIL":
+                pieces += [(" . ",), z]
+            pieces.append((")",))
+            work.extend(reversed(pieces))
+        else:
+            text = atom_text(y)
+            out.append(text if text.startswith("|") else text.upper())
+    return "".join(out)

@@ -1,5 +1,5 @@
 """One case of a search: what follows in it without a split."""
-from collections.abc import Iterable, Mapping, Sequence
+from collections.abc import Iterable, Mapping
 from typing import Optional, Union
 
 from ..errors import RuleError, quotation

@@ -3,7 +3,6 @@
 Simple recursion goes down CAR and CDR under a test CONSP, with the measure `(rank x)`, or by `(- n 1)` under the
 test `(< 0 n)`, with the measure `(+ 0 n)`.  The theorems are verified in the book that first needs them.
 """
-import functools
 from typing import TYPE_CHECKING
 
 from ..errors import RuleError
@@ -13,25 +12,17 @@ from ..logic.objects import Pair, items
 from ..logic.terms import call, is_call, left, literals, nil, quote
 from ..rules.disjunctions import subset
 from ..rules.equality import implied
-from ..rules.instances import instance, primitive_axiom
+from ..rules.instances import instance
 
 if TYPE_CHECKING:
     from ..book import Book
-
-
-def _at(book: "Book", name: str, **substitution: str) -> Proof:
-    return instance(book.lemmas[name], {v.upper(): term(t) for v, t in substitution.items()})
-
-
-def _axiom(book: "Book", number: int, **substitution: str) -> Proof:
-    return primitive_axiom(book.theory, number, **{v: term(t) for v, t in substitution.items()})
 
 
 def verify_ranks(book: "Book") -> None:
     """The theorems on RANK that recursion over lists and trees needs, and one for natural numbers."""
     if "ORDP-OF-RANK" in book.lemmas:
         return
-    ax, at = functools.partial(_axiom, book), functools.partial(_at, book)
+    ax, at = book.axiom_at, book.at
     sum_is_natural = (term("(+ a b)"), ax(27))
     book.prove("NATP-OF-RANK", "(= (natp (rank x)) 't)", unfold={"RANK": "once"}, rules=[sum_is_natural])
     natural = [(term("(rank x)"), book.lemmas["NATP-OF-RANK"])]
@@ -66,14 +57,14 @@ def rank_of_atom(book: "Book", variable: str) -> Proof:
     """(consp x) != nil or (rank x) = 0, for the variable."""
     if "RANK-OF-ATOM" not in book.lemmas:
         book.prove("RANK-OF-ATOM", "(or (consp x) (= (rank x) '0))", unfold={"RANK": "once"})
-    return instance(book.lemmas["RANK-OF-ATOM"], {"X": variable})
+    return book.at("RANK-OF-ATOM", x=variable)
 
 
 def verify_decrease(book: "Book") -> None:
     """The theorems for recursion by `(- n 1)` with the measure `(+ 0 n)`."""
     if "ORD<-OF-DECREASE" in book.lemmas:
         return
-    ax, at = functools.partial(_axiom, book), functools.partial(_at, book)
+    ax, at = book.axiom_at, book.at
     no_pair = [(term("(consp x)"), ax(25)), (term("(+ a b)"), ax(27))]
     book.prove("ORDP-OF-SUM", "(= (ordp (+ a b)) 't)", unfold={"ORDP": "once"}, rules=no_pair)
     book.prove("ORD<-OF-SUMS", "(= (ord< (+ a b) (+ c d)) (< (+ a b) (+ c d)))", unfold={"ORD<": "once"}, rules=no_pair)

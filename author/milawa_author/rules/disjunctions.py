@@ -9,11 +9,12 @@ from typing import Optional
 from ..errors import RuleError
 from ..limits import within_depth
 from ..logic.kernel import Proof, associativity, contraction, cut, expansion, further, propositional_schema
-from ..logic.objects import Pair, make_list
+from ..logic.objects import Object, Pair, make_list
 from ..logic.terms import disjunction, is_disjunction, left, literals, negation, right
 from ..logic.theory import Theory
 from .propositional import (commute_or, disjoined_left_expansion, disjoined_right_expansion, merge_implications,
                             modus_ponens, modus_ponens_2, right_associativity, right_expansion)
+from .schemes import rule
 
 
 def parts(c: Pair) -> set[Pair]:
@@ -127,6 +128,16 @@ def under(proof: Proof, b: Pair) -> Proof:
     if "SUBSET" in proof.theory.methods:
         return subset(proof, disjunction(p, b))
     return cut(commute_or(proof), subset_implication(proof.theory, a, b))
+
+
+@rule("(por* p (por* (por* a b) c))", gives="(por* p (por* a (por* b c)))")
+def disjoined_right_associativity(proof: Proof, a: Object, b: Object, c: Object) -> Proof:
+    return under(proof, disjunction(a, b, c))
+
+
+@rule("(por* p (por* a (por* b c)))", gives="(por* p (por* (por* a b) c))")
+def disjoined_associativity(proof: Proof, a: Object, b: Object, c: Object) -> Proof:
+    return under(proof, disjunction(disjunction(a, b), c))
 
 
 @within_depth

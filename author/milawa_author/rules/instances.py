@@ -1,7 +1,9 @@
 """Instances of axioms and theorems: one step where the running checker has the method INSTANCE."""
+from collections.abc import Sequence
+
 from ..errors import RuleError
 from ..logic.kernel import Proof, axiom, further, instantiation
-from ..logic.objects import make_list
+from ..logic.objects import Object, make_list
 from ..logic.substitution import substitute, substitution_object
 from ..logic.terms import Substitution
 from ..logic.theory import Theory
@@ -36,7 +38,7 @@ def definition_axiom(theory: Theory, name: str) -> Proof:
     return axiom(theory, entry.axiom())
 
 
-def definition_instance(theory: Theory, name: str, actuals) -> Proof:
+def definition_instance(theory: Theory, name: str, actuals: Sequence[Object]) -> Proof:
     """`(f actuals) = body` with the actuals put for the formals.  Raises RuleError where there is no such
     function, or it takes another number of actuals."""
     proof = definition_axiom(theory, name)

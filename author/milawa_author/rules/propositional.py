@@ -124,18 +124,6 @@ def lhs_commute_or_then_rassoc(proof: Proof) -> Proof:
     return disjoined_commute_or(commute_or(associativity(commute_or(proof))))
 
 
-@rule("(por* p (por* (por* a b) c))", gives="(por* p (por* a (por* b c)))")
-def disjoined_right_associativity(proof: Proof, a: Object, b: Object, c: Object) -> Proof:
-    from .disjunctions import under
-    return under(proof, disjunction(a, b, c))
-
-
-@rule("(por* p (por* a (por* b c)))", gives="(por* p (por* (por* a b) c))")
-def disjoined_associativity(proof: Proof, a: Object, b: Object, c: Object) -> Proof:
-    from .disjunctions import under
-    return under(proof, disjunction(disjunction(a, b), c))
-
-
 @rule("(por* p (por* a b))", "(por* p (por* (pnot* a) c))", gives="(por* p (por* b c))")
 def disjoined_cut(first: Proof, second: Proof, b: Object, c: Object) -> Proof:
     first = associativity(associativity(expansion(c, first)))                   # ((c or p) or a) or b
