@@ -24,19 +24,20 @@ NAMED = ("VERIFY", "DEFINE", "SKOLEM", "SWITCH")
 
 
 class Judge:
-    """A theory with its checker.  `units` are those that the checker of the book took for the last proof."""
+    """A theory with its checker.  `units` are those that the checker of the book took for the last proof, and
+    `total_units` those for all proofs that it was run on."""
 
     def __init__(self, steps: int = limits.STEPS):
         self.theory, self.steps = Theory(), steps
         self.machine = Machine(self.theory)
         self.checker: Optional[str] = None
-        self.units = 0
+        self.units, self.total_units = 0, 0
         self.axioms, self.theorems, self.arities = "NIL", "NIL", "NIL"      # as a checker is handed them, newest first
         for formula in self.theory.axioms:
             self.axioms = cons(formula, self.axioms)
         for name, arity in self.theory.arities.items():
             self.arities = cons(cons(name, arity), self.arities)
-        self._first_arities = self.arities
+        self._first_arities, self._is_skipping = self.arities, False
 
     def event(self, form: Object) -> str:
         """The fate of an event, as its line ends: "accepted", with what is shown, or "refused" and the reason."""
@@ -45,6 +46,14 @@ class Judge:
         except EventError as why:
             return f"refused {why.word}"
         return "accepted" + ("" if shown is None else f" {shown}")
+
+    def skip(self, form: Pair) -> None:
+        """Takes an event whose proofs were judged before, without judging them.  Raises EventError for another refusal."""
+        self._is_skipping = True
+        try:
+            self._event(form)
+        finally:
+            self._is_skipping = False
 
     def report(self, text: str) -> Iterator[str]:
         """The lines of the report on a book.  Raises TextError where the text has a fault."""
@@ -80,13 +89,17 @@ class Judge:
         """Raises EventError unless the proof is one of the formula by the running checker."""
         if member(proof, 1) is not formula:
             raise EventError("CONCLUSION", "the proof shows something else", formula)
+        if self._is_skipping:
+            return
         if self.checker is None:
             try:
                 replay(self.theory, proof)
             except RuleError as why:
                 raise EventError("PROOF", str(why)) from None
             return
-        value, self.units = self.machine.run(self.checker, (proof, self.axioms, self.theorems, self.arities), self.steps)
+        values = (proof, self.axioms, self.theorems, self.arities)
+        value, self.units = self.machine.run(self.checker, values, self.steps)
+        self.total_units += self.units
         if value == "NIL":
             raise EventError("NIL", "the checker says no")
 

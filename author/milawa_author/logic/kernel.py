@@ -45,6 +45,9 @@ class Proof:
     def __setattr__(self, name: str, value: object) -> None:
         raise TypeError("a Proof cannot be changed; make another")
 
+    def __delattr__(self, name: str) -> None:
+        raise TypeError("a Proof cannot be changed; make another")
+
     def __repr__(self):
         return f"<{self.method} proves {quotation(self.conclusion)}>"
 

@@ -66,4 +66,7 @@ def substitution_of(x: Object) -> Optional[Substitution]:
     pairs = items(x)
     if pairs is None or not all(isinstance(p, Pair) for p in pairs):
         return None
-    return {p.first: p.rest for p in reversed(pairs)}
+    found: Substitution = {}
+    for p in pairs:
+        found.setdefault(p.first, p.rest)
+    return found
