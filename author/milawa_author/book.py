@@ -231,9 +231,9 @@ class Book:
 
     # ---- text, sizes, checking ---------------------------------------------------------------------------
 
-    def text(self) -> str:
-        """The book, one event a line."""
-        return "".join(event.text + "\n" for event in self.events)
+    def text(self, start: int = 0) -> str:
+        """The events from a place on, counted from 0, one a line."""
+        return "".join(event.text + "\n" for event in self.events[start:])
 
     def sizes(self, start: int = 0) -> Sizes:
         """The sizes of the events from a place on, counted from 0."""
