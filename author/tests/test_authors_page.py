@@ -21,7 +21,7 @@ BLOCKS = re.findall(r"^```(\w+)([^\n]*)\n(.*?)^```$", PAGE, flags=re.S | re.M)
 class Page(unittest.TestCase):
     def test_lines_are_short(self):
         for number, line in enumerate(PAGE.splitlines(), 1):
-            self.assertTrue(len(line) <= 100 or line.startswith("|"), number)
+            self.assertLessEqual(len(line), 100, number)
 
     def test_no_block_is_left_out(self):
         self.assertEqual({language for language, *_ in BLOCKS}, {"python", "book", "sh"})
