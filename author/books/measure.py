@@ -46,7 +46,7 @@ def main(rows: list[str]) -> None:
         sizes = book.sizes(start)
         units = 0 if row == "1" else units_of(book, start)
         factor = f"{before / units:.1f}" if before and units else ""
-        print(ROW.format(row, sizes.events, sizes.bytes, sizes.steps, sizes.steps_as_trees, units or "", factor), flush=True)
+        print(ROW.format(row, *sizes, units or "", factor), flush=True)
         before = units
 
 

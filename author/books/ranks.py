@@ -22,15 +22,18 @@ def add_ranks(book: Book) -> None:
     book.prove("truth", "(implies (= x 't) (!= x 'nil))")
     book.prove("naturals", "(implies (= (natp x) 't) (= (consp x) 'nil))", use=[book.axiom_at(25)])
     book.prove("ordinals", "(implies (= (consp x) 'nil) (= (ordp x) (natp x)))", unfold={"ordp": "once"})
-    book.prove("order", "(implies (= (consp x) 'nil) (= (consp y) 'nil) (= (ord< x y) (< x y)))", unfold={"ord<": "once"})
+    book.prove("order", "(implies (= (consp x) 'nil) (= (consp y) 'nil) (= (ord< x y) (< x y)))",
+               unfold={"ord<": "once"})
     book.prove("natural-twin", "(implies (= x y) (= (natp y) 't) (= (natp x) 't))")
     book.prove("rank-natural", "(= (natp (rank x)) 't)", unfold={"rank": "once"}, rules=[sum_is_natural])
-    book.prove("rank-no-pair", "(= (consp (rank x)) 'nil)", use=[book.at("naturals", x="(rank x)"), book.at("rank-natural")])
+    book.prove("rank-no-pair", "(= (consp (rank x)) 'nil)",
+               use=[book.at("naturals", x="(rank x)"), book.at("rank-natural")])
     book.prove("positive", "(= (< '0 (+ '1 a)) 't)", rules=[sum_is_natural],
                use=[book.axiom_at(28, a="'1", b="a"), book.axiom_at(37, a="(+ a '1)"), book.axiom_at(42, a="a"),
                     book.axiom_at(36, a="a")])
     book.prove("rank-order", "(= (ord< (rank x) (rank y)) (< (rank x) (rank y)))",
-               use=[book.at("order", x="(rank x)", y="(rank y)"), book.at("rank-no-pair"), book.at("rank-no-pair", x="y")])
+               use=[book.at("order", x="(rank x)", y="(rank y)"), book.at("rank-no-pair"),
+                    book.at("rank-no-pair", x="y")])
     book.prove("rank-ordinal", "(= (ordp (rank x)) 't)",
                use=[book.at("ordinals", x="(rank x)"), book.at("rank-no-pair"), book.at("rank-natural")])
     first, rest = "(rank (car x))", "(rank (cdr x))"

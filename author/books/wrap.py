@@ -13,7 +13,8 @@ from milawa_author.rules.instances import definition_axiom, instance  # noqa: E4
 
 JUDGED = "(logic.proofp x axioms thms atbl)"
 WITNESS = "(logic.provable-witness (logic.conclusion x) axioms thms atbl)"
-TEST = "(lambda (proof x axioms thms atbl) (if (logic.proofp proof axioms thms atbl) (equal (logic.conclusion proof) x) nil))"
+TEST = ("(lambda (proof x axioms thms atbl) (if (logic.proofp proof axioms thms atbl)"
+        " (equal (logic.conclusion proof) x) nil))")
 
 
 def add_wrap(book: Book) -> None:
@@ -29,7 +30,8 @@ def add_wrap(book: Book) -> None:
                use=[book.at("test"), chosen])
     opened = book.definition_at("logic.provablep", "(logic.conclusion x)", "axioms", "thms", "atbl")
     book.prove("proofs", claim("LOGIC.PROOFP"), use=[book.at("witness"), opened])
-    book.prove("claim", claim("WRAP"), use=[book.at("proofs"), book.definition_at("wrap", "x", "axioms", "thms", "atbl")])
+    book.prove("claim", claim("WRAP"),
+               use=[book.at("proofs"), book.definition_at("wrap", "x", "axioms", "thms", "atbl")])
 
 
 def make() -> Book:

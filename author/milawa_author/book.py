@@ -103,8 +103,8 @@ class Book:
     # ---- instances, for `use` and `rules` ------------------------------------------------------------------
 
     def at(self, name: str, /, **terms: str) -> Proof:
-        """An instance of a theorem of the book: `x="(cdr y)"` puts that term for X, and `as_=..` one for AS, which is no
-        name in Python.  Raises RuleError where the book has no theorem of that name, or that no such variable."""
+        """An instance of a theorem of the book: `x="(cdr y)"` puts that term for X, and `as_=..` one for AS, which is
+        no name in Python.  Raises RuleError where the book has no theorem of that name, or that no such variable."""
         return self._instance(self._lemma(name), terms)
 
     def axiom_at(self, number: int, /, **terms: str) -> Proof:
@@ -148,7 +148,8 @@ class Book:
         (`prover.ranks`); where RuleError says that it is none, give a proof of each of `owed`."""
         return self.define_all([(text, measure)], proofs)[0]
 
-    def define_all(self, functions: Iterable[tuple[str, str]], proofs: Optional[Iterable[Proof]] = None) -> list[Definition]:
+    def define_all(self, functions: Iterable[tuple[str, str]],
+                   proofs: Optional[Iterable[Proof]] = None) -> list[Definition]:
         """DEFINE-ALL from texts `(name (formals) body)`, each with its measure; DEFINE where there is one."""
         return self.define_block([self._function(text, measure) for text, measure in functions], proofs)
 

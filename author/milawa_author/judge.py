@@ -1,5 +1,5 @@
-"""A judge of books in Python: the report that `milawa check` writes, by the kernel of this package and, after a SWITCH, by
-running the book's checker.
+"""A judge of books in Python: the report that `milawa check` writes, by the kernel of this package and, after a SWITCH,
+by running the book's checker.
 
 It is for tests of the package and for who has no program at hand; what counts is what the program says.  Of the
 program's events it lacks the second profile.
@@ -48,7 +48,8 @@ class Judge:
         return "accepted" + ("" if shown is None else f" {shown}")
 
     def skip(self, form: Pair) -> None:
-        """Takes an event whose proofs were judged before, without judging them.  Raises EventError for another refusal."""
+        """Takes an event whose proofs were judged before, without judging them.  Raises EventError where it is refused
+        for another reason."""
         self._is_skipping = True
         try:
             self._event(form)

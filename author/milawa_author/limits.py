@@ -26,7 +26,8 @@ def within_depth(function: Callable) -> Callable:
         try:
             return function(*arguments, **options)
         except RecursionError:
-            raise TooDeep(function.__name__.strip("_").upper(), f"deeper than {DEPTH} calls; prove parts first") from None
+            name = function.__name__.strip("_").upper()
+            raise TooDeep(name, f"deeper than {DEPTH} calls; prove parts first") from None
         finally:
             sys.setrecursionlimit(before)
     return deep

@@ -1,5 +1,5 @@
-"""Every block of docs/AUTHORS.md is run: Python in one namespace, books by the judge in Python and the program, commands
-of the shell in a folder with the package and the program."""
+"""Every block of docs/AUTHORS.md is run: Python in one namespace, books by the judge in Python and the program,
+commands of the shell in a folder with the package and the program."""
 import contextlib
 import io
 import os

@@ -20,7 +20,8 @@ def one_of_each(book):
     ab = formula("(= a b)")
     book.verify("axiom", xx)
     return {
-        "theorem": theorem(t, formula("(= x x)")), "schema": propositional_schema(t, ab), "expansion": expansion(ab, xx),
+        "theorem": theorem(t, formula("(= x x)")), "schema": propositional_schema(t, ab),
+        "expansion": expansion(ab, xx),
         "cut": cut(expansion(ab, xx), propositional_schema(t, ab)),
         "contraction": contraction(expansion(formula("(= x x)"), xx)),
         "associativity": associativity(expansion(ab, expansion(ab, xx))),
@@ -89,13 +90,14 @@ class Methods(unittest.TestCase):
         self.refused("INDUCTION", induction, formula("(= x x)"), quote(0), [], [self.xx])
 
     def test_malformed_terms(self):
-        for text in ("(car)", "(quote)", "(quote 1 2)", "((lambda (x) y) 1)", "((lambda (x x) x) 1 2)", "((lambda (t) 1) 2)",
-                     "((lambda (x) x))", "((lambda x x) 1)", "(car . x)", "t", "nil", "7", "(nothing x)", "((car) x)",
+        for text in ("(car)", "(quote)", "(quote 1 2)", "((lambda (x) y) 1)", "((lambda (x x) x) 1 2)",
+                     "((lambda (t) 1) 2)", "((lambda (x) x))", "((lambda x x) 1)", "(car . x)", "t", "nil", "7", "(nothing x)",
+                     "((car) x)",
                      "((lambda (x) (car x x)) y)"):
             with self.assertRaises(RuleError, msg=text):
                 self.theory.check_term(read(text))
-        for text in ("x", "(por* x y)", "(pequal* x)", "(pnot* (pequal* x y) (pequal* x y))", "(pequal* x (por* y z))", "7",
-                     "(pnot* . x)", "(pnot* x)"):
+        for text in ("x", "(por* x y)", "(pequal* x)", "(pnot* (pequal* x y) (pequal* x y))", "(pequal* x (por* y z))",
+                     "7", "(pnot* . x)", "(pnot* x)"):
             with self.assertRaises(RuleError, msg=text):
                 self.theory.check_formula(read(text))
 

@@ -3,8 +3,8 @@ import unittest
 from unittest import mock
 
 import support  # noqa: F401
-from milawa_author import Book, EventError, FormError, RuleError, TextError, Theory, TooDeep, Unproved, formula, prove, term
-from milawa_author import limits
+from milawa_author import (Book, EventError, FormError, RuleError, TextError, Theory, TooDeep, Unproved, formula,
+                           limits, prove, term)
 from milawa_author.logic.machine import Machine
 from milawa_author.logic.objects import make_list
 from milawa_author.logic.terms import equation, quote
@@ -53,8 +53,8 @@ class Prover(unittest.TestCase):
         for text in ("(= (nothing x) x)", "(= (twice x y) x)"):
             with self.assertRaises(RuleError, msg=text):
                 prove(book.theory, text)
-        for text in ("(=)", "(= x)", "(not)", "(= (quote) x)", "(let (x) x)", "(let ((x)) x)", "((lambda x) y)", "(first)",
-                     "(cond (x))", "(a . b)"):
+        for text in ("(=)", "(= x)", "(not)", "(= (quote) x)", "(let (x) x)", "(let ((x)) x)", "((lambda x) y)",
+                     "(first)", "(cond (x))", "(a . b)"):
             with self.assertRaises(FormError, msg=text):
                 prove(book.theory, text)
         with self.assertRaises(TextError):

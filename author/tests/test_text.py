@@ -33,8 +33,8 @@ class Text(unittest.TestCase):
         self.assertEqual(printed(read("('a |b| c . 007)")), "((QUOTE A) |b| C . 7)")
 
     def test_faults(self):
-        for text in ("(", ")", "(a . b c)", "12a", "#1#", "(a .)", "\"a\"", "(. a)", "a|b|", "a#1=b", "|a|b", "||", "...",
-                     "(#1=a #1=b)", "#1=(a #1#)", "1" * 5000, "(a . . b)", "'", "a b"):
+        for text in ("(", ")", "(a . b c)", "12a", "#1#", "(a .)", "\"a\"", "(. a)", "a|b|", "a#1=b", "|a|b", "||",
+                     "...", "(#1=a #1=b)", "#1=(a #1#)", "1" * 5000, "(a . . b)", "'", "a b"):
             with self.assertRaises(TextError, msg=text):
                 read(text)
 

@@ -10,8 +10,8 @@ from ..logic.kernel import Proof
 from .texts import prove_along
 
 NAMES = ("if", "equal", "consp", "cons", "car", "cdr", "logic.provablep", "ladder.all-provablep", "logic.formulap",
-         "logic.por", "logic.pnot", "logic.pequal", "logic.termp", "logic.len", "+", "rank", "ord<", "<", "natp", "ordp",
-         "logic.flag-termp", "symbolp", "ladder.core", "logic.lookup")
+         "logic.por", "logic.pnot", "logic.pequal", "logic.termp", "logic.len", "+", "rank", "ord<", "<", "natp",
+         "ordp", "logic.flag-termp", "symbolp", "ladder.core", "logic.lookup")
 CACHED = "(ladder.cached names atbl)"
 
 
@@ -54,7 +54,8 @@ def verify_forms(book: Book) -> None:
     def termp(x: str) -> list[Proof]:
         return _both(book, "logic.termp", x) + [book.at("TERMP-OF-CACHED", flag="'term", x=x)]
 
-    prove_along(book, "formulap-of-cached", _same("logic.formulap", "x"), "x", [{"x": "(second x)"}, {"x": "(third x)"}],
+    prove_along(book, "formulap-of-cached", _same("logic.formulap", "x"), "x",
+                [{"x": "(second x)"}, {"x": "(third x)"}],
                 use=_both(book, "logic.formulap", "x") + termp("(second x)") + termp("(third x)"))
     prove_along(book, "sigmap-of-cached", _same("logic.sigmap", "x"), "x", [{"x": "(cdr x)"}],
                 use=_both(book, "logic.sigmap", "x") + termp("(cdr (car x))"))
@@ -80,7 +81,8 @@ def verify_cached(book: Book) -> None:
     verify_forms(book)
     verify_steps(book)
     steps = [book.at("STEP-IS-CORE"), book.at("STEP-IS-CORE", atbl=CACHED),
-             book.at("CORE-OF-CACHED", m="(car x)", c="(second x)", as_="(logic.conclusions (third x))", e="(fourth x)")]
+             book.at("CORE-OF-CACHED", m="(car x)", c="(second x)", as_="(logic.conclusions (third x))",
+                     e="(fourth x)")]
     prove_along(book, "proofp-of-cached", _same("logic.flag-proofp", "flag", "x", "axioms", "thms"), "x",
                 [{"flag": "'list", "x": "(third x)"}, {"flag": "'proof", "x": "(car x)"},
                  {"flag": "'list", "x": "(cdr x)"}],

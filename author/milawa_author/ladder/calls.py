@@ -28,7 +28,8 @@ def verify_lengths(book: Book) -> None:
 def verify_disjuncts(book: Book) -> None:
     """LOGIC.FEQ, which makes the formula of FUNCTIONAL-EQUALITY: its last disjunct, and that it is a formula."""
     feq, both = book.definition_at("logic.feq", "xs", "ys", "e"), {"xs": "(cdr xs)", "ys": "(cdr ys)"}
-    prove_along(book, "last-of-feq", "(implies (equal (car e) 'pequal*) (= (logic.last-disjunct (logic.feq xs ys e)) e))",
+    prove_along(book, "last-of-feq",
+                "(implies (equal (car e) 'pequal*) (= (logic.last-disjunct (logic.feq xs ys e)) e))",
                 "xs", [both], unfold=["logic.por"],
                 use=[feq, book.definition_at("logic.last-disjunct", "(logic.feq xs ys e)"), book.axiom_at(12, x="e")])
     lists = "(logic.flag-termp 'list xs atbl) (logic.flag-termp 'list ys atbl) (= (logic.len xs) (logic.len ys))"

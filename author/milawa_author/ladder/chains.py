@@ -68,7 +68,8 @@ def verify_chains(book: Book) -> None:
                 "as", [{"as": "(cdr as)", "x": third}, {"as": "(cdr as)", "x": second}], rules=rules, depth=9,
                 use=[book.definition_at("ladder.chainp", "x", "y", "as", "p"), book.at("PROVABLE-STRIP", f="(car as)"),
                      book.at("FIRST-OF-PROVABLES"), book.at("REST-OF-PROVABLES"),
-                     book.at("PROVABLE-REFLEXIVITY", a="x"), book.at("PROVABLE-EXPANSION", a="(logic.pequal x x)", b="p"),
+                     book.at("PROVABLE-REFLEXIVITY", a="x"),
+                     book.at("PROVABLE-EXPANSION", a="(logic.pequal x x)", b="p"),
                      book.at("PROVABLE-DISJOINED-COMMUTE-PEQUAL", p="p", a=second, b="x"), *transitive])
     book.prove("term-of-chain",
                f"(implies {is_formula('p')} {all_provable('as')} (consp as) (ladder.chainp x y as p) {is_term('x')})",
@@ -96,7 +97,8 @@ def add_disjoined_chain(checker: Checker) -> None:
                        unfold=["ladder.disjoined-chain-okp"],
                        use=[book.at("PROVABLE-CHAIN", p=p, x=x, y=y), book.at("TERM-OF-CHAIN", p=p, x=x, y=y),
                             book.at("FORMULA-OF-HAS-UNDER", p=p)])
-    checker.add_step("DISJOINED-CHAIN", "(if e nil (ladder.disjoined-chain-okp c as atbl))", disjoined_chain_test, sound)
+    checker.add_step("DISJOINED-CHAIN", "(if e nil (ladder.disjoined-chain-okp c as atbl))", disjoined_chain_test,
+                     sound)
 
 
 def add_plain_chain(checker: Checker) -> None:

@@ -103,7 +103,7 @@ class Checker:
                 continue
             below, env = self.proved.get(step.method), {}
             if below is None:
-                raise RuleError(scheme.name, f"its derivation uses {step.method}, which the checker has no theorem of yet")
+                raise RuleError(scheme.name, f"its derivation uses {step.method}; add that to the checker first")
             for pattern, p in zip(below.premises, step.subproofs):
                 below.match(pattern, p.conclusion, env)
             below.match(below.conclusion, step.conclusion, env)

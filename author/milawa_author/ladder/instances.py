@@ -61,7 +61,8 @@ def verify_term_substitution(book: Book) -> None:
                 use=[book.definition_at("logic.sigmap", "s", "atbl"), book.definition_at("logic.lookup", "x", "s")])
     image_of_list = image.format("'list", "x")
     prove_along(book, "len-of-substitute", f"(= (logic.len {image_of_list}) (logic.len x))", "x", [{"x": "(cdr x)"}],
-                use=[book.definition_at("logic.flag-substitute", "'list", "x", "s"), book.definition_at("logic.len", "x")],
+                use=[book.definition_at("logic.flag-substitute", "'list", "x", "s"),
+                     book.definition_at("logic.len", "x")],
                 unfold=["logic.len"])
     whole = image.format("flag", "x")
     prove_along(book, "term-of-substitute",
@@ -80,7 +81,8 @@ def verify_substitution(book: Book) -> None:
     verify_term_substitution(book)
     terms = []
     for half in ("(second a)", "(third a)"):
-        terms += [book.at("TERM-OF-SUBSTITUTE", flag="'term", x=half), book.definition_at("logic.substitute", half, "s"),
+        terms += [book.at("TERM-OF-SUBSTITUTE", flag="'term", x=half),
+                  book.definition_at("logic.substitute", half, "s"),
                   book.definition_at("logic.termp", half, "atbl"),
                   book.definition_at("logic.termp", f"(logic.substitute {half} s)", "atbl")]
     image = is_formula("(logic.formula-substitute a s)")
@@ -92,7 +94,7 @@ def verify_substitution(book: Book) -> None:
 
 
 def verify_appeals(book: Book) -> None:
-    """PROVABLE-AXIOM, PROVABLE-THEOREM and PROVABLE-INSTANTIATION, from the methods AXIOM, THEOREM and INSTANTIATION."""
+    """PROVABLE-AXIOM, PROVABLE-THEOREM and PROVABLE-INSTANTIATION, each from the method of that name."""
     nothing = book.at("ALL-PROVABLE-OF-NIL")
     for method, pool in (("axiom", "axioms"), ("theorem", "thms")):
         book.prove(f"provable-{method}", f"(implies (logic.memberp c {pool}) {is_formula('c')} {provable('c')})",

@@ -1,7 +1,7 @@
 """Rules that take a clause and refute its literals in one step, as tests in a book, proved sound.
 
  - UNIT: from a clause K and one premise for each literal of a list, conclude C.  Each part of K is one of the literals
-   or stands in C; each premise says `not L` (or M, where L is `not M`) or a part of C.  Extras are the list of literals.
+   or stands in C; each premise says `not L` (or M, where L is `not M`) or a part of C.  Extras are the literals.
  - LEMMA: the same, K being an instance of an axiom or theorem that needs no proof of its own.  Extras are
    `(F s literals)`.
 """
@@ -81,7 +81,8 @@ def verify_together(book: Book) -> None:
     """TOGETHER, the disjunction of a list and a formula: when it is a formula, and what it absorbs."""
     rules, together = formula_rules(book), book.definition_at("ladder.together", "ls", "c")
     unit = book.definition_at("ladder.unitp", "ls", "as", "c", "k")
-    prove_along(book, "inside-together", f"(ladder.insidep c {WHOLE})", "ls", [{"ls": "(cdr ls)"}], rules=rules, depth=9,
+    prove_along(book, "inside-together", f"(ladder.insidep c {WHOLE})", "ls", [{"ls": "(cdr ls)"}], rules=rules,
+                depth=9,
                 use=[together, book.definition_at("ladder.insidep", "c", WHOLE)], unfold=["logic.por"])
     prove_along(book, "formula-together",
                 f"(implies (ladder.unitp ls as c k) {is_formula('k')} {is_formula('c')} {is_formula(WHOLE)})",

@@ -55,7 +55,8 @@ class Proof:
 _TWELVE = frozenset(METHODS)
 
 
-def _make(theory: Theory, method: str, conclusion: Pair, subproofs: Sequence[Proof] = (), extras: Object = "NIL") -> Proof:
+def _make(theory: Theory, method: str, conclusion: Pair, subproofs: Sequence[Proof] = (),
+          extras: Object = "NIL") -> Proof:
     for proof in subproofs:
         _want(proof.theory is theory, method, "a premise is proved over another theory", proof.conclusion)
     theory.check_formula(conclusion, method)
@@ -186,7 +187,7 @@ def induction(formula: Pair, measure: Object, cases: Sequence[Case], proofs: Seq
     wanted = induction_premises(formula, measure, cases)
     _want(len(wanted) == len(proofs), "INDUCTION", f"{len(wanted)} premises are wanted, {len(proofs)} given")
     for proof, premise in zip(proofs, wanted):
-        _want(proof.conclusion is premise, "INDUCTION", f"a premise is {quotation(proof.conclusion)}, wanted is", premise)
+        _want(proof.conclusion is premise, "INDUCTION", f"in place of {quotation(proof.conclusion)} is wanted", premise)
     theory = proofs[0].theory
     for q, substitutions in cases:
         theory.check_formula(q, "INDUCTION")
@@ -201,7 +202,8 @@ def induction(formula: Pair, measure: Object, cases: Sequence[Case], proofs: Seq
 
 # ---- methods of a later checker ----------------------------------------------------------------------------
 
-def further(theory: Theory, method: str, conclusion: Pair, subproofs: Iterable[Proof] = (), extras: Object = "NIL") -> Proof:
+def further(theory: Theory, method: str, conclusion: Pair, subproofs: Iterable[Proof] = (),
+            extras: Object = "NIL") -> Proof:
     """A step by a method that the running checker has beyond the twelve."""
     subproofs = list(subproofs)
     test = theory.methods.get(method)

@@ -67,12 +67,13 @@ class _Reader:
         self.put(result)
 
     def bare(self, token: str) -> None:
+        place = self.open[-1] if self.open else ("none",)
         if token.isdigit():
             if len(token) > 4000:
                 raise TextError("a natural of more than 4,000 digits; naturals of a book are below 2^128")
             self.put(int(token))
-        elif token == "." and self.open and self.open[-1][0] == "list" and self.open[-1][1] and self.open[-1][2] is None:
-            self.open[-1][2] = "dot"
+        elif token == "." and place[0] == "list" and place[1] and place[2] is None:
+            place[2] = "dot"
         elif _NOT_A_SYMBOL.match(token):
             raise TextError(f"{token} is neither a natural nor a symbol; a name of that form stands between bars")
         else:

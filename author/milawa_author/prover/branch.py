@@ -7,7 +7,8 @@ from ..logic import tables
 from ..logic.kernel import Proof, base_eval
 from ..logic.objects import Object, Pair, items
 from ..logic.substitution import substitute
-from ..logic.terms import NIL, Substitution, call, equation, is_call, is_constant, is_lambda_call, is_negation, lambda_parts, left
+from ..logic.terms import (NIL, Substitution, call, equation, is_call, is_constant, is_lambda_call, is_negation,
+                           lambda_parts, left)
 from ..logic.theory import Theory
 from ..rules.instances import definition_instance, instance
 from .elimination import Eliminate
@@ -17,6 +18,7 @@ from .knowledge import Knowledge
 Unfold = Union[Iterable[str], Mapping[str, str]]        # names of definitions, or names with a policy
 Rules = Iterable[tuple[Pair, Proof]]                    # patterns of terms, each with a lemma
 POLICIES = ("always", "decided", "once")
+MOST_UNFOLDINGS = 300           # within one another; a definition that always unfolds to itself ends by this
 
 
 class Options:
@@ -43,15 +45,21 @@ class Options:
 
 
 def default_policy(theory: Theory, name: str) -> str:
-    """Definitions that do not call themselves are always unfolded, others where their first test is decided."""
-    body = theory.definitions[name].body
-    work = [body]
+    """Definitions that do not call themselves, by others either, are always unfolded; others where their first test is
+    decided, or once where they do not begin with a test."""
+    seen, work = set(), [theory.definitions[name].body]
     while work:
         t = work.pop()
-        if isinstance(t, Pair) and not is_constant(t):
-            if t.first == name and is_call(body, "IF"):
-                return "decided"
-            work += list(items(t)[1:]) + ([lambda_parts(t)[1]] if is_lambda_call(t) else [])
+        if not isinstance(t, Pair) or is_constant(t) or t in seen:
+            continue
+        seen.add(t)
+        if t.first == name:
+            return "decided" if is_call(theory.definitions[name].body, "IF") else "once"
+        work += items(t)[1:]
+        if is_lambda_call(t):
+            work.append(lambda_parts(t)[1])
+        elif t.first in theory.definitions:
+            work.append(theory.definitions[t.first].body)
     return "always"
 
 
@@ -167,7 +175,7 @@ class Branch(Knowledge):
             definition = self.theory.definitions[t.first]
             actuals = dict(zip(definition.formals, items(t)[1:]))
             policy = self.options.unfold[t.first]
-            if policy == "once" and self.generation[t] > 0:
+            if self.generation[t] > (0 if policy == "once" else MOST_UNFOLDINGS):
                 continue
             if policy == "decided" and not self.decided(substitute(items(definition.body)[1], actuals)):
                 continue

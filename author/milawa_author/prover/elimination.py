@@ -5,8 +5,8 @@ from ..errors import RuleError
 from ..logic.kernel import Proof, associativity, contraction, cut, expansion, further
 from ..logic.objects import Pair, items, make_list
 from ..logic.terms import disjunction, is_negation, left
-from ..rules.propositional import (commute_or, disjoined_left_expansion, disjoined_modus_ponens, disjoined_modus_ponens_2,
-                                   modus_ponens, modus_ponens_2)
+from ..rules.propositional import (commute_or, disjoined_left_expansion, disjoined_modus_ponens,
+                                   disjoined_modus_ponens_2, modus_ponens, modus_ponens_2)
 from .facts import Fact
 
 

@@ -5,7 +5,8 @@ from collections.abc import Sequence
 from ..errors import RuleError
 from ..logic.objects import Object, Pair, items
 from ..logic.substitution import substitute
-from ..logic.terms import (T, call, disjunction, equation, holds, is_call, is_constant, is_lambda_call, lambda_parts, nil)
+from ..logic.terms import (T, call, disjunction, equation, holds, is_call, is_constant, is_lambda_call, lambda_parts,
+                           nil)
 
 Tests = tuple[Pair, ...]
 

@@ -103,7 +103,7 @@ def _rank_proof(book: "Book", owed: Pair, t: Pair) -> Proof:
         steps.append(part.first)
         part = items(part)[1]
     if part is not whole or not steps or nil(call("CONSP", whole)) not in literals(owed):
-        raise RuleError("DEFINE", "no part of the argument under a test CONSP; give proofs of the obligations by `proofs`", owed)
+        raise RuleError("DEFINE", "no part of the argument under a test CONSP; give proofs by `proofs`", owed)
     inner = steps.pop()
     proof = instance(book.lemmas["ORD<-OF-" + inner], {"X": whole})
     part = call(inner, whole)

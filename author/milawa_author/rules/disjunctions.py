@@ -159,7 +159,7 @@ def resolve(first: Proof, second: Proof, literal: Pair) -> Proof:
     f, g, theory = first.conclusion, second.conclusion, first.theory
     opposite = negation(literal)
     if not is_inside(literal, f) or not is_inside(opposite, g):
-        raise RuleError("RESOLVE", "the literal does not stand in the first, or its negation not in the second", literal)
+        raise RuleError("RESOLVE", "the first lacks the literal, or the second its negation", literal)
     a, b = without(f, literal), without(g, opposite)
     if a is None and b is None:
         raise RuleError("RESOLVE", "nothing is left", literal)

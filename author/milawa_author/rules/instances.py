@@ -16,7 +16,8 @@ def instance(proof: Proof, substitution: Substitution) -> Proof:
         conclusion = substitute(proof.conclusion, substitution)
         if conclusion is proof.conclusion:
             return proof
-        return further(theory, "INSTANCE", conclusion, [], make_list(proof.conclusion, substitution_object(substitution)))
+        extras = make_list(proof.conclusion, substitution_object(substitution))
+        return further(theory, "INSTANCE", conclusion, [], extras)
     return instantiation(proof, substitution)
 
 

@@ -69,8 +69,8 @@ def tautology(theory: Theory, goal: Pair) -> Proof:
     def cases(open_ones: list[Pair], choice: Choice, falsified: list[Pair]) -> Proof:
         v = value(goal, choice)
         if v is False:
-            true = [str(e) for e, chosen in choice.items() if chosen]
-            raise RuleError("TAUTOLOGY", f"false where of its equations just these hold: {', '.join(true) or 'none'}", goal)
+            true = ", ".join(str(e) for e, chosen in choice.items() if chosen)
+            raise RuleError("TAUTOLOGY", f"false where of its equations just these hold: {true or 'none'}", goal)
         if v is True:
             return _decided(theory, goal, True, choice, disjunction(*falsified))        # context or goal
         e, others = open_ones[0], open_ones[1:]
