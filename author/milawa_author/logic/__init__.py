@@ -1,0 +1,1 @@
+"""What the program knows: objects, text, terms, formulas, theories, proofs by the twelve methods, runs."""

@@ -1,0 +1,91 @@
+"""Objects of the logic: naturals (int), symbols (str) and pairs.
+
+Symbols are in upper case as a rule, since the reader raises letters.  Pairs are made once each, so two
+pairs are equal exactly where they are the same Python object; none is ever given back.
+"""
+import re
+from sys import intern
+from typing import Optional, Union
+
+_SYMBOL = re.compile(r"[ -\[\]-{}~]+\Z")        # bytes 32 to 126 other than \ and |
+
+
+class Pair:
+    """A pair of two objects, `first` and `rest`; made by `cons` alone."""
+
+    __slots__ = ("first", "rest", "_items")
+
+    def __repr__(self):
+        from .text import write
+        return write(self)
+
+
+Object = Union[int, str, Pair]
+
+_pairs: dict[tuple, Pair] = {}
+_symbols: set[str] = set()                      # those that were checked
+
+
+def _check(x: object) -> None:
+    if isinstance(x, Pair) or x in _symbols:
+        return
+    if isinstance(x, str) and _SYMBOL.match(x):
+        _symbols.add(x)
+        return
+    if not isinstance(x, int) or isinstance(x, bool) or x < 0:
+        raise TypeError(f"{x!r} is no object: a natural (int), the name of a symbol (str) or a Pair is wanted")
+
+
+def cons(first: Object, rest: Object) -> Pair:
+    """The pair of two objects.  Raises TypeError where one is no object."""
+    key = (first, rest)
+    pair = _pairs.get(key)
+    if pair is None:
+        _check(first)
+        _check(rest)
+        pair = Pair()
+        pair.first = intern(first) if isinstance(first, str) else first    # equal symbols are one object too
+        pair.rest = intern(rest) if isinstance(rest, str) else rest
+        pair._items = None
+        _pairs[key] = pair
+    return pair
+
+
+def make_list(*members: Object) -> Object:
+    """The proper list of the members."""
+    result: Object = "NIL"
+    for member in reversed(members):
+        result = cons(member, result)
+    return result
+
+
+def items(x: Object) -> Optional[tuple]:
+    """The members of a proper list, or None where x is no proper list."""
+    if x == "NIL":
+        return ()
+    if not isinstance(x, Pair):
+        return None
+    if x._items is None:
+        members, rest = [], x
+        while isinstance(rest, Pair):
+            members.append(rest.first)
+            rest = rest.rest
+        x._items = tuple(members) if rest == "NIL" else False
+    return x._items or None
+
+
+def first(x: Object) -> Object:
+    """CAR, which is NIL of what is no pair."""
+    return x.first if isinstance(x, Pair) else "NIL"
+
+
+def rest(x: Object) -> Object:
+    """CDR, which is NIL of what is no pair."""
+    return x.rest if isinstance(x, Pair) else "NIL"
+
+
+def member(x: Object, place: int) -> Object:
+    """The member of a list at a place counted from 0, by CAR and CDR."""
+    for _ in range(place):
+        x = rest(x)
+    return first(x)

@@ -1,0 +1,1 @@
+"""Finding proofs: cases and equality, values of ground terms, obligations, induction."""
