@@ -16,6 +16,7 @@ from ..book import Book
 from ..errors import RuleError
 from ..logic.kernel import Proof, theorem
 from ..logic.measures import distinct_steps
+from ..logic.notation import NTH
 from ..logic.terms import equation
 from ..logic.theory import Test, Theory
 from ..rules import disjunctions, equality  # noqa: F401  (what is in SCHEMES)
@@ -73,7 +74,7 @@ class Checker:
         paths = {}
         places(scheme.conclusion, "c", paths)
         for k, p in enumerate(scheme.premises):
-            places(p, f"({('first', 'second', 'third')[k]} as)", paths)
+            places(p, f"({NTH[k].lower()} as)", paths)
         # the letters are told from the step function's arguments by a dot
         bindings = " ".join(f"({l.lower()}. {path})" for l, path in paths.items())
         conclusion = dotted_letters(encode(scheme.conclusion), paths)

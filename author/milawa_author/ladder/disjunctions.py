@@ -12,7 +12,6 @@ from ..logic.kernel import Proof
 from ..logic.objects import Object, Pair, items
 from ..logic.terms import disjunction, negation
 from ..rules.disjunctions import covers, is_inside
-from ..rules.instances import primitive_axiom
 from .checkers import Checker
 from .texts import all_provable, formula_rules, is_formula, list_rules, provable, prove_along
 
@@ -92,7 +91,7 @@ def add_disjunction_rules(checker: Checker) -> None:
     sound = book.prove("subset-okp-is-sound",
                        f"(implies (ladder.subset-okp c as e atbl) {all_provable('as')} {provable('c')})",
                        unfold=["ladder.subset-okp"], rules=rules, depth=9,
-                       use=[primitive_axiom(book.theory, 14, x="AS"), book.at("PROVABLE-COVERED", a="(first as)"),
+                       use=[book.axiom_at(14, x="as"), book.at("PROVABLE-COVERED", a="(first as)"),
                             book.at("FORMULA-COVERED", a="c", c="(first as)")])
     checker.add_step("SUBSET", "(ladder.subset-okp c as e atbl)", subset_test, sound)
     a, b, l = "(first as)", "(second as)", "(first e)"
