@@ -264,7 +264,7 @@ module _ {A : Type 0} (objects : A → List Object) (lines : A → List ℕ) (co
       ((y : Object) → Gives (objects k) y t → (given : List Object) → Answers lines answered k given new (given ++ y ∷ [])) →
       count new ≡ count k + 1 → HasTaken objects lines count answered (takings.Bytes n) o r piece new q
   datum_taken s new says answers counted =
-      let none = taking_none o r piece follows known in
+      let none : Taking objects lines count answered o r piece o r 0 = taking_none o r piece follows known in
       let e : 0 + n ≡ n = omega arith in (
         subst (λ m. Taking objects lines count answered o r piece new q m) e (taking_more none k kept same t n q s new says answers counted),
         subst (λ m. work q (drop m piece) < work r piece) e (taking_next none k kept same t n q s says).1,
@@ -273,15 +273,21 @@ module _ {A : Type 0} (objects : A → List Object) (lines : A → List ℕ) (co
   pub rest_taken : IsStanding (objects o) r → 0 < length piece →
       ((g : List ℕ) (given : List Object) → Stands (objects o) r g given → Says (objects k) r g given piece steps.More n q) →
       HasTaken objects lines count answered (takings.Bytes (length piece)) o r piece k q
-  rest_taken s some says = taken_rest (taking_none o r piece follows known) k kept same t n q s some says
+  rest_taken s some says =
+      let none : Taking objects lines count answered o r piece o r 0 = taking_none o r piece follows known in
+      taken_rest none k kept same t n q s some says
 
   pub fault_taken : (kind : SyntaxKind) (offset : ℕ) →
       ((g : List ℕ) (given : List Object) → Stands (objects o) r g given → Says (objects k) r g given piece (steps.Syntax kind offset) n q) →
       HasTaken objects lines count answered (takings.Fault kind offset) o r piece k q
-  fault_taken kind offset says = taken_fault (taking_none o r piece follows known) k kept same t n q kind offset says
+  fault_taken kind offset says =
+      let none : Taking objects lines count answered o r piece o r 0 = taking_none o r piece follows known in
+      taken_fault none k kept same t n q kind offset says
 
   pub known_taken : HasAnswered answered k
   known_taken = known_more o k (λ given. (given, kept given)) known
 
   pub datum_due : (g : List ℕ) (given : List Object) → Stands (objects o) r g given → (l : A) → lines l ≡ lines k → AreDueFirst lines answered o given (AreFirst (g ++ piece)) l
-  datum_due = taken_due (taking_none o r piece follows known) k kept same t n q
+  datum_due =
+      let none : Taking objects lines count answered o r piece o r 0 = taking_none o r piece follows known in
+      taken_due none k kept same t n q

@@ -141,10 +141,12 @@ fn answer_piece<A: Answering, K: Sink>(
     while at < piece.len() {
         let taken = take_piece(answering, reader, &piece[at..]);
         write_lines(answering, sink)?;
-        match taken {
-            Ok(Taken::Bytes(n)) => at += n,
-            Ok(Taken::Fault(kind, offset)) => return Ok(Some((kind, offset))),
-            Err(Memory) => return Err(Status::Memory),
+        let Ok(part) = taken else {
+            return Err(Status::Memory);
+        };
+        match part {
+            Taken::Bytes(n) => at += n,
+            Taken::Fault(kind, offset) => return Ok(Some((kind, offset))),
         }
     }
     Ok(None)

@@ -1,8 +1,7 @@
 -- What is taken of the piece is written before more of it is.
-use Rattle.std.proofs.Common.{◌∙◌, ◌-◌, ◌++◌, IfOk, OnOk, inl, inr, refl, subst, take, drop, length}
+use Rattle.std.proofs.Common.{◌∙◌, ◌-◌, ◌++◌, inl, inr, refl, subst, take, drop, length}
 use Rattle.std.proofs.lemmas.Result.{err_from_is_err_and}
 use Rattle.mw_port.specs.Ports.{Rises}
-use Rattle.mw_read.specs.Feeding.{IsAwaiting}
 use Rattle.mw_read.proofs.Beginning.{rest_is}
 use Rattle.mw_book.specs.Answering.{HasTaken, AreFirst, AreDueFirst}
 use Rattle.mw_book.specs.declared.reading.Taken.TheVariants as takings
@@ -35,11 +34,11 @@ returns-in_err-write_lines-clause-stops g c =
 pub loop-at-preserved : goal.loop-at-preserved
 loop-at-preserved g c =
     let taken =
-    subst (λ u. HasTaken g.A.Answering.objects g.A.Answering.unwritten g.A.Answering.count g.A.Answering.answered (takings.Bytes c.in-Ok-Bytes.n) c.loop-at.answering c.loop-at.reader.parser u c.take_piece-taken.new.answering c.take_piece-taken.new.reader.parser) (rest_is c.loop-at.at c.args.piece.now)
-    (subst (λ r. IfOk r (λ t. HasTaken g.A.Answering.objects g.A.Answering.unwritten g.A.Answering.count g.A.Answering.answered t c.loop-at.answering c.loop-at.reader.parser (take (length c.args.piece.now - c.loop-at.at) (drop c.loop-at.at c.args.piece.now)) c.take_piece-taken.new.answering c.take_piece-taken.new.reader.parser)) c.in-Ok-Bytes.is c.take_piece-taken.ensures.takes) in
+    subst (λ u. HasTaken g.A.Answering.objects g.A.Answering.unwritten g.A.Answering.count g.A.Answering.answered (takings.Bytes c.in-Bytes.n) c.loop-at.answering c.loop-at.reader.parser u c.take_piece-taken.new.answering c.take_piece-taken.new.reader.parser) (rest_is c.loop-at.at c.args.piece.now)
+    (subst (λ t. HasTaken g.A.Answering.objects g.A.Answering.unwritten g.A.Answering.count g.A.Answering.answered t c.loop-at.answering c.loop-at.reader.parser (take (length c.args.piece.now - c.loop-at.at) (drop c.loop-at.at c.args.piece.now)) c.take_piece-taken.new.answering c.take_piece-taken.new.reader.parser) c.in-Bytes.is c.in-Ok.ensures.takes) in
     record {
-      writing = (writing_more c.loop-at.invariant.writing c.take_piece-taken.new.answering c.write_lines.new.answering c.take_piece-taken.new.reader.parser (g.K.Sink.taken c.write_lines.new.sink) c.in_ok-write_lines.ensures.written c.write_lines.ensures.objects c.write_lines.ensures.count c.write_lines.ensures.answered c.write_lines.ensures.none_left c.in-Ok-Bytes.n taken).0;
-      awaits = subst (λ r. OnOk r (IsAwaiting c.take_piece-taken.new.reader)) c.in-Ok-Bytes.is c.take_piece-taken.ensures.awaits;
+      writing = (writing_more c.loop-at.invariant.writing c.take_piece-taken.new.answering c.write_lines.new.answering c.take_piece-taken.new.reader.parser (g.K.Sink.taken c.write_lines.new.sink) c.in_ok-write_lines.ensures.written c.write_lines.ensures.objects c.write_lines.ensures.count c.write_lines.ensures.answered c.write_lines.ensures.none_left c.in-Bytes.n taken).0;
+      awaits = c.in-Ok.ensures.awaits;
       steady = c.in_ok-write_lines.ensures.steady ∙ c.loop-at.invariant.steady;
       enough = c.in_ok-write_lines.ensures.enough ∙ c.loop-at.invariant.enough;
     }
@@ -47,19 +46,19 @@ loop-at-preserved g c =
 pub loop-at-smaller : goal.loop-at-smaller
 loop-at-smaller g c =
     let taken =
-    subst (λ u. HasTaken g.A.Answering.objects g.A.Answering.unwritten g.A.Answering.count g.A.Answering.answered (takings.Bytes c.in-Ok-Bytes.n) c.loop-at.answering c.loop-at.reader.parser u c.take_piece-taken.new.answering c.take_piece-taken.new.reader.parser) (rest_is c.loop-at.at c.args.piece.now)
-    (subst (λ r. IfOk r (λ t. HasTaken g.A.Answering.objects g.A.Answering.unwritten g.A.Answering.count g.A.Answering.answered t c.loop-at.answering c.loop-at.reader.parser (take (length c.args.piece.now - c.loop-at.at) (drop c.loop-at.at c.args.piece.now)) c.take_piece-taken.new.answering c.take_piece-taken.new.reader.parser)) c.in-Ok-Bytes.is c.take_piece-taken.ensures.takes) in
-    (writing_more c.loop-at.invariant.writing c.take_piece-taken.new.answering c.write_lines.new.answering c.take_piece-taken.new.reader.parser (g.K.Sink.taken c.write_lines.new.sink) c.in_ok-write_lines.ensures.written c.write_lines.ensures.objects c.write_lines.ensures.count c.write_lines.ensures.answered c.write_lines.ensures.none_left c.in-Ok-Bytes.n taken).1
+    subst (λ u. HasTaken g.A.Answering.objects g.A.Answering.unwritten g.A.Answering.count g.A.Answering.answered (takings.Bytes c.in-Bytes.n) c.loop-at.answering c.loop-at.reader.parser u c.take_piece-taken.new.answering c.take_piece-taken.new.reader.parser) (rest_is c.loop-at.at c.args.piece.now)
+    (subst (λ t. HasTaken g.A.Answering.objects g.A.Answering.unwritten g.A.Answering.count g.A.Answering.answered t c.loop-at.answering c.loop-at.reader.parser (take (length c.args.piece.now - c.loop-at.at) (drop c.loop-at.at c.args.piece.now)) c.take_piece-taken.new.answering c.take_piece-taken.new.reader.parser) c.in-Bytes.is c.in-Ok.ensures.takes) in
+    (writing_more c.loop-at.invariant.writing c.take_piece-taken.new.answering c.write_lines.new.answering c.take_piece-taken.new.reader.parser (g.K.Sink.taken c.write_lines.new.sink) c.in_ok-write_lines.ensures.written c.write_lines.ensures.objects c.write_lines.ensures.count c.write_lines.ensures.answered c.write_lines.ensures.none_left c.in-Bytes.n taken).1
 
-pub returns-in-Ok-Fault-clause-written : goal.returns-in-Ok-Fault-clause-written
-returns-in-Ok-Fault-clause-written g c =
+pub returns-in-Fault-clause-written : goal.returns-in-Fault-clause-written
+returns-in-Fault-clause-written g c =
     let taken =
-    subst (λ u. HasTaken g.A.Answering.objects g.A.Answering.unwritten g.A.Answering.count g.A.Answering.answered (takings.Fault c.in-Ok-Fault.kind c.in-Ok-Fault.offset) c.loop-at.answering c.loop-at.reader.parser u c.take_piece-taken.new.answering c.take_piece-taken.new.reader.parser) (rest_is c.loop-at.at c.args.piece.now)
-    (subst (λ r. IfOk r (λ t. HasTaken g.A.Answering.objects g.A.Answering.unwritten g.A.Answering.count g.A.Answering.answered t c.loop-at.answering c.loop-at.reader.parser (take (length c.args.piece.now - c.loop-at.at) (drop c.loop-at.at c.args.piece.now)) c.take_piece-taken.new.answering c.take_piece-taken.new.reader.parser)) c.in-Ok-Fault.is c.take_piece-taken.ensures.takes) in
-    written_fault c.loop-at.invariant.writing c.take_piece-taken.new.answering c.write_lines.new.answering c.take_piece-taken.new.reader.parser (g.K.Sink.taken c.write_lines.new.sink) c.in_ok-write_lines.ensures.written c.write_lines.ensures.objects c.write_lines.ensures.count c.write_lines.ensures.answered c.write_lines.ensures.none_left c.in-Ok-Fault.kind c.in-Ok-Fault.offset taken
+    subst (λ u. HasTaken g.A.Answering.objects g.A.Answering.unwritten g.A.Answering.count g.A.Answering.answered (takings.Fault c.in-Fault.kind c.in-Fault.offset) c.loop-at.answering c.loop-at.reader.parser u c.take_piece-taken.new.answering c.take_piece-taken.new.reader.parser) (rest_is c.loop-at.at c.args.piece.now)
+    (subst (λ t. HasTaken g.A.Answering.objects g.A.Answering.unwritten g.A.Answering.count g.A.Answering.answered t c.loop-at.answering c.loop-at.reader.parser (take (length c.args.piece.now - c.loop-at.at) (drop c.loop-at.at c.args.piece.now)) c.take_piece-taken.new.answering c.take_piece-taken.new.reader.parser) c.in-Fault.is c.in-Ok.ensures.takes) in
+    written_fault c.loop-at.invariant.writing c.take_piece-taken.new.answering c.write_lines.new.answering c.take_piece-taken.new.reader.parser (g.K.Sink.taken c.write_lines.new.sink) c.in_ok-write_lines.ensures.written c.write_lines.ensures.objects c.write_lines.ensures.count c.write_lines.ensures.answered c.write_lines.ensures.none_left c.in-Fault.kind c.in-Fault.offset taken
 
-pub returns-in-Err-clause-stops : goal.returns-in-Err-clause-stops
-returns-in-Err-clause-stops g c =
+pub returns-in_default-clause-stops : goal.returns-in_default-clause-stops
+returns-in_default-clause-stops g c =
     let t = c.in_ok-write_lines.ensures.written in
     writing_stops c.loop-at.invariant.writing ending.Memory c.take_piece-taken.new.answering (g.K.Sink.taken c.write_lines.new.sink) (g.K.Sink.shortages c.args.sink.now) (g.K.Sink.shortages c.write_lines.new.sink)
     (λ h given s. subst (λ u. AreDueFirst g.A.Answering.unwritten g.A.Answering.answered c.loop-at.answering given (AreFirst (h ++ u)) c.take_piece-taken.new.answering) (rest_is c.loop-at.at c.args.piece.now) (c.take_piece-taken.ensures.due h given s))
