@@ -16,7 +16,7 @@ pub mod Listing
 pub mod Mapped
 pub mod Profiles
 pub mod Results
-mod Waking
+mod WokenNames
 pub mod Worlds
 pub mod Defined
 pub mod Refusing

@@ -72,3 +72,6 @@ returns-in_err-lists-clause-grows c = Grows-trans _ _ _ c.in_ok-preamble.ensures
 
 pub returns-clause-grows : goal.returns-clause-grows
 returns-clause-grows c = Grows-trans _ _ _ c.in_ok-preamble.ensures.grows c.first_lists.ensures.grows
+
+pub returns-clause-watched : goal.returns-clause-watched
+returns-clause-watched c = c.new-watch.ensures c.in_ok-preamble.preamble.arity c.first_lists.new.heap.objects

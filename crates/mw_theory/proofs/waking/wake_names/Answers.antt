@@ -2,11 +2,11 @@
 use Rattle.std.proofs.Common.{ap, ◌∙◌, subst, arith}
 use Rattle.std.proofs.lemmas.List.{take_all}
 use Rattle.mw_theory.specs.Waking.{WakesNames}
-use Rattle.mw_theory.proofs.Waking.{woken-none, woken-more}
+use Rattle.mw_theory.proofs.WokenNames.{woken-none, woken-more}
 use Rattle.mw_theory.proofs.waking.wake_names.Goals as goal
 
-pub loop-definition-enters : goal.loop-definition-enters
-loop-definition-enters c = woken-none c.args.watch.now
+pub loop-definition-init : goal.loop-definition-init
+loop-definition-init c = woken-none c.args.watch.now
 
 pub loop-definition-preserved : goal.loop-definition-preserved
 loop-definition-preserved c =

@@ -13,6 +13,9 @@ returns-in_err-theory-clause-err c = OnErr-from _ _ (grown_theory _ _ _ _ c.requ
 pub go_on_with-requires-clause-held : goal.go_on_with-requires-clause-held
 go_on_with-requires-clause-held c = c.in_ok-theory.ensures.held
 
+pub go_on_with-requires-clause-watched : goal.go_on_with-requires-clause-watched
+go_on_with-requires-clause-watched c = c.in_ok-theory.ensures.watched
+
 pub returns-clause-world : goal.returns-clause-world
 returns-clause-world c = c.go_on_with.ensures.world
 
