@@ -89,7 +89,7 @@ module _ {A : Type 0} {objects : A → List Object} {lines : A → List ℕ} {co
                     takes_both before sink after x.1 (lines k) x.2 takes,
                     writes_more lines answered o j k l given x.0 y.0 x.1 x.3 writing.none_left y.1 same_known,
                     subst (λ os. Stands os q (g ++ take (at + n) piece) y.0) (sym same_objects)
-                    (subst (λ u. Stands (objects k) q u y.0) (append_assoc g (take at piece) (take n (drop at piece)) ∙ ap (λ u. g ++ u) (sym (take-add at n piece))) y.2),
+                        (subst (λ u. Stands (objects k) q u y.0) (append_assoc g (take at piece) (take n (drop at piece)) ∙ ap (λ u. g ++ u) (sym (take-add at n piece))) y.2),
                   );
               known = (t.known.0, t.known.1, same_known t.known.0 t.known.1 t.known.2);
               follows = subst (Follows q) more t.follows;
@@ -103,9 +103,9 @@ module _ {A : Type 0} {objects : A → List Object} {lines : A → List ℕ} {co
       written_fault kind offset h = (
         none,
         λ g given s.
-        let x = writing.reads g given s in
-        let y = h (g ++ take at piece) x.0 x.4 in
-        (y.0, x.1 ++ lines k, takes_both before sink after x.1 (lines k) x.2 takes, writes_more lines answered o j k l given x.0 y.0 x.1 x.3 writing.none_left y.1 same_known, λ rest. ap trees (take_cut g piece at rest) ∙ y.2 rest),
+            let x = writing.reads g given s in
+            let y = h (g ++ take at piece) x.0 x.4 in
+            (y.0, x.1 ++ lines k, takes_both before sink after x.1 (lines k) x.2 takes, writes_more lines answered o j k l given x.0 y.0 x.1 x.3 writing.none_left y.1 same_known, λ rest. ap trees (take_cut g piece at rest) ∙ y.2 rest),
       )
 
     -- the whole piece
