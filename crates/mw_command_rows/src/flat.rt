@@ -68,7 +68,9 @@ const OF_NEVER: &str = "1
 // An event that `check` refuses at once. Each of its steps but the first names that step so many times, which are more numbers than a log may have for
 // one event.
 fn push_long_steps(book: &mut String, steps: usize, names: usize) -> Result<(), AllocError> {
-    book.push_str("(verify long (pequal* x y) (cut (pequal* x y) (#1=(axiom (pequal* x x)) (cut a #2=(")?;
+    book.push_str(
+        "(verify long (pequal* x y) (cut (pequal* x y) (#1=(axiom (pequal* x x)) (cut a #2=(",
+    )?;
     for _ in 0..names {
         book.push_str(" #1#")?;
     }
