@@ -142,12 +142,12 @@ impl Answering for Flattening {
     }
 
     fn answer(&mut self, x: Ref) -> Result<(), Memory> {
-        if !self.switched {
-            return self.judge(x);
+        if self.switched {
+            self.kernel.forget();
+            self.events += 1;
+            return Ok(());
         }
-        self.kernel.forget();
-        self.events += 1;
-        Ok(())
+        self.judge(x)
     }
 
     fn answer_large(&mut self, _word: Option<Ref>, _label: Option<Ref>) -> Result<(), Memory> {

@@ -7,7 +7,7 @@ use Rattle.mw_book.proofs.flattening.FlatteningAnswering.answer.Goals as goal
 pub judge-requires-clause-written : goal.judge-requires-clause-written
 judge-requires-clause-written c = omega (arith, flattened_few c.args.self.now c.requires.known, c.requires.room)
 
-pub returns-clause-answers : goal.returns-clause-answers
-returns-clause-answers c =
+pub returns-then-switched-clause-answers : goal.returns-then-switched-clause-answers
+returns-then-switched-clause-answers c =
     let old = c.args.self.now in
     counted_flat old (record old { kernel = c.forget.new.self; events = old.events + 1 }) (object_at old.kernel.objects c.args.x) c.if-switched.true c.forget.ensures.steps refl
