@@ -129,8 +129,8 @@ names-pushed [] d r (inr o) = absurd o
 names-pushed (e ∷ ds) d r (inl a) = inl (inl a)
 names-pushed (e ∷ ds) d r (inr o) = elim (names-pushed ds d r o) [ inl p ↦ inl (inr p) | inr q ↦ inr q ]
 
-pub woken-more : (old mid new : Watch) (ds : List Definition) (i : ℕ) (d : Definition) (name : ℕ) → i < length ds → d ≡ get_or ds i d → name ≡ (spelling_of d).0 → WakesNames old mid (take i ds) → WakesNoted mid new name → WakesNames old new (take (i + 1) ds)
-woken-more old mid new ds i d name below is name_is h wakes = record {
+pub woken-more : (old mid new : Watch) (ds : List Definition) (i : ℕ) (d : Definition) (named : ℕ) → i < length ds → d ≡ get_or ds i d → named ≡ (spelling_of d).0 → WakesNames old mid (take i ds) → WakesNoted mid new named → WakesNames old new (take (i + 1) ds)
+woken-more old mid new ds i d named below is name_is h wakes = record {
   same = wakes.same ∙ h.same;
   woken = λ r x o note.
       elim (names-pushed (take i ds) d r (subst (λ l. IsOneOf (names_of_block l) r) (take_more ds i d below ∙ ap (λ e. take i ds ++ e ∷ []) (sym is)) o)) [
