@@ -1,5 +1,6 @@
 //! Blocks of functions and witnesses: what they owe and add, and why they are refused.
-ghost use Rattle.std.specs.Prelude.{◌<◌, ◌≤◌};
+ghost use Rattle.std.specs.Prelude.{◌<◌, ◌≤◌, IfOk};
+ghost use Rattle.mw_define.specs.Blocks.{IsDraftIn};
 
 use crate::shared::{CALLS, arities, nested};
 use mw_define::{
@@ -114,7 +115,9 @@ fn are_refused(heap: &mut Heap, arity: &Arity) -> Result<bool, Memory> {
     Ok(true)
 }
 
-fn read_walk(heap: &mut Heap) -> Result<Draft, Memory> {
+fn read_walk(heap: &mut Heap) -> Result<Draft, Memory>
+    ensures { IfOk result (IsDraftIn heap.new.objects) }
+{
     let (name, formals, body, measure) = read_four(
         heap,
         b"(walk (x) (and x (walk (cdr x))) (cdr x))",
@@ -134,23 +137,47 @@ fn is_function_right(heap: &mut Heap, arity: &Arity) -> Result<bool, Memory> {
     Ok(owes(&admit_function(heap, draft, arity), obligations, axioms))
 }
 
-// Whether a block, and a function, that owes two formulas passes where it may owe two and not where it may owe one.
-fn are_two_allowed(heap: &mut Heap, arity: &Arity) -> Result<bool, Memory> {
+// Whether a block that owes two formulas passes where it may owe two.
+fn is_block_of_two_allowed(heap: &mut Heap, arity: &Arity) -> Result<bool, Memory> {
     let (defs, obligations, axioms) = read_three(heap, WALK.as_bytes())?;
+    Ok(owes(
+        &admit_block_within(heap, defs, arity, 2),
+        obligations,
+        axioms,
+    ))
+}
+
+// Whether it is refused where it may owe one.
+fn is_block_of_two_refused(heap: &mut Heap, arity: &Arity) -> Result<bool, Memory> {
+    let (defs, _, _) = read_three(heap, WALK.as_bytes())?;
+    Ok(refuses(&admit_block_within(heap, defs, arity, 1), "COUNT"))
+}
+
+// The same of the function alone.
+fn is_function_of_two_allowed(heap: &mut Heap, arity: &Arity) -> Result<bool, Memory> {
+    let (_, obligations, axioms) = read_three(heap, WALK.as_bytes())?;
     let draft = read_walk(heap)?;
-    Ok(
-        owes(
-            &admit_block_within(heap, defs, arity, 2),
-            obligations,
-            axioms,
-        ) && refuses(&admit_block_within(heap, defs, arity, 1), "COUNT")
-            && owes(
-                &admit_function_within(heap, draft, arity, 2),
-                obligations,
-                axioms,
-            )
-            && refuses(&admit_function_within(heap, draft, arity, 1), "COUNT"),
-    )
+    Ok(owes(
+        &admit_function_within(heap, draft, arity, 2),
+        obligations,
+        axioms,
+    ))
+}
+
+fn is_function_of_two_refused(heap: &mut Heap, arity: &Arity) -> Result<bool, Memory> {
+    let draft = read_walk(heap)?;
+    Ok(refuses(&admit_function_within(heap, draft, arity, 1), "COUNT"))
+}
+
+// All of these.
+fn are_two_allowed(heap: &mut Heap, arity: &Arity) -> Result<bool, Memory> {
+    let rows = [
+        is_block_of_two_allowed(heap, arity)?,
+        is_block_of_two_refused(heap, arity)?,
+        is_function_of_two_allowed(heap, arity)?,
+        is_function_of_two_refused(heap, arity)?,
+    ];
+    Ok(rows == [true; 4])
 }
 
 // A block without recursive calls, which owes nothing, one of whose second function the calls are nested, and one without a term.
