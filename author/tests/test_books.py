@@ -96,6 +96,17 @@ class Books(unittest.TestCase):
                 self.assertTrue(report.lines[-2].endswith("refused PROOF" if level == 2 else "refused NIL"))
                 self.assertIn("refused 1 ", report.summary)
 
+    def test_each_level_takes_what_the_one_before_refuses(self):
+        judge, events, done = Judge(), support.ladder().events, 0
+        for level, end in support.ends_of_levels().items():
+            for event in events[done:end - 2]:
+                judge.skip(event.form)
+            used, done = events[end - 1].form, end
+            self.assertEqual(judge.event(used), "refused PROOF" if level == 2 else "refused NIL")
+            self.assertEqual(judge.event(events[end - 2].form), "accepted")
+            self.assertEqual(judge.event(used), "accepted")
+            self.assertEqual(judge.theory.level, level)
+
     def test_other_levels_are_told(self):
         for level in (1, 7):
             with self.assertRaises(EventError):

@@ -91,8 +91,8 @@ class Methods(unittest.TestCase):
 
     def test_malformed_terms(self):
         for text in ("(car)", "(quote)", "(quote 1 2)", "((lambda (x) y) 1)", "((lambda (x x) x) 1 2)",
-                     "((lambda (t) 1) 2)", "((lambda (x) x))", "((lambda x x) 1)", "(car . x)", "t", "nil", "7", "(nothing x)",
-                     "((car) x)",
+                     "((lambda (t) 1) 2)", "((lambda (x) x))", "((lambda x x) 1)", "(car . x)", "t", "nil", "7",
+                     "(nothing x)", "((car) x)",
                      "((lambda (x) (car x x)) y)"):
             with self.assertRaises(RuleError, msg=text):
                 self.theory.check_term(read(text))
