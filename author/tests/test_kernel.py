@@ -101,6 +101,18 @@ class Methods(unittest.TestCase):
             with self.assertRaises(RuleError, msg=text):
                 self.theory.check_formula(read(text))
 
+    def test_a_formula_is_not_a_term(self):
+        e = "(pequal* a b)"
+        self.theory.check_formula(read(e))
+        for text in (f"(pequal* x {e})", f"(por* {e} (pequal* x {e}))", f"(por* (pequal* {e} x) {e})"):
+            with self.assertRaises(RuleError, msg=text):
+                self.theory.check_formula(read(text))
+        with self.assertRaises(RuleError):
+            self.theory.check_term(read(e))
+        self.theory.check_term(read("(car a)"))
+        with self.assertRaises(RuleError):
+            self.theory.check_formula(read("(por* (pequal* x (car a)) (car a))"))
+
     def test_deep_terms_and_formulas(self):
         t, f = "X", self.xx.conclusion
         for _ in range(20000):

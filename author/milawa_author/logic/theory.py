@@ -44,7 +44,7 @@ class Theory:
         self.methods: dict[str, Test] = {}
         self.level = 1
         self.is_hypothetical = False
-        self._good: set[Pair] = set()           # terms and formulas that were checked
+        self._good: dict[bool, set[Pair]] = {False: set(), True: set()}         # checked terms, and checked formulas
         self._proofs: dict[Pair, object] = {}   # each proof by its form, made once
         for entry in tables.definitions():
             self.add_definition(Definition(*entry))
@@ -86,20 +86,21 @@ class Theory:
         self._check([(f, True)], rule, {})
 
     def _check(self, work: list[tuple[Object, bool]], rule: str, new: Mapping[str, int]) -> None:
-        seen = set()
+        seen: dict[bool, set[Pair]] = {False: set(), True: set()}
         while work:
             x, is_formula = work.pop()
-            if x in self._good or x in seen or not is_formula and is_variable(x):
+            if x in self._good[is_formula] or x in seen[is_formula] or not is_formula and is_variable(x):
                 continue
             if not isinstance(x, Pair) or not items(x):
                 raise RuleError(rule, "not a formula" if is_formula else "not a term", x)
-            seen.add(x)
+            seen[is_formula].add(x)
             work += self._formula_parts(x, rule) if is_formula else self._term_parts(x, rule, new)
-        for t in seen:                          # their bodies are known to be terms by now
+        for t in seen[False]:                   # their bodies are known to be terms by now
             if is_lambda_call(t) and not set(variables(lambda_parts(t)[1])) <= set(lambda_parts(t)[0]):
                 raise RuleError(rule, "the body of a lambda has a variable that is not a formal", t)
         if not new:                             # else it is a term only if the definition is admitted
-            self._good |= seen
+            self._good[False] |= seen[False]
+            self._good[True] |= seen[True]
 
     @staticmethod
     def _formula_parts(f: Pair, rule: str) -> list[tuple[Object, bool]]:
