@@ -85,6 +85,8 @@ class Methods(unittest.TestCase):
         self.refused("FUNCTIONAL-EQUALITY", functional_equality, t, "CAR", ["X", "Y"], ["X", "Y"])
         self.refused("FUNCTIONAL-EQUALITY", functional_equality, t, "CAR", ["X"], ["X", "Y"])
         self.refused("FUNCTIONAL-EQUALITY", functional_equality, t, "car", ["X"], ["X"])
+        self.refused("FUNCTIONAL-EQUALITY", functional_equality, t, "QUOTE", ["X"], ["Y"])
+        self.refused("FUNCTIONAL-EQUALITY", functional_equality, t, read("(lambda (x) x)"), ["X"], ["Y"])
         self.refused("PROPOSITIONAL-SCHEMA", propositional_schema, t, make_list("POR*", "X", "Y"))
         self.refused("EXPANSION", expansion, equation("X", term("(nothing x)")), self.xx)
         self.refused("INDUCTION", induction, formula("(= x x)"), quote(0), [], [self.xx])

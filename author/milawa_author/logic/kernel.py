@@ -99,6 +99,7 @@ def propositional_schema(theory: Theory, a: Pair) -> Proof:
 
 def functional_equality(theory: Theory, function: str, lefts: Sequence[Object], rights: Sequence[Object]) -> Proof:
     """`a1 != b1 or .. or (f a1 ..) = (f b1 ..)`."""
+    _want(function in theory.arities, "FUNCTIONAL-EQUALITY", "not the name of a function", function)
     _want(len(lefts) == len(rights), "FUNCTIONAL-EQUALITY", "two lists of equal length are wanted")
     parts = [negation(equation(a, b)) for a, b in zip(lefts, rights)]
     last = equation(call(function, *lefts), call(function, *rights))
