@@ -136,15 +136,15 @@ class Mutants(unittest.TestCase):
     @support.needs_program
     def test_units_are_those_of_the_program(self):
         forms = [e.form for e in support.ladder().events[:support.ends_of_levels()[2] + 30]]
-        judge, dearest, place = Judge(), 0, 0
+        judge, most, place = Judge(), 0, 0
         for k, form in enumerate(forms):
             judge.units = 0
             self.assertEqual(judge.event(form), "accepted")
-            if judge.units > dearest:
-                dearest, place = judge.units, k
-        report = run_program("check", "--steps", str(dearest), text=text_of(forms[:place + 1]))
+            if judge.units > most:
+                most, place = judge.units, k
+        report = run_program("check", "--steps", str(most), text=text_of(forms[:place + 1]))
         self.assertEqual(report.refused, [])
-        report = run_program("check", "--steps", str(dearest - 1), text=text_of(forms[:place + 1]))
+        report = run_program("check", "--steps", str(most - 1), text=text_of(forms[:place + 1]))
         self.assertEqual([line.split()[-1] for line in report.refused], ["STEPS"])
         self.assertTrue(report.refused[0].startswith(f"{place + 1} "))
 
