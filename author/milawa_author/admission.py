@@ -23,14 +23,14 @@ class Function(NamedTuple):
 
 def _check_name(theory: Theory, name: Object, taken: Sequence[str]) -> None:
     if not isinstance(name, str) or name in NOT_FUNCTION_NAMES:
-        raise EventError("NAME", "no name for a function", name)
+        raise EventError("NAME", "not a name for a function", name)
     if name in theory.arities or name in taken:
         raise EventError("NAME", "the name of a function is taken", name)
 
 
 def _check_formals(formals: Sequence[Object]) -> None:
     if not all(map(is_variable, formals)) or len(set(formals)) != len(formals):
-        raise EventError("FORMALS", "the formals are no distinct variables", make_list(*formals))
+        raise EventError("FORMALS", "the formals are not distinct variables", make_list(*formals))
 
 
 def _check_term(theory: Theory, t: Object, new: Mapping[str, int]) -> None:
@@ -84,6 +84,6 @@ def admit_checker(theory: Theory, name: str) -> None:
     """Raises EventError, CHECKER or CLAIM, unless a book may switch to the function."""
     definition = theory.definitions.get(name)
     if definition is None or definition.bound is not None or len(definition.formals) != 4:
-        raise EventError("CHECKER", "no function with code and four arguments", name)
+        raise EventError("CHECKER", "not a function with code and four arguments", name)
     if claim(name) not in theory.theorems:
         raise EventError("CLAIM", "prove first", claim(name))

@@ -145,7 +145,7 @@ class Book:
 
     def define(self, text: str, measure: str = "nil", proofs: Optional[Iterable[Proof]] = None) -> Definition:
         """DEFINE from the text `(name (formals) body)`.  Without `proofs` what a simple recursion owes is proved
-        (`prover.ranks`); where RuleError says that it is none, give a proof of each of `owed`."""
+        (`prover.ranks`); where RuleError says that it is not simple, give a proof of each of `owed`."""
         return self.define_all([(text, measure)], proofs)[0]
 
     def define_all(self, functions: Iterable[tuple[str, str]],

@@ -14,11 +14,11 @@ class AuthorError(Exception):
 
 
 class TextError(AuthorError, ValueError):
-    """A text that is no datum of a book."""
+    """A text that is not a datum of a book."""
 
 
 class FormError(AuthorError, ValueError):
-    """An object that stands for no term or no formula."""
+    """An object that does not have the form of a term, or of a formula."""
 
 
 class RuleError(AuthorError, ValueError):

@@ -1,7 +1,7 @@
 """A judge of books in Python: the report that `milawa check` writes, by the kernel of this package and, after a SWITCH,
 by running the book's checker.
 
-It is for tests of the package and for who has no program at hand; what counts is what the program says.  Of the
+It serves tests of the package, and authors without the program; what counts is what the program says.  Of the
 program's events it lacks the second profile.
 """
 from collections.abc import Iterator, Sequence
@@ -71,7 +71,7 @@ class Judge:
         _check_range(form)
         members = items(form)
         if not members or MEMBERS.get(members[0]) != len(members):
-            raise EventError("EVENT", "no event", form)
+            raise EventError("EVENT", "not an event", form)
         word, *parts = members
         return getattr(self, "_" + word.lower().replace("-", "_"))(*parts)
 
@@ -110,7 +110,7 @@ class Judge:
     def _define_all(self, definitions: Object, proofs: Object) -> None:
         block = [items(d) for d in items(definitions) or ()]
         if not block or any(d is None or len(d) != 4 for d in block):
-            raise EventError("EVENT", "no list of definitions", definitions)
+            raise EventError("EVENT", "not a list of definitions", definitions)
         self._admit(block, proofs)
 
     def _admit(self, block: Sequence[tuple], proofs: Object) -> None:
@@ -157,11 +157,11 @@ class Judge:
         if number == 2:
             raise AuthorError("the judge in Python knows the first profile alone")
         if number != 1 or self.theory.theorems or self.arities is not self._first_arities:
-            raise EventError("PROFILE", "the theory is no longer the one at the start")
+            raise EventError("PROFILE", "the theory has changed since the start")
 
 
 def _expanded(raw: Object) -> Object:
-    """The term of a raw term, or 0, which is no term, where it expands to none: other checks come before that."""
+    """The term of a raw term; where it expands to none, 0, which is not a term, since other checks come first."""
     try:
         return expand(raw)
     except FormError:
@@ -169,7 +169,7 @@ def _expanded(raw: Object) -> Object:
 
 
 def _variables_of(formals: Object) -> tuple:
-    """The members of a list of formals, or (0), which is no list of variables, where it is no list."""
+    """The members of a list of formals; of anything else (0), which is not a list of variables."""
     members = items(formals)
     return (0,) if members is None else members
 

@@ -96,6 +96,17 @@ class Books(unittest.TestCase):
                 self.assertTrue(report.lines[-2].endswith("refused PROOF" if level == 2 else "refused NIL"))
                 self.assertIn("refused 1 ", report.summary)
 
+    def test_each_level_takes_what_the_one_before_refuses(self):
+        judge, events, done = Judge(), support.ladder().events, 0
+        for level, end in support.ends_of_levels().items():
+            for event in events[done:end - 2]:
+                judge.skip(event.form)
+            used, done = events[end - 1].form, end
+            self.assertEqual(judge.event(used), "refused PROOF" if level == 2 else "refused NIL")
+            self.assertEqual(judge.event(events[end - 2].form), "accepted")
+            self.assertEqual(judge.event(used), "accepted")
+            self.assertEqual(judge.theory.level, level)
+
     def test_other_levels_are_told(self):
         for level in (1, 7):
             with self.assertRaises(EventError):
@@ -125,15 +136,15 @@ class Mutants(unittest.TestCase):
     @support.needs_program
     def test_units_are_those_of_the_program(self):
         forms = [e.form for e in support.ladder().events[:support.ends_of_levels()[2] + 30]]
-        judge, dearest, place = Judge(), 0, 0
+        judge, most, place = Judge(), 0, 0
         for k, form in enumerate(forms):
             judge.units = 0
             self.assertEqual(judge.event(form), "accepted")
-            if judge.units > dearest:
-                dearest, place = judge.units, k
-        report = run_program("check", "--steps", str(dearest), text=text_of(forms[:place + 1]))
+            if judge.units > most:
+                most, place = judge.units, k
+        report = run_program("check", "--steps", str(most), text=text_of(forms[:place + 1]))
         self.assertEqual(report.refused, [])
-        report = run_program("check", "--steps", str(dearest - 1), text=text_of(forms[:place + 1]))
+        report = run_program("check", "--steps", str(most - 1), text=text_of(forms[:place + 1]))
         self.assertEqual([line.split()[-1] for line in report.refused], ["STEPS"])
         self.assertTrue(report.refused[0].startswith(f"{place + 1} "))
 

@@ -85,14 +85,16 @@ class Methods(unittest.TestCase):
         self.refused("FUNCTIONAL-EQUALITY", functional_equality, t, "CAR", ["X", "Y"], ["X", "Y"])
         self.refused("FUNCTIONAL-EQUALITY", functional_equality, t, "CAR", ["X"], ["X", "Y"])
         self.refused("FUNCTIONAL-EQUALITY", functional_equality, t, "car", ["X"], ["X"])
+        self.refused("FUNCTIONAL-EQUALITY", functional_equality, t, "QUOTE", ["X"], ["Y"])
+        self.refused("FUNCTIONAL-EQUALITY", functional_equality, t, read("(lambda (x) x)"), ["X"], ["Y"])
         self.refused("PROPOSITIONAL-SCHEMA", propositional_schema, t, make_list("POR*", "X", "Y"))
         self.refused("EXPANSION", expansion, equation("X", term("(nothing x)")), self.xx)
         self.refused("INDUCTION", induction, formula("(= x x)"), quote(0), [], [self.xx])
 
     def test_malformed_terms(self):
         for text in ("(car)", "(quote)", "(quote 1 2)", "((lambda (x) y) 1)", "((lambda (x x) x) 1 2)",
-                     "((lambda (t) 1) 2)", "((lambda (x) x))", "((lambda x x) 1)", "(car . x)", "t", "nil", "7", "(nothing x)",
-                     "((car) x)",
+                     "((lambda (t) 1) 2)", "((lambda (x) x))", "((lambda x x) 1)", "(car . x)", "t", "nil", "7",
+                     "(nothing x)", "((car) x)",
                      "((lambda (x) (car x x)) y)"):
             with self.assertRaises(RuleError, msg=text):
                 self.theory.check_term(read(text))
@@ -100,6 +102,18 @@ class Methods(unittest.TestCase):
                      "7", "(pnot* . x)", "(pnot* x)"):
             with self.assertRaises(RuleError, msg=text):
                 self.theory.check_formula(read(text))
+
+    def test_a_formula_is_not_a_term(self):
+        e = "(pequal* a b)"
+        self.theory.check_formula(read(e))
+        for text in (f"(pequal* x {e})", f"(por* {e} (pequal* x {e}))", f"(por* (pequal* {e} x) {e})"):
+            with self.assertRaises(RuleError, msg=text):
+                self.theory.check_formula(read(text))
+        with self.assertRaises(RuleError):
+            self.theory.check_term(read(e))
+        self.theory.check_term(read("(car a)"))
+        with self.assertRaises(RuleError):
+            self.theory.check_formula(read("(por* (pequal* x (car a)) (car a))"))
 
     def test_deep_terms_and_formulas(self):
         t, f = "X", self.xx.conclusion

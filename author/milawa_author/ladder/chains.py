@@ -19,13 +19,13 @@ def _follow(x: Object, y: Object, premises: list[Pair], context: Optional[Pair])
     for f in premises:
         e = right(f) if context is not None and is_disjunction(f) and left(f) is context else f
         if not is_equation(e):
-            return "a premise is no equation"
+            return "a premise is not an equation"
         if left(e) is x:
             x = right(e)
         elif right(e) is x:
             x = left(e)
         else:
-            return "the premises are no chain"
+            return "the premises do not form a chain"
     return None if x is y else "the chain ends elsewhere"
 
 

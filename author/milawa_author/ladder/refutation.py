@@ -54,7 +54,7 @@ def lemma_test(theory: Theory) -> Test:
             return "the formula is neither an axiom nor a theorem"
         pairs = substitution_of(members[1])
         if pairs is None:
-            return "the second of the extras is no substitution"
+            return "the second of the extras is not a substitution"
         return _unit(substitute(members[0], pairs), premises, items(members[2]), conclusion)
     return test
 

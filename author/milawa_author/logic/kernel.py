@@ -99,6 +99,7 @@ def propositional_schema(theory: Theory, a: Pair) -> Proof:
 
 def functional_equality(theory: Theory, function: str, lefts: Sequence[Object], rights: Sequence[Object]) -> Proof:
     """`a1 != b1 or .. or (f a1 ..) = (f b1 ..)`."""
+    _want(function in theory.arities, "FUNCTIONAL-EQUALITY", "not the name of a function", function)
     _want(len(lefts) == len(rights), "FUNCTIONAL-EQUALITY", "two lists of equal length are wanted")
     parts = [negation(equation(a, b)) for a, b in zip(lefts, rights)]
     last = equation(call(function, *lefts), call(function, *rights))
@@ -107,7 +108,7 @@ def functional_equality(theory: Theory, function: str, lefts: Sequence[Object], 
 
 def beta_reduction(theory: Theory, t: Pair) -> Proof:
     """`((lambda (x1 ..) b) t1 ..) = b` with the ti put for the xi."""
-    _want(is_lambda_call(t), "BETA-REDUCTION", "no lambda call", t)
+    _want(is_lambda_call(t), "BETA-REDUCTION", "not a lambda call", t)
     theory.check_term(t, "BETA-REDUCTION")
     formals, body = lambda_parts(t)
     reduct = substitute(body, dict(zip(formals, items(t)[1:])))
@@ -118,8 +119,8 @@ def base_eval(theory: Theory, t: Pair) -> Proof:
     """`(f 'c1 ..) = 'v` for a primitive f with that value."""
     theory.check_term(t, "BASE-EVAL")
     members = items(t) or (None,)
-    _want(members[0] in tables.PRIMITIVES, "BASE-EVAL", "no call of a primitive", t)
-    _want(all(map(is_constant, members[1:])), "BASE-EVAL", "an actual is no constant", t)
+    _want(members[0] in tables.PRIMITIVES, "BASE-EVAL", "not a call of a primitive", t)
+    _want(all(map(is_constant, members[1:])), "BASE-EVAL", "an actual is not a constant", t)
     value = tables.apply_primitive(members[0], [u.rest.first for u in members[1:]])
     return _make(theory, "BASE-EVAL", equation(t, quote(value)))
 
@@ -147,7 +148,7 @@ def associativity(proof: Proof) -> Proof:
 def cut(first: Proof, second: Proof) -> Proof:
     """From `A or B` and `not A or C`, `B or C`."""
     f, g = first.conclusion, second.conclusion
-    _want(is_disjunction(f), "CUT", "the first premise is no disjunction", f)
+    _want(is_disjunction(f), "CUT", "the first premise is not a disjunction", f)
     _want(is_disjunction(g) and is_negation(left(g)) and left(left(g)) is left(f), "CUT",
           "the second premise does not begin with the negation of the first's left part", disjunction(f, g))
     return _make(first.theory, "CUT", disjunction(right(f), right(g)), [first, second])
@@ -157,7 +158,7 @@ def instantiation(proof: Proof, substitution: Substitution) -> Proof:
     """From F, F/s.  Where F/s is F, the proof itself is the answer."""
     theory = proof.theory
     for variable, t in substitution.items():
-        _want(is_variable(variable), "INSTANTIATION", "no variable", variable)
+        _want(is_variable(variable), "INSTANTIATION", "not a variable", variable)
         theory.check_term(t, "INSTANTIATION")
     conclusion = substitute(proof.conclusion, substitution)
     if conclusion is proof.conclusion:
@@ -193,7 +194,7 @@ def induction(formula: Pair, measure: Object, cases: Sequence[Case], proofs: Seq
         theory.check_formula(q, "INDUCTION")
         for s in substitutions:
             for variable, t in s.items():
-                _want(is_variable(variable), "INDUCTION", "no variable", variable)
+                _want(is_variable(variable), "INDUCTION", "not a variable", variable)
                 theory.check_term(t, "INDUCTION")
     lists = [make_list(*map(substitution_object, substitutions)) for _, substitutions in cases]
     extras = make_list(measure, make_list(*[q for q, _ in cases]), make_list(*lists))

@@ -33,11 +33,11 @@ def _check(x: object) -> None:
         _symbols.add(x)
         return
     if not isinstance(x, int) or isinstance(x, bool) or x < 0:
-        raise TypeError(f"{x!r} is no object: a natural (int), the name of a symbol (str) or a Pair is wanted")
+        raise TypeError(f"{x!r} is not an object: it must be a natural (int), the name of a symbol (str) or a Pair")
 
 
 def cons(first: Object, rest: Object) -> Pair:
-    """The pair of two objects.  Raises TypeError where one is no object."""
+    """The pair of two objects.  Raises TypeError where one of them is not an object."""
     key = (first, rest)
     pair = _pairs.get(key)
     if pair is None:
@@ -60,7 +60,7 @@ def make_list(*members: Object) -> Object:
 
 
 def items(x: Object) -> Optional[tuple]:
-    """The members of a proper list, or None where x is no proper list."""
+    """The members of a proper list, or None where x is not a proper list."""
     if x == "NIL":
         return ()
     if not isinstance(x, Pair):
@@ -75,12 +75,12 @@ def items(x: Object) -> Optional[tuple]:
 
 
 def first(x: Object) -> Object:
-    """CAR, which is NIL of what is no pair."""
+    """CAR; NIL where x is not a pair."""
     return x.first if isinstance(x, Pair) else "NIL"
 
 
 def rest(x: Object) -> Object:
-    """CDR, which is NIL of what is no pair."""
+    """CDR; NIL where x is not a pair."""
     return x.rest if isinstance(x, Pair) else "NIL"
 
 

@@ -35,7 +35,7 @@ def _subproofs(p: Object) -> tuple:
         raise RuleError("PROOF", "a proof is a list of two to four members", p)
     subproofs = items(member(p, 2))
     if subproofs is None:
-        raise RuleError("PROOF", "the subproofs are no list", p)
+        raise RuleError("PROOF", "the subproofs are not a list", p)
     return subproofs
 
 
@@ -44,7 +44,7 @@ def _step(theory: Theory, p: Pair, subproofs: list[Proof]) -> Proof:
     theory.check_formula(conclusion, "PROOF")
     step = _STEPS.get(method)
     if step is None or len(subproofs) != step[0] and step[0] is not None:
-        raise RuleError("PROOF", "no method of that name and that number of subproofs", p)
+        raise RuleError("PROOF", "there is no method of that name and that number of subproofs", p)
     if extras != "NIL" and method not in ("INSTANTIATION", "INDUCTION"):
         raise RuleError("PROOF", f"{method} takes no extras", p)
     proof = step[1](theory, conclusion, subproofs, extras)

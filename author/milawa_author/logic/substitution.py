@@ -12,8 +12,8 @@ def _is_leaf(u: Object) -> bool:
 def substitute(x: Object, substitution: Substitution) -> Object:
     """A term or formula with terms put for its free variables, all at once.
 
-    A lambda's formals and body stay.  The words PEQUAL*, PNOT* and POR* are no names of functions, so one
-    walk does for terms and formulas."""
+    A lambda's formals and body stay.  The words PEQUAL*, PNOT* and POR* do not name functions, so one walk
+    does for terms and formulas."""
     done: dict[Pair, Object] = {}
 
     def image(u: Object) -> Object:

@@ -44,7 +44,7 @@ class Theory:
         self.methods: dict[str, Test] = {}
         self.level = 1
         self.is_hypothetical = False
-        self._good: set[Pair] = set()           # terms and formulas that were checked
+        self._good: dict[bool, set[Pair]] = {False: set(), True: set()}         # checked terms, and checked formulas
         self._proofs: dict[Pair, object] = {}   # each proof by its form, made once
         for entry in tables.definitions():
             self.add_definition(Definition(*entry))
@@ -65,7 +65,7 @@ class Theory:
 
     def assume(self, formula: Pair, name: str = "ASSUMED") -> None:
         """Adds a formula without proof, so that a rule can be tried on it.  From then on the theory is
-        hypothetical, and no book takes its proofs.  Raises RuleError where it is no formula."""
+        hypothetical, and no book takes its proofs.  Raises RuleError where it is not a formula."""
         self.check_formula(formula, "ASSUME")
         self.is_hypothetical = True
         self.theorems.setdefault(formula, name)
@@ -86,26 +86,27 @@ class Theory:
         self._check([(f, True)], rule, {})
 
     def _check(self, work: list[tuple[Object, bool]], rule: str, new: Mapping[str, int]) -> None:
-        seen = set()
+        seen: dict[bool, set[Pair]] = {False: set(), True: set()}
         while work:
             x, is_formula = work.pop()
-            if x in self._good or x in seen or not is_formula and is_variable(x):
+            if x in self._good[is_formula] or x in seen[is_formula] or not is_formula and is_variable(x):
                 continue
             if not isinstance(x, Pair) or not items(x):
-                raise RuleError(rule, "no formula" if is_formula else "no term", x)
-            seen.add(x)
+                raise RuleError(rule, "not a formula" if is_formula else "not a term", x)
+            seen[is_formula].add(x)
             work += self._formula_parts(x, rule) if is_formula else self._term_parts(x, rule, new)
-        for t in seen:                          # their bodies are known to be terms by now
+        for t in seen[False]:                   # their bodies are known to be terms by now
             if is_lambda_call(t) and not set(variables(lambda_parts(t)[1])) <= set(lambda_parts(t)[0]):
-                raise RuleError(rule, "the body of a lambda has a variable that is no formal", t)
+                raise RuleError(rule, "the body of a lambda has a variable that is not a formal", t)
         if not new:                             # else it is a term only if the definition is admitted
-            self._good |= seen
+            self._good[False] |= seen[False]
+            self._good[True] |= seen[True]
 
     @staticmethod
     def _formula_parts(f: Pair, rule: str) -> list[tuple[Object, bool]]:
         word, *parts = items(f)
         if {"PEQUAL*": 2, "PNOT*": 1, "POR*": 2}.get(word) != len(parts):
-            raise RuleError(rule, "no formula", f)
+            raise RuleError(rule, "not a formula", f)
         return [(part, word != "PEQUAL*") for part in parts]
 
     def _term_parts(self, t: Pair, rule: str, new: Mapping[str, int]) -> list[tuple[Object, bool]]:
@@ -120,7 +121,7 @@ class Theory:
         else:
             wanted, parts = new.get(head, self.arities.get(head)), []
             if wanted is None:
-                raise RuleError(rule, f"{head} is no known function; names are in upper case", t)
+                raise RuleError(rule, f"{head} is not a known function; names are in upper case", t)
         if len(actuals) != wanted:
             raise RuleError(rule, f"{wanted} actuals are wanted, {len(actuals)} given", t)
         return parts + [(u, False) for u in actuals]
@@ -130,8 +131,8 @@ class Theory:
         """The formals and the body of the lambda that t calls."""
         function = items(t.first)
         if function is None or len(function) != 3 or function[0] != "LAMBDA":
-            raise RuleError(rule, "no lambda", t)
+            raise RuleError(rule, "not a lambda", t)
         formals = items(function[1])
         if formals is None or not all(map(is_variable, formals)) or len(set(formals)) != len(formals):
-            raise RuleError(rule, "the formals are no list of distinct variables", t)
+            raise RuleError(rule, "the formals are not a list of distinct variables", t)
         return formals, function[2]

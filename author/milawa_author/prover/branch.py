@@ -31,17 +31,17 @@ class Options:
         for name in unfold:
             definition = theory.definitions.get(name.upper())
             if definition is None or definition.bound is not None:
-                raise RuleError("PROVER", f"`unfold` names {name}, which is no function with a definition")
+                raise RuleError("PROVER", f"`unfold` names {name}, which is not a defined function")
             policy = unfold[name] if isinstance(unfold, Mapping) else default_policy(theory, name.upper())
             if policy not in POLICIES:
-                raise RuleError("PROVER", f"{policy!r} is no policy; there are {', '.join(POLICIES)}")
+                raise RuleError("PROVER", f"{policy!r} is not a policy; there are {', '.join(POLICIES)}")
             if policy == "decided" and not is_call(definition.body, "IF"):
                 raise RuleError("PROVER", f"`decided` is for a body that begins with IF, which that of {name} does not")
             self.unfold[name.upper()] = policy
         self.rules, self.depth = list(rules), depth
         for pattern, _ in self.rules:
             if not is_call(pattern):
-                raise RuleError("PROVER", "the pattern of a rule is no call of a function", pattern)
+                raise RuleError("PROVER", "the pattern of a rule is not a call of a function", pattern)
 
 
 def default_policy(theory: Theory, name: str) -> str:

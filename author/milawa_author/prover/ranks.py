@@ -91,7 +91,7 @@ def solve_obligation(book: "Book", owed: Pair) -> Proof:
             if is_call(t, "ORDP"):
                 return instance(book.lemmas["ORDP-OF-SUM"], {"A": quote(0), "B": n})
             return subset(instance(book.lemmas["ORD<-OF-DECREASE"], {"N": n}), owed)
-    raise RuleError("DEFINE", "no simple recursion; give proofs of the obligations by `proofs`", owed)
+    raise RuleError("DEFINE", "not a simple recursion; give proofs of the obligations by `proofs`", owed)
 
 
 def _rank_proof(book: "Book", owed: Pair, t: Pair) -> Proof:

@@ -35,7 +35,7 @@ def definition_axiom(theory: Theory, name: str) -> Proof:
     """The axiom of a function or witness.  Raises RuleError where there is none of that name."""
     entry = theory.definitions.get(name.upper())
     if entry is None:
-        raise RuleError("AXIOM", f"no definition of {name}")
+        raise RuleError("AXIOM", f"there is no definition of {name}")
     return axiom(theory, entry.axiom())
 
 

@@ -14,7 +14,7 @@ def replace_test(conclusion: Pair, premises: list[Pair], extras: Object) -> Opti
         return "concludes an equation and takes no extras"
     t, u = left(conclusion), right(conclusion)
     if not is_call(t) or not is_call(u) or t.first != u.first:
-        return "the sides are no calls of one function"
+        return "the sides are not calls of one function"
     wanted = [equation(a, b) for a, b in zip(items(t)[1:], items(u)[1:])]
     return None if wanted == premises else "the premises are not the equations of the actuals"
 
