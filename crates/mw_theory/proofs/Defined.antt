@@ -180,7 +180,7 @@ module _ (os : List Object) (n : ℕ) (t : Kept) (marks : List ObjectMark) (h : 
 
     -- the functions are refused
     pub functions-fail : (J : Judge) (proofs : Object) (r : Reason) → IsBlockOf t.arity (drafts_given os drafts) new (admitted.Refused r) → defined J now (drafts_given os drafts) proofs ≡ refuse now (refusal_of r)
-    functions-fail J proofs r fails = refused-given J now proofs new (drafts_given os drafts) r (subst (λ B. IsBlockOf B (drafts_given os drafts) new (admitted.Refused r)) arities fails)
+    functions-fail J proofs r failed = refused-given J now proofs new (drafts_given os drafts) r (subst (λ B. IsBlockOf B (drafts_given os drafts) new (admitted.Refused r)) arities failed)
 
     pub functions-fail-within : (J : Judge) (proofs : Object) (most : ℕ) (r : Reason) → length_object proofs ≤ most → IsBlockOfWithin (Some most) t.arity (drafts_given os drafts) new (admitted.Refused r) → defined J now (drafts_given os drafts) proofs ≡ refuse now (refusal_of r)
     functions-fail-within J proofs most r few h = refused-given-within J now proofs new most (drafts_given os drafts) r few (subst (λ B. IsBlockOfWithin (Some most) B (drafts_given os drafts) new (admitted.Refused r)) arities h)
@@ -229,7 +229,7 @@ module _ (os : List Object) (n : ℕ) (t : Kept) (marks : List ObjectMark) (h : 
     event = skolem_event (object_at os name) (object_at os bound) (object_at os free) (object_at os body)
 
     pub skolem-fails : (r : Reason) → FailsWitness t.arity (object_at os name) (object_at os bound) (object_at os free) (object_at os body) (refusal_of r) → skolem_at os now name bound free body ≡ refuse now (refusal_of r)
-    skolem-fails r fails = skolem-refused now event (refusal_of r) (subst (λ B. FailsWitness B (object_at os name) (object_at os bound) (object_at os free) (object_at os body) (refusal_of r)) arities fails)
+    skolem-fails r failed = skolem-refused now event (refusal_of r) (subst (λ B. FailsWitness B (object_at os name) (object_at os bound) (object_at os free) (object_at os body) (refusal_of r)) arities failed)
 
     pub skolem-passes : (owed : Owed) (p : PassesWitness t.arity (object_at os name) (object_at os bound) (object_at os free) (object_at os body) new name owed) → skolem_at os now name bound free body ≡ accept (add_to_theory now (Choice p.symbol p.first p.rest p.term))
     skolem-passes owed p =
