@@ -106,7 +106,7 @@ module _ {E : Type 0} where
   put_one false switch logged word y c h = refl
   put_one true true logged word y c h = refl
   put_one true false (Ok b) word y c h = ap (λ v. cond v (y ∷ []) []) (sym h)
-  put_one true false (Err e) word y c h = absurd (c refl)
+  put_one true false (Err e) word y c h = absurd (true≢false (sym (c refl)))
 
   put_owed : (accepted switch : Bool) (logged : Result Bool E) (P : Type 0) → IfOk logged (λ b. b ≡ true → P) → (accepted && (not switch && is_known_logged logged)) ≡ true → P
   put_owed false switch logged P h e = absurd (true≢false (sym e))
@@ -195,7 +195,7 @@ large_flat old y large =
     record {
       theory = λ n. h.theory n ∙ sym (next-large t y N large);
       put = false;
-      one = ap₂ (λ w a. cond old.switched [] (cond w [] (cond (a && is_logged_word (event_word y)) (y ∷ []) []))) none refused ∙ no_events old.switched;
+      one = ap₂ (λ w a. cond old.switched [] (cond w [] (cond (a && is_logged_word (event_word y)) (y ∷ []) []))) none refused ∙ no_events old.switched [];
       written = (let e : old.written ≡ old.written + 0 = omega arith in e);
       line = sym (append-nil old.lines.items);
       owed = λ e. absurd (true≢false (sym e));
@@ -203,9 +203,9 @@ large_flat old y large =
       switched = sym (ap (λ w. old.switched || w) none ∙ or_false old.switched);
     })
   where
-    no_events : (w : Bool) → cond w [] [] ≡ ([] {A = Object})
-    no_events true = refl
-    no_events false = refl
+    no_events : (w : Bool) (es : List Object) → cond w es es ≡ es
+    no_events true es = refl
+    no_events false es = refl
 
 -- a kernel that has read more has the same theory
 pub flattened_read : (f : Flattening) (k : Knowledge) → theory_of k ≡ theory_of f.kernel → k.steps ≡ f.kernel.steps → (given : List Object) → Answers lines_of FlattenedFor f given (record f { kernel = k }) given

@@ -27,7 +27,7 @@ last_kept m N s input first after h = (left_of input, gives_has input input [] (
 pub trial_kept : (m N : ℕ) (e : Ending) (input first after : Option (List ℕ)) (k n : ℕ) → TrialEnds e m N first after k n → IfSome (report_status e) (Keeps (Trial m N) input first after)
 trial_kept m N ending.Done input first after k n h = last_kept m N _ input first after h
 trial_kept m N ending.SomeRefused input first after k n h = last_kept m N _ input first after h
-trial_kept m N (ending.Syntax k o) input first after k n h = last_kept m N _ input first after h
+trial_kept m N (ending.Syntax kind o) input first after k n h = last_kept m N _ input first after h
 trial_kept m N ending.Help input first after k n h = tt
 trial_kept m N ending.Usage input first after k n h = tt
 trial_kept m N ending.ReadFault input first after k n h = tt

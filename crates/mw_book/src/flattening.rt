@@ -1,5 +1,5 @@
 //! Judging events as they are read, and turning those that are accepted to steps.
-ghost use Rattle.std.specs.Prelude.{◌≡◌, ◌+◌, ◌<◌, ◌^◌, cond, false, List, [], ◌∷◌, ◌++◌, IfOk, OnOk, OnErr};
+ghost use Rattle.std.specs.Prelude.{◌≡◌, ◌+◌, ◌<◌, ◌^◌, ◌||◌, cond, false, List, [], ◌∷◌, ◌++◌, IfOk, OnOk, OnErr};
 ghost use Rattle.mw_model.specs.Terms.Object.{Object};
 ghost use Rattle.mw_model.specs.Reports.Request.{Flat};
 ghost use Rattle.mw_model.specs.Reports.Report.{is_accepted};
@@ -82,6 +82,13 @@ impl Flattening {
         let logged = write_flat(self.kernel.heap(), x, &mut self.copies, &mut self.piece);
         let fate = self.kernel.event(x)?;
         self.end_event(&fate, logged, is_switch)
+    }
+
+    // Whether some event has no place in a log: one that was refused, or a switch.
+    fn has_others(&self) -> bool
+        ensures { result ≡ (self.now.refused || self.now.switched) }
+    {
+        self.refused || self.switched
     }
 
     // Puts the piece of an event after the lines, if it is one of a log.
@@ -174,6 +181,6 @@ impl Answering for Flattening {
             Some((kind, offset)) => write_fault(&mut self.lines, kind, offset)?,
             None => write_counts(&mut self.lines, self.events, self.written)?,
         }
-        Ok(self.refused || self.switched)
+        Ok(self.has_others())
     }
 }
