@@ -8,8 +8,6 @@ mod faults;
 #[cfg(test)]
 mod flat;
 #[cfg(test)]
-mod large;
-#[cfg(test)]
 mod long_logs;
 #[cfg(test)]
 mod lower;

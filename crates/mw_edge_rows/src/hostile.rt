@@ -35,13 +35,6 @@ fn ends_out_of_memory_on_calls(
     ends_out_of_memory(alloc, book.as_str())
 }
 
-// The answer to a book whose third event takes too much memory, where it is not the answers to the first two, in pieces of so many bytes.
-fn other_answer_before_memory_ends(alloc: Global, size: usize) -> Result<String, AllocError> {
-    let book = book_of_calls(alloc, "(eval 7) (shout) (eval ", "cons", ") (eval 8)")?;
-    let due = "6\n1 EVAL - accepted 7\n2 SHOUT - refused EVENT\n";
-    other_answer(alloc, &["check"], book.as_str(), due, size)
-}
-
 // Whether the program ends out of memory on a nested text.
 fn ends_out_of_memory_on_nested(alloc: Global, nested: &Nested) -> Result<bool, AllocError> {
     let book = text_of(alloc, nested)?;
@@ -189,12 +182,6 @@ fn code_past_the_bound_is_out_of_memory(rt: HostRuntime) -> Result<(), Fail> {
     assert!(rt; ends_out_of_memory_on_calls(rt.alloc(), "(eval ", "or", ")")?);
     assert!(rt; ends_out_of_memory_on_calls(rt.alloc(), "(eval ", "cons", ")")?);
     Ok(())
-}
-
-#[test]
-fn what_was_answered_before_memory_ends_is_written(rt: HostRuntime) -> Result<(), Fail> {
-    expect_empty(other_answer_before_memory_ends(rt.alloc(), 4096)?)?;
-    expect_empty(other_answer_before_memory_ends(rt.alloc(), 1)?)
 }
 
 // The body has 2^60 calls of a function that was defined before.

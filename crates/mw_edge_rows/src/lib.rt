@@ -1,9 +1,7 @@
 //! Worked books at the edges, as tests of the whole program: books in pieces, cut short, with faults of their text, nested deep, shared
-//! by labels, hostile, at bounds.
+//! by labels, hostile.
 #![tactic(auto)]
 
-#[cfg(test)]
-mod bounds;
 #[cfg(test)]
 mod depth;
 #[cfg(test)]
