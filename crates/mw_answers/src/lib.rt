@@ -11,9 +11,9 @@ mod wrap;
 
 pub use app::{app_book, app_lines};
 pub use never::{NEVER, OF_NEVER, other_answer_on_never};
-pub use ranks::other_report_after_ranks;
+pub use ranks::{other_report_after_ranks, ranks_book};
 pub use row::{
-    Answer, NEXT_ROW, WRITTEN, answer_of_check, answer_of_command, answer_with_faults,
+    Answer, NEXT_ROW, WRITTEN, answer_of_check, answer_of_command, answer_with_faults, due_after,
     expect_empty, limited_parts, other_answer, other_answer_with_faults, other_report,
     other_reports, wrong_answers,
 };

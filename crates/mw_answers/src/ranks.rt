@@ -1,5 +1,5 @@
 //! The book books/ranks.book, after which others define recursive functions: theorems up to the two that a recursion down CDR owes.
-use crate::row::other_report;
+use crate::row::{due_after, other_report};
 use std::alloc::{AllocError, Global};
 
 const RANKS: &str =
@@ -266,21 +266,21 @@ const OF_RANKS: &str = "1 VERIFY SYMMETRY accepted
 13 VERIFY RANK-FALLS accepted
 ";
 
-fn ranks_book() -> &'static str {
+/// The book books/ranks.book.
+pub fn ranks_book() -> &'static str {
     RANKS
 }
 
-/// The report of `check` under this step limit on the theorems on ranks with these events after them, where it does not begin with their
-/// lines and these, and else no text.
+/// How `check` ends under this step limit on the theorems on ranks with these events after them and what it writes, as a row has it, where it
+/// does not end with the number that is due or the report does not begin with their lines and then those that are due, and else no text.
 pub fn other_report_after_ranks(
     alloc: Global,
     steps: &str,
     events: &str,
-    lines: &str,
+    due: &str,
 ) -> Result<String, AllocError> {
     let mut book = String::from_str(alloc, ranks_book())?;
     book.push_str(events)?;
-    let mut due = String::from_str(alloc, OF_RANKS)?;
-    due.push_str(lines)?;
+    let due = due_after(alloc, OF_RANKS, due)?;
     other_report(alloc, steps, book.as_str(), due.as_str())
 }

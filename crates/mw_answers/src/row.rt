@@ -27,6 +27,23 @@ impl Answer {
     {
         self.report.as_str() == report && self.status.number() == number
     }
+
+    /// Whether the program ended with this number, and the report begins with these lines.
+    pub fn begins_with(&self, number: u8, lines: &str) -> bool {
+        self.report.as_str().starts_with(lines) && self.status.number() == number
+    }
+
+    /// Whether the program ended with this number, and the report ends with these lines.
+    pub fn ends_with(&self, number: u8, lines: &str) -> bool {
+        self.report.as_str().ends_with(lines) && self.status.number() == number
+    }
+
+    /// How the program ended and what it wrote, as a row has it.
+    pub fn as_row(&self, alloc: Global) -> Result<String, AllocError> {
+        let number = self.status.number();
+        let report = self.report.as_str();
+        format!(in alloc; "{number}\n{report}")
+    }
 }
 
 /// The most bytes that one of the first hundred writes takes where `answer_with_faults` runs the program.
@@ -66,7 +83,8 @@ pub fn answer_with_faults(
     run_on(alloc, words, &mut source, &mut sink)
 }
 
-/// The report of `check` on the book under this step limit, where it does not begin with what is due, and else no text.
+/// How `check` ends on the book under this step limit and what it writes, as a row has it, where it does not end with the number that is due or
+/// the report does not begin with the lines that are, and else no text.
 pub fn other_report(
     alloc: Global,
     steps: &str,
@@ -74,10 +92,17 @@ pub fn other_report(
     due: &str,
 ) -> Result<String, AllocError> {
     let answer = answer_of_command(alloc, &["check", "--steps", steps], book, 4096)?;
-    if answer.report.as_str().starts_with(due) {
-        Ok(String::new(alloc))
-    } else {
-        Ok(answer.report)
+    match number_and_text(due) {
+        Some((number, lines)) if answer.begins_with(number, lines) => Ok(String::new(alloc)),
+        _ => answer.as_row(alloc),
+    }
+}
+
+/// What is due for a book where these lines come before the others of its report.
+pub fn due_after(alloc: Global, lines: &str, due: &str) -> Result<String, AllocError> {
+    match due.split_once("\n") {
+        Some((number, others)) => format!(in alloc; "{number}\n{lines}{others}"),
+        None => format!(in alloc; "no row: {due}"),
     }
 }
 
@@ -88,9 +113,9 @@ pub fn limited_parts(row: &str) -> Option<(&str, &str, &str)> {
     Some((steps, book, due))
 }
 
-/// The reports of `check` that do not begin with what is due, by a table of rows: a row is a step limit on a line of its own, a book, and
-/// after `=> ` what the report on the book under that limit is to begin with. A line `----` stands between two rows, and the newline before
-/// `=> ` belongs to no book.
+/// How `check` ends and what it writes where that is not what is due, by a table of rows: a row is a step limit on a line of its own, a book,
+/// after `=> ` the number that the program is to end with under that limit, and on the lines after it what the report is to begin with. A line
+/// `----` stands between two rows, and the newline before `=> ` belongs to no book.
 pub fn other_reports(alloc: Global, rows: &str) -> Result<String, AllocError> {
     let mut others = String::new(alloc);
     for row in rows.split(NEXT_ROW) {
@@ -168,19 +193,19 @@ pub(crate) fn lines_from(alloc: Global, first: u64, events: &str) -> Result<Stri
 
 // The answer, as a row has it, where it is not the one that is due, and else no text.
 fn other_than(alloc: Global, answer: &Answer, due: &str) -> Result<String, AllocError> {
-    let Some((number, report)) = due.split_once("\n") else {
-        return format!(in alloc; "no row: {due}");
-    };
-    let is_due = match number.parse::<u8>() {
-        Ok(number) => answer.is_due(number, report),
-        Err(_) => false,
-    };
-    if is_due {
-        return Ok(String::new(alloc));
+    match number_and_text(due) {
+        Some((number, report)) if answer.is_due(number, report) => Ok(String::new(alloc)),
+        _ => answer.as_row(alloc),
     }
-    let number = answer.status.number();
-    let report = answer.report.as_str();
-    format!(in alloc; "{number}\n{report}")
+}
+
+// The number and the text of what is due.
+fn number_and_text(due: &str) -> Option<(u8, &str)> {
+    let (number, text) = due.split_once("\n")?;
+    match number.parse::<u8>() {
+        Ok(number) => Some((number, text)),
+        Err(_) => None,
+    }
 }
 
 // Puts a row's book and the answer to it after the text, where it is not the one that is due.
@@ -201,7 +226,7 @@ fn add_wrong_answer(
     writeln!(wrong, "{book}\n=> {other}")
 }
 
-// Puts the report on a row's book under the row's step limit after the text, where it does not begin with what is due.
+// Puts the answer to a row's book under the row's step limit after the text, where it is not the one that is due.
 fn add_other_report(others: &mut String, alloc: Global, row: &str) -> Result<(), AllocError> {
     let Some((steps, book, due)) = limited_parts(row) else {
         return writeln!(others, "no row: {row}");

@@ -1,12 +1,11 @@
 -- The value by the word that is found is the logic's.
-use Rattle.std.proofs.Common.{◌≡◌, Bool, true, false, cond, List, [], ◌∷◌, Option, Some, None, refl, sym, ap, ap₂, ◌∙◌}
-use Rattle.std.specs.Prelude.{option_map}
+use Rattle.std.proofs.Common.{◌≡◌, Bool, true, false, cond, List, [], ◌∷◌, Option, Some, None, refl, sym, ap, ap₂, ◌∙◌, option_map}
 use Rattle.mw_model.specs.Terms.Object.{Object, Name, Symbol, named, same_name, same_object, car, second_of, third_of}
 use Rattle.mw_model.specs.Values.Primitive.{Profile, Primitive, Equality, IsPair, Cons, Car, Cdr, IsSymbol, SymbolLess, IsNatural, Less, Plus, Minus, Times, primitive_named, choose, first_value, second_value}
 use Rattle.mw_model.specs.Laws.Rules.{primitive_value, value_by, is_that_value, unquoted, third_value}
 use Rattle.mw_model.proofs.SameObject.{same_object-swap}
-use Rattle.mw_heap.specs.declared.primitive.Primitive.{Primitive as Word}
-use Rattle.mw_heap.specs.declared.primitive.Primitive.TheVariants as word
+use Rattle.mw_heap.specs.declared.vocabulary.primitive.Primitive.{Primitive as Word}
+use Rattle.mw_heap.specs.declared.vocabulary.primitive.Primitive.TheVariants as word
 use Rattle.mw_heap.specs.PrimitiveNames.{word_of, word_named}
 use Rattle.mw_base.specs.Answers.{value_of}
 use Rattle.mw_base.proofs.ConstantTests.{first_value-unquoted, second_value-unquoted, third_value-unquoted}

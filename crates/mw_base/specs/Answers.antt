@@ -6,7 +6,7 @@ use Rattle.mw_model.specs.Events.Evaluation.{is_past_range}
 use Rattle.mw_model.specs.Laws.Rules.{third_value}
 use Rattle.mw_heap.specs.Objects.{object_at, IsIn}
 use Rattle.mw_heap.specs.Variants.{primitive_of}
-use Rattle.mw_heap.specs.declared.primitive.Primitive.{Primitive as Word}
+use Rattle.mw_heap.specs.declared.vocabulary.primitive.Primitive.{Primitive as Word}
 use Rattle.mw_base.specs.declared.applied.Applied.{Applied}
 use Rattle.mw_base.specs.declared.applied.Applied.TheVariants.{Value, Overflow, Memory}
 
@@ -38,6 +38,11 @@ abbrev pub Answers : List Object → Bool → Object → Applied → Type 0
 Answers os past v (Value r) = (past ≡ false) × IsIn os r × (object_at os r ≡ v)
 Answers os past v Overflow = past ≡ true
 Answers os past v Memory = Unit {0}
+
+-- the same where memory is not asked for, and no value is Overflow
+abbrev pub AnswersReserved : List Object → Bool → Object → Option ℕ → Type 0
+AnswersReserved os past v (Some r) = (past ≡ false) × IsIn os r × (object_at os r ≡ v)
+AnswersReserved os past v None = past ≡ true
 
 -- it is answered, and memory was not refused
 abbrev pub IsAnswered : Applied → Type 0

@@ -2,8 +2,8 @@
 use Rattle.std.specs.Prelude.{ℕ, ◌/◌, min, List, [], ◌∷◌, length}
 use Rattle.mw_model.specs.Terms.Object.{Object}
 use Rattle.mw_model.specs.Values.Primitive.{name_of}
-use Rattle.mw_heap.specs.declared.primitive.Primitive.{Primitive as Word}
-use Rattle.mw_heap.specs.declared.primitive.Primitive.TheVariants as word
+use Rattle.mw_heap.specs.declared.vocabulary.primitive.Primitive.{Primitive as Word}
+use Rattle.mw_heap.specs.declared.vocabulary.primitive.Primitive.TheVariants as word
 
 -- the full blocks of 16 bytes of the shorter name
 abbrev pub blocks_of_two : List Object → ℕ

@@ -1,7 +1,7 @@
 //! The values of the primitive functions.
 ghost use Rattle.std.specs.Prelude.{◌≡◌, ◌<◌, ◌≤◌, ◌+◌, [], ◌∷◌, length, map, All};
 ghost use Rattle.mw_heap.specs.Objects.{object_at, IsIn, Grows};
-ghost use Rattle.mw_base.specs.Answers.{Answers, IsAnswered, arity, value_of, overflows};
+ghost use Rattle.mw_base.specs.Answers.{Answers, AnswersReserved, IsAnswered, arity, value_of, overflows};
 ghost use Rattle.mw_base.specs.Truths.{AreTruths};
 
 use crate::answers::{natural, pair};
@@ -25,6 +25,24 @@ pub fn apply(heap: &mut Heap, p: Primitive, args: &[Ref], truths: &Truths) -> Ap
         [a, b] => apply_to_two(heap, p, *a, *b, truths),
         [a, b, c] => Applied::Value(if heap.is_nil(Some(*a)) { *c } else { *b }),
         _ => unreachable!(),
+    }
+}
+
+/// The same where the heap has room for one object more, and T and NIL are at hand: no memory is asked for. There is no value exactly
+/// where it would be a sum or a product of 2^128 or more.
+pub fn apply_reserved(heap: &mut Heap, p: Primitive, args: &[Ref], t: Ref, nil: Ref) -> Option<Ref>
+    requires count { length args.now ≡ arity p }
+    requires within { All (IsIn heap.old.objects) args.now }
+    requires room { 0 < heap.old.spare }
+    requires truths { AreTruths heap.old.objects (record { t = t; nil = nil }) }
+    ensures grows { Grows heap.old.objects heap.new.objects }
+    ensures answer { AnswersReserved heap.new.objects (overflows p (map (object_at heap.old.objects) args.now)) (value_of p (map (object_at heap.old.objects) args.now)) result }
+    ensures spare { heap.old.spare ≤ heap.new.spare + 1 }
+{
+    match apply(heap, p, args, &Truths { t, nil }) {
+        Applied::Value(value) => Some(value),
+        Applied::Overflow => None,
+        Applied::Memory => unreachable!(),
     }
 }
 

@@ -10,7 +10,7 @@ mod rule;
 mod truths;
 mod values;
 
-pub use application::apply;
+pub use application::{apply, apply_reserved};
 pub use applied::Applied;
 pub use rule::base_eval;
 pub use truths::Truths;

@@ -1,10 +1,10 @@
 //! T and NIL at hand.
-ghost use Rattle.std.specs.Prelude.{◌≡◌, IfOk};
+ghost use Rattle.std.specs.Prelude.{◌≡◌, ◌≤◌, ◌+◌, IfOk, OnErr};
 ghost use Rattle.mw_model.specs.Terms.Object.{truth_of};
 ghost use Rattle.mw_heap.specs.Objects.{object_at, IsIn, Grows};
 ghost use Rattle.mw_base.specs.Truths.{AreTruths};
 
-use mw_heap::{Heap, Memory, Ref, Word};
+use mw_heap::{Heap, Memory, Ref};
 
 /// The references of T and NIL.
 #[derive(Clone, Copy, Debug, PartialEq, Eq)]
@@ -14,13 +14,15 @@ pub struct Truths {
 }
 
 impl Truths {
-    /// T and NIL in a heap. The error is memory that is refused.
+    /// T and NIL in a heap. The error is memory that is refused: no room of the heap is then smaller than before.
     pub fn new(heap: &mut Heap) -> Result<Truths, Memory>
         ensures grows { Grows heap.old.objects heap.new.objects }
         ensures made { IfOk result (AreTruths heap.new.objects) }
+        ensures spare { heap.old.spare ≤ heap.new.spare + 2 }
+        ensures err { OnErr result (heap.new.objects ≡ heap.old.objects) }
+        ensures err_spare { OnErr result (heap.old.spare ≤ heap.new.spare) }
     {
-        let t = heap.word(Word::T)?;
-        let nil = heap.nil()?;
+        let (t, nil) = heap.truths()?;
         Ok(Truths { t, nil })
     }
 

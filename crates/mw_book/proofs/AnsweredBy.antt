@@ -4,7 +4,8 @@ use Rattle.mw_model.specs.Terms.Object.{Object}
 use Rattle.mw_model.specs.Texts.Lexemes.{Fault}
 use Rattle.mw_model.specs.Reports.Request.{Request}
 use Rattle.mw_book.specs.Answering.{Answers, AnsweredBy}
-use Rattle.mw_book.specs.Due.{AreAnswers, IsLastText, refused_for}
+use Rattle.mw_book.specs.Statuses.{AreAnswers}
+use Rattle.mw_book.specs.LastTexts.{IsLastText, refused_for}
 
 module _ {P : Type 0} (make : P → Request) where
   -- from one state to another

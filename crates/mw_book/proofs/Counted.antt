@@ -8,7 +8,7 @@ use Rattle.mw_commands.specs.Commands.TautologyBook.{OwesTautology, is_proved, t
 use Rattle.mw_lines.specs.Lines.{formulas_line}
 use Rattle.mw_book.specs.Answered.{Answered, IsProving, ProvedFor, lines_of}
 use Rattle.mw_book.specs.Answering.{Answers}
-use Rattle.mw_book.specs.Due.{AreAnswers}
+use Rattle.mw_book.specs.Statuses.{AreAnswers}
 use Rattle.mw_book.specs.declared.proving.Proving.{Proving}
 use Rattle.mw_book.proofs.Pieces.{how_many-append}
 use Rattle.mw_book.proofs.Promising.{answers_both}

@@ -9,9 +9,8 @@ use Rattle.mw_port.specs.Ports.{Takes}
 use Rattle.mw_read.specs.Kinds.{kind_of}
 use Rattle.mw_read.specs.declared.step.SyntaxKind.{SyntaxKind}
 use Rattle.mw_book.specs.Answering.{fault_of, ReadWhole}
-use Rattle.mw_book.specs.Books.{TakesSome}
-use Rattle.mw_book.specs.Due.{AreAnswers, IsLastText, refused_for}
-use Rattle.mw_book.specs.Statuses.{Keeps, IsPartOf, WritesFirst}
+use Rattle.mw_book.specs.Statuses.{TakesSome, AreAnswers, Keeps, IsPartOf, WritesFirst}
+use Rattle.mw_book.specs.LastTexts.{IsLastText, refused_for}
 use Rattle.mw_book.specs.Checks.{BookEnds, SourceCounts, ConcludesWith}
 use Rattle.mw_book.specs.declared.status.Status.{Status as Ending}
 use Rattle.mw_book.specs.declared.status.Status.TheVariants as ending

@@ -8,7 +8,7 @@ use Rattle.mw_read.specs.declared.step.SyntaxKind.{SyntaxKind}
 use Rattle.mw_lines.specs.Lines.{answers_line, fault_line, flat_line, formulas_line, summary_of}
 use Rattle.mw_book.specs.Answered.{Answered, IsProving, ProvedFor}
 use Rattle.mw_book.specs.Answering.{fault_of}
-use Rattle.mw_book.specs.Due.{IsLastText, refused_for}
+use Rattle.mw_book.specs.LastTexts.{IsLastText, refused_for}
 use Rattle.mw_book.specs.Knowing.{Judged, JudgedFor}
 use Rattle.mw_book.specs.Flattened.{Flattened, FlattenedFor}
 use Rattle.mw_book.specs.Lowered.{Lowered, LoweredFor}

@@ -29,3 +29,4 @@ pub mod SlicedPlaces
 pub mod LastLines
 pub mod Sinks
 pub mod Clauses
+pub mod ExpectedOutputs

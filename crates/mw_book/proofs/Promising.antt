@@ -17,7 +17,8 @@ use Rattle.mw_model.specs.Events.Fate.{after}
 use Rattle.mw_model.specs.Events.Demand.{happens_under}
 use Rattle.mw_model.proofs.ReadBack.{when_some}
 use Rattle.mw_reflect.specs.Laws.{EventsKeep}
-use Rattle.mw_book.specs.Due.{AreAnswers, IsLastText, refused_for}
+use Rattle.mw_book.specs.Statuses.{AreAnswers}
+use Rattle.mw_book.specs.LastTexts.{IsLastText, refused_for}
 use Rattle.mw_model.proofs.LinesGrow.{lines_first}
 use Rattle.mw_commands.specs.Commands.Tautology.{Decision, Many, FailsUnder, Holds, decision, choice_object}
 use Rattle.mw_commands.specs.Commands.TautologyBook.{IsPureProof, OwesDecided, OwesGiven, OwesTautology, TautologiesWritten, formula_given, initial_arities, is_proved, remark, tautology_summary}

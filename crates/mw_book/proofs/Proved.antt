@@ -15,7 +15,7 @@ use Rattle.mw_term.specs.Marking.{ObjectMark, AreMarks}
 use Rattle.mw_lines.specs.Members.{ShowsWord}
 use Rattle.mw_book.specs.Answered.{Answered, IsProving, ProvedFor, lines_of}
 use Rattle.mw_book.specs.Answering.{Answers, HasAnswered}
-use Rattle.mw_book.specs.Due.{AreAnswers}
+use Rattle.mw_book.specs.Statuses.{AreAnswers}
 use Rattle.mw_book.proofs.AnsweredBy.{answers_by}
 use Rattle.mw_book.specs.declared.proving.Proving.{Proving}
 

@@ -16,13 +16,11 @@ use Rattle.mw_read.proofs.Beginning.{weight_small}
 use Rattle.mw_read.proofs.Telling.{stands_goes}
 use Rattle.mw_book.specs.Answering.{HasAnswered, IsBegunBy, AreFirst, ReadWhole}
 use Rattle.mw_book.specs.Writing.{HasWritten, EndsWritten, StopsWritten}
-use Rattle.mw_book.specs.Books.{Has, TakesSome}
-use Rattle.mw_book.specs.Due.{AreAnswers}
-use Rattle.mw_book.specs.Statuses.{report_status, IsPartOf, WritesFirst}
+use Rattle.mw_book.specs.Statuses.{Has, TakesSome, AreAnswers, report_status, IsPartOf, WritesFirst}
 use Rattle.mw_book.specs.Checks.{BookEnds, SourceCounts, SinkShortages, ConcludesWith, IsHalt, IsStop}
 use Rattle.mw_book.specs.declared.status.Status.{Status as Ending}
 use Rattle.mw_book.specs.declared.status.Status.TheVariants as ending
-use Rattle.mw_read.proofs.Prefixes.{free_fits}
+use Rattle.mw_read.proofs.Prefixes.{free_fits, first_data}
 use Rattle.mw_book.proofs.FirstData.{follows_free, read_so_far}
 use Rattle.mw_book.proofs.Written.{takes_none, takes_both, takes_then, gives_none, gives_both, left_of, gives_has, ended_has, still_ended}
 
@@ -123,15 +121,31 @@ module _ {A : Type 0} {objects : A → List Object} {lines : A → List ℕ} {nu
     pub room_for : (piece : List ℕ) → length piece ≤ 4096 → number j + work p piece < 2 ^ 62
     room_for piece l = omega (arith, between.amount, between.stands.short, weight_small p.begun, l)
 
+    -- what was written begins a text that is due, whatever bytes follow
+    begun_here : Begins → IsPartOf q input first sink
+    begun_here begins =
+        let bytes = between.bytes ++ left_of left in
+        let d = first_data (objects j) p between.bytes between.given between.stands (left_of left) (between.free (left_of left)) in
+        begun_is_part q between.given between.written between.answers input first sink (
+          bytes,
+          gives_has input left between.bytes between.gives,
+          between.written,
+          between.takes,
+          begins q bytes between.written between.given d.0 d.1 between.answers,
+        )
+
     -- a read failed
-    pub read_fails : (now : Option (List ℕ)) → now ≡ left → (m n : ℕ) → BookEnds ending.ReadFault q input now first sink m n
-    read_fails now e m n = (
-      between.bytes,
-      subst (λ u. Gives input u between.bytes) (sym e) between.gives,
-      ap (λ (b : Book). b.fault) between.so_far,
-      between.written,
-      between.takes,
-      subst (λ (b : Book). AreAnswers q b.events between.written) (sym between.so_far) between.answers,
+    pub read_fails : Begins → (now : Option (List ℕ)) → now ≡ left → (m n : ℕ) → BookEnds ending.ReadFault q input now first sink m n
+    read_fails begins now e m n = (
+      (
+        between.bytes,
+        subst (λ u. Gives input u between.bytes) (sym e) between.gives,
+        ap (λ (b : Book). b.fault) between.so_far,
+        between.written,
+        between.takes,
+        subst (λ (b : Book). AreAnswers q b.events between.written) (sym between.so_far) between.answers,
+      ),
+      begun_here begins,
     )
 
     -- A write stopped, or memory ran out: the answers to first data begin a text that is due, and are whole where memory ran out.

@@ -1,11 +1,10 @@
 -- The places of a slice are those of events, and what is written of them is owed.
-use Rattle.std.proofs.Common.{◌≡◌, ℕ, zero, suc, ◌<◌, ◌≤◌, Bool, true, false, cond, eqb, List, [], ◌∷◌, ◌++◌, length, map, take, Option, Some, None, codes, refl, sym, ap, ap₂, ◌∙◌, subst, arith, eq-eqb}
+use Rattle.std.proofs.Common.{◌≡◌, ℕ, zero, suc, ◌<◌, ◌≤◌, Bool, true, false, cond, eqb, List, [], ◌∷◌, ◌++◌, length, map, take, Option, Some, None, codes, refl, sym, ap, ap₂, ◌∙◌, subst, arith, eq-eqb, is_some}
 use Rattle.std.specs.Prelude.{All, slice_index_or}
 use Rattle.std.proofs.lemmas.Bool.{and_parts, ltb-true, or_left, or_right}
 use Rattle.std.proofs.lemmas.List.{length-map}
 use Rattle.mw_model.specs.Terms.Object.{Name, Object}
 use Rattle.mw_model.specs.Values.Value.{pick}
-use Rattle.mw_model.specs.Values.Definition.{is_present}
 use Rattle.mw_model.specs.Reports.Request.{Request}
 use Rattle.mw_model.specs.Texts.Printing.{numeral}
 use Rattle.mw_model.specs.Reports.Report.{spaced}
@@ -18,7 +17,7 @@ use Rattle.mw_read.specs.declared.step.SyntaxKind.{SyntaxKind}
 use Rattle.mw_slice.specs.Slices.{events_of}
 use Rattle.mw_lines.specs.Lines.{fault_line}
 use Rattle.mw_book.specs.Answering.{fault_of}
-use Rattle.mw_book.specs.Due.{IsLastText, refused_for}
+use Rattle.mw_book.specs.LastTexts.{IsLastText, refused_for}
 use Rattle.mw_book.specs.Sliced.{SlicedFor, name_asked}
 use Rattle.mw_book.specs.declared.slicing.Slicing.{Slicing}
 use Rattle.mw_book.proofs.AnsweredBy.{last_by, refused_by}
@@ -95,5 +94,5 @@ module _ (s : Slicing) (q : Request) (given : List Object) (h : SlicedFor s q gi
         ap₂ text (sym (length-map places (event_at accepted))) k.counted,
       ))
 
-  pub sliced_refused : (n : ℕ) → n ≡ cond (is_present (target (events_of s.slicer) (name_asked s))) 0 1 → n ≡ refused_for q given
-  sliced_refused n e = refused_by slice_request (IsSliced s) q given h n (λ p k. e ∙ ap (λ goal. cond (is_present goal) 0 1) (sym (goal_found p k _ refl)))
+  pub sliced_refused : (n : ℕ) → n ≡ cond (is_some (target (events_of s.slicer) (name_asked s))) 0 1 → n ≡ refused_for q given
+  sliced_refused n e = refused_by slice_request (IsSliced s) q given h n (λ p k. e ∙ ap (λ goal. cond (is_some goal) 0 1) (sym (goal_found p k _ refl)))

@@ -1,9 +1,8 @@
 -- What may be written of a slice, and how a slice ends.
-use Rattle.std.proofs.Common.{◌≡◌, ℕ, ◌≤◌, cond, List, [], ◌∷◌, ◌++◌, length, map, Option, Some, None, codes, refl, sym, append-nil}
+use Rattle.std.proofs.Common.{◌≡◌, ℕ, ◌≤◌, cond, List, [], ◌∷◌, ◌++◌, length, map, Option, Some, None, codes, refl, sym, append-nil, is_some}
 use Rattle.mw_model.specs.Terms.Object.{Name, Object}
 use Rattle.mw_model.specs.Texts.Lexemes.{Fault}
 use Rattle.mw_model.specs.Texts.Grammar.{Book, limit}
-use Rattle.mw_model.specs.Values.Definition.{is_present}
 use Rattle.mw_model.specs.Texts.Printing.{numeral}
 use Rattle.mw_model.specs.Reports.Report.{Done, spaced, status_of}
 use Rattle.mw_model.specs.Texts.Written.{IsDatumLine}
@@ -22,7 +21,7 @@ abbrev pub HasSlices : Type 0
 HasSlices = (es : List Object) (goal : ℕ) → (places : List ℕ) × IsSlice es goal places
 
 -- one theorem at most is missing
-pub sliced_status : (f : Option Fault) (goal : Option ℕ) → status_of f (cond (is_present goal) 0 1) ≡ status_for f goal
+pub sliced_status : (f : Option Fault) (goal : Option ℕ) → status_of f (cond (is_some goal) 0 1) ≡ status_for f goal
 sliced_status (Some f) goal = refl
 sliced_status None (Some g) = refl
 sliced_status None None = refl

@@ -16,7 +16,7 @@ use Rattle.mw_read.proofs.Bare.{take_cut}
 use Rattle.mw_read.proofs.Beginning.{weight_small}
 use Rattle.mw_read.proofs.Feeding.{last_left, last_stands, last_whole, last_fault}
 use Rattle.mw_book.specs.Answering.{Answers, HasAnswered, fault_of, Taking, HasTaken, Ends, IsBegunBy, AreFirst, AreDueFirst}
-use Rattle.mw_book.specs.Due.{AreAnswers}
+use Rattle.mw_book.specs.Statuses.{AreAnswers}
 use Rattle.mw_book.specs.declared.reading.Taken.TheVariants as takings
 use Rattle.mw_book.proofs.FirstData.{data_of_first, data_of_ended}
 

@@ -8,7 +8,7 @@ use Rattle.mw_port.specs.Ports.{Rises, Takes}
 use Rattle.mw_read.specs.Kinds.{kind_of}
 use Rattle.mw_read.specs.declared.step.SyntaxKind.{SyntaxKind}
 use Rattle.mw_reflect.specs.Laws.{EventsKeep}
-use Rattle.mw_book.specs.Books.{Has, TakesSome}
+use Rattle.mw_book.specs.Statuses.{Has, TakesSome}
 use Rattle.mw_model.specs.Reports.Request.{Check}
 use Rattle.mw_book.specs.Answering.{fault_of, ReadWhole}
 use Rattle.mw_book.specs.Checks.{TrialEnds, LastReported, SourceCounts, SinkCounts, ConcludesWith, IsStop}

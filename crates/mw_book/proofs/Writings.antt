@@ -12,9 +12,8 @@ use Rattle.mw_read.specs.declared.parser.Parser.{Parser}
 use Rattle.mw_read.specs.declared.step.SyntaxKind.{SyntaxKind}
 use Rattle.mw_read.proofs.Bare.{take_cut}
 use Rattle.mw_book.specs.Answering.{Answers, HasAnswered, fault_of, Taking, HasTaken, Ends, AreFirst, AreDueFirst}
-use Rattle.mw_book.specs.Books.{TakesSome}
+use Rattle.mw_book.specs.Statuses.{TakesSome, AreAnswers}
 use Rattle.mw_book.specs.Checks.{SinkShortages}
-use Rattle.mw_book.specs.Due.{AreAnswers}
 use Rattle.mw_book.specs.Writing.{GoesOn, Writes, Writing, HasWritten, EndsWritten, StopsWritten}
 use Rattle.mw_book.specs.declared.reading.Taken.TheVariants as takings
 use Rattle.mw_book.specs.declared.status.Status.{Status as Ending}

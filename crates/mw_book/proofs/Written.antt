@@ -1,7 +1,7 @@
 -- What sources give and sinks take in several calls.
 use Rattle.std.proofs.Common.{ℕ, List, [], ◌++◌, Option, Some, None, refl, sym, ap, ◌∙◌, append_assoc, append-nil}
 use Rattle.mw_port.specs.Ports.{Gives, Takes, HasEnded}
-use Rattle.mw_book.specs.Books.{Has, TakesSome}
+use Rattle.mw_book.specs.Statuses.{Has, TakesSome}
 
 pub takes_none : (a : Option (List ℕ)) → Takes a a []
 takes_none (Some x) = sym (append-nil x)

@@ -11,8 +11,7 @@ use Rattle.mw_read.specs.declared.parser.Parser.{Parser}
 use Rattle.mw_read.specs.declared.step.SyntaxKind.{SyntaxKind}
 use Rattle.mw_book.specs.declared.reading.Taken.{Taken}
 use Rattle.mw_book.specs.declared.reading.Taken.TheVariants as takings
-use Rattle.mw_book.specs.Books.{Has}
-use Rattle.mw_book.specs.Due.{AreAnswers}
+use Rattle.mw_book.specs.Statuses.{Has, AreAnswers}
 
 -- From the data given to more: where those were answered, these are, and after what was written the lines are due.
 pub record Answers {A : Type 0} (lines : A → List ℕ) (answered : A → Request → List Object → Type 0) (old : A) (given : List Object) (new : A) (more : List Object) : Type 0 where

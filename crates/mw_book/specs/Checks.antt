@@ -7,8 +7,7 @@ use Rattle.mw_model.specs.Reports.Trial.{trial_book}
 use Rattle.mw_model.specs.Reports.Headline.{TrialHeadline}
 use Rattle.mw_port.specs.Ports.{Rises, Takes, HasEnded}
 use Rattle.mw_read.specs.Kinds.{kind_of}
-use Rattle.mw_book.specs.Books.{TakesSome}
-use Rattle.mw_book.specs.Statuses.{report_status, Keeps, IsPartOf, WritesFirst, WritesSoFar}
+use Rattle.mw_book.specs.Statuses.{TakesSome, report_status, Keeps, IsPartOf, WritesFirst, WritesSoFar}
 use Rattle.mw_book.specs.declared.status.Status.{Status as Ending}
 use Rattle.mw_book.specs.declared.status.Status.TheVariants as ending
 
@@ -20,7 +19,7 @@ BookEnds ending.SomeRefused q old_book new_book old new m n = HasEnded new_book 
 BookEnds (ending.Syntax k o) q old_book new_book old new m n = Keeps q old_book old new (Syntax (kind_of k) o)
 BookEnds ending.Help q old_book new_book old new m n = ⊥
 BookEnds ending.Usage q old_book new_book old new m n = ⊥
-BookEnds ending.ReadFault q old_book new_book old new m n = WritesSoFar q old_book new_book old new
+BookEnds ending.ReadFault q old_book new_book old new m n = WritesSoFar q old_book new_book old new × IsPartOf q old_book old new
 BookEnds ending.WriteFault q old_book new_book old new m n = IsPartOf q old_book old new
 BookEnds ending.Memory q old_book new_book old new m n = IsPartOf q old_book old new × (Rises m n ⊎ WritesFirst q old_book old new)
 

@@ -1,6 +1,5 @@
-pub mod Books
 pub mod Answered
-pub mod Due
+pub mod LastTexts
 pub mod Answering
 pub mod Writing
 pub mod Statuses
@@ -12,3 +11,5 @@ pub mod Flattened
 pub mod Rechecked
 pub mod Checks
 pub mod Runs
+pub mod Complete
+pub mod Exits

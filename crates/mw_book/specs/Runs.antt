@@ -3,9 +3,8 @@ use Rattle.std.specs.Prelude.{◌≡◌, ◌≢◌, ◌⊎◌, ℕ, true, false,
 use Rattle.mw_model.specs.Reports.Request.{Request, Help, Usage}
 use Rattle.mw_request.specs.Commands.{help_text}
 use Rattle.mw_port.specs.Ports.{Rises, Takes, HasEnded}
-use Rattle.mw_book.specs.Books.{TakesSome}
+use Rattle.mw_book.specs.Statuses.{TakesSome, report_status, reads_book, Keeps, IsPartOf, WritesFirst, WritesSoFar}
 use Rattle.mw_book.specs.Checks.{IsHalt, SinkCounts, SinkShortages}
-use Rattle.mw_book.specs.Statuses.{report_status, reads_book, Keeps, IsPartOf, WritesFirst, WritesSoFar}
 use Rattle.mw_book.specs.declared.status.Status.{Status as Ending}
 use Rattle.mw_book.specs.declared.status.Status.TheVariants as ending
 
@@ -17,7 +16,7 @@ pub record Fulfils (q : Request) (e : Ending) (old_book new_book old new : Optio
   pub unread : reads_book q ≡ false → new_book ≡ old_book
   pub help : e ≡ ending.Help → (q ≡ Help) × Takes old new help_text
   pub usage : e ≡ ending.Usage → (q ≡ Usage) × Takes old new help_text
-  pub read_fault : e ≡ ending.ReadFault → Rises old_reads new_reads × WritesSoFar q old_book new_book old new
+  pub read_fault : e ≡ ending.ReadFault → Rises old_reads new_reads × WritesSoFar q old_book new_book old new × IsPartOf q old_book old new
   pub write_fault : e ≡ ending.WriteFault → Rises old_writes new_writes × IsPartOf q old_book old new
   pub memory : e ≡ ending.Memory → IsPartOf q old_book old new
   pub answers : e ≡ ending.Memory → Rises old_shortages new_shortages ⊎ WritesFirst q old_book old new

@@ -4,14 +4,20 @@ use Rattle.mw_model.specs.Terms.Object.{Object}
 use Rattle.mw_model.specs.Texts.Grammar.{book, trees}
 use Rattle.mw_model.specs.Reports.Request.{Request}
 use Rattle.mw_port.specs.Ports.{Rises, Takes}
+use Rattle.mw_port.specs.declared.sink.Halt.{Halt}
+use Rattle.mw_port.specs.declared.sink.Halt.TheVariants as halt
 use Rattle.mw_read.specs.Standing.{Stands, Follows, work}
 use Rattle.mw_read.specs.declared.parser.Parser.{Parser}
 use Rattle.mw_read.specs.declared.step.SyntaxKind.{SyntaxKind}
 use Rattle.mw_book.specs.Answering.{HasAnswered, fault_of}
-use Rattle.mw_book.specs.Books.{TakesSome}
-use Rattle.mw_book.specs.Due.{AreAnswers}
+use Rattle.mw_book.specs.Statuses.{TakesSome, AreAnswers}
 use Rattle.mw_book.specs.declared.status.Status.{Status as Ending}
 use Rattle.mw_book.specs.declared.status.Status.TheVariants as ending
+
+-- how the program ends where a write moved nothing
+abbrev pub halted : Halt → Ending
+halted halt.Failed = ending.WriteFault
+halted halt.Memory = ending.Memory
 
 -- where the data given were answered, this text after their answers makes those to more
 abbrev pub GoesOn : {A : Type 0} → (A → Request → List Object → Type 0) → A → List Object → List Object → List ℕ → Type 0

@@ -7,7 +7,7 @@ ghost use Rattle.mw_heap.specs.Objects.{object_at, IsIn};
 ghost use Rattle.mw_read.specs.Standing.{Stands, IsStanding, Follows, Says};
 ghost use Rattle.mw_read.specs.Feeding.{IsAwaiting, IsReady, Continues};
 ghost use Rattle.mw_read.specs.Shown.{ShowsEvent};
-ghost use Rattle.mw_book.specs.Due.{IsLastText, refused_for};
+ghost use Rattle.mw_book.specs.LastTexts.{IsLastText, refused_for};
 ghost use Rattle.mw_book.specs.Answering.{Answers, HasAnswered, fault_of};
 
 use mw_heap::{Memory, Ref};

@@ -6,11 +6,10 @@ ghost use Rattle.mw_model.specs.Reports.Report.{status_of as status_with};
 ghost use Rattle.mw_port.specs.Ports.{Takes};
 ghost use Rattle.mw_read.specs.Standing.{Stands, IsStanding, IsFree, Follows, work};
 ghost use Rattle.mw_read.specs.Feeding.{IsAwaiting};
-ghost use Rattle.mw_book.specs.Books.{TakesSome};
-ghost use Rattle.mw_book.specs.Due.{AreAnswers, IsLastText, refused_for};
+ghost use Rattle.mw_book.specs.Statuses.{TakesSome, AreAnswers, report_status};
+ghost use Rattle.mw_book.specs.LastTexts.{IsLastText, refused_for};
 ghost use Rattle.mw_book.specs.Answering.{HasAnswered, AreFirst, IsBegunBy, ReadWhole, fault_of};
 ghost use Rattle.mw_book.specs.Writing.{HasWritten, EndsWritten, StopsWritten};
-ghost use Rattle.mw_book.specs.Statuses.{report_status};
 ghost use Rattle.mw_book.specs.Checks.{BookEnds, SourceCounts, SinkCounts, SinkShortages, ConcludesWith, IsHalt, IsStop};
 
 use crate::Status;
@@ -23,10 +22,10 @@ use mw_port::{Sink, Source};
 use mw_read::{Reader, SyntaxKind};
 use std::alloc::Global;
 
-// The longest book, in bytes.
+// The longest book, in bytes, as the reader has it: no more pieces than this are handed over.
 const LIMIT: u64 = 1 << 40;
 
-// How many bytes are read at a time.
+// How many bytes are read at a time: a pipe of most systems hands over as many at once.
 const PIECE: usize = 4096;
 
 /// Answers the book on the source and writes the answers, those to all data that are complete before more is read.

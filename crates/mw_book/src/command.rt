@@ -4,9 +4,8 @@ ghost use Rattle.mw_model.specs.Reports.Request.{Help, Usage};
 ghost use Rattle.mw_request.specs.Commands.{asked, help_text};
 ghost use Rattle.mw_request.specs.Words.{meaning_of};
 ghost use Rattle.mw_port.specs.Ports.{Rises, Takes, HasEnded};
-ghost use Rattle.mw_book.specs.Books.{TakesSome};
+ghost use Rattle.mw_book.specs.Statuses.{TakesSome, report_status, reads_book, Keeps, WritesSoFar, IsPartOf, WritesFirst};
 ghost use Rattle.mw_book.specs.Checks.{TrialEnds, SinkCounts, SinkShortages, IsHalt};
-ghost use Rattle.mw_book.specs.Statuses.{report_status, reads_book, Reports, ReportsSoFar, IsCutShort, WritesAnswers};
 ghost use Rattle.mw_book.specs.Runs.{Fulfils, HelpEnds};
 
 use crate::Status;
@@ -46,15 +45,15 @@ pub fn run<S: Source, K: Sink>(
     source: &mut S,
     sink: &mut K,
 ) -> Status
-    ensures report { IfSome (report_status result) (Reports words.now (S.left source.old) (K.taken sink.old) (K.taken sink.new)) }
+    ensures report { IfSome (report_status result) (Keeps (asked words.now) (S.left source.old) (K.taken sink.old) (K.taken sink.new)) }
     ensures read_whole { reads_book (asked words.now) ≡ true → (result ≡ Status.Done) ⊎ (result ≡ Status.SomeRefused) → HasEnded (S.left source.new) }
     ensures unread { reads_book (asked words.now) ≡ false → S.left source.new ≡ S.left source.old }
     ensures help { result ≡ Status.Help → (asked words.now ≡ Help) × Takes (K.taken sink.old) (K.taken sink.new) help_text }
     ensures usage { result ≡ Status.Usage → (asked words.now ≡ Usage) × Takes (K.taken sink.old) (K.taken sink.new) help_text }
-    ensures read_fault { result ≡ Status.ReadFault → Rises (S.faults source.old) (S.faults source.new) × ReportsSoFar words.now (S.left source.old) (S.left source.new) (K.taken sink.old) (K.taken sink.new) }
-    ensures write_fault { result ≡ Status.WriteFault → Rises (K.faults sink.old) (K.faults sink.new) × IsCutShort words.now (S.left source.old) (K.taken sink.old) (K.taken sink.new) }
-    ensures memory { result ≡ Status.Memory → IsCutShort words.now (S.left source.old) (K.taken sink.old) (K.taken sink.new) }
-    ensures answers { result ≡ Status.Memory → Rises (K.shortages sink.old) (K.shortages sink.new) ⊎ WritesAnswers words.now (S.left source.old) (K.taken sink.old) (K.taken sink.new) }
+    ensures read_fault { result ≡ Status.ReadFault → Rises (S.faults source.old) (S.faults source.new) × WritesSoFar (asked words.now) (S.left source.old) (S.left source.new) (K.taken sink.old) (K.taken sink.new) × IsPartOf (asked words.now) (S.left source.old) (K.taken sink.old) (K.taken sink.new) }
+    ensures write_fault { result ≡ Status.WriteFault → Rises (K.faults sink.old) (K.faults sink.new) × IsPartOf (asked words.now) (S.left source.old) (K.taken sink.old) (K.taken sink.new) }
+    ensures memory { result ≡ Status.Memory → IsPartOf (asked words.now) (S.left source.old) (K.taken sink.old) (K.taken sink.new) }
+    ensures answers { result ≡ Status.Memory → Rises (K.shortages sink.old) (K.shortages sink.new) ⊎ WritesFirst (asked words.now) (S.left source.old) (K.taken sink.old) (K.taken sink.new) }
     ensures source_steady { result ≢ Status.ReadFault → S.faults source.new ≡ S.faults source.old }
     ensures sink_steady { result ≢ Status.WriteFault → K.faults sink.new ≡ K.faults sink.old }
 {

@@ -5,6 +5,7 @@ mod answering;
 mod book;
 mod check;
 mod command;
+mod completeness;
 mod fate_line;
 mod flat;
 mod flattening;
@@ -25,5 +26,6 @@ mod status;
 mod taut;
 
 pub use command::run;
+pub use completeness::runs_are_complete;
 pub use mw_trial::TrialSource;
 pub use status::Status;

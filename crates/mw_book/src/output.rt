@@ -1,8 +1,8 @@
 //! Writing.
 ghost use Rattle.std.specs.Prelude.{◌≡◌, OnOk, OnErr, IsErrOf};
 ghost use Rattle.mw_port.specs.Ports.{Rises, Takes};
-ghost use Rattle.mw_book.specs.Books.{TakesSome};
-ghost use Rattle.mw_book.specs.Statuses.{halted};
+ghost use Rattle.mw_book.specs.Statuses.{TakesSome};
+ghost use Rattle.mw_book.specs.Writing.{halted};
 
 use crate::Status;
 use mw_port::{Halt, Sink};

@@ -5,7 +5,8 @@ ghost use Rattle.mw_model.specs.Reports.Request.{Request};
 ghost use Rattle.mw_model.specs.Texts.Grammar.{trees};
 ghost use Rattle.mw_model.specs.Reports.Report.{status_of};
 ghost use Rattle.mw_commands.specs.Headlines.{Promised, IsBegun};
-ghost use Rattle.mw_book.specs.Due.{AreAnswers, IsLastText, refused_for};
+ghost use Rattle.mw_book.specs.Statuses.{AreAnswers};
+ghost use Rattle.mw_book.specs.LastTexts.{IsLastText, refused_for};
 
 use mw_commands::flattening::{flattenings_again, flattenings_possible};
 use mw_commands::lowering::{lowerings_again, lowerings_possible};

@@ -8,13 +8,15 @@ use crate::weight::{Weight, count_cells};
 use indexmap::IndexMap;
 use mw_heap::{Heap, Memory, Ref};
 
-/// The jobs that the blocks of a table share, for code that labels make of few cells.
+/// The jobs that the blocks of a table share, for code that labels make of few cells: as many as one term may take, so that what all
+/// definitions keep beyond what their cells pay for is 160 megabytes at most.
 pub(crate) const SHARED_JOBS: u64 = 1 << 24;
 
-// The jobs for which each distinct cell of a block's bodies pays.
+// The jobs for which each distinct cell of a block's bodies pays: a body that is written out has one or two.
 const JOBS_FOR_A_CELL: u64 = 64;
 
-// Bodies whose texts have at most so many bytes together are not counted: a term has no more jobs than its text has bytes.
+// Bodies whose texts have at most this many bytes together are not counted: a term has no more jobs than its text has bytes,
+// so that each keeps some 40 kilobytes at most.
 const SHORT: u64 = 4096;
 
 /// What is left of the jobs that blocks share once this block took those for which its own cells do not pay. The error is that fewer were
@@ -43,7 +45,7 @@ fn length_of_texts(heap: &Heap, block: &[(Ref, Ref, Option<Ref>)]) -> u64
     for index in 0..block.len() {
         let (_, _, body) = member_at(block, index);
         if let Some(body) = body {
-            length = length.saturating_add(heap.text_length(body));
+            length = length.saturating_add(heap.lengths(body).0);
         }
     }
     length

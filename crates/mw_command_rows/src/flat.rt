@@ -52,6 +52,13 @@ const FLATTENED: &str = "
 => 3
 (PROFILE 2)
 ; syntax END at 14
+----
+(verify inst #1=(pequal* (car y) (car y)) (instantiation #1# ((axiom (pequal* x x))) ((x . (car y)))))
+=> 0
+(STEP 1 AXIOM (PEQUAL* X X) NIL NIL)
+(STEP 2 INSTANTIATION (PEQUAL* (CAR Y) (CAR Y)) (1) ((X CAR Y)))
+(VERIFY INST (PEQUAL* (CAR Y) (CAR Y)) 2)
+; events 1 flat 1
 ";
 
 // The log of the book with a switch, which ends before it.
@@ -64,6 +71,56 @@ const OF_NEVER: &str = "1
 (VERIFY CLAIM (POR* (PEQUAL* (NEVER X AXIOMS THMS ATBL) (QUOTE NIL)) (PNOT* (PEQUAL* (LOGIC.PROVABLEP (LOGIC.CONCLUSION X) AXIOMS THMS ATBL) (QUOTE NIL)))) 4)
 ; events 4 flat 2
 ";
+
+// An event that `check` refuses at once. Each of its steps but the first names that step so many times, which are more numbers than a log may have for
+// one event.
+fn push_long_steps(book: &mut String, steps: usize, names: usize) -> Result<(), AllocError> {
+    book.push_str(
+        "(verify long (pequal* x y) (cut (pequal* x y) (#1=(axiom (pequal* x x)) (cut a #2=(",
+    )?;
+    for _ in 0..names {
+        book.push_str(" #1#")?;
+    }
+    book.push_str("))")?;
+    for k in 1..steps {
+        write!(book, " (cut a{k} #2#)")?;
+    }
+    book.push_str(")))")
+}
+
+// A theorem, that event, and a theorem, which has its place in the log.
+fn book_of_long_steps(alloc: Global) -> Result<String, AllocError> {
+    let mut book = String::from_str(alloc, "(verify p (pequal* x x) (axiom (pequal* x x)))\n")?;
+    push_long_steps(&mut book, 3_500, 5_000)?;
+    book.push_str("\n(verify q (pequal* x x) (axiom (pequal* x x)))\n")?;
+    Ok(book)
+}
+
+const OF_LONG_STEPS: &str = "1
+(STEP 1 AXIOM (PEQUAL* X X) NIL NIL)
+(VERIFY P (PEQUAL* X X) 1)
+(STEP 1 AXIOM (PEQUAL* X X) NIL NIL)
+(VERIFY Q (PEQUAL* X X) 1)
+; events 3 flat 2
+";
+
+fn other_answer_to_long_steps(alloc: Global) -> Result<String, AllocError> {
+    let book = book_of_long_steps(alloc)?;
+    other_answer(alloc, &["flat"], book.as_str(), OF_LONG_STEPS, 4096)
+}
+
+// The book with a switch, and after it an event at which `check` ends out of memory.
+fn other_answer_after_the_switch(alloc: Global) -> Result<String, AllocError> {
+    let mut term = String::from_str(alloc, "#1=(cons 1 1)")?;
+    for k in 1..60 {
+        let next = k + 1;
+        term = format!(in alloc; "#{next}=(cons {term} #{k}#)")?;
+    }
+    let book = format!(in alloc; "{NEVER} (eval {term})")?;
+    let (log, _) = OF_NEVER.split_once("; events").unwrap_or((OF_NEVER, ""));
+    let due = format!(in alloc; "{log}; events 5 flat 2\n")?;
+    other_answer(alloc, &["flat"], book.as_str(), due.as_str(), 4096)
+}
 
 // The books above to which the answer is another one, in pieces of so many bytes.
 fn wrong_flattenings(alloc: Global, size: usize) -> Result<String, AllocError> {
@@ -86,4 +143,16 @@ fn a_log_ends_before_a_switch(rt: HostRuntime) -> Result<(), Fail> {
         expect_empty(other_answer(rt.alloc(), &["flat"], NEVER, OF_NEVER, size)?)?;
     }
     Ok(())
+}
+
+#[test]
+fn an_event_whose_steps_are_too_long_is_counted_where_it_is_refused(
+    rt: HostRuntime,
+) -> Result<(), Fail> {
+    expect_empty(other_answer_to_long_steps(rt.alloc())?)
+}
+
+#[test]
+fn after_a_switch_events_are_only_counted(rt: HostRuntime) -> Result<(), Fail> {
+    expect_empty(other_answer_after_the_switch(rt.alloc())?)
 }

@@ -8,6 +8,10 @@ mod faults;
 #[cfg(test)]
 mod flat;
 #[cfg(test)]
+mod large;
+#[cfg(test)]
+mod logs;
+#[cfg(test)]
 mod long_logs;
 #[cfg(test)]
 mod lower;

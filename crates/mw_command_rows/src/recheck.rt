@@ -1,7 +1,5 @@
 //! Logs, and what `recheck` answers to them.
-use mw_answers::{
-    NEVER, answer_of_command, book_of_the_proof, expect_empty, other_answer, wrong_answers,
-};
+use mw_answers::{NEVER, answer_of_command, expect_empty, other_answer, wrong_answers};
 use std::alloc::{AllocError, Global};
 use std::test::Fail;
 
@@ -132,19 +130,57 @@ syntax CLOSE at 0
 => 3
 1 EVAL - no SHAPE
 syntax END at 11
+----
+(step 1 axiom (pequal* x x) nil nil) (step 2 instantiation (pequal* (car y) (car y)) (1) ((x . (car y)))) (verify inst (pequal* (car y) (car y)) 2)
+=> 0
+1 VERIFY INST yes
+events 1 yes 1 no 0 left 0
+----
+(step 1 axiom (pequal* x x) nil nil) (step 2 instantiation (pequal* (car y) y) (1) ((x . (car y)))) (verify inst (pequal* (car y) y) 2)
+=> 1
+1 VERIFY INST no STEP
+events 1 yes 0 no 1 left 0
+----
+(step 1 axiom (pequal* x x) nil nil) (step 2 instantiation (pequal* x x) nil nil) (verify inst (pequal* x x) 1)
+=> 1
+1 VERIFY INST no STEP
+events 1 yes 0 no 1 left 0
+----
+(step 1 axiom (pequal* x x) nil nil) (step 2 induction (pequal* x x) (1) ('0 () ())) (verify i (pequal* x x) 2)
+=> 1
+1 VERIFY I no STEP
+events 1 yes 0 no 1 left 0
+----
+(define idle (x) (if nil (idle x) x) 0 (1 2))
+=> 1
+1 DEFINE IDLE no GOAL
+events 1 yes 0 no 1 left 0
+----
+(define idle (x) (if nil (idle x) x) 0 nil)
+=> 1
+1 DEFINE IDLE no GOAL
+events 1 yes 0 no 1 left 0
+----
+(step 1 axiom (pequal* x x) nil nil) (define idle (x) (if nil (idle x) x) 0 (1 1))
+=> 1
+1 DEFINE IDLE no GOAL
+events 1 yes 0 no 1 left 0
+----
+(step 1 axiom (pequal* x x) nil nil) (define twice (x) (+ x x) nil (1))
+=> 1
+1 DEFINE TWICE no GOAL
+events 1 yes 0 no 1 left 0
+----
+(define twice (x) (+ x x) nil 1)
+=> 1
+1 DEFINE TWICE no SHAPE
+events 1 yes 0 no 1 left 0
 ";
 
 // The answer of `recheck` to the log that `flat` makes of the book, where it is not what is due.
 fn other_answer_to_the_log_of(alloc: Global, book: &str, due: &str) -> Result<String, AllocError> {
     let log = answer_of_command(alloc, &["flat"], book, 4096)?;
     other_answer(alloc, &["recheck"], log.report.as_str(), due, 4096)
-}
-
-// The same for a proof that labels make 2^60 parts of sixty.
-fn other_answer_to_the_log_of_the_proof(alloc: Global) -> Result<String, AllocError> {
-    let book = book_of_the_proof(alloc)?;
-    let due = "0\n1 VERIFY Q yes\nevents 1 yes 1 no 0 left 0\n";
-    other_answer_to_the_log_of(alloc, book.as_str(), due)
 }
 
 // The books above to which the answer is another one, in pieces of so many bytes.
@@ -166,9 +202,4 @@ fn a_log_that_is_read_byte_by_byte_has_the_same_report(rt: HostRuntime) -> Resul
 fn the_log_of_the_events_before_a_switch_gets_a_yes(rt: HostRuntime) -> Result<(), Fail> {
     let due = "0\n1 DEFINE NEVER yes\n2 VERIFY CLAIM yes\nevents 2 yes 2 no 0 left 0\n";
     expect_empty(other_answer_to_the_log_of(rt.alloc(), NEVER, due)?)
-}
-
-#[test]
-fn the_log_of_a_shared_proof_gets_a_yes(rt: HostRuntime) -> Result<(), Fail> {
-    expect_empty(other_answer_to_the_log_of_the_proof(rt.alloc())?)
 }

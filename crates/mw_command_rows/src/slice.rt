@@ -70,6 +70,32 @@ const SLICED: &str = "\
 => 0
 (VERIFY USE (PEQUAL* X X) (AXIOM (PEQUAL* X X)))
 ; kept 1 of 2
+----
+(skolem pick y (x) (equal x y)) (skolem other y (x) (equal x y))
+(define-all ((same (x) x nil) (via (x) (pick x) nil)) ()) (define-all ((mine (x) (pick x) nil)) ())
+(verify use (pequal* (via x) (pick x)) (axiom (pequal* (via x) (pick x))))
+=> 0
+(SKOLEM PICK Y (X) (EQUAL X Y))
+(DEFINE-ALL ((SAME (X) X NIL) (VIA (X) (PICK X) NIL)) NIL)
+(VERIFY USE (PEQUAL* (VIA X) (PICK X)) (AXIOM (PEQUAL* (VIA X) (PICK X))))
+; kept 3 of 5
+----
+(skolem pick y (x) (equal x y)) (define-all ((same (x) x nil) (via (x) (pick x) nil)) ())
+(verify use #1=(por* (pequal* (equal x y) 'nil) (pnot* (pequal* ((lambda (y x) (equal x y)) (pick x) x) 'nil))) (axiom #1#))
+=> 0
+(SKOLEM PICK Y (X) (EQUAL X Y))
+(VERIFY USE (POR* (PEQUAL* (EQUAL X Y) (QUOTE NIL)) (PNOT* (PEQUAL* ((LAMBDA (Y X) (EQUAL X Y)) (PICK X) X) (QUOTE NIL)))) (AXIOM (POR* (PEQUAL* (EQUAL X Y) (QUOTE NIL)) (PNOT* (PEQUAL* ((LAMBDA (Y X) (EQUAL X Y)) (PICK X) X) (QUOTE NIL))))))
+; kept 2 of 3
+----
+(define-all ((same (x) x nil) (twin (x) (cons x x) nil)) ()) (skolem pick y (x) (equal (same x) y)) (skolem other y (x) (equal (same x) y))
+(define twice (x) (pick x) nil ()) (define-all ((thrice (x) (other x) nil)) ())
+(verify use (pequal* (twice x) (pick x)) (axiom (pequal* (twice x) (pick x))))
+=> 0
+(DEFINE-ALL ((SAME (X) X NIL) (TWIN (X) (CONS X X) NIL)) NIL)
+(SKOLEM PICK Y (X) (EQUAL (SAME X) Y))
+(DEFINE TWICE (X) (PICK X) NIL NIL)
+(VERIFY USE (PEQUAL* (TWICE X) (PICK X)) (AXIOM (PEQUAL* (TWICE X) (PICK X))))
+; kept 4 of 6
 ";
 
 // A book with no theorem of that name.

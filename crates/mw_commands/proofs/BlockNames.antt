@@ -1,9 +1,9 @@
 -- The names of a new block: none was known, each is a name that its event adds, and each axiom of the block has one of them in it.
-use Rattle.std.proofs.Common.{◌≡◌, Bool, true, false, cond, List, [], ◌∷◌, map, Some, None, refl, sym, ap, ◌∙◌, subst}
+use Rattle.std.proofs.Common.{◌≡◌, Bool, true, false, cond, List, [], ◌∷◌, map, Some, None, refl, sym, ap, ◌∙◌, subst, is_some}
 use Rattle.std.proofs.lemmas.Bool.{or_left, or_right}
 use Rattle.mw_model.specs.Terms.Object.{Name, Object, Natural, Symbol, Pair, symbol, same_name, same_object, NIL, car, second_of, third_of, fourth_of, has_members, list2, list3}
 use Rattle.mw_model.specs.Terms.Term.{Term, ArityTable, arity_of, names_object, term_object, terms_object, formula_object}
-use Rattle.mw_model.specs.Values.Definition.{Function, Block, Functions, Choice, function_named, is_present, is_new, variable_terms, function_axiom, function_axioms, choice_axiom, block_axioms}
+use Rattle.mw_model.specs.Values.Definition.{Function, Block, Functions, Choice, function_named, is_new, variable_terms, function_axiom, choice_axiom, block_axioms}
 use Rattle.mw_model.specs.Values.Truth.{Each}
 use Rattle.mw_model.specs.Events.Admission.{Draft, all_of, new_name, draft_of, drafts_of, functions}
 use Rattle.mw_model.proofs.Names.{same_name-eq, same_name-refl}
@@ -17,7 +17,7 @@ some_occurs names x = some_passes (λ g. occurs g x) names
 
 -- a name of the block
 abbrev pub is_named : Block → Name → Bool
-is_named (Functions B) f = is_present (function_named B f)
+is_named (Functions B) f = is_some (function_named B f)
 is_named (Choice g y xs b) f = same_name g f
 
 -- what is new with a block, where the event adds these names
@@ -47,14 +47,14 @@ module _ (A : ArityTable) where
 
   -- of functions with these names
   record NewFunctions (names : List Object) (B : List Function) : Type 0 where
-    unknown : (f : Name) → is_present (function_named B f) ≡ true → arity_of A f ≡ None
-    added : (f : Name) → is_present (function_named B f) ≡ true → some_occurs names (Symbol f) ≡ true
-    axioms : Each (λ F. some_occurs names (formula_object F) ≡ true) (function_axioms B)
+    unknown : (f : Name) → is_some (function_named B f) ≡ true → arity_of A f ≡ None
+    added : (f : Name) → is_some (function_named B f) ≡ true → some_occurs names (Symbol f) ≡ true
+    axioms : Each (λ F. some_occurs names (formula_object F) ≡ true) (map function_axiom B)
 
   no_functions : (names : List Object) → NewFunctions names []
   no_functions names = record { unknown = λ f h. cc; added = λ f h. cc; axioms = tt }
 
-  each_more : (x : Object) (names : List Object) (B : List Function) → Each (λ F. some_occurs names (formula_object F) ≡ true) (function_axioms B) → Each (λ F. some_occurs (x ∷ names) (formula_object F) ≡ true) (function_axioms B)
+  each_more : (x : Object) (names : List Object) (B : List Function) → Each (λ F. some_occurs names (formula_object F) ≡ true) (map function_axiom B) → Each (λ F. some_occurs (x ∷ names) (formula_object F) ≡ true) (map function_axiom B)
   each_more x names [] h = tt
   each_more x names (g ∷ B) h =
       (or_right (occurs x (formula_object (function_axiom g))) (some_occurs names (formula_object (function_axiom g))) h.0, each_more x names B h.1)
@@ -68,11 +68,11 @@ module _ (A : ArityTable) where
         axioms = (or_left (occurs (Symbol f) (formula_object (function_axiom h))) (some_occurs names (formula_object (function_axiom h))) (function_occurs h), each_more (Symbol f) names B r.axioms);
       }
     where
-      unknown_by : (g : Name) (t : Bool) → same_name f g ≡ t → is_present (cond t (Some (record { name = f; formals = xs; body = b })) (function_named B g)) ≡ true → arity_of A g ≡ None
+      unknown_by : (g : Name) (t : Bool) → same_name f g ≡ t → is_some (cond t (Some (record { name = f; formals = xs; body = b })) (function_named B g)) ≡ true → arity_of A g ≡ None
       unknown_by g true e k = subst (λ z. arity_of A z ≡ None) (same_name-eq f g e) (new_absent A f n)
       unknown_by g false e k = r.unknown g k
 
-      added_by : (g : Name) (t : Bool) → same_name f g ≡ t → is_present (cond t (Some (record { name = f; formals = xs; body = b })) (function_named B g)) ≡ true → some_occurs (Symbol f ∷ names) (Symbol g) ≡ true
+      added_by : (g : Name) (t : Bool) → same_name f g ≡ t → is_some (cond t (Some (record { name = f; formals = xs; body = b })) (function_named B g)) ≡ true → some_occurs (Symbol f ∷ names) (Symbol g) ≡ true
       added_by g true e k = named_first f g names e
       added_by g false e k = or_right (same_name f g) (some_occurs names (Symbol g)) (r.added g k)
 

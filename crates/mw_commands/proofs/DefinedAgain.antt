@@ -1,10 +1,11 @@
 -- A definition that is wanted at a theory is wanted at another one that says the same of what occurs in it.
-use Rattle.std.proofs.Common.{◌≡◌, ℕ, Bool, true, false, not, cond, List, [], ◌∷◌, length, map, Option, Some, None, refl, sym, ap, ap₂, ◌∙◌, subst}
+use Rattle.std.proofs.Common.{◌≡◌, ℕ, Bool, true, false, not, cond, List, [], ◌∷◌, length, map, Option, Some, None, refl, sym, ap, ap₂, ◌∙◌, subst, is_none}
 use Rattle.std.proofs.lemmas.Bool.{and_parts, and_from}
 use Rattle.mw_model.specs.Terms.Object.{Name, Object, Natural, Symbol, Pair, named, same_name}
 use Rattle.mw_model.specs.Terms.Term.{Term, Formula, ArityTable, arity_of, are_distinct, is_function_name}
-use Rattle.mw_model.specs.Terms.Reading.{and_more, both, when, that}
-use Rattle.mw_model.specs.Values.Definition.{Functions, arity_table, is_absent, is_new}
+use Rattle.mw_model.specs.Terms.Reading.{and_more, when, that}
+use Rattle.std.specs.Option.{option_zip}
+use Rattle.mw_model.specs.Values.Definition.{Functions, arity_table, is_new}
 use Rattle.mw_model.specs.Values.Truth.{Each}
 use Rattle.mw_model.specs.Events.Obligation.{obligations, is_nested}
 use Rattle.mw_model.specs.Events.Expansion.{expand}
@@ -59,11 +60,11 @@ module _ (A B : ArityTable) where
   module _ (unknown : (f : Name) → arity_of A f ≡ None → arity_of B f ≡ None) where
     new_stays : (f : Name) → is_new A f ≡ true → is_new B f ≡ true
     new_stays f h =
-        let p = and_parts (is_function_name f) (is_absent (arity_of A f)) h in
-        and_from (is_function_name f) (is_absent (arity_of B f)) p.0 (go (arity_of A f) refl p.1)
+        let p = and_parts (is_function_name f) (is_none (arity_of A f)) h in
+        and_from (is_function_name f) (is_none (arity_of B f)) p.0 (go (arity_of A f) refl p.1)
       where
-        go : (o : Option ℕ) → arity_of A f ≡ o → is_absent o ≡ true → is_absent (arity_of B f) ≡ true
-        go None e k = ap is_absent (unknown f e)
+        go : (o : Option ℕ) → arity_of A f ≡ o → is_none o ≡ true → is_none (arity_of B f) ≡ true
+        go None e k = ap is_none (unknown f e)
         go (Some n) e k = cc
 
     pub name_stays : (x : Object) (f : Name) → new_name A x ≡ Some f → new_name B x ≡ Some f
@@ -116,7 +117,7 @@ pub record Defined (t : Theory) (ds : List Draft) (Fs : List Formula) (next : Th
   pub terms : List Term × List Term
   pub names : new_names (arity_table t.definitions) (map (λ d. d.name) ds) ≡ Some fs
   pub formals : all_of formals_of (map (λ d. d.formals) ds) ≡ Some xss
-  pub read : both (all_of (expand (add_names fs xss (arity_table t.definitions))) (map (λ d. d.body) ds)) (all_of (expand (arity_table t.definitions)) (map (λ d. d.measure) ds)) ≡ Some terms
+  pub read : (option_zip) (all_of (expand (add_names fs xss (arity_table t.definitions))) (map (λ d. d.body) ds)) (all_of (expand (arity_table t.definitions)) (map (λ d. d.measure) ds)) ≡ Some terms
   pub closed : are_closed_by xss terms.0 terms.1 ≡ true
   pub flat : not (is_nested (functions fs xss terms.0) (functions fs xss terms.0)) ≡ true
   pub owed : obligations (functions fs xss terms.0) (measures fs terms.1) ≡ Fs
@@ -131,10 +132,10 @@ closing t fs xss terms =
 abbrev reading : Theory → List Draft → List Name → List (List Name) → Demand
 reading t ds fs xss =
     let A = arity_table t.definitions in
-    wants_some TERM (both (all_of (expand (add_names fs xss A)) (map (λ d. d.body) ds)) (all_of (expand A) (map (λ d. d.measure) ds))) (closing t fs xss)
+    wants_some TERM (option_zip (all_of (expand (add_names fs xss A)) (map (λ d. d.body) ds)) (all_of (expand A) (map (λ d. d.measure) ds))) (closing t fs xss)
 
 module _ (t : Theory) (ds : List Draft) (Fs : List Formula) (next : Theory) where
-  closing_found : (fs : List Name) (xss : List (List Name)) (terms : List Term × List Term) → new_names (arity_table t.definitions) (map (λ d. d.name) ds) ≡ Some fs → all_of formals_of (map (λ d. d.formals) ds) ≡ Some xss → both (all_of (expand (add_names fs xss (arity_table t.definitions))) (map (λ d. d.body) ds)) (all_of (expand (arity_table t.definitions)) (map (λ d. d.measure) ds)) ≡ Some terms → closing t fs xss terms ≡ Wants Fs next → Defined t ds Fs next
+  closing_found : (fs : List Name) (xss : List (List Name)) (terms : List Term × List Term) → new_names (arity_table t.definitions) (map (λ d. d.name) ds) ≡ Some fs → all_of formals_of (map (λ d. d.formals) ds) ≡ Some xss → option_zip (all_of (expand (add_names fs xss (arity_table t.definitions))) (map (λ d. d.body) ds)) (all_of (expand (arity_table t.definitions)) (map (λ d. d.measure) ds)) ≡ Some terms → closing t fs xss terms ≡ Wants Fs next → Defined t ds Fs next
   closing_found fs xss terms n f r h =
       let B = functions fs xss terms.0 in
       let wanted = Wants (obligations B (measures fs terms.1)) (add_to_theory t (Functions B)) in
@@ -148,7 +149,7 @@ module _ (t : Theory) (ds : List Draft) (Fs : List Formula) (next : Theory) wher
       let A = arity_table t.definitions in
       let p = some_wanted NAME (new_names A (map (λ d. d.name) ds)) (λ fs. wants_some FORMALS (all_of formals_of (map (λ d. d.formals) ds)) (reading t ds fs)) Fs next h in
       let q = some_wanted FORMALS (all_of formals_of (map (λ d. d.formals) ds)) (reading t ds p.0) Fs next p.2 in
-      let r = some_wanted TERM (both (all_of (expand (add_names p.0 q.0 A)) (map (λ d. d.body) ds)) (all_of (expand A) (map (λ d. d.measure) ds))) (closing t p.0 q.0) Fs next q.2 in
+      let r = some_wanted TERM (option_zip (all_of (expand (add_names p.0 q.0 A)) (map (λ d. d.body) ds)) (all_of (expand A) (map (λ d. d.measure) ds))) (closing t p.0 q.0) Fs next q.2 in
       closing_found p.0 q.0 r.0 p.1 q.1 r.1 r.2
 
 module _ (t u : Theory) (e : Object) (s : Suits t u e) where
@@ -167,9 +168,9 @@ module _ (t u : Theory) (e : Object) (s : Suits t u e) where
   pub term_again : (x : Object) → Within x (without_name e) → expand A x ≡ expand B x
   term_again x w = expand_agrees A B s.bring x (part_agrees x w)
 
-  read_again : (ds : List Draft) → DraftsWithin (without_name e) ds → (fs : List Name) (xss : List (List Name)) → both (all_of (expand (add_names fs xss A)) (map (λ d. d.body) ds)) (all_of (expand A) (map (λ d. d.measure) ds)) ≡ both (all_of (expand (add_names fs xss B)) (map (λ d. d.body) ds)) (all_of (expand B) (map (λ d. d.measure) ds))
+  read_again : (ds : List Draft) → DraftsWithin (without_name e) ds → (fs : List Name) (xss : List (List Name)) → option_zip (all_of (expand (add_names fs xss A)) (map (λ d. d.body) ds)) (all_of (expand A) (map (λ d. d.measure) ds)) ≡ option_zip (all_of (expand (add_names fs xss B)) (map (λ d. d.body) ds)) (all_of (expand B) (map (λ d. d.measure) ds))
   read_again ds w fs xss =
-      ap₂ both (all_same (expand (add_names fs xss A)) (expand (add_names fs xss B)) (λ d. d.body) ds (each_by _ _ (λ d h. body_again fs xss d.body h.0) ds w)) (all_same (expand A) (expand B) (λ d. d.measure) ds (each_by _ _ (λ d h. term_again d.measure h.1) ds w))
+      ap₂ (option_zip) (all_same (expand (add_names fs xss A)) (expand (add_names fs xss B)) (λ d. d.body) ds (each_by _ _ (λ d h. body_again fs xss d.body h.0) ds w)) (all_same (expand A) (expand B) (λ d. d.measure) ds (each_by _ _ (λ d h. term_again d.measure h.1) ds w))
 
   pub define_again : (ds : List Draft) (Fs : List Formula) (next : Theory) → DraftsWithin (without_name e) ds → (d : Defined t ds Fs next) → define_demand u ds ≡ Wants Fs (add_to_theory u (Functions (functions d.fs d.xss d.terms.0)))
   define_again ds Fs next w d =

@@ -8,7 +8,7 @@ use Rattle.mw_model.specs.Terms.Same.{same_term, same_formula, same_formulas}
 use Rattle.mw_model.specs.Values.Primitive.{Profile}
 use Rattle.mw_model.specs.Values.Truth.{Each}
 use Rattle.mw_model.specs.Proofs.Proof.{HasMembers, two, three, four, Axiom, Theorem, PropositionalSchema, FunctionalEquality, BetaReduction, BaseEval, Expansion, Contraction, Associativity, Cut, Instantiation, Induction, three_terms, Proves, proof, ProveEach, no_proofs, more_proofs}
-use Rattle.mw_model.specs.Proofs.Judgment.{of_one, of_two}
+use Rattle.mw_model.proofs.Rows.{of_one, of_two}
 use Rattle.mw_model.proofs.Names.{same_name-eq, same_name-refl, same_object-eq}
 use Rattle.mw_model.proofs.SameTerms.{same_term-eq, same_formula-eq, same_term-refl, same_formula-refl}
 use Rattle.mw_model.proofs.Read.{formula_read}
@@ -16,6 +16,7 @@ use Rattle.mw_model.proofs.ReadBack.{some_one, cond_some, nil_is, and_more-back,
 use Rattle.mw_model.proofs.Follows.{row_is}
 use Rattle.mw_model.proofs.Judging.{row_holds}
 use Rattle.mw_commands.specs.Commands.Derivation.{Rule, By, CommuteOr, ModusPonens, Symmetry, Transitivity, Replace, rule_name, equalities, Derives, by_method, by_commuting, by_modus_ponens, by_symmetry, by_transitivity, by_replacing, by_replacing_if, IsDerivation, derivation, AreDerivations, no_derivations, more_derivations}
+use Rattle.mw_commands.proofs.RuleRows.{commute-row, detach-row, symmetry-row, chain-row}
 use Rattle.mw_commands.specs.Commands.DerivationTest.{rules, rule_among, is_commuted, is_detached, is_turned, is_chained, is_replaced, derives, derive_step, derive, derive_each}
 
 same_formulas-eq : (Fs Gs : List Formula) → same_formulas Fs Gs ≡ true → Fs ≡ Gs
@@ -110,10 +111,10 @@ module _ (ax th : Object) (A : ArityTable) (P : Profile) where
 
   pub row_derives : (r : Rule) (F : Formula) (Fs : List Formula) (x : Object) → derives ax th A P r F Fs x ≡ true → Is r F Fs x
   row_derives (By m) F Fs x h = by_method m F Fs x (row_is ax th A P m F Fs x h)
-  row_derives CommuteOr F Fs x h = one CommuteOr F Fs x (is_commuted F) (commuted_is F) h
-  row_derives ModusPonens F Fs x h = two_of ModusPonens F Fs x (is_detached F) (detached_is F) h
-  row_derives Symmetry F Fs x h = one Symmetry F Fs x (is_turned F) (turned_is F) h
-  row_derives Transitivity F Fs x h = two_of Transitivity F Fs x (is_chained F) (chained_is F) h
+  row_derives CommuteOr F Fs x h = one CommuteOr F Fs x (is_commuted F) (commuted_is F) (sym (commute-row ax th A P F Fs x) ∙ h)
+  row_derives ModusPonens F Fs x h = two_of ModusPonens F Fs x (is_detached F) (detached_is F) (sym (detach-row ax th A P F Fs x) ∙ h)
+  row_derives Symmetry F Fs x h = one Symmetry F Fs x (is_turned F) (turned_is F) (sym (symmetry-row ax th A P F Fs x) ∙ h)
+  row_derives Transitivity F Fs x h = two_of Transitivity F Fs x (is_chained F) (chained_is F) (sym (chain-row ax th A P F Fs x) ∙ h)
   row_derives Replace F Fs x h =
       let p = and_parts (same_object x NIL) (is_replaced F Fs) h in subst (λ z. Is Replace F Fs z) (sym (same_object-eq x NIL p.0)) (replaced_is F Fs p.1)
 

@@ -11,7 +11,8 @@ use Rattle.mw_model.specs.Events.Evaluation.{Outcome, Value, Steps, Overflow, Wi
 use Rattle.mw_model.specs.Texts.Printing.{text_of}
 use Rattle.mw_model.specs.Events.Theory.{Theory, axioms_of}
 use Rattle.mw_model.specs.Events.Refusal.{Refusal, COUNT, CONCLUSION, PROOF, LONG, Fate, Accepted, refuse, accept, need, must, unless}
-use Rattle.mw_model.specs.Events.Checking.{no_unless, judged, judged_as, or_else}
+use Rattle.mw_model.specs.Events.Checking.{no_unless, judged, judged_as}
+use Rattle.std.specs.Option.{option_or}
 use Rattle.mw_model.specs.Events.Fate.{EventWord, Verify, Define, Skolem, Switch, Eval, Print, DefineAll, SetProfile, event_word, longest, show, show_outcome, eval, is_out_of_range, happens}
 use Rattle.mw_model.specs.Events.Demand.{Wants, demand, proofs_of, each_judged, settled, happens_by_under, happens_under}
 use Rattle.mw_model.specs.Reports.Report.{is_accepted}
@@ -106,7 +107,7 @@ module _ (P : Profile) (D : List Block) (th : Object) (N : ℕ) (e : Object) whe
     each_again [] ps w k m h = refl
     each_again (F ∷ Fs) (Pair p ps) w k m h =
         let q = or_else_none (judged_as (plain P D th) N F p) (each_judged judged_as (plain P D th) N Fs ps) h in
-        ap₂ or_else (judged_again F p (λ x i. w x (first_within p ps x i)) (each_left Known (proofs_within p) (each_within ps) k) q.0)
+        ap₂ option_or (judged_again F p (λ x i. w x (first_within p ps x i)) (each_left Known (proofs_within p) (each_within ps) k) q.0)
         (each_again Fs ps (λ x i. w x (rest_within p ps x i)) (each_right Known (proofs_within p) (each_within ps) k) m q.1)
     each_again (F ∷ Fs) (Natural n) w k m h = cc
     each_again (F ∷ Fs) (Symbol s) w k m h = cc

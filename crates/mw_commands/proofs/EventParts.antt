@@ -2,7 +2,9 @@
 use Rattle.std.proofs.Common.{◌≡◌, Bool, true, false, cond, List, [], ◌∷◌, Option, Some, None, refl, sym, ap, ◌∙◌, subst}
 use Rattle.mw_model.specs.Terms.Object.{Name, Object, Natural, Symbol, Pair, named, symbol, same_name, same_object, NIL, car, cdr, second_of, third_of, fourth_of, fifth_of, sixth_of, has_members, list1}
 use Rattle.mw_model.specs.Values.Truth.{Each}
-use Rattle.mw_model.specs.Events.Fate.{EventWord, Verify, Define, Skolem, Switch, Eval, Print, DefineAll, SetProfile, event_words, event_word_among, member_count, with_members, event_word}
+use Rattle.mw_model.specs.Events.Fate.{EventWord, Verify, Define, Skolem, Switch, Eval, Print, DefineAll, SetProfile, event_words, event_word_among, member_count, event_word}
+use Rattle.mw_model.specs.Terms.Reading.{that}
+use Rattle.mw_model.specs.Events.Fate.{member_count}
 use Rattle.mw_model.specs.Events.Demand.{proofs_of}
 use Rattle.mw_model.proofs.Names.{same_name-eq}
 use Rattle.mw_model.proofs.ReadBack.{some_one, when_some}
@@ -40,7 +42,7 @@ has_word (Pair (Natural n) r) w h = cc
 has_word (Pair (Pair a b) r) w h = cc
 has_word (Pair (Symbol s) r) w h = go (event_word_among event_words s) refl h
   where
-    go : (o : Option EventWord) → event_word_among event_words s ≡ o → with_members (Pair (Symbol s) r) o ≡ Some w → HasWord (Pair (Symbol s) r) w
+    go : (o : Option EventWord) → event_word_among event_words s ≡ o → that (λ w. has_members (member_count w) (Pair (Symbol s) r)) o ≡ Some w → HasWord (Pair (Symbol s) r) w
     go None k g = cc
     go (Some v) k g =
         let p = when_some (has_members (member_count v) (Pair (Symbol s) r)) (Some v) w g in

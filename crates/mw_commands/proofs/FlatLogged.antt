@@ -1,18 +1,19 @@
 -- The steps of an accepted event, and the event with their numbers, get a yes and lead to the same theory.
-use Rattle.std.proofs.Common.{◌≡◌, ℕ, suc, ◌+◌, ◌<◌, ◌≤◌, Bool, true, false, ◌&&◌, ◌||◌, not, cond, eqb, List, [], ◌∷◌, ◌++◌, length, map, filter, Option, Some, None, ◌⊎◌, inl, inr, refl, sym, ap, ap₂, ◌∙◌, subst, arith, append_assoc, append-nil, length-append}
+use Rattle.std.proofs.Common.{◌≡◌, ℕ, suc, ◌+◌, ◌<◌, ◌≤◌, Bool, true, false, ◌&&◌, ◌||◌, not, cond, eqb, List, [], ◌∷◌, ◌++◌, length, map, filter, Option, Some, None, ◌⊎◌, inl, inr, refl, sym, ap, ap₂, ◌∙◌, subst, arith, append_assoc, append-nil, length-append, is_some}
 use Rattle.std.proofs.lemmas.Bool.{true≢false, and_parts, and_from, or_cases, or_left, or_right, not-true, lt-ltb, eq-eqb}
 use Rattle.mw_model.specs.Terms.Object.{Object, Natural, Symbol, Pair, symbol, same_object, NIL, car, second_of, third_of, fourth_of, has_members, list1, list2, list3, list4}
 use Rattle.mw_model.specs.Terms.Term.{Formula, formula_object, ArityTable, is_formula, firsts}
 use Rattle.mw_model.specs.Terms.Reading.{formula_of, when, and_more}
 use Rattle.mw_model.specs.Values.Primitive.{Profile}
-use Rattle.mw_model.specs.Values.Definition.{arity_table, is_present}
+use Rattle.mw_model.specs.Values.Definition.{arity_table}
 use Rattle.mw_model.specs.Values.Truth.{Each}
 use Rattle.mw_model.specs.Events.Evaluation.{range}
 use Rattle.mw_model.specs.Proofs.Proof.{HasMembers, two, three, four, method_name, Proves, proof, ProveEach, no_proofs, more_proofs}
 use Rattle.mw_model.specs.Proofs.Judgment.{methods, method_among, follows, judge, judge_step}
 use Rattle.mw_model.specs.Events.Theory.{Theory}
 use Rattle.mw_model.specs.Events.Refusal.{Refusal, RANGE, EVENT, COUNT, CONCLUSION, PROOF, Fate, Accepted, Refused, refuse, accept, need, must, unless}
-use Rattle.mw_model.specs.Events.Checking.{no_unless, judged_by, judged_as, or_else}
+use Rattle.mw_model.specs.Events.Checking.{no_unless, judged_by, judged_as}
+use Rattle.std.specs.Option.{option_or}
 use Rattle.mw_model.specs.Events.Admission.{Draft, some_drafts}
 use Rattle.mw_model.specs.Events.Fate.{EventWord, Verify, Define, Skolem, Switch, Eval, Print, DefineAll, SetProfile, event_word, is_out_of_range, happens}
 use Rattle.mw_model.specs.Events.Demand.{Demand, Denied, Wants, wants_some, define_demand, demand, proofs_of, with_proofs, each_judged, settled, happens_by_under}
@@ -353,7 +354,7 @@ settled_accepts t next N ps (Wants wanted new) h =
     let b = unless_accepts t next (each_judged judged_as t N wanted ps) (accept new) a.1 in
     record { wanted = wanted; wants = ap (Wants wanted) (ap (λ z. z.1) b.1); many = a.0; judged_all = b.0 }
 
-or_none : (o r : Option Refusal) → or_else o r ≡ None → (o ≡ None) × (r ≡ None)
+or_none : (o r : Option Refusal) → option_or o r ≡ None → (o ≡ None) × (r ≡ None)
 or_none None r h = (refl, h)
 or_none (Some q) r h = cc
 
@@ -408,7 +409,7 @@ module _ (t : Theory) (N : ℕ) (built_in : t.checker ≡ None) where
   proofs_in_range Eval e h = refl
   proofs_in_range Print e h = refl
 
-  drafts_present : (o : Option (List Draft)) (wanted : List Formula) (next : Theory) → wants_some EVENT o (define_demand t) ≡ Wants wanted next → is_present o ≡ true
+  drafts_present : (o : Option (List Draft)) (wanted : List Formula) (next : Theory) → wants_some EVENT o (define_demand t) ≡ Wants wanted next → is_some o ≡ true
   drafts_present None wanted next h = cc
   drafts_present (Some ds) wanted next h = refl
 

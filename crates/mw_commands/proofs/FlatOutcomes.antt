@@ -6,7 +6,9 @@ use Rattle.mw_model.specs.Events.Theory.{Theory}
 use Rattle.mw_model.specs.Events.Refusal.{COUNT, Fate, Accepted, Refused, accept, must, unless}
 use Rattle.mw_model.specs.Events.Checking.{judged_as}
 use Rattle.mw_model.specs.Reports.Report.{is_accepted}
-use Rattle.mw_model.specs.Events.Fate.{EventWord, Verify, Define, Skolem, Switch, Eval, Print, DefineAll, SetProfile, event_words, event_word_among, member_count, with_members, event_word, is_out_of_range, happens}
+use Rattle.mw_model.specs.Events.Fate.{EventWord, Verify, Define, Skolem, Switch, Eval, Print, DefineAll, SetProfile, event_words, event_word_among, member_count, event_word, is_out_of_range, happens}
+use Rattle.mw_model.specs.Terms.Reading.{that}
+use Rattle.mw_model.specs.Events.Fate.{member_count}
 use Rattle.mw_model.specs.Events.Demand.{Demand, demand, proofs_of, each_judged, settled}
 use Rattle.mw_model.proofs.Names.{same_name-eq, same_name-from}
 use Rattle.mw_model.proofs.ReadBack.{when_some}
@@ -38,7 +40,7 @@ switch_named s h = go (same_name (named "VERIFY") s) (same_name (named "DEFINE")
     go false false false false false false false false h = cc
 
 -- what has a word begins with its name
-named_by : (s : Name) (r : Object) (o : Option EventWord) (w : EventWord) → with_members (Pair (Symbol s) r) o ≡ Some w → o ≡ Some w
+named_by : (s : Name) (r : Object) (o : Option EventWord) (w : EventWord) → that (λ w. has_members (member_count w) (Pair (Symbol s) r)) o ≡ Some w → o ≡ Some w
 named_by s r None w h = cc
 named_by s r (Some v) w h = (when_some (has_members (member_count v) (Pair (Symbol s) r)) (Some v) w h).1
 

@@ -1,8 +1,8 @@
 -- What a block puts in front of an arity table, and its axioms in front of a list.
-use Rattle.std.proofs.Common.{◌≡◌, Bool, true, false, cond, List, [], ◌∷◌, length, Option, Some, None, ◌⊎◌, inl, inr, refl, sym, ap, ◌∙◌}
+use Rattle.std.proofs.Common.{◌≡◌, Bool, true, false, cond, List, [], ◌∷◌, length, Option, Some, None, ◌⊎◌, inl, inr, refl, sym, ap, ◌∙◌, is_some}
 use Rattle.mw_model.specs.Terms.Object.{Name, Object, Pair, same_name, Member, first, later}
 use Rattle.mw_model.specs.Terms.Term.{Formula, ArityTable, arity_of, formula_object}
-use Rattle.mw_model.specs.Values.Definition.{Function, Block, Functions, Choice, function_named, is_present, add_functions, add_block}
+use Rattle.mw_model.specs.Values.Definition.{Function, Block, Functions, Choice, function_named, add_functions, add_block}
 use Rattle.mw_model.specs.Values.Truth.{Each}
 use Rattle.mw_model.specs.Events.Theory.{add_formulas}
 use Rattle.mw_model.proofs.Older.{add_keeps}
@@ -14,11 +14,11 @@ functions_agree : (B : List Function) (A C : ArityTable) (f : Name) → arity_of
 functions_agree [] A C f h = h
 functions_agree (g ∷ B) A C f h = functions_agree B ((g.name, length g.formals) ∷ A) ((g.name, length g.formals) ∷ C) f (ap (cond (same_name g.name f) (Some (length g.formals))) h)
 
-functions_decide : (B : List Function) (A C : ArityTable) (f : Name) → is_present (function_named B f) ≡ true → arity_of (add_functions B A) f ≡ arity_of (add_functions B C) f
+functions_decide : (B : List Function) (A C : ArityTable) (f : Name) → is_some (function_named B f) ≡ true → arity_of (add_functions B A) f ≡ arity_of (add_functions B C) f
 functions_decide [] A C f h = cc
 functions_decide (g ∷ B) A C f h = go (same_name g.name f) refl h (functions_decide B ((g.name, length g.formals) ∷ A) ((g.name, length g.formals) ∷ C) f)
   where
-    go : (b : Bool) → same_name g.name f ≡ b → is_present (cond b (Some g) (function_named B f)) ≡ true → (is_present (function_named B f) ≡ true → arity_of (add_functions (g ∷ B) A) f ≡ arity_of (add_functions (g ∷ B) C) f) → arity_of (add_functions (g ∷ B) A) f ≡ arity_of (add_functions (g ∷ B) C) f
+    go : (b : Bool) → same_name g.name f ≡ b → is_some (cond b (Some g) (function_named B f)) ≡ true → (is_some (function_named B f) ≡ true → arity_of (add_functions (g ∷ B) A) f ≡ arity_of (add_functions (g ∷ B) C) f) → arity_of (add_functions (g ∷ B) A) f ≡ arity_of (add_functions (g ∷ B) C) f
     go true e k ih =
         functions_agree B ((g.name, length g.formals) ∷ A) ((g.name, length g.formals) ∷ C) f
         (ap (λ b. cond b (Some (length g.formals)) (arity_of A f)) e ∙ sym (ap (λ b. cond b (Some (length g.formals)) (arity_of C f)) e))
@@ -35,7 +35,7 @@ block_decides (Choice g y xs b) A C f h = ap (λ t. cond t (Some (length xs)) (a
 pub block_keeps : (B : Block) (A : ArityTable) (f : Name) → is_named B f ≡ false → arity_of (add_block B A) f ≡ arity_of A f
 block_keeps (Functions B) A f h = add_keeps B A f (none_there (function_named B f) h)
   where
-    none_there : (o : Option Function) → is_present o ≡ false → o ≡ None
+    none_there : (o : Option Function) → is_some o ≡ false → o ≡ None
     none_there None k = refl
     none_there (Some g) k = cc
 block_keeps (Choice g y xs b) A f h = ap (λ t. cond t (Some (length xs)) (arity_of A f)) h

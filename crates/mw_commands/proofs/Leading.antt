@@ -2,7 +2,8 @@
 use Rattle.std.proofs.Common.{◌≡◌, ℕ, Bool, true, false, ltb, cond, List, [], ◌∷◌, length, map, not, Option, Some, None, refl}
 use Rattle.mw_model.specs.Terms.Object.{Name, Object, Pair, second_of, third_of, fourth_of, fifth_of}
 use Rattle.mw_model.specs.Terms.Term.{Term, Formula, formula_object}
-use Rattle.mw_model.specs.Terms.Reading.{formula_under, both}
+use Rattle.mw_model.specs.Terms.Reading.{formula_under}
+use Rattle.std.specs.Option.{option_zip}
 use Rattle.mw_model.specs.Values.Primitive.{Profile, One, Two, is_symbol}
 use Rattle.mw_model.specs.Values.Definition.{Block, Functions, Choice, arity_table}
 use Rattle.mw_model.specs.Events.Obligation.{obligations, is_nested}
@@ -91,7 +92,7 @@ module _ (Q : Theory → Type 0) (t : Theory) (has : Q t) where
         let A = arity_table t.definitions in
         some_asks Then NAME (new_names A (map (λ d. d.name) drafts)) _ (λ fs e1.
         some_asks Then FORMALS (all_of formals_of (map (λ d. d.formals) drafts)) _ (λ xss e2.
-        some_asks Then TERM (both (all_of (expand (add_names fs xss A)) (map (λ d. d.body) drafts)) (all_of (expand A) (map (λ d. d.measure) drafts))) _ (λ terms e3.
+        some_asks Then TERM (option_zip (all_of (expand (add_names fs xss A)) (map (λ d. d.body) drafts)) (all_of (expand A) (map (λ d. d.measure) drafts))) _ (λ terms e3.
         let B = functions fs xss terms.0 in
         that_asks Then VARIABLES (are_closed_by xss terms.0 terms.1) _ (that_asks Then NESTED (not (is_nested B B)) (Wants (obligations B (measures fs terms.1)) (add_to_theory t (Functions B))) (block (Functions B))))))
 

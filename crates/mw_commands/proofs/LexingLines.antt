@@ -3,14 +3,15 @@
 use Rattle.std.proofs.Common.{◌≡◌, ℕ, zero, suc, ◌+◌, ◌≤◌, Bool, true, false, ◌&&◌, ◌||◌, not, eqb, ltb, List, [], ◌∷◌, ◌++◌, length, Option, Some, None, refl, sym, ap, ap₂, ◌∙◌, subst, arith, append_assoc, append-nil, if◌then◌else◌}
 use Rattle.std.proofs.lemmas.Bool.{and_parts, and_right}
 use Rattle.mw_model.specs.Terms.Object.{Object, Symbol, is_name_byte, name_of_bytes}
-use Rattle.mw_model.specs.Texts.Lexemes.{Lexeme, fault, TOKEN, BYTE, LABEL, Atom, Open, Close, Dot, Quote, Mark, Ref, Wrong, Stray, End, Fault, Ends, Class, White, Semicolon, Opening, Closing, Apostrophe, Bar, Hash, Constituent, Other, class, piece, extent, lexemes_from, unfinished, run_of, after_run, all_are, is_constituent, is_digit, is_inside_comment, glued, glued_bar, atom, dot, refused, token, TokenForm, Whole, Point, Bad, token_form, bar_closed, barred, label, hashed, decimal_value}
+use Rattle.mw_model.specs.Texts.Lexemes.{Lexeme, fault, TOKEN, BYTE, LABEL, Atom, Open, Close, Dot, Quote, Mark, Ref, Wrong, Stray, End, Fault, Ends, Class, White, Semicolon, Opening, Closing, Apostrophe, Bar, Hash, Constituent, Other, class, piece, extent, lexemes_from, unfinished, run_of, after_run, is_constituent, is_digit, is_inside_comment, glued, glued_bar, atom, dot, refused, token, TokenForm, Whole, Point, Bad, token_form, bar_closed, barred, label, hashed, decimal_value}
+use Rattle.std.specs.List.{list_all}
 use Rattle.mw_model.proofs.Locality.{Alike, AllAlike, none_alike, more_alike, alike_both}
 use Rattle.mw_model.proofs.Numerals.{all_are-append}
 use Rattle.mw_model.proofs.Lexing.{Delimits, run_of-append, lexemes_from-taken}
 use Rattle.mw_model.proofs.LexingPieces.{IsClean, clean_first, clean_rest, is_comment, piece_fits}
 
 abbrev pub no_newline : List ℕ → Bool
-no_newline t = all_are (λ b. not (eqb b 10)) t
+no_newline t = list_all (λ b. not (eqb b 10)) t
 
 -- ---- the pieces of a line
 

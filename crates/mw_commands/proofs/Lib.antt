@@ -1,4 +1,5 @@
 pub mod Settling
+pub mod RuleRows
 pub mod Deriving
 pub mod SlicePlaces
 pub mod WrittenData
@@ -51,3 +52,8 @@ pub mod ChosenPlaces
 pub mod SliceKept
 pub mod SlicesAgain
 pub mod LogsTrue
+pub mod ExplainData
+pub mod ExplainedSteps
+pub mod ExplainedProofs
+pub mod ExplainedParts
+pub mod ExplanationsAgain

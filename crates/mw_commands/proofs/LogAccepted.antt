@@ -3,16 +3,17 @@ use Rattle.std.proofs.Common.{◌≡◌, ℕ, Bool, true, false, not, cond, List
 use Rattle.std.proofs.lemmas.Bool.{and_parts, not-true}
 use Rattle.mw_model.specs.Terms.Object.{Name, Object, Natural, Symbol, Pair, same_object, NIL, car, second_of, third_of, fourth_of, fifth_of, has_members, list1}
 use Rattle.mw_model.specs.Terms.Term.{Formula, formula_object, ArityTable}
-use Rattle.mw_model.specs.Terms.Reading.{formula_under}
+use Rattle.mw_model.specs.Terms.Reading.{formula_under, that}
 use Rattle.mw_model.specs.Values.Primitive.{Profile, is_symbol}
 use Rattle.mw_model.specs.Values.Definition.{arity_table}
 use Rattle.mw_model.specs.Values.Truth.{Each}
 use Rattle.mw_model.specs.Proofs.Proof.{HasMembers, two, three, four, Proves, proof, ProveEach, no_proofs, more_proofs}
 use Rattle.mw_model.specs.Events.Theory.{Theory}
 use Rattle.mw_model.specs.Events.Refusal.{NAME, FORMULA, PROOF, CONCLUSION, COUNT, Fate, Accepted, Refused, accept, must, unless}
-use Rattle.mw_model.specs.Events.Checking.{no_unless, judged_by, judged_as, or_else}
+use Rattle.mw_model.specs.Events.Checking.{no_unless, judged_by, judged_as}
+use Rattle.std.specs.Option.{option_or}
 use Rattle.mw_model.specs.Events.Admission.{skolem}
-use Rattle.mw_model.specs.Events.Fate.{EventWord, Verify, Define, Skolem, Switch, Eval, Print, DefineAll, SetProfile, event_words, event_word_among, member_count, with_members, event_word, profile, is_out_of_range, happens}
+use Rattle.mw_model.specs.Events.Fate.{EventWord, Verify, Define, Skolem, Switch, Eval, Print, DefineAll, SetProfile, event_words, event_word_among, member_count, event_word, profile, is_out_of_range, happens}
 use Rattle.mw_model.specs.Events.Demand.{Demand, Denied, Wants, wants_some, wants_that, verify_demand, demand, without_proofs, proofs_of, with_proofs, each_judged, settled, happens_by_under}
 use Rattle.mw_model.specs.Reports.Keeping.{formulas_of_word}
 use Rattle.mw_model.proofs.Names.{same_object-refl}
@@ -113,7 +114,7 @@ module _ (t : Theory) (N : ℕ) (built_in : t.checker ≡ None) where
 
   each_well : (Fs : List Formula) (ps : Object) → ProveEach t.axioms t.theorems (arity_table t.definitions) t.definitions.profile ps Fs → each_judged judged_as t N Fs ps ≡ None
   each_well Fs ps no_proofs = refl
-  each_well Fs ps (more_proofs p qs F Gs g gs) = ap₂ or_else (judged_well p F g) (each_well Gs qs gs)
+  each_well Fs ps (more_proofs p qs F Gs g gs) = ap₂ option_or (judged_well p F g) (each_well Gs qs gs)
 
   settles : (Fs : List Formula) (next : Theory) (ps : Object) → ProveEach t.axioms t.theorems (arity_table t.definitions) t.definitions.profile ps Fs → settled judged_as t N ps (Wants Fs next) ≡ accept next
   unfolding must unless
@@ -173,9 +174,9 @@ module _ (t : Theory) where
   by_demand N Print e wanted next h = cc
 
 word_stays : (w : EventWord) (s : Name) (r ps : Object) → event_word_among event_words s ≡ Some w → event_word (Pair (Symbol s) r) ≡ Some w → event_word (with_proofs w (Pair (Symbol s) r) ps) ≡ Some w
-word_stays Verify s r ps k h = ap (with_members (with_proofs Verify (Pair (Symbol s) r) ps)) k
-word_stays Define s r ps k h = ap (with_members (with_proofs Define (Pair (Symbol s) r) ps)) k
-word_stays DefineAll s r ps k h = ap (with_members (with_proofs DefineAll (Pair (Symbol s) r) ps)) k
+word_stays Verify s r ps k h = ap (that (λ w. has_members (member_count w) (with_proofs Verify (Pair (Symbol s) r) ps))) k
+word_stays Define s r ps k h = ap (that (λ w. has_members (member_count w) (with_proofs Define (Pair (Symbol s) r) ps))) k
+word_stays DefineAll s r ps k h = ap (that (λ w. has_members (member_count w) (with_proofs DefineAll (Pair (Symbol s) r) ps))) k
 word_stays Skolem s r ps k h = h
 word_stays SetProfile s r ps k h = h
 word_stays Switch s r ps k h = h
@@ -189,7 +190,7 @@ same_word (Pair (Natural n) r) w ps h = cc
 same_word (Pair (Pair a b) r) w ps h = cc
 same_word (Pair (Symbol s) r) w ps h = go (event_word_among event_words s) refl h
   where
-    go : (o : Option EventWord) → event_word_among event_words s ≡ o → with_members (Pair (Symbol s) r) o ≡ Some w → event_word (with_proofs w (Pair (Symbol s) r) ps) ≡ Some w
+    go : (o : Option EventWord) → event_word_among event_words s ≡ o → that (λ w. has_members (member_count w) (Pair (Symbol s) r)) o ≡ Some w → event_word (with_proofs w (Pair (Symbol s) r) ps) ≡ Some w
     go None k g = cc
     go (Some v) k g =
         let p = when_some (has_members (member_count v) (Pair (Symbol s) r)) (Some v) w g in

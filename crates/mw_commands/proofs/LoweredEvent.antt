@@ -9,7 +9,8 @@ use Rattle.mw_model.specs.Proofs.Judgment.{judge}
 use Rattle.mw_model.specs.Laws.RulesInduction.{is_list_object}
 use Rattle.mw_model.specs.Events.Theory.{Theory}
 use Rattle.mw_model.specs.Events.Refusal.{CONCLUSION, PROOF, COUNT, accept, must, unless}
-use Rattle.mw_model.specs.Events.Checking.{no_unless, judged_by, judged_as, or_else}
+use Rattle.mw_model.specs.Events.Checking.{no_unless, judged_by, judged_as}
+use Rattle.std.specs.Option.{option_or}
 use Rattle.mw_model.specs.Events.Fate.{EventWord, Verify, Define, Skolem, Switch, Eval, Print, DefineAll, SetProfile, event_word, is_out_of_range, happens}
 use Rattle.mw_model.specs.Events.Demand.{Demand, Denied, Wants, demand, proofs_of, with_proofs, each_judged, settled, happens_by_under, happens_under}
 use Rattle.mw_model.specs.Laws.Rewriting.{TurnsAt, TurnsOrStays, EachTurnsOrStays, IsRewrittenList, IsRewrittenBy, IsRewritten}
@@ -124,13 +125,13 @@ module _ (t : Theory) (N : ℕ) (built_in : t.checker ≡ None) (has : HasFirst 
 
   nothing_same : (Fs : List Formula) → each_judged judged_as t N Fs NIL ≡ each_judged derived_as t N Fs NIL
   nothing_same [] = refl
-  nothing_same (F ∷ Fs) = ap₂ or_else (same_verdict F NIL NIL refl refl) (nothing_same Fs)
+  nothing_same (F ∷ Fs) = ap₂ option_or (same_verdict F NIL NIL refl refl) (nothing_same Fs)
 
   each_same : (Fs : List Formula) (ps qs : Object) → Turned t ps qs → each_judged judged_as t N Fs qs ≡ each_judged derived_as t N Fs ps
   each_same [] ps qs h = refl
-  each_same (F ∷ Fs) (Natural k) qs h = ap (each_judged judged_as t N (F ∷ Fs)) h ∙ ap₂ or_else (same_verdict F NIL NIL refl refl) (nothing_same Fs)
-  each_same (F ∷ Fs) (Symbol s) qs h = ap (each_judged judged_as t N (F ∷ Fs)) h ∙ ap₂ or_else (same_verdict F NIL NIL refl refl) (nothing_same Fs)
-  each_same (F ∷ Fs) (Pair p ps) qs h = ap (each_judged judged_as t N (F ∷ Fs)) h.2 ∙ ap₂ or_else (turned_verdict F p h.0 h.3) (each_same Fs ps h.1 h.4)
+  each_same (F ∷ Fs) (Natural k) qs h = ap (each_judged judged_as t N (F ∷ Fs)) h ∙ ap₂ option_or (same_verdict F NIL NIL refl refl) (nothing_same Fs)
+  each_same (F ∷ Fs) (Symbol s) qs h = ap (each_judged judged_as t N (F ∷ Fs)) h ∙ ap₂ option_or (same_verdict F NIL NIL refl refl) (nothing_same Fs)
+  each_same (F ∷ Fs) (Pair p ps) qs h = ap (each_judged judged_as t N (F ∷ Fs)) h.2 ∙ ap₂ option_or (turned_verdict F p h.0 h.3) (each_same Fs ps h.1 h.4)
 
   settled_same : (ps qs : Object) (d : Demand) → Turned t ps qs → settled judged_as t N qs d ≡ settled derived_as t N ps d
   settled_same ps qs (Denied r) h = refl

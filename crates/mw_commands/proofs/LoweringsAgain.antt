@@ -78,7 +78,7 @@ module _ (N : ℕ) where
       let is : w.0 ++ (w.1 ++ last) ≡ body ++ last = sym (append_assoc w.0 w.1 last) ∙ ap (λ z. z ++ last) (sym w.2) in
       subst (Leads t (cond (is_accepted (derived t e).0) 1 0 + how_many is_acceptance ss) (last_theory_from u ss)) is (piece_first t (last_theory_from u ss) (how_many is_acceptance ss) k e w.0 (w.1 ++ last) has w.3 more)
 
-  summary_line : (ss : List Transition) → no_newline (course_summary ss) ≡ true
+  pub summary_line : (ss : List Transition) → no_newline (course_summary ss) ≡ true
   summary_line ss =
       let level = spaced (codes "level") (numeral (last_theory ss).level) in
       let refused = spaced (codes "refused") (spaced (numeral (refused_in ss)) level) in

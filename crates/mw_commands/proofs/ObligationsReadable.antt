@@ -1,12 +1,12 @@
 -- The obligations of a block are readable formulas, where its bodies and measures are readable terms.
-use Rattle.std.proofs.Common.{Bool, true, false, cond, List, [], ◌∷◌, map, filter, not, Option, Some, None, refl}
+use Rattle.std.proofs.Common.{Bool, true, false, cond, List, [], ◌∷◌, map, filter, not, Option, Some, None, refl, zip}
 use Rattle.mw_model.specs.Terms.Object.{Name, same_name}
 use Rattle.mw_model.specs.Terms.Term.{Term, Terms, Variable, Constant, If, Call, Lambda, NoTerms, More, Or, Formula, firsts}
 use Rattle.mw_model.specs.Terms.Same.{same_formula}
 use Rattle.mw_model.specs.Terms.Substitution.{substitute, substitute_each, actuals_for}
 use Rattle.mw_model.specs.Values.Definition.{Function, function_named}
 use Rattle.mw_model.specs.Values.Truth.{Each}
-use Rattle.mw_model.specs.Events.Obligation.{mentions, Test, IsNotNil, IsNil, RecursiveCall, under_test, Actual, Pending, pend, pending_terms, pending_calls, all_calls, call_or, collect, actuals_with, recursive_calls, Measures, measure_of, tested, test_formula, under_tests, falls, obligation, owed, calls_none, obligations}
+use Rattle.mw_model.specs.Events.Obligation.{mentions, Test, IsNotNil, IsNil, RecursiveCall, under_test, Actual, Pending, pending_terms, pending_calls, all_calls, call_or, collect, actuals_with, recursive_calls, Measures, measure_of, tested, test_formula, under_tests, falls, obligation, owed, calls_none, obligations}
 use Rattle.mw_model.proofs.PremisesObject.{each_append}
 use Rattle.mw_model.proofs.Readable.{Readable, AreReadable, ReadableFormula, ReadableSubstitution, image-readable, substitute-readable, substitute_each-readable, actuals_for-readable}
 
@@ -31,21 +31,21 @@ abbrev ActualReadable : Actual → Type 0
 ActualReadable u = Readable u.term × Each CallReadable u.calls
 
 abbrev PendingReadable : Pending → Type 0
-PendingReadable p = Readable p.term × Each CallReadable p.calls
+PendingReadable p = Readable p.1.term × Each CallReadable p.1.calls
 
 terms_pending : (s : List Pending) → Each PendingReadable s → ReadableSubstitution (pending_terms s)
 terms_pending [] h x = tt
-terms_pending (p ∷ s) h x = image-readable (p.formal, p.term) (pending_terms s) x h.0.0 (terms_pending s h.1 x)
+terms_pending (p ∷ s) h x = image-readable (p.0, p.1.term) (pending_terms s) x h.0.0 (terms_pending s h.1 x)
 
 calls_pending : (s : List Pending) → Each PendingReadable s → (x : Name) → Each CallReadable (pending_calls s x)
 calls_pending [] h x = tt
-calls_pending (p ∷ s) h x = go (same_name p.formal x) (calls_pending s h.1 x)
+calls_pending (p ∷ s) h x = go (same_name p.0 x) (calls_pending s h.1 x)
   where
-    go : (b : Bool) → Each CallReadable (pending_calls s x) → Each CallReadable (cond b p.calls (pending_calls s x))
+    go : (b : Bool) → Each CallReadable (pending_calls s x) → Each CallReadable (cond b p.1.calls (pending_calls s x))
     go true k = h.0.1
     go false k = k
 
-pend_readable : (xs : List Name) (us : List Actual) → Each ActualReadable us → Each PendingReadable (pend xs us)
+pend_readable : (xs : List Name) (us : List Actual) → Each ActualReadable us → Each PendingReadable (zip xs us)
 pend_readable [] us h = tt
 pend_readable (x ∷ xs) [] h = tt
 pend_readable (x ∷ xs) (u ∷ us) h = (h.0, pend_readable xs us h.1)
@@ -77,7 +77,7 @@ module _ (B : List Function) where
         call_readable (function_named B f) (substitute_each (pending_terms s) ts) (all_calls (actuals_with B s ts)) (substitute_each-readable (pending_terms s) (terms_pending s h) ts i.1) (all_readable (actuals_with B s ts) (actuals_readable s h ts i.1))
     collect_readable s h (Lambda xs b ts) i =
         let us = actuals_readable s h ts i.1 in
-        each_append CallReadable (all_calls (actuals_with B s ts)) _ (all_readable (actuals_with B s ts) us) (collect_readable (pend xs (actuals_with B s ts)) (pend_readable xs (actuals_with B s ts) us) b i.0)
+        each_append CallReadable (all_calls (actuals_with B s ts)) _ (all_readable (actuals_with B s ts) us) (collect_readable (zip xs (actuals_with B s ts)) (pend_readable xs (actuals_with B s ts) us) b i.0)
 
     actuals_readable : (s : List Pending) → Each PendingReadable s → (ts : Terms) → AreReadable ts → Each ActualReadable (actuals_with B s ts)
     actuals_readable s h NoTerms i = tt

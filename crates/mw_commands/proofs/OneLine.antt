@@ -1,10 +1,11 @@
 -- The text of an object is one line, and so is what a comment says of a datum.
 use Rattle.std.proofs.Common.{◌≡◌, ℕ, ◌<◌, ◌≤◌, Bool, true, false, ◌&&◌, not, cond, eqb, ltb, leb, List, [], ◌∷◌, ◌++◌, length, refl, ap, arith, if◌then◌else◌}
 use Rattle.std.proofs.lemmas.Bool.{and_parts, and_from, leb-true, ne_eqb}
-use Rattle.mw_model.specs.Terms.Object.{Name, Object, Natural, Symbol, Pair, is_name, is_name_byte, are_name_bytes, same_name, nil_name}
+use Rattle.mw_model.specs.Terms.Object.{Name, Object, Natural, Symbol, Pair, is_name, is_name_byte, same_name, nil_name}
 use Rattle.mw_model.specs.Values.Value.{pick}
 use Rattle.mw_model.specs.Events.Fate.{longest}
-use Rattle.mw_model.specs.Texts.Lexemes.{SyntaxKind, END, CLOSE, DOT, TOKEN, BYTE, LABEL, LENGTH, all_are, is_digit}
+use Rattle.mw_model.specs.Texts.Lexemes.{SyntaxKind, END, CLOSE, DOT, TOKEN, BYTE, LABEL, LENGTH, is_digit}
+use Rattle.std.specs.List.{list_all}
 use Rattle.mw_model.specs.Texts.Printing.{numeral, is_bare, name_text, end_text, text_of, tail_text}
 use Rattle.mw_model.specs.Reports.Report.{dash, spaced, symbol_text, word_text, labelled_words, label_text, kind_word}
 use Rattle.mw_model.specs.Events.Refusal.{Refusal, RANGE, EVENT, NAME, FORMALS, TERM, FORMULA, VARIABLES, NESTED, COUNT, CONCLUSION, PROOF, NILVALUE, STEPS, OVERFLOW, WITNESS, CLAIM, CHECKER, LONG, PROFILE, reason_of}
@@ -20,9 +21,9 @@ pub spaced_line : (t u : List ℕ) → no_newline t ≡ true → no_newline u �
 spaced_line t u h k = joined_line t (32 ∷ u) h k
 
 -- bytes of a class without the newline
-class_line : (p : ℕ → Bool) → ((b : ℕ) → p b ≡ true → not (eqb b 10) ≡ true) → (t : List ℕ) → all_are p t ≡ true → no_newline t ≡ true
+class_line : (p : ℕ → Bool) → ((b : ℕ) → p b ≡ true → not (eqb b 10) ≡ true) → (t : List ℕ) → list_all p t ≡ true → no_newline t ≡ true
 class_line p f [] h = refl
-class_line p f (b ∷ t) h = let q = and_parts (p b) (all_are p t) h in and_from (not (eqb b 10)) (no_newline t) (f b q.0) (class_line p f t q.1)
+class_line p f (b ∷ t) h = let q = and_parts (p b) (list_all p t) h in and_from (not (eqb b 10)) (no_newline t) (f b q.0) (class_line p f t q.1)
 
 past_newline : (n b : ℕ) → 10 < n → leb n b ≡ true → not (eqb b 10) ≡ true
 past_newline n b l h = let m : n ≤ b = leb-true n b h in ap not (ne_eqb b 10 (λ e. omega arith))
@@ -36,9 +37,9 @@ name_byte_line b h = past_newline 32 b (omega arith) (and_parts (leb 32 b) (leb 
 pub numeral_line : (n : ℕ) → no_newline (numeral n) ≡ true
 numeral_line n = class_line is_digit digit_line (numeral n) (numeral_is n).0
 
-name_bytes_line : (t : List ℕ) → are_name_bytes t ≡ true → no_newline t ≡ true
+name_bytes_line : (t : List ℕ) → list_all is_name_byte t ≡ true → no_newline t ≡ true
 name_bytes_line [] h = refl
-name_bytes_line (b ∷ t) h = let p = and_parts (is_name_byte b) (are_name_bytes t) h in and_from (not (eqb b 10)) (no_newline t) (name_byte_line b p.0) (name_bytes_line t p.1)
+name_bytes_line (b ∷ t) h = let p = and_parts (is_name_byte b) (list_all is_name_byte t) h in and_from (not (eqb b 10)) (no_newline t) (name_byte_line b p.0) (name_bytes_line t p.1)
 
 bytes_line : (t : List ℕ) → is_name t ≡ true → no_newline t ≡ true
 bytes_line [] h = refl

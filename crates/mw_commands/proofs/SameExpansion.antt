@@ -1,11 +1,12 @@
 -- Where two arity tables say the same of each name that occurs in a raw term, and of those that expansion brings, they say the same of what
 -- it expands to.
-use Rattle.std.proofs.Common.{◌≡◌, Bool, true, false, ◌&&◌, cond, eqb, List, [], ◌∷◌, ◌++◌, length, Option, Some, None, refl, ap, ap₂}
+use Rattle.std.proofs.Common.{◌≡◌, Bool, true, false, ◌&&◌, cond, eqb, List, [], ◌∷◌, ◌++◌, length, Option, Some, None, refl, ap, ap₂, option_and_then, option_map}
 use Rattle.std.proofs.lemmas.Bool.{cond_both}
 use Rattle.mw_model.specs.Terms.Object.{Name, Object, Natural, Symbol, Pair, symbol, named, same_name, same_object, nil_name, NIL, T}
 use Rattle.mw_model.specs.Terms.Term.{Term, Terms, Variable, Constant, If, Call, Lambda, NoTerms, More, ArityTable, arity_of, has_arity, is_call_name, are_formals, is_closed, count, variables, is_term, are_terms}
-use Rattle.mw_model.specs.Terms.Reading.{names_of, and_more, both, more_terms, lambda_of, if_nil, when, that}
-use Rattle.mw_model.specs.Events.Expansion.{Abbreviation, AND, OR, COND, LIST, LET, LETSTAR, FIRST, SECOND, THIRD, FOURTH, FIFTH, QUOTE, Other, abbreviation_of, expand_symbol, and_term, or_term, list_term, car_term, cdr_term, of_single, call_term, form, form_with, cond_term, binding_of, without, bound_names, let_actuals, let_term, let_of, let_star_of, expanded, expanded_each, clause, clauses, binding, bindings, let_star, expand}
+use Rattle.mw_model.specs.Terms.Reading.{names_of, and_more, lambda_of, if_nil, when, that, map2}
+use Rattle.std.specs.Option.{option_zip}
+use Rattle.mw_model.specs.Events.Expansion.{Abbreviation, AND, OR, COND, LIST, LET, LETSTAR, FIRST, SECOND, THIRD, FOURTH, FIFTH, QUOTE, Other, abbreviation_of, expand_symbol, and_term, or_term, list_term, car_term, cdr_term, of_single, call_term, form, cond_term, without, bound_names, let_actuals, let_term, expanded, expanded_each, clause, clauses, binding, bindings, let_star, expand}
 use Rattle.mw_commands.proofs.SameArities.{Agree, agree_first, agree_rest, agree_head}
 
 -- both tables say the same of the functions that abbreviations stand for
@@ -78,7 +79,7 @@ module _ (A B : ArityTable) (bring : BringSame A B) where
   each_same NoTerms h = refl
   each_same (More t ts) h = more_same t ts h.0 (each_same ts h.1)
 
-  more_each : (o : Option Term) (p : Option Terms) → SameIf o → EachIf p → EachIf (more_terms o p)
+  more_each : (o : Option Term) (p : Option Terms) → SameIf o → EachIf p → EachIf (map2 More o p)
   more_each (Some t) (Some ts) h k = (h, k)
   more_each _ _ h k = tt
 
@@ -129,13 +130,13 @@ module _ (A B : ArityTable) (bring : BringSame A B) where
   form_same Other f ts h k = plain_same f ts h k
   form_same _ f ts h k = tt
 
-  form_if_same : (w : Abbreviation) (f : Name) (o : Option Terms) → arity_of A f ≡ arity_of B f → EachIf o → SameIf (form_with w f o)
+  form_if_same : (w : Abbreviation) (f : Name) (o : Option Terms) → arity_of A f ≡ arity_of B f → EachIf o → SameIf (option_and_then (form w f) o)
   form_if_same w f None h k = tt
   form_if_same w f (Some ts) h k = form_same w f ts h k
 
   -- ---- the other forms
 
-  clause_same : (o p : Option Term) → SameIf o → SameIf p → ClauseSame (both o p)
+  clause_same : (o p : Option Term) → SameIf o → SameIf p → ClauseSame (option_zip o p)
   clause_same (Some a) (Some b) h k = (h, k)
   clause_same _ _ h k = tt
 
@@ -143,7 +144,7 @@ module _ (A B : ArityTable) (bring : BringSame A B) where
   cond_same (Some c) (Some t) h k = if_same c.0 c.1 t h.0 h.1 k
   cond_same _ _ h k = tt
 
-  bound_same : (x : Name) (o : Option Term) → SameIf o → BindingSame (binding_of x o)
+  bound_same : (x : Name) (o : Option Term) → SameIf o → BindingSame (option_map (λ t. (x, t)) o)
   bound_same x None h = tt
   bound_same x (Some t) h = h
 
@@ -161,11 +162,11 @@ module _ (A B : ArityTable) (bring : BringSame A B) where
       let ys = without (variables b) (bound_names ps) in
       lambda_same (bound_names ps ++ ys) b (let_actuals ps ys) k (actuals_same ps ys h)
 
-  let_if_same : (o : Option (List (Name × Term))) (p : Option Term) → BindingsSame o → SameIf p → SameIf (let_of o p)
+  let_if_same : (o : Option (List (Name × Term))) (p : Option Term) → BindingsSame o → SameIf p → SameIf (map2 let_term o p)
   let_if_same (Some ps) (Some b) h k = let_same ps b h k
   let_if_same _ _ h k = tt
 
-  star_same : (o : Option (Name × Term)) (p : Option Term) → BindingSame o → SameIf p → SameIf (let_star_of o p)
+  star_same : (o : Option (Name × Term)) (p : Option Term) → BindingSame o → SameIf p → SameIf (map2 (λ p c. let_term (p ∷ []) c) o p)
   star_same (Some b) (Some t) h k = let_same (b ∷ []) t (h, tt) k
   star_same _ _ h k = tt
 
@@ -192,10 +193,10 @@ module _ (A B : ArityTable) (bring : BringSame A B) where
   none_after COND v f h = refl
   none_after _ v f h = form_same v f NoTerms h tt
 
-  one_after : (w v : Abbreviation) (f : Name) (a : Object) → arity_of A f ≡ arity_of B f → SameIf (expanded a) → ClauseSame (clause a) → SameIf (elim w [ QUOTE ↦ Some (Constant a) | COND ↦ cond_term (clause a) (Some (Constant NIL)) | _ ↦ form_with v f (more_terms (expanded a) (Some NoTerms)) ])
+  one_after : (w v : Abbreviation) (f : Name) (a : Object) → arity_of A f ≡ arity_of B f → SameIf (expanded a) → ClauseSame (clause a) → SameIf (elim w [ QUOTE ↦ Some (Constant a) | COND ↦ cond_term (clause a) (Some (Constant NIL)) | _ ↦ option_and_then (form v f) (map2 More (expanded a) (Some NoTerms)) ])
   one_after QUOTE v f a h i j = refl
   one_after COND v f a h i j = cond_same (clause a) (Some (Constant NIL)) j refl
-  one_after _ v f a h i j = form_if_same v f (more_terms (expanded a) (Some NoTerms)) h (more_each (expanded a) (Some NoTerms) i tt)
+  one_after _ v f a h i j = form_if_same v f (map2 More (expanded a) (Some NoTerms)) h (more_each (expanded a) (Some NoTerms) i tt)
 
   -- what is known of the members after the first
   record MembersSame (a b z : Object) : Type 0 where
@@ -208,12 +209,12 @@ module _ (A B : ArityTable) (bring : BringSame A B) where
     terms_z : EachIf (expanded_each z)
     clauses_z : SameIf (clauses z)
 
-  more_after : (w v : Abbreviation) (f : Name) (a b z : Object) → arity_of A f ≡ arity_of B f → MembersSame a b z → SameIf (elim w [ COND ↦ cond_term (clause a) (cond_term (clause b) (clauses z)) | LET ↦ when (same_object z NIL) (let_of (bindings a) (expanded b)) | LETSTAR ↦ when (same_object z NIL) (let_star a (expanded b)) | _ ↦ form_with v f (more_terms (expanded a) (more_terms (expanded b) (expanded_each z))) ])
+  more_after : (w v : Abbreviation) (f : Name) (a b z : Object) → arity_of A f ≡ arity_of B f → MembersSame a b z → SameIf (elim w [ COND ↦ cond_term (clause a) (cond_term (clause b) (clauses z)) | LET ↦ when (same_object z NIL) (map2 let_term (bindings a) (expanded b)) | LETSTAR ↦ when (same_object z NIL) (let_star a (expanded b)) | _ ↦ option_and_then (form v f) (map2 More (expanded a) (map2 More (expanded b) (expanded_each z))) ])
   more_after COND v f a b z h m = cond_same (clause a) (cond_term (clause b) (clauses z)) m.clause_a (cond_same (clause b) (clauses z) m.clause_b m.clauses_z)
-  more_after LET v f a b z h m = when_holds SameIf (same_object z NIL) (let_of (bindings a) (expanded b)) tt (let_if_same (bindings a) (expanded b) m.bindings_a m.term_b)
+  more_after LET v f a b z h m = when_holds SameIf (same_object z NIL) (map2 let_term (bindings a) (expanded b)) tt (let_if_same (bindings a) (expanded b) m.bindings_a m.term_b)
   more_after LETSTAR v f a b z h m = when_holds SameIf (same_object z NIL) (let_star a (expanded b)) tt (m.star_a (expanded b) m.term_b)
   more_after _ v f a b z h m =
-      form_if_same v f (more_terms (expanded a) (more_terms (expanded b) (expanded_each z))) h (more_each (expanded a) (more_terms (expanded b) (expanded_each z)) m.term_a (more_each (expanded b) (expanded_each z) m.term_b m.terms_z))
+      form_if_same v f (map2 More (expanded a) (map2 More (expanded b) (expanded_each z))) h (more_each (expanded a) (map2 More (expanded b) (expanded_each z)) m.term_a (more_each (expanded b) (expanded_each z) m.term_b m.terms_z))
 
   -- ---- objects
 
@@ -263,7 +264,7 @@ module _ (A B : ArityTable) (bring : BringSame A B) where
     clause_is : (x : Object) → Agree A B x → ClauseSame (clause x)
     clause_is (Pair c (Pair e (Symbol s))) h =
         let i = agree_rest A B c (Pair e (Symbol s)) h in
-        when_holds ClauseSame (same_name s nil_name) (both (expanded c) (expanded e)) tt (clause_same (expanded c) (expanded e) (expanded_same c (agree_first A B c (Pair e (Symbol s)) h)) (expanded_same e (agree_first A B e (Symbol s) i)))
+        when_holds ClauseSame (same_name s nil_name) (option_zip (expanded c) (expanded e)) tt (clause_same (expanded c) (expanded e) (expanded_same c (agree_first A B c (Pair e (Symbol s)) h)) (expanded_same e (agree_first A B e (Symbol s) i)))
     clause_is _ h = tt
 
     clauses_are : (x : Object) → Agree A B x → SameIf (clauses x)
@@ -273,7 +274,7 @@ module _ (A B : ArityTable) (bring : BringSame A B) where
 
     binding_is : (x : Object) → Agree A B x → BindingSame (binding x)
     binding_is (Pair (Symbol x) (Pair e (Symbol s))) h =
-        let i = agree_first A B e (Symbol s) (agree_rest A B (Symbol x) (Pair e (Symbol s)) h) in when_holds BindingSame (same_name s nil_name) (binding_of x (expanded e)) tt (bound_same x (expanded e) (expanded_same e i))
+        let i = agree_first A B e (Symbol s) (agree_rest A B (Symbol x) (Pair e (Symbol s)) h) in when_holds BindingSame (same_name s nil_name) (option_map (λ t. (x, t)) (expanded e)) tt (bound_same x (expanded e) (expanded_same e i))
     binding_is _ h = tt
 
     bindings_are : (x : Object) → Agree A B x → BindingsSame (bindings x)

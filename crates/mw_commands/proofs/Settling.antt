@@ -5,13 +5,13 @@ use Rattle.mw_model.specs.Terms.Term.{Formula}
 use Rattle.mw_model.specs.Terms.Reading.{when}
 use Rattle.mw_model.specs.Events.Theory.{Theory}
 use Rattle.mw_model.specs.Events.Refusal.{Refusal, RANGE, EVENT, COUNT, Fate, refuse, accept, need, must, unless}
-use Rattle.mw_model.specs.Events.Checking.{or_else}
+use Rattle.std.specs.Option.{option_or}
 use Rattle.mw_model.specs.Events.Fate.{EventWord, Verify, Define, Skolem, Switch, Eval, Print, DefineAll, SetProfile, event_word, is_out_of_range}
 use Rattle.mw_model.specs.Events.Demand.{Demand, Denied, Wants, demand, proofs_of, Judge, each_judged, settled, happens_by_under, happens_under}
 use Rattle.mw_model.specs.Reports.Report.{is_accepted}
 use Rattle.mw_model.proofs.Demands.{need_same}
 
-pub or_else_none : (o q : Option Refusal) → or_else o q ≡ None → (o ≡ None) × (q ≡ None)
+pub or_else_none : (o q : Option Refusal) → option_or o q ≡ None → (o ≡ None) × (q ≡ None)
 or_else_none None q h = (refl, h)
 or_else_none (Some r) q h = cc
 
@@ -66,7 +66,7 @@ module _ (J : Judge) (t : Theory) (N : ℕ) where
 module _ (J K : Judge) (t : Theory) (N : ℕ) (alike : (F : Formula) (p : Object) → J t N F p ≡ K t N F p) where
   each_alike : (Fs : List Formula) (ps : Object) → each_judged J t N Fs ps ≡ each_judged K t N Fs ps
   each_alike [] ps = refl
-  each_alike (F ∷ Fs) ps = ap₂ or_else (alike F (car ps)) (each_alike Fs (cdr ps))
+  each_alike (F ∷ Fs) ps = ap₂ option_or (alike F (car ps)) (each_alike Fs (cdr ps))
 
   settled_alike : (ps : Object) (d : Demand) → settled J t N ps d ≡ settled K t N ps d
   settled_alike ps (Denied r) = refl

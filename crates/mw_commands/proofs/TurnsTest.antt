@@ -1,11 +1,11 @@
 -- Whether a derivation turns to a proof is decided by a test, and so is what may be written for a book of derivations.
-use Rattle.std.proofs.Common.{◌≡◌, ℕ, Bool, true, false, ◌&&◌, ◌||◌, not, List, [], ◌∷◌, ◌++◌, Option, Some, None, inl, inr, refl, sym, ap, ◌∙◌, codes}
+use Rattle.std.proofs.Common.{◌≡◌, ℕ, Bool, true, false, ◌&&◌, ◌||◌, not, List, [], ◌∷◌, ◌++◌, Option, Some, None, inl, inr, refl, sym, ap, ◌∙◌, codes, is_none}
 use Rattle.std.proofs.lemmas.Bool.{true≢false, and_parts, or_cases}
 use Rattle.mw_model.specs.Terms.Object.{Name, Object, Natural, Symbol, Pair, same_object, NIL}
 use Rattle.mw_model.specs.Terms.Term.{Formula, ArityTable}
 use Rattle.mw_model.specs.Terms.Same.{same_formula}
 use Rattle.mw_model.specs.Values.Primitive.{Profile}
-use Rattle.mw_model.specs.Values.Definition.{arity_table, is_absent}
+use Rattle.mw_model.specs.Values.Definition.{arity_table}
 use Rattle.mw_model.specs.Proofs.Judgment.{judge}
 use Rattle.mw_model.specs.Events.Theory.{Theory}
 use Rattle.mw_model.specs.Events.Refusal.{Fate, Accepted, Refused}
@@ -29,7 +29,7 @@ are_same (Some F) (Some G) = same_formula F G
 are_same _ _ = false
 
 abbrev pub is_turned_to : Object → Object → ArityTable → Profile → Object → Object → Bool
-is_turned_to ax th A P p q = are_same (derive ax th A P p) (judge ax th A P q) && ((is_absent (judge ax th A P p) || same_object q p) && (not (is_out_of_range q) || is_out_of_range p))
+is_turned_to ax th A P p q = are_same (derive ax th A P p) (judge ax th A P q) && ((is_none (judge ax th A P p) || same_object q p) && (not (is_out_of_range q) || is_out_of_range p))
 
 same_both : (o r : Option Formula) → are_same o r ≡ true → (F : Formula) × (o ≡ Some F) × (r ≡ Some F)
 same_both None r h = cc
@@ -40,20 +40,20 @@ in_range_too : (a b : Bool) → (not a || b) ≡ true → b ≡ false → a ≡ 
 in_range_too true b h k = absurd (true≢false (sym h ∙ k))
 in_range_too false b h k = refl
 
-no_formula : (o : Option Formula) (F : Formula) → is_absent o ≡ true → o ≡ Some F → ⊥
+no_formula : (o : Option Formula) (F : Formula) → is_none o ≡ true → o ≡ Some F → ⊥
 no_formula None F h k = cc
 no_formula (Some G) F h k = cc
 
 pub turned : (ax th : Object) (A : ArityTable) (P : Profile) (p q : Object) → is_turned_to ax th A P p q ≡ true → Turns ax th A P p q
 turned ax th A P p q h =
-    let a = and_parts (are_same (derive ax th A P p) (judge ax th A P q)) ((is_absent (judge ax th A P p) || same_object q p) && (not (is_out_of_range q) || is_out_of_range p)) h in
-    let b = and_parts (is_absent (judge ax th A P p) || same_object q p) (not (is_out_of_range q) || is_out_of_range p) a.1 in
+    let a = and_parts (are_same (derive ax th A P p) (judge ax th A P q)) ((is_none (judge ax th A P p) || same_object q p) && (not (is_out_of_range q) || is_out_of_range p)) h in
+    let b = and_parts (is_none (judge ax th A P p) || same_object q p) (not (is_out_of_range q) || is_out_of_range p) a.1 in
     let c = same_both (derive ax th A P p) (judge ax th A P q) a.0 in
     record {
       formula = c.0;
       derived = derive_good ax th A P p c.0 c.1;
       proved = judge_good ax th A P q c.0 c.2;
-      stays = λ g. elim (or_cases (is_absent (judge ax th A P p)) (same_object q p) b.0) as (λ o. q ≡ p) [ inl n ↦ absurd (no_formula (judge ax th A P p) c.0 n (good_judge ax th A P p c.0 g).1) | inr e ↦ same_object-eq q p e ];
+      stays = λ g. elim (or_cases (is_none (judge ax th A P p)) (same_object q p) b.0) as (λ o. q ≡ p) [ inl n ↦ absurd (no_formula (judge ax th A P p) c.0 n (good_judge ax th A P p c.0 g).1) | inr e ↦ same_object-eq q p e ];
       in_range = in_range_too (is_out_of_range q) (is_out_of_range p) b.1;
     }
 

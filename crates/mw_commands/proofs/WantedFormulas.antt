@@ -2,7 +2,8 @@
 use Rattle.std.proofs.Common.{◌≡◌, Bool, true, false, cond, List, [], ◌∷◌, map, not, Option, Some, None, sym, ap, subst}
 use Rattle.mw_model.specs.Terms.Object.{Name, Object, same_name, second_of, third_of, fourth_of, fifth_of}
 use Rattle.mw_model.specs.Terms.Term.{Term, Formula, ArityTable, is_term, is_formula}
-use Rattle.mw_model.specs.Terms.Reading.{formula_of, formula_under, both, that}
+use Rattle.mw_model.specs.Terms.Reading.{formula_of, formula_under, that}
+use Rattle.std.specs.Option.{option_zip}
 use Rattle.mw_model.specs.Values.Primitive.{is_symbol}
 use Rattle.mw_model.specs.Values.Definition.{Functions, arity_table}
 use Rattle.mw_model.specs.Values.Truth.{Each}
@@ -24,7 +25,7 @@ that_passes : {X : Type 0} (test : X → Bool) (o : Option X) (x : X) → that t
 that_passes test None x h = cc
 that_passes test (Some y) x h = let p = when_some (test y) (Some y) x h in subst (λ z. test z ≡ true) (some_one p.1) p.0
 
-both_there : {X Y : Type 0} (o : Option X) (p : Option Y) (z : X × Y) → both o p ≡ Some z → (o ≡ Some z.0) × (p ≡ Some z.1)
+both_there : {X Y : Type 0} (o : Option X) (p : Option Y) (z : X × Y) → option_zip o p ≡ Some z → (o ≡ Some z.0) × (p ≡ Some z.1)
 both_there None p z h = cc
 both_there (Some x) None z h = cc
 both_there (Some x) (Some y) z h = let e = some_one h in (ap (λ w. Some w.0) e, ap (λ w. Some w.1) e)
@@ -62,7 +63,7 @@ module _ (t : Theory) where
       let A = arity_table t.definitions in
       some_asks Wanted NAME (new_names A (map (λ d. d.name) drafts)) _ (λ fs e1.
       some_asks Wanted FORMALS (all_of formals_of (map (λ d. d.formals) drafts)) _ (λ xss e2.
-      some_asks Wanted TERM (both (all_of (expand (add_names fs xss A)) (map (λ d. d.body) drafts)) (all_of (expand A) (map (λ d. d.measure) drafts))) _ (λ terms e3.
+      some_asks Wanted TERM (option_zip (all_of (expand (add_names fs xss A)) (map (λ d. d.body) drafts)) (all_of (expand A) (map (λ d. d.measure) drafts))) _ (λ terms e3.
       let p = both_there (all_of (expand (add_names fs xss A)) (map (λ d. d.body) drafts)) (all_of (expand A) (map (λ d. d.measure) drafts)) terms e3 in
       let B = functions fs xss terms.0 in
       let M = measures fs terms.1 in

@@ -11,3 +11,7 @@ pub mod Slicing
 pub mod Log
 pub mod LogReport
 pub mod Flattening
+pub mod ExplanationTerms
+pub mod ExplanationSteps
+pub mod Explanation
+pub mod ExplanationBook

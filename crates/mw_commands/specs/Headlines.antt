@@ -11,7 +11,7 @@ use Rattle.mw_model.specs.Events.Fate.{event_word, after}
 use Rattle.mw_model.specs.Reports.Report.{Status, Done, report, accepted_among}
 use Rattle.mw_model.specs.Reports.Keeping.{formulas_of_word}
 use Rattle.mw_model.specs.Reports.Headline.{Headline, TrialHeadline}
-use Rattle.mw_model.specs.Reports.Request.{Request, Check, Trial, Taut, Lower, Slice, Flat, Recheck, Help, Usage}
+use Rattle.mw_model.specs.Reports.Request.{Request, Check, Trial, Taut, Lower, Slice, Flat, Recheck}
 use Rattle.mw_model.specs.Texts.Pieces.{how_many}
 use Rattle.mw_commands.specs.Commands.Transition.{last_theory, last_theory_from, is_acceptance}
 use Rattle.mw_commands.specs.Commands.TautologyBook.{TautologiesWritten, tautology_status, is_proved}
@@ -50,7 +50,8 @@ pub record SliceAccepted (accepted : List Object) (goal : ℕ) (N : ℕ) (text :
 pub record SliceHeadline (bytes : List ℕ) (N : ℕ) (name : Name) (written : List ℕ) (status : Status) : Type 0 where
   pub exact : SliceWritten (trees bytes) N name written
   pub ends : status ≡ slicing_status (trees bytes) N name
-  pub again : status ≡ Done → length written ≤ limit → (goal : ℕ) → target (accepted_events (trees bytes).events N) name ≡ Some goal → SliceAccepted (accepted_events (trees bytes).events N) goal N written
+  pub again : status ≡ Done → length written ≤ limit → (goal : ℕ) → target (accepted_events (trees bytes).events N) name ≡ Some goal →
+      SliceAccepted (accepted_events (trees bytes).events N) goal N written
 
 -- what is read again in a log: just these events, each with a yes, no step left, and this theory at the end
 pub record LogAccepted (events : List Object) (t : Theory) (text : List ℕ) : Type 0 where
@@ -64,7 +65,8 @@ pub record LogAccepted (events : List Object) (t : Theory) (text : List ℕ) : T
 pub record FlatHeadline (bytes : List ℕ) (N : ℕ) (written : List ℕ) (status : Status) : Type 0 where
   pub exact : FlatWritten (trees bytes) N written
   pub ends : status ≡ flattening_status (trees bytes) N
-  pub again : length written ≤ limit → LogAccepted (map flat_event (flat_events (plain_course (trees bytes).events N))) (last_theory_from (initial One) (before_switch (plain_course (trees bytes).events N))) written
+  pub again : length written ≤ limit → LogAccepted (map flat_event (flat_events (plain_course (trees bytes).events N)))
+      (last_theory_from (initial One) (before_switch (plain_course (trees bytes).events N))) written
 
 -- the formulas that an event of a log brings, with the theory after it
 abbrev pub formulas_answered : Answer → Theory → Object → List Formula
@@ -92,8 +94,7 @@ Promised (Lower N) bytes written status = LoweringHeadline bytes N written statu
 Promised (Slice name N) bytes written status = SliceHeadline bytes N name written status
 Promised (Flat N) bytes written status = FlatHeadline bytes N written status
 Promised Recheck bytes written status = LogHeadline bytes written status
-Promised Help bytes written status = ⊥
-Promised Usage bytes written status = ⊥
+Promised _ bytes written status = ⊥
 
 -- Of a request that judges a book: a prefix of a text that it allows. That is what was written where the program was stopped.
 abbrev pub IsBegun : Request → List ℕ → List ℕ → Type 0

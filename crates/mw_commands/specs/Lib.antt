@@ -1,3 +1,4 @@
 pub mod Commands
 pub mod Headlines
 pub mod Logged
+pub mod Explained

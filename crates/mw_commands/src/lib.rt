@@ -1,6 +1,7 @@
-//! The definitions of what the commands `taut`, `lower`, `slice`, `flat` and `recheck` owe, with the laws that check them.
+//! The definitions of what the commands `taut`, `lower`, `slice`, `flat`, `recheck` and `explain` owe, with the laws that check them.
 #![tactic(auto)]
 
+pub mod explaining;
 pub mod flattening;
 pub mod lowering;
 pub mod proving;

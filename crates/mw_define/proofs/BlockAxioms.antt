@@ -1,9 +1,10 @@
 -- The axioms of a block, one after another.
-use Rattle.std.proofs.Common.{◌≡◌, ℕ, ◌+◌, ◌<◌, ◌≤◌, List, [], ◌∷◌, ◌++◌, length, get_or, take, refl, sym, ap, ap₂, ◌∙◌, subst}
+use Rattle.std.proofs.Common.{◌≡◌, ℕ, ◌+◌, ◌<◌, ◌≤◌, List, [], ◌∷◌, ◌++◌, length, get_or, take, refl, sym, ap, ap₂, ◌∙◌, subst, map}
 use Rattle.mw_model.specs.Terms.Object.{Object, Symbol, Pair, NIL}
 use Rattle.mw_model.specs.Terms.Term.{terms_object, formula_object}
 use Rattle.mw_model.specs.Laws.Rules.{equal_object}
-use Rattle.mw_model.specs.Values.Definition.{variable_terms, function_axiom, function_axioms}
+use Rattle.mw_model.specs.Values.Definition.{variable_terms, function_axiom}
+use Rattle.mw_model.specs.Values.Definition.{function_axiom}
 use Rattle.mw_model.specs.Laws.RulesInduction.{formulas_object}
 use Rattle.mw_model.proofs.ReadBack.{names_back, term_back}
 use Rattle.mw_heap.specs.Objects.{object_at, IsIn, Grows}
@@ -53,7 +54,7 @@ axioms-in old new [] (r ∷ rs) h = absurd h
 axioms-in old new (e ∷ es) [] h = absurd h
 axioms-in old new (e ∷ es) (r ∷ rs) h = (h.0.0, axioms-in old new es rs h.1)
 
-pub listed-axioms : (old new : List Object) (es : List Given) (rs : List ℕ) → Each2 (IsAxiomOf old new) es rs → prepend new rs NIL ≡ formulas_object (function_axioms (functions_at old es))
+pub listed-axioms : (old new : List Object) (es : List Given) (rs : List ℕ) → Each2 (IsAxiomOf old new) es rs → prepend new rs NIL ≡ formulas_object (map function_axiom (functions_at old es))
 listed-axioms old new [] [] h = refl
 listed-axioms old new [] (r ∷ rs) h = absurd h
 listed-axioms old new (e ∷ es) [] h = absurd h

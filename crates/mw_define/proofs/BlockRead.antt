@@ -3,7 +3,8 @@ use Rattle.std.proofs.Common.{◌≡◌, ℕ, true, ◌&&◌, List, [], ◌∷�
 use Rattle.std.proofs.lemmas.Bool.{and_parts, and_from}
 use Rattle.mw_model.specs.Terms.Object.{Name, Object}
 use Rattle.mw_model.specs.Terms.Term.{Term, ArityTable, are_distinct, is_closed}
-use Rattle.mw_model.specs.Terms.Reading.{term_of, that, when, both, and_more}
+use Rattle.mw_model.specs.Terms.Reading.{term_of, that, when, and_more}
+use Rattle.std.specs.Option.{option_zip}
 use Rattle.mw_model.specs.Values.Primitive.{is_symbol, name_of}
 use Rattle.mw_model.specs.Values.Definition.{Function}
 use Rattle.mw_model.specs.Events.Expansion.{expand}
@@ -60,15 +61,15 @@ module _ (os : List Object) where
   pairs-symbols (d ∷ ds) (p ∷ ps) h s = (subst (λ q. IsIn os q.0 × (is_symbol (object_at os q.0) ≡ true)) (sym h.0.2) (s.0, s.1), pairs-symbols ds ps h.1 s.2)
 
 -- where a body or a measure has no expansion
-no-both : {X Y : Type 0} (o : Option X) → both {Y = Y} o None ≡ None
+no-both : {X Y : Type 0} (o : Option X) → option_zip {U = Y} o None ≡ None
 no-both None = refl
 no-both (Some x) = refl
 
-pub no-terms : (N A : ArityTable) (os : List Object) (ds : List Given) → HasNoTerm N A os ds → both (all_of (expand N) (map (λ d. d.body) (map (draft_at os) ds))) (all_of (expand A) (map (λ d. d.measure) (map (draft_at os) ds))) ≡ None
+pub no-terms : (N A : ArityTable) (os : List Object) (ds : List Given) → HasNoTerm N A os ds → option_zip (all_of (expand N) (map (λ d. d.body) (map (draft_at os) ds))) (all_of (expand A) (map (λ d. d.measure) (map (draft_at os) ds))) ≡ None
 no-terms N A os ds h =
     elim h [
-      | inl b ↦ ap (λ o. both o (all_of (expand A) (map (λ d. d.measure) (map (draft_at os) ds)))) (of-drafts (expand N) (λ d. d.body) os ds ∙ b)
-      | inr m ↦ ap (both (all_of (expand N) (map (λ d. d.body) (map (draft_at os) ds)))) (of-drafts (expand A) (λ d. d.measure) os ds ∙ m) ∙ no-both (all_of (expand N) (map (λ d. d.body) (map (draft_at os) ds)))
+      | inl b ↦ ap (λ o. option_zip o (all_of (expand A) (map (λ d. d.measure) (map (draft_at os) ds)))) (of-drafts (expand N) (λ d. d.body) os ds ∙ b)
+      | inr m ↦ ap (option_zip (all_of (expand N) (map (λ d. d.body) (map (draft_at os) ds)))) (of-drafts (expand A) (λ d. d.measure) os ds ∙ m) ∙ no-both (all_of (expand N) (map (λ d. d.body) (map (draft_at os) ds)))
     ]
 
 module _ (N A : ArityTable) (old new : List Object) (g : Grows old new) where
@@ -87,8 +88,8 @@ module _ (N A : ArityTable) (old new : List Object) (g : Grows old new) where
   pub measures-are : (ds es : List Given) → Each2 (Expands N A old new) ds es → measures_of_drafts A old ds ≡ Some (terms_at es)
   measures-are ds es h = all_of-each2 (λ d. expand A (object_at old d.measure)) (measure_at new) ds es (each2-weaker (Expands N A old new) (λ d e. expand A (object_at old d.measure) ≡ Some (measure_at new e)) (λ d e x. the-expansion A (object_at old d.measure) e.measure x.measure) ds es h)
 
-  pub terms-are : (ds es : List Given) → Each2 (Expands N A old new) ds es → both (all_of (expand N) (map (λ d. d.body) (map (draft_at old) ds))) (all_of (expand A) (map (λ d. d.measure) (map (draft_at old) ds))) ≡ Some (bodies_at es, terms_at es)
-  terms-are ds es h = ap₂ both (of-drafts (expand N) (λ d. d.body) old ds ∙ bodies-are ds es h) (of-drafts (expand A) (λ d. d.measure) old ds ∙ measures-are ds es h)
+  pub terms-are : (ds es : List Given) → Each2 (Expands N A old new) ds es → option_zip (all_of (expand N) (map (λ d. d.body) (map (draft_at old) ds))) (all_of (expand A) (map (λ d. d.measure) (map (draft_at old) ds))) ≡ Some (bodies_at es, terms_at es)
+  terms-are ds es h = ap₂ (option_zip) (of-drafts (expand N) (λ d. d.body) old ds ∙ bodies-are ds es h) (of-drafts (expand A) (λ d. d.measure) old ds ∙ measures-are ds es h)
 
   -- one draft, as a function
   module _ (d e : Given) (within : IsDraftIn old d) (xs : List Name) (formals : formals_of (object_at old d.formals) ≡ Some xs) (symbol : is_symbol (object_at old d.name) ≡ true) (x : Expands N A old new d e) where

@@ -2,8 +2,8 @@
 use Rattle.std.proofs.Common.{◌≡◌, ℕ, true, false, List, length, map, Option, Some, None, sym, ap, ap₂, ◌∙◌, subst, true≢false, ltb-true, ltb-false}
 use Rattle.mw_model.specs.Terms.Object.{Name, Object}
 use Rattle.mw_model.specs.Terms.Term.{Term, ArityTable}
-use Rattle.mw_model.specs.Terms.Reading.{both}
-use Rattle.mw_model.specs.Values.Definition.{function_axioms}
+use Rattle.std.specs.Option.{option_zip}
+use Rattle.mw_model.specs.Values.Definition.{function_axiom}
 use Rattle.mw_model.specs.Events.Obligation.{obligations, is_nested}
 use Rattle.mw_model.specs.Events.Expansion.{expand}
 use Rattle.mw_model.specs.Events.Admission.{Draft, all_of, formals_of, add_names, functions, measures}
@@ -67,7 +67,7 @@ module _ (A : ArityTable) (old : List Object) (ds : List Given) (rs : List ℕ) 
     pub fails-terms : HasNoTerm (with_pairs old ps A) A old ds → FailsBlock A (map (draft_at old) ds) TERM
     fails-terms h =
         no_terms fs k.formals named (of-drafts formals_of (λ d. d.formals) old ds ∙ k.are)
-        (ap (λ N. both (all_of (expand N) (map (λ d. d.body) (map (draft_at old) ds))) (all_of (expand A) (map (λ d. d.measure) (map (draft_at old) ds)))) (sym (under k.formals k.are))
+        (ap (λ N. option_zip (all_of (expand N) (map (λ d. d.body) (map (draft_at old) ds))) (all_of (expand A) (map (λ d. d.measure) (map (draft_at old) ds)))) (sym (under k.formals k.are))
         ∙ no-terms (with_pairs old ps A) A old ds h)
 
     module _ (mid : List Object) (es : List Given) (g : Grows old mid) (x : Each2 (Expands (with_pairs old ps A) A old mid) ds es) where
@@ -88,7 +88,7 @@ module _ (A : ArityTable) (old : List Object) (ds : List Given) (rs : List ℕ) 
 
       terms : the_terms_under A (map (draft_at old) ds) fs r.formals ≡ Some (bs, ms)
       terms =
-          ap (λ N. both (all_of (expand N) (map (λ d. d.body) (map (draft_at old) ds))) (all_of (expand A) (map (λ d. d.measure) (map (draft_at old) ds)))) (sym (under r.formals r.are_formals))
+          ap (λ N. option_zip (all_of (expand N) (map (λ d. d.body) (map (draft_at old) ds))) (all_of (expand A) (map (λ d. d.measure) (map (draft_at old) ds)))) (sym (under r.formals r.are_formals))
           ∙ terms-are (with_pairs old ps A) A old mid g ds es x
 
       -- the last tests decide
@@ -111,7 +111,7 @@ module _ (A : ArityTable) (old : List Object) (ds : List Given) (rs : List ℕ) 
             obligations_in = p.obligations.within;
             obligations = p.obligations.obligations ∙ ap₂ (λ B M. formulas_object (obligations B M)) same r.measures_are;
             axioms_in = p.axioms_in;
-            axioms = p.axioms ∙ ap (λ B. formulas_object (function_axioms B)) same;
+            axioms = p.axioms ∙ ap (λ B. formulas_object (map function_axiom B)) same;
             entries = subst (λ B. Each2 (IsFunctionEntry new) B owed.entries.items) same (entries-are mid new es owed.entries.items h r.expanded p.entries);
           }
 

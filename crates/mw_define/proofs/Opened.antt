@@ -3,7 +3,7 @@ use Rattle.std.proofs.Common.{◌≡◌, ℕ, true, false, List, [], ◌∷◌, 
 use Rattle.std.proofs.lemmas.List.{append-nil, append_assoc}
 use Rattle.mw_model.specs.Terms.Object.{Name, Object, Pair, symbol, NIL}
 use Rattle.mw_model.specs.Terms.Term.{Term, Terms, Variable, Constant, If, Call, Lambda, NoTerms, More, is_among}
-use Rattle.mw_model.specs.Terms.Reading.{term_of, terms_of, more_terms, if_of}
+use Rattle.mw_model.specs.Terms.Reading.{term_of, terms_of, if_of, map2}
 use Rattle.mw_model.specs.Values.Primitive.{is_symbol, is_pair, name_of}
 use Rattle.mw_model.specs.Laws.Rules.{beta_object}
 use Rattle.mw_model.specs.Terms.Substitution.{substitute, actuals_for}
@@ -141,9 +141,9 @@ module _ (names : List Name) (old new : List Object) (grows : Grows old new) (x 
     reads : (term_of (object_at old a) ≡ Some ta) × (term_of (object_at old b) ≡ Some tb) × (term_of (object_at old c) ≡ Some tc)
     reads =
         let o = object_at old in
-        let p = more-parts (term_of (o a)) (more_terms (term_of (o b)) (more_terms (term_of (o c)) (Some NoTerms))) (More ta (More tb (More tc NoTerms))) (sym (ap terms_of three.shape) ∙ read) in
+        let p = more-parts (term_of (o a)) (map2 More (term_of (o b)) (map2 More (term_of (o c)) (Some NoTerms))) (More ta (More tb (More tc NoTerms))) (sym (ap terms_of three.shape) ∙ read) in
         let d = part_one ta p.0 (More tb (More tc NoTerms)) p.1 p.4 in
-        let q = more-parts (term_of (o b)) (more_terms (term_of (o c)) (Some NoTerms)) p.1 p.3 in
+        let q = more-parts (term_of (o b)) (map2 More (term_of (o c)) (Some NoTerms)) p.1 p.3 in
         let e = part_one tb q.0 (More tc NoTerms) q.1 (d.1 ∙ q.4) in
         let s = more-parts (term_of (o c)) (Some NoTerms) q.1 q.3 in
         let f = part_one tc s.0 NoTerms s.1 (e.1 ∙ s.4) in

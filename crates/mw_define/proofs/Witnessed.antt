@@ -9,7 +9,7 @@ use Rattle.mw_model.specs.Events.Expansion.{expand, expanded}
 use Rattle.mw_model.specs.Events.Admission.{new_name, formals_of}
 use Rattle.mw_model.proofs.ReadBack.{some_one, names_back, when_some, and_more-back}
 use Rattle.mw_heap.specs.Objects.{object_at, IsIn, Grows}
-use Rattle.mw_heap.specs.declared.refusal.Refusal.TheVariants as reason
+use Rattle.mw_heap.specs.declared.vocabulary.refusal.Refusal.TheVariants as reason
 use Rattle.mw_heap.specs.Variants.{refusal_of}
 use Rattle.mw_heap.proofs.Objects.{object_at-Grows, IsIn-Grows}
 use Rattle.mw_term.specs.Parts.{names_at, AreSymbols}

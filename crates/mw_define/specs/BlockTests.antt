@@ -2,8 +2,8 @@
 use Rattle.std.specs.Prelude.{◌≡◌, ℕ, ◌<◌, ◌≤◌, true, false, List, length, map, Option, Some, None}
 use Rattle.mw_model.specs.Terms.Object.{Name, Object, Symbol}
 use Rattle.mw_model.specs.Terms.Term.{Term, ArityTable, names_object, term_object}
-use Rattle.mw_model.specs.Terms.Reading.{both}
-use Rattle.mw_model.specs.Values.Definition.{Function, function_axioms}
+use Rattle.std.specs.Option.{option_zip}
+use Rattle.mw_model.specs.Values.Definition.{Function, function_axiom}
 use Rattle.mw_model.specs.Events.Obligation.{obligations, is_nested}
 use Rattle.mw_model.specs.Events.Expansion.{expand}
 use Rattle.mw_model.specs.Events.Refusal.{Refusal, EVENT, NAME, FORMALS, TERM, VARIABLES, NESTED, COUNT}
@@ -28,7 +28,7 @@ module _ (A : ArityTable) (ds : List Draft) where
   the_formal_lists = all_of formals_of (map (λ d. d.formals) ds)
 
   abbrev pub the_terms_under : List Name → List (List Name) → Option (List Term × List Term)
-  the_terms_under fs xss = both (all_of (expand (add_names fs xss A)) (map (λ d. d.body) ds)) (all_of (expand A) (map (λ d. d.measure) ds))
+  the_terms_under fs xss = option_zip (all_of (expand (add_names fs xss A)) (map (λ d. d.body) ds)) (all_of (expand A) (map (λ d. d.measure) ds))
 
   -- the first test that fails
   pub data FailsBlock : Refusal → Type 0 where
@@ -61,7 +61,7 @@ pub record PassesBlock (A : ArityTable) (ds : List Draft) (os : List Object) (ow
   pub obligations_in : IsIn os owed.obligations
   pub obligations : object_at os owed.obligations ≡ formulas_object (obligations (functions names formals bodies) (measures names measures_of))
   pub axioms_in : IsIn os owed.axioms
-  pub axioms : object_at os owed.axioms ≡ formulas_object (function_axioms (functions names formals bodies))
+  pub axioms : object_at os owed.axioms ≡ formulas_object (map function_axiom (functions names formals bodies))
   pub entries : Each2 (IsFunctionEntry os) (functions names formals bodies) owed.entries.items
 
 -- n is no more than a bound, where there is one; or it is more
@@ -109,7 +109,7 @@ IsBlockOfWithin most A (Some ds) os o = IsBlockWithin most A ds os o
 pub record PassesExpanded (most : Option ℕ) (old new : List Object) (es : List Given) (owed : Owed) : Type 0 where
   pub obligations : IsOwedList old new es most owed.obligations
   pub axioms_in : IsIn new owed.axioms
-  pub axioms : object_at new owed.axioms ≡ formulas_object (function_axioms (functions_at old es))
+  pub axioms : object_at new owed.axioms ≡ formulas_object (map function_axiom (functions_at old es))
   pub entries : Each2 (IsClosedEntry old) es owed.entries.items
 
 pub data FailsExpanded (most : Option ℕ) (old : List Object) (es : List Given) : Refusal → Type 0 where

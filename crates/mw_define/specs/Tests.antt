@@ -7,7 +7,7 @@ use Rattle.mw_model.specs.Events.Expansion.{expand}
 use Rattle.mw_model.specs.Events.Refusal.{Refusal, NAME, FORMALS, TERM, VARIABLES}
 use Rattle.mw_model.specs.Events.Admission.{new_name, formals_of}
 use Rattle.mw_heap.specs.Objects.{object_at, IsIn, Grows}
-use Rattle.mw_heap.specs.declared.refusal.Refusal.TheVariants as reason
+use Rattle.mw_heap.specs.declared.vocabulary.refusal.Refusal.TheVariants as reason
 use Rattle.mw_heap.specs.Variants.{refusal_of}
 use Rattle.mw_term.specs.Parts.{names_at}
 use Rattle.mw_define.specs.declared.admitted.Admitted.{Admitted}

@@ -20,7 +20,8 @@ use mw_heap::{Heap, Memory, Ref};
 use mw_term::take_searches_since;
 
 // The most parts of a body that are looked at for calls: calls that stand in calls of lambdas may be met many times, each with its own
-// actuals. A body that needs more is answered as out of memory.
+// actuals. A body that needs more is answered as out of memory. Each part takes four looks of the event as
+// well: this is the number of parts at which 2^26 looks are used up.
 const MOST_LOOKS: u32 = 1 << 24;
 
 // Has the parts of an item wait, where it mentions the block: else it has no calls. The piece is its part.

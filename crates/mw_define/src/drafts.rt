@@ -1,6 +1,5 @@
 //! Lists of definitions as an event gives them.
-ghost use Rattle.std.specs.Prelude.{◌≡◌, Some, None, map, IfOk, MatchOption};
-ghost use Rattle.mw_model.specs.Values.Definition.{is_present};
+ghost use Rattle.std.specs.Prelude.{◌≡◌, Some, None, map, IfOk, MatchOption, is_some};
 ghost use Rattle.mw_model.specs.Events.Admission.{some_drafts, drafts_of, draft_of};
 ghost use Rattle.mw_heap.specs.Objects.{object_at, IsIn};
 ghost use Rattle.mw_define.specs.Blocks.{draft_at, IsDraftIn, AreDraftsIn};
@@ -71,7 +70,7 @@ pub(crate) fn read_drafts(heap: &Heap, defs: Ref) -> Result<Option<Vec<Draft>>, 
 /// Whether this is a list of one or more drafts. The error is that memory is refused.
 pub fn are_drafts(heap: &Heap, defs: Ref) -> Result<bool, Memory>
     requires { IsIn heap.now.objects defs }
-    ensures { IfOk result (λ b. b ≡ is_present (some_drafts (object_at heap.now.objects defs))) }
+    ensures { IfOk result (λ b. b ≡ is_some (some_drafts (object_at heap.now.objects defs))) }
 {
     let drafts = read_drafts(heap, defs)?;
     Ok(drafts.is_some())

@@ -1,7 +1,7 @@
 //! The lists of the obligations and of the axioms of a block.
-ghost use Rattle.std.specs.Prelude.{◌≡◌, false, [], length, IfOk};
+ghost use Rattle.std.specs.Prelude.{◌≡◌, false, [], length, IfOk, map};
 ghost use Rattle.mw_model.specs.Terms.Object.{NIL};
-ghost use Rattle.mw_model.specs.Values.Definition.{function_axioms};
+ghost use Rattle.mw_model.specs.Values.Definition.{function_axiom};
 ghost use Rattle.mw_model.specs.Laws.RulesInduction.{formulas_object};
 ghost use Rattle.mw_heap.specs.Objects.{object_at, IsIn, Grows};
 ghost use Rattle.mw_translate.specs.Lets.{prepend, AreAllIn};
@@ -141,7 +141,7 @@ fn axioms_of(heap: &mut Heap, block: &[Draft]) -> Result<Vec<Ref>, Memory>
 pub(crate) fn list_axioms(heap: &mut Heap, block: &[Draft]) -> Result<Ref, Memory>
     requires { AreExpanded heap.old.objects block.now }
     ensures grows { Grows heap.old.objects heap.new.objects }
-    ensures made { IfOk result (λ r. IsIn heap.new.objects r × (object_at heap.new.objects r ≡ formulas_object (function_axioms (functions_at heap.old.objects block.now)))) }
+    ensures made { IfOk result (λ r. IsIn heap.new.objects r × (object_at heap.new.objects r ≡ formulas_object (map function_axiom (functions_at heap.old.objects block.now)))) }
 {
     let axioms = axioms_of(heap, block)?;
     let nil = heap.nil()?;

@@ -170,7 +170,8 @@ fn owe_flat(
     owe_calls(heap, block, function, calls, owed, known)
 }
 
-// The most looks at the actuals of one function's calls: where more are needed the answer is out of memory.
+// The most looks at the actuals of one function's calls: where more are needed the answer is out of memory. It is the number of
+// searches at which the event's 2^26 looks are used up, of which they take four each once they are over.
 const MOST_LOOKS: u64 = 1 << 24;
 
 // Adds what a function owes, where none of its calls is in an actual of another. These are all its calls.

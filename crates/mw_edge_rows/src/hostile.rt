@@ -35,6 +35,13 @@ fn ends_out_of_memory_on_calls(
     ends_out_of_memory(alloc, book.as_str())
 }
 
+// The answer to a book whose third event takes too much memory, where it is not the answers to the first two, in pieces of so many bytes.
+fn other_answer_before_memory_ends(alloc: Global, size: usize) -> Result<String, AllocError> {
+    let book = book_of_calls(alloc, "(eval 7) (shout) (eval ", "cons", ") (eval 8)")?;
+    let due = "6\n1 EVAL - accepted 7\n2 SHOUT - refused EVENT\n";
+    other_answer(alloc, &["check"], book.as_str(), due, size)
+}
+
 // Whether the program ends out of memory on a nested text.
 fn ends_out_of_memory_on_nested(alloc: Global, nested: &Nested) -> Result<bool, AllocError> {
     let book = text_of(alloc, nested)?;
@@ -44,7 +51,12 @@ fn ends_out_of_memory_on_nested(alloc: Global, nested: &Nested) -> Result<bool, 
 // The report on an EVAL of a recursion over an object of 2^60 pairs as a tree, where it does not run out of units.
 fn other_report_on_rank(alloc: Global) -> Result<String, AllocError> {
     let book = book_of_calls(alloc, "(eval (rank '", "cons", "))")?;
-    other_report(alloc, "10000000", book.as_str(), "1 EVAL - refused STEPS\n")
+    other_report(
+        alloc,
+        "10000000",
+        book.as_str(),
+        "1\n1 EVAL - refused STEPS\n",
+    )
 }
 
 // The report on an EVAL of a call with so many actuals, each for a formal of its own, where it is not the pair of two.
@@ -62,7 +74,7 @@ fn other_report_on_actuals(alloc: Global, count: usize) -> Result<String, AllocE
         alloc,
         "10000000",
         book.as_str(),
-        "1 EVAL - accepted (7 . 7)\n",
+        "0\n1 EVAL - accepted (7 . 7)\n",
     )
 }
 
@@ -172,8 +184,8 @@ const LONG_VALUE: Nested = Nested {
 #[test]
 fn a_deep_term_takes_a_unit_for_each_call(rt: HostRuntime) -> Result<(), Fail> {
     let alloc = rt.alloc();
-    expect_empty(other_report_on_nested(alloc, "10000000", &CALLS, "1 EVAL - accepted NIL\n")?)?;
-    expect_empty(other_report_on_nested(alloc, "99999", &CALLS, "1 EVAL - refused STEPS\n")?)
+    expect_empty(other_report_on_nested(alloc, "10000000", &CALLS, "0\n1 EVAL - accepted NIL\n")?)?;
+    expect_empty(other_report_on_nested(alloc, "99999", &CALLS, "1\n1 EVAL - refused STEPS\n")?)
 }
 
 #[test]
@@ -182,6 +194,12 @@ fn code_past_the_bound_is_out_of_memory(rt: HostRuntime) -> Result<(), Fail> {
     assert!(rt; ends_out_of_memory_on_calls(rt.alloc(), "(eval ", "or", ")")?);
     assert!(rt; ends_out_of_memory_on_calls(rt.alloc(), "(eval ", "cons", ")")?);
     Ok(())
+}
+
+#[test]
+fn what_was_answered_before_memory_ends_is_written(rt: HostRuntime) -> Result<(), Fail> {
+    expect_empty(other_answer_before_memory_ends(rt.alloc(), 4096)?)?;
+    expect_empty(other_answer_before_memory_ends(rt.alloc(), 1)?)
 }
 
 // The body has 2^60 calls of a function that was defined before.
@@ -217,14 +235,19 @@ fn a_recursion_ends_with_its_units(rt: HostRuntime) -> Result<(), Fail> {
 #[test]
 fn long_forms_are_expanded_once(rt: HostRuntime) -> Result<(), Fail> {
     let alloc = rt.alloc();
-    expect_empty(other_report_on_nested(alloc, "10000000", &CLAUSES, "1 EVAL - accepted 2\n")?)?;
+    expect_empty(other_report_on_nested(alloc, "10000000", &CLAUSES, "0\n1 EVAL - accepted 2\n")?)?;
     expect_empty(other_report_on_nested(
         alloc,
         "10000000",
         &MEMBERS,
-        "1 EVAL - accepted 100000\n",
+        "0\n1 EVAL - accepted 100000\n",
     )?)?;
-    expect_empty(other_report_on_nested(alloc, "10000000", &BINDINGS, "1 EVAL - accepted 2001\n")?)
+    expect_empty(other_report_on_nested(
+        alloc,
+        "10000000",
+        &BINDINGS,
+        "0\n1 EVAL - accepted 2001\n",
+    )?)
 }
 
 #[test]
@@ -234,6 +257,6 @@ fn a_call_may_have_many_actuals(rt: HostRuntime) -> Result<(), Fail> {
 
 #[test]
 fn a_long_value_is_not_shown(rt: HostRuntime) -> Result<(), Fail> {
-    let due = "1 EVAL - refused LONG\n";
+    let due = "1\n1 EVAL - refused LONG\n";
     expect_empty(other_report_on_nested(rt.alloc(), "10000000", &LONG_VALUE, due)?)
 }

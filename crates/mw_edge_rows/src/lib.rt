@@ -1,7 +1,9 @@
 //! Worked books at the edges, as tests of the whole program: books in pieces, cut short, with faults of their text, nested deep, shared
-//! by labels, hostile.
+//! by labels, hostile, at bounds.
 #![tactic(auto)]
 
+#[cfg(test)]
+mod bounds;
 #[cfg(test)]
 mod depth;
 #[cfg(test)]

@@ -31,7 +31,7 @@ pub(crate) fn text_of(alloc: Global, nested: &Nested) -> Result<String, AllocErr
     Ok(text)
 }
 
-/// The report on the book under a step limit, where it does not begin with what is due, and else no text.
+/// How `check` ends on the book under a step limit and what it writes, where that is not what is due, and else no text.
 pub(crate) fn other_report_on_nested(
     alloc: Global,
     steps: &str,

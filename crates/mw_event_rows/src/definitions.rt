@@ -1,6 +1,7 @@
 //! Definitions: what is taken, what is refused, and what a theory does with a function that it has taken.
 use mw_answers::{
-    NEXT_ROW, expect_empty, limited_parts, other_report_after_ranks, other_reports, wrong_answers,
+    NEXT_ROW, due_after, expect_empty, limited_parts, other_report_after_ranks, other_reports,
+    wrong_answers,
 };
 use std::alloc::{AllocError, Global};
 use std::test::Fail;
@@ -314,7 +315,8 @@ const AFTER: &str = "(eval (app '(1 2) '(3)))
 (eval (skip '(1 2 nil 3)))
 ";
 
-const OF_AFTER: &str = "16 EVAL - accepted (1 2 3)
+const OF_AFTER: &str = "1
+16 EVAL - accepted (1 2 3)
 17 EVAL - accepted (B . C)
 18 EVAL - accepted (A)
 19 DEFINE APP refused NAME
@@ -343,20 +345,23 @@ events 38 accepted 27 refused 11 level 1
 const LIMITED: &str = "\
 1
 (skolem pick y (x) (equal x y)) (eval (pick 1)) (eval (if nil (pick 1) 2))
-=> 1 SKOLEM PICK accepted
+=> 1
+1 SKOLEM PICK accepted
 2 EVAL - refused WITNESS
 3 EVAL - accepted 2
 events 3 accepted 2 refused 1 level 1
 ----
 2
 (define twice (x) (+ x x) nil ()) (eval (twice 4))
-=> 1 DEFINE TWICE accepted
+=> 0
+1 DEFINE TWICE accepted
 2 EVAL - accepted 8
 events 2 accepted 2 refused 0 level 1
 ----
 1
 (define twice (x) (+ x x) nil ()) (eval (twice 4))
-=> 1 DEFINE TWICE accepted
+=> 1
+1 DEFINE TWICE accepted
 2 EVAL - refused STEPS
 events 2 accepted 1 refused 1 level 1
 ";
@@ -365,32 +370,30 @@ events 2 accepted 1 refused 1 level 1
 const LIMITED_RECURSIONS: &str = "\
 8
 (eval (ev '(1 2)))
-=> 16 EVAL - accepted T
+=> 0
+16 EVAL - accepted T
 ----
 7
 (eval (ev '(1 2)))
-=> 16 EVAL - refused STEPS
+=> 1
+16 EVAL - refused STEPS
 ----
 12
 (eval (app '(1 2) '(3)))
-=> 16 EVAL - accepted (1 2 3)
+=> 0
+16 EVAL - accepted (1 2 3)
 ----
 11
 (eval (app '(1 2) '(3)))
-=> 16 EVAL - refused STEPS
+=> 1
+16 EVAL - refused STEPS
 ";
 
-// The report on the recursions and these events after them, where these lines do not come after theirs.
-fn other_lines(
-    alloc: Global,
-    steps: &str,
-    events: &str,
-    lines: &str,
-) -> Result<String, AllocError> {
+// The answer to the recursions and these events after them, where it is not what is due for these with the lines of those before.
+fn other_lines(alloc: Global, steps: &str, events: &str, due: &str) -> Result<String, AllocError> {
     let mut book = String::from_str(alloc, RECURSIONS)?;
     book.push_str(events)?;
-    let mut due = String::from_str(alloc, OF_RECURSIONS)?;
-    due.push_str(lines)?;
+    let due = due_after(alloc, OF_RECURSIONS, due)?;
     other_report_after_ranks(alloc, steps, book.as_str(), due.as_str())
 }
 
@@ -398,10 +401,10 @@ fn other_lines(
 fn other_limits_of_recursions(alloc: Global) -> Result<String, AllocError> {
     let mut others = String::new(alloc);
     for row in LIMITED_RECURSIONS.split(NEXT_ROW) {
-        let Some((steps, events, lines)) = limited_parts(row) else {
+        let Some((steps, events, due)) = limited_parts(row) else {
             return format!(in alloc; "no row: {row}");
         };
-        others.push_str(other_lines(alloc, steps, events, lines)?.as_str())?;
+        others.push_str(other_lines(alloc, steps, events, due)?.as_str())?;
     }
     Ok(others)
 }

@@ -56,43 +56,53 @@ events 23 accepted 13 refused 10 level 1
 const LIMITED: &str = "\
 1
 (eval (+ (+ 1 1) 1))
-=> 1 EVAL - refused STEPS
+=> 1
+1 EVAL - refused STEPS
 ----
 2
 (eval (+ (+ 1 1) 1))
-=> 1 EVAL - accepted 3
+=> 0
+1 EVAL - accepted 3
 ----
 1
 (eval ((lambda (x y) (cons y x)) 1 2))
-=> 1 EVAL - accepted (2 . 1)
+=> 0
+1 EVAL - accepted (2 . 1)
 ----
 13
 (eval (logic.len '(1 2 3)))
-=> 1 EVAL - refused STEPS
+=> 1
+1 EVAL - refused STEPS
 ----
 14
 (eval (logic.len '(1 2 3)))
-=> 1 EVAL - accepted 3
+=> 0
+1 EVAL - accepted 3
 ----
 1
 (eval (or (+ 1 1) 2))
-=> 1 EVAL - refused STEPS
+=> 1
+1 EVAL - refused STEPS
 ----
 2
 (eval (or (+ 1 1) 2))
-=> 1 EVAL - accepted 2
+=> 0
+1 EVAL - accepted 2
 ----
 1
 (eval (if nil (car (car 1)) 2))
-=> 1 EVAL - accepted 2
+=> 0
+1 EVAL - accepted 2
 ----
 3
 (eval (equal (cons 1 2) (cons 1 2)))
-=> 1 EVAL - accepted T
+=> 0
+1 EVAL - accepted T
 ----
 1
 (eval (+ 340282366920938463463374607431768211455 1))
-=> 1 EVAL - refused OVERFLOW
+=> 1
+1 EVAL - refused OVERFLOW
 ";
 
 #[test]

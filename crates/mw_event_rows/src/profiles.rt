@@ -125,22 +125,26 @@ events 9 accepted 1 refused 8 level 1
 const LIMITED: &str = "\
 1
 (profile 2)(eval (* 2 3))
-=> 1 PROFILE - accepted
+=> 0
+1 PROFILE - accepted
 2 EVAL - accepted 6
 ----
 1
 (profile 2)(eval (* (* 2 3) 4))
-=> 1 PROFILE - accepted
+=> 1
+1 PROFILE - accepted
 2 EVAL - refused STEPS
 ----
 2
 (profile 2)(eval (* (* 2 3) 4))
-=> 1 PROFILE - accepted
+=> 0
+1 PROFILE - accepted
 2 EVAL - accepted 24
 ----
 1
 (profile 2)(eval (* 18446744073709551616 18446744073709551616))
-=> 1 PROFILE - accepted
+=> 1
+1 PROFILE - accepted
 2 EVAL - refused OVERFLOW
 ";
 
@@ -152,7 +156,7 @@ fn other_report_on_a_product(alloc: Global) -> Result<String, AllocError> {
     )?;
     let lines = wrap_lines(alloc, 2)?;
     let due = format!(in alloc;
-        "1 PROFILE - accepted\n{lines}10 SWITCH WRAP accepted\n11 VERIFY B accepted\nevents 11 accepted 11 refused 0 level 2\n"
+        "0\n1 PROFILE - accepted\n{lines}10 SWITCH WRAP accepted\n11 VERIFY B accepted\nevents 11 accepted 11 refused 0 level 2\n"
     )?;
     other_report(alloc, "10000000", book.as_str(), due.as_str())
 }

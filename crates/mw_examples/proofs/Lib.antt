@@ -16,5 +16,6 @@ mod Tautologies
 mod Slices
 mod Derivations
 mod Flattening
+mod Explanations
 mod Written
 mod Headlines

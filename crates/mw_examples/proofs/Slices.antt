@@ -6,7 +6,7 @@ use Rattle.mw_model.specs.Events.Refusal.{need, must, unless}
 use Rattle.mw_model.specs.Laws.BuiltInText.{joined}
 use Rattle.mw_model.specs.Texts.Lexemes.{Fault, CLOSE}
 use Rattle.mw_model.specs.Texts.Grammar.{Book, trees}
-use Rattle.mw_model.specs.Texts.Printing.{text_lines}
+use Rattle.mw_model.specs.Laws.Lines.{text_lines}
 use Rattle.mw_model.specs.Reports.Report.{Status, Done, SomeRefused, Syntax, spaced}
 use Rattle.mw_model.specs.Texts.Pieces.{comment}
 use Rattle.mw_commands.specs.Commands.Slice.{event_at, target, IsSlice}

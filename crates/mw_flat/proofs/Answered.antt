@@ -1,11 +1,11 @@
 -- A datum with a natural past the range, a step that is not good, and an event of no form.
-use Rattle.std.proofs.Common.{◌≡◌, ℕ, ◌+◌, Bool, true, false, ◌&&◌, not, List, [], ◌∷◌, ◌++◌, length, map, Option, Some, None, option_map, refl, sym, ap, ◌∙◌, subst, arith, length-append}
+use Rattle.std.proofs.Common.{◌≡◌, ℕ, ◌+◌, Bool, true, false, ◌&&◌, not, List, [], ◌∷◌, ◌++◌, length, map, Option, Some, None, option_map, refl, sym, ap, ◌∙◌, subst, arith, length-append, is_some}
 use Rattle.std.proofs.lemmas.Bool.{false≢true}
 use Rattle.mw_model.specs.Terms.Object.{Object, Natural, Symbol, Pair, symbol, car, same_object, second_of, has_members}
 use Rattle.mw_model.specs.Terms.Term.{Formula, ArityTable}
 use Rattle.mw_model.specs.Terms.Reading.{when}
 use Rattle.mw_model.specs.Values.Primitive.{Profile}
-use Rattle.mw_model.specs.Values.Definition.{arity_table, is_present}
+use Rattle.mw_model.specs.Values.Definition.{arity_table}
 use Rattle.mw_model.specs.Events.Theory.{Theory}
 use Rattle.mw_model.specs.Events.Fate.{is_out_of_range, event_word}
 use Rattle.mw_commands.specs.Commands.Log.{SHAPE, STEP, No, Entry, conclusion, conclusions, entry_by, entry_of, answer_to_steps, answer_to_entry, logged, is_step}
@@ -63,12 +63,12 @@ wordless x h = ap (λ w. when (not (is_out_of_range x)) (entry_by w x)) h ∙ no
     nothing true = refl
     nothing false = refl
 
-pub absent : {X : Type 0} (o : Option X) → is_present o ≡ false → o ≡ None
+pub absent : {X : Type 0} (o : Option X) → is_some o ≡ false → o ≡ None
 absent None h = refl
 absent (Some x) h = cc
 
 -- an event after steps that are not all good
-pub no-step : (t : Theory) (steps : List Object) (x : Object) (os : List Object) (good : Bool) (rs : List ℕ) → good ≡ false → is_present (entry_of x) ≡ true →
+pub no-step : (t : Theory) (steps : List Object) (x : Object) (os : List Object) (good : Bool) (rs : List ℕ) → good ≡ false → is_some (entry_of x) ≡ true →
     AreConclusions os good rs (conclusions t.axioms t.theorems (arity_table t.definitions) t.definitions.profile steps) → logged t steps x ≡ (No STEP, t)
 no-step t steps x os good rs bad there h = by_entry (entry_of x) there
   where
@@ -76,7 +76,7 @@ no-step t steps x os good rs bad there h = by_entry (entry_of x) there
     by_steps entry None k = refl
     by_steps entry (Some Fs) k = absurd (false≢true (sym bad ∙ k.0))
 
-    by_entry : (o : Option Entry) → is_present o ≡ true → answer_to_entry t steps x o ≡ (No STEP, t)
+    by_entry : (o : Option Entry) → is_some o ≡ true → answer_to_entry t steps x o ≡ (No STEP, t)
     by_entry None k = cc
     by_entry (Some entry) k = by_steps entry (conclusions t.axioms t.theorems (arity_table t.definitions) t.definitions.profile steps) h
 

@@ -1,11 +1,11 @@
 -- The entries of a log, word by word: what is answered to them after good steps.
-use Rattle.std.proofs.Common.{◌≡◌, ℕ, Bool, true, false, ◌&&◌, cond, not, List, [], ◌∷◌, map, Option, Some, None, refl, sym, ap, ◌∙◌, subst}
+use Rattle.std.proofs.Common.{◌≡◌, ℕ, Bool, true, false, ◌&&◌, cond, not, List, [], ◌∷◌, map, Option, Some, None, refl, sym, ap, ◌∙◌, subst, is_some}
 use Rattle.mw_model.specs.Terms.Object.{Name, Object, Pair, second_of, third_of, fourth_of, fifth_of}
 use Rattle.mw_model.specs.Terms.Term.{Term, Formula, formula_object, ArityTable, is_formula, is_closed}
 use Rattle.mw_model.specs.Terms.Reading.{formula_of, formula_under, that, when}
 use Rattle.mw_model.specs.Values.Primitive.{is_symbol}
 use Rattle.mw_model.specs.Values.Truth.{Each}
-use Rattle.mw_model.specs.Values.Definition.{Choice, arity_table, is_present}
+use Rattle.mw_model.specs.Values.Definition.{Choice, arity_table}
 use Rattle.mw_model.specs.Events.Expansion.{expand}
 use Rattle.mw_model.specs.Events.Theory.{Theory}
 use Rattle.mw_model.specs.Events.Refusal.{Refusal, EVENT, NAME, FORMALS, TERM, FORMULA, VARIABLES, PROOF, PROFILE, Fate, accept, need, must}
@@ -49,7 +49,7 @@ module _ (os : List Object) (t : Theory) (rs : List ℕ) (Fs : List Formula) (sa
   verify-answered : (name formula proof : Object) (n : ℕ) → natural_of proof ≡ Some n → answer_to_demand t Fs (n ∷ []) (verify_demand t (verify_event name formula proof)) ≡ answered (verified (judged_by_number os rs) t name formula proof)
   verify-answered name formula proof n h = go (is_symbol name) (formula_under (arity_table t.definitions) formula) refl
     where
-      go : (b : Bool) (o : Option Formula) → formula_under (arity_table t.definitions) formula ≡ o → answer_to_demand t Fs (n ∷ []) (wants_that NAME b (wants_some FORMULA o (λ F. Wants (F ∷ []) (record t { theorems = Pair (formula_object F) t.theorems })))) ≡ answered (by_refusal t formula (refusal_by b (is_present o) (by_number os rs formula proof)))
+      go : (b : Bool) (o : Option Formula) → formula_under (arity_table t.definitions) formula ≡ o → answer_to_demand t Fs (n ∷ []) (wants_that NAME b (wants_some FORMULA o (λ F. Wants (F ∷ []) (record t { theorems = Pair (formula_object F) t.theorems })))) ≡ answered (by_refusal t formula (refusal_by b (is_some o) (by_number os rs formula proof)))
       go false o e = refl
       go true None e = refl
       go true (Some F) e =
@@ -99,10 +99,10 @@ module _ (os : List Object) (t : Theory) (rs : List ℕ) (Fs : List Formula) (sa
     by_demand : (x : Object) (w : EventWord) (ns : List ℕ) → entry_of x ≡ entry_with w (Some ns) → logged t steps x ≡ answer_to_demand t Fs ns (demand w t x)
     by_demand x w ns h = ap (answer_to_entry t steps x) h ∙ ap (answer_to_steps t x (record { word = w; numbers = ns })) good
 
-    entry_there : (x : Object) (w : EventWord) → event_word x ≡ Some w → is_present (entry_of x) ≡ true → (ns : List ℕ) × (numbers_of w x ≡ Some ns) × (entry_of x ≡ entry_with w (Some ns))
-    entry_there x w word there = go (not (is_out_of_range x)) (numbers_of w x) refl refl (subst (λ o. is_present (when (not (is_out_of_range x)) (entry_by o x)) ≡ true) word there)
+    entry_there : (x : Object) (w : EventWord) → event_word x ≡ Some w → is_some (entry_of x) ≡ true → (ns : List ℕ) × (numbers_of w x ≡ Some ns) × (entry_of x ≡ entry_with w (Some ns))
+    entry_there x w word there = go (not (is_out_of_range x)) (numbers_of w x) refl refl (subst (λ o. is_some (when (not (is_out_of_range x)) (entry_by o x)) ≡ true) word there)
       where
-        go : (b : Bool) (o : Option (List ℕ)) → not (is_out_of_range x) ≡ b → numbers_of w x ≡ o → is_present (when b (entry_with w o)) ≡ true → (ns : List ℕ) × (numbers_of w x ≡ Some ns) × (entry_of x ≡ entry_with w (Some ns))
+        go : (b : Bool) (o : Option (List ℕ)) → not (is_out_of_range x) ≡ b → numbers_of w x ≡ o → is_some (when b (entry_with w o)) ≡ true → (ns : List ℕ) × (numbers_of w x ≡ Some ns) × (entry_of x ≡ entry_with w (Some ns))
         go true (Some ns) e n k = (ns, n, ap (λ c. when c (entry_by (event_word x) x)) e ∙ (ap (λ o. entry_by o x) word ∙ ap (entry_with w) n))
         go true None e n k = cc
         go false o e n k = cc
@@ -115,7 +115,7 @@ module _ (os : List Object) (t : Theory) (rs : List ℕ) (Fs : List Formula) (sa
     listed_there b o ns h = (when_some b o ns h).1
 
     -- what the log answers to an event is what comes of it by a judge by numbers
-    pub event-answered : (e : Event) → is_present (entry_of (event_object os e)) ≡ true → logged t steps (event_object os e) ≡ answered (settles os t rs e)
+    pub event-answered : (e : Event) → is_some (entry_of (event_object os e)) ≡ true → logged t steps (event_object os e) ≡ answered (settles os t rs e)
     event-answered (Verify name formula proof) p =
         let x = event_object os (Verify name formula proof) in
         let q = entry_there x fate.Verify refl p in
@@ -132,7 +132,7 @@ module _ (os : List Object) (t : Theory) (rs : List ℕ) (Fs : List Formula) (sa
         let given = some_drafts (object_at os definitions) in
         let q = entry_there x fate.DefineAll refl p in
         by_demand x fate.DefineAll q.0 q.2
-        ∙ (demand-settled os t rs Fs same readable (demand fate.DefineAll t x) (object_at os proofs) q.0 (listed_there (is_present given) (naturals_of (object_at os proofs)) q.0 q.1) (some_admits EVENT given (define_demand t) refl (define-admits t)) (wants-readable t fate.DefineAll x)
+        ∙ (demand-settled os t rs Fs same readable (demand fate.DefineAll t x) (object_at os proofs) q.0 (listed_there (is_some given) (naturals_of (object_at os proofs)) q.0 q.1) (some_admits EVENT given (define_demand t) refl (define-admits t)) (wants-readable t fate.DefineAll x)
         ∙ ap answered (need-settled given (object_at os proofs)))
     event-answered (Skolem name bound free body) p =
         let x = event_object os (Skolem name bound free body) in

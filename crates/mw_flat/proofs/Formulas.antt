@@ -1,10 +1,9 @@
 -- Formulas under a table: those that objects stand for, and those with numbers.
-use Rattle.std.proofs.Common.{◌≡◌, ℕ, zero, suc, Bool, true, false, List, [], ◌∷◌, ◌++◌, map, Option, Some, None, refl, sym, ap, ap₂, ◌∙◌, subst}
+use Rattle.std.proofs.Common.{◌≡◌, ℕ, zero, suc, Bool, true, false, List, [], ◌∷◌, ◌++◌, map, Option, Some, None, refl, sym, ap, ap₂, ◌∙◌, subst, is_some}
 use Rattle.std.proofs.lemmas.List.Elements.{All-head, All-tail}
 use Rattle.mw_model.specs.Terms.Object.{Object}
 use Rattle.mw_model.specs.Terms.Term.{Formula, ArityTable, formula_object, is_formula, IsFormula}
 use Rattle.mw_model.specs.Values.Truth.{Each}
-use Rattle.mw_model.specs.Values.Definition.{is_present}
 use Rattle.mw_model.specs.Terms.Reading.{that, when, formula_of}
 use Rattle.mw_model.specs.Laws.Rules.{is_formula_object}
 use Rattle.mw_model.proofs.Read.{formula_read}
@@ -13,23 +12,23 @@ use Rattle.mw_commands.specs.Commands.Log.{formula_numbered, formulas_numbered, 
 use Rattle.mw_heap.specs.Objects.{object_at, IsIn}
 use Rattle.mw_flat.specs.Collecting.{AreFormulasIn}
 
-pub present-when : {X : Type 0} (b : Bool) (y : X) → is_present (when b (Some y)) ≡ true → b ≡ true
+pub present-when : {X : Type 0} (b : Bool) (y : X) → is_some (when b (Some y)) ≡ true → b ≡ true
 present-when true y h = refl
 present-when false y h = cc
 
-pub absent-when : {X : Type 0} (b : Bool) (y : X) → is_present (when b (Some y)) ≡ false → b ≡ false
+pub absent-when : {X : Type 0} (b : Bool) (y : X) → is_some (when b (Some y)) ≡ false → b ≡ false
 absent-when true y h = cc
 absent-when false y h = refl
 
 module _ (A : ArityTable) where
   pub formula-object : (F : Formula) → IsFormula A F → is_formula_object A (formula_object F) ≡ true
-  formula-object F i = ap (λ o. is_present (that (is_formula A) o)) (formula_read A F i) ∙ ap (λ b. is_present (when b (Some F))) i
+  formula-object F i = ap (λ o. is_some (that (is_formula A) o)) (formula_read A F i) ∙ ap (λ b. is_some (when b (Some F))) i
 
   -- what the object of a formula stands for
   pub formula-named : (x : Object) → is_formula_object A x ≡ true → (F : Formula) × IsFormula A F × (formula_of x ≡ Some F) × (x ≡ formula_object F)
   formula-named x h = go (formula_of x) refl h
     where
-      go : (o : Option Formula) → formula_of x ≡ o → is_present (that (is_formula A) o) ≡ true → (F : Formula) × IsFormula A F × (formula_of x ≡ Some F) × (x ≡ formula_object F)
+      go : (o : Option Formula) → formula_of x ≡ o → is_some (that (is_formula A) o) ≡ true → (F : Formula) × IsFormula A F × (formula_of x ≡ Some F) × (x ≡ formula_object F)
       go None e k = cc
       go (Some F) e k = (F, present-when (is_formula A F) F k, e, sym (formula_back x F e))
 

@@ -1,8 +1,8 @@
 -- An entry of a log after good steps: what a judge by their numbers has it come to is what the log answers, and sound.
-use Rattle.std.proofs.Common.{◌≡◌, ℕ, true, List, Option, Some, None, refl, sym, ap, ◌∙◌, subst, true≢false}
+use Rattle.std.proofs.Common.{◌≡◌, ℕ, true, List, Option, Some, None, refl, sym, ap, ◌∙◌, subst, true≢false, is_some}
 use Rattle.mw_model.specs.Terms.Object.{Object}
 use Rattle.mw_model.specs.Terms.Term.{Formula}
-use Rattle.mw_model.specs.Values.Definition.{arity_table, is_present}
+use Rattle.mw_model.specs.Values.Definition.{arity_table}
 use Rattle.mw_model.specs.Events.Theory.{Theory, IsSound}
 use Rattle.mw_commands.specs.Commands.Log.{entry_of, conclusions, logged}
 use Rattle.mw_commands.specs.Logged.{LoggedKeeps}
@@ -25,7 +25,7 @@ use Rattle.mw_flat.proofs.EntryAnswered.{event-answered}
 abbrev pub LogsKeep : Type 0
 LogsKeep = (t : Theory) (steps : List Object) (e : Object) → IsSound t → t.checker ≡ None → LoggedKeeps t steps e
 
-module _ (w : World) (c : Collected) (i : IsGoing w c) (good : c.good ≡ true) (x : ℕ) (e : Event) (is : IsEvent w.heap.objects x e) (there : is_present (entry_of (object_at w.heap.objects x)) ≡ true) where
+module _ (w : World) (c : Collected) (i : IsGoing w c) (good : c.good ≡ true) (x : ℕ) (e : Event) (is : IsEvent w.heap.objects x e) (there : is_some (entry_of (object_at w.heap.objects x)) ≡ true) where
   abbrev os : List Object
   os = w.heap.objects
 
@@ -43,7 +43,7 @@ module _ (w : World) (c : Collected) (i : IsGoing w c) (good : c.good ≡ true) 
       go (Some Fs) s k =
           let A = arity_table t.definitions in
           ap (logged t steps) is.0
-          ∙ event-answered os t c.conclusions.items Fs k.1 (formulas-readable A Fs (conclusions-formulas t.axioms t.theorems A t.definitions.profile steps Fs s)) steps s e (sym (ap (λ y. is_present (entry_of y)) is.0) ∙ there)
+          ∙ event-answered os t c.conclusions.items Fs k.1 (formulas-readable A Fs (conclusions-formulas t.axioms t.theorems A t.definitions.profile steps Fs s)) steps s e (sym (ap (λ y. is_some (entry_of y)) is.0) ∙ there)
 
   module _ (keep : LogsKeep) where
     keeps : (steps : List Object) → LoggedKeeps (theory_in w) steps (object_at os x)

@@ -2,14 +2,13 @@
 use Rattle.std.proofs.Common.{◌≡◌, ℕ, Bool, true, false, ◌&&◌, not, cond, List, [], ◌∷◌, length, map, Option, Some, None, refl, sym, ap, ap₂, ◌∙◌}
 use Rattle.mw_model.specs.Terms.Object.{Name, Object, Natural, Symbol, Pair, same_name, nil_name, has_members}
 use Rattle.mw_model.specs.Terms.Term.{Formula, formula_object}
-use Rattle.mw_model.specs.Terms.Reading.{both}
+use Rattle.std.specs.Option.{option_zip, option_or}
 use Rattle.mw_model.specs.Values.Truth.{Each}
 use Rattle.mw_model.specs.Values.Definition.{Functions, arity_table}
 use Rattle.mw_model.specs.Events.Obligation.{obligations, is_nested}
 use Rattle.mw_model.specs.Events.Expansion.{expand}
 use Rattle.mw_model.specs.Events.Theory.{Theory}
 use Rattle.mw_model.specs.Events.Refusal.{Refusal, NAME, FORMALS, TERM, VARIABLES, NESTED, COUNT, PROOF, Fate, Accepted, Refused, accept, must, unless}
-use Rattle.mw_model.specs.Events.Checking.{or_else}
 use Rattle.mw_model.specs.Events.Admission.{Draft, all_of, new_names, formals_of, add_names, functions, measures, are_closed_by, add_to_theory}
 use Rattle.mw_model.specs.Events.Demand.{Demand, Denied, Wants, wants_some, wants_that, define_demand, each_judged, settled}
 use Rattle.mw_model.proofs.Readable.{ReadableFormula}
@@ -58,14 +57,14 @@ define-admits t drafts =
     let A = arity_table t.definitions in
     some_admits NAME (new_names A (map (λ d. d.name) drafts)) _ refl (λ fs.
     some_admits FORMALS (all_of formals_of (map (λ d. d.formals) drafts)) _ refl (λ xss.
-    some_admits TERM (both (all_of (expand (add_names fs xss A)) (map (λ d. d.body) drafts)) (all_of (expand A) (map (λ d. d.measure) drafts))) _ refl (λ terms.
+    some_admits TERM (option_zip (all_of (expand (add_names fs xss A)) (map (λ d. d.body) drafts)) (all_of (expand A) (map (λ d. d.measure) drafts))) _ refl (λ terms.
     let B = functions fs xss terms.0 in
     let wants = Wants (obligations B (measures fs terms.1)) (add_to_theory t (Functions B)) in
     that_admits VARIABLES (are_closed_by xss terms.0 terms.1) (wants_that NESTED (not (is_nested B B)) wants) refl (that_admits NESTED (not (is_nested B B)) wants refl tt))))
 
 -- ---- the formulas that are wanted
 
-both_judged : (a b : Bool) → or_else (cond a None (Some PROOF)) (cond b None (Some PROOF)) ≡ cond (a && b) None (Some PROOF)
+both_judged : (a b : Bool) → option_or (cond a None (Some PROOF)) (cond b None (Some PROOF)) ≡ cond (a && b) None (Some PROOF)
 both_judged true true = refl
 both_judged true false = refl
 both_judged false b = refl
@@ -94,7 +93,7 @@ module _ (os : List Object) (t : Theory) (rs : List ℕ) (Fs : List Formula) (sa
   judged-each (G ∷ Gs) (Natural k) ns h g m = cc
   judged-each (G ∷ Gs) (Pair p ps) ns h g m =
       let b = and_more-back (natural_of p) (naturals_of ps) ns h in
-      ap₂ or_else (judged-one G p b.0 b.2 g.0) (judged-each Gs ps b.1 b.3 g.1 m)
+      ap₂ option_or (judged-one G p b.0 b.2 g.0) (judged-each Gs ps b.1 b.3 g.1 m)
       ∙ (both_judged (is_that_formula (formula_numbered Fs b.0) G) (are_concluded Fs b.1 Gs) ∙ ap (λ l. cond (are_concluded Fs l (G ∷ Gs)) None (Some PROOF)) (sym b.4))
 
   miscounted : (Gs : List Formula) (ps : Object) (ns : List ℕ) → naturals_of ps ≡ Some ns → has_members (length Gs) ps ≡ false → are_concluded Fs ns Gs ≡ false

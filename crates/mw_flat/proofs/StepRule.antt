@@ -1,10 +1,9 @@
 -- The conclusion of a step by the rule of its method, once its other tests hold.
-use Rattle.std.proofs.Common.{◌≡◌, ℕ, ◌+◌, Bool, true, false, ◌&&◌, not, List, length, Option, Some, None, refl, sym, ap, ap₂, ◌∙◌, subst}
+use Rattle.std.proofs.Common.{◌≡◌, ℕ, ◌+◌, Bool, true, false, ◌&&◌, not, List, length, Option, Some, None, refl, sym, ap, ap₂, ◌∙◌, subst, is_some}
 use Rattle.std.proofs.lemmas.Bool.{and_left}
 use Rattle.mw_model.specs.Terms.Object.{Object, Natural, same_object, second_of, third_of, fourth_of, fifth_of, sixth_of, has_members}
 use Rattle.mw_model.specs.Terms.Term.{Formula, ArityTable, formula_object, is_formula, IsFormula}
 use Rattle.mw_model.specs.Values.Truth.{Each}
-use Rattle.mw_model.specs.Values.Definition.{is_present}
 use Rattle.mw_model.specs.Terms.Reading.{that, when, formula_of}
 use Rattle.mw_model.specs.Values.Primitive.{Profile}
 use Rattle.mw_model.specs.Events.Fate.{is_out_of_range}
@@ -41,7 +40,7 @@ pub record IsTested (A : ArityTable) (Fs : List Formula) (x : Object) (m : Metho
   pub extras : sixth_of x ≡ y
 
 module _ (ax th : Object) (A : ArityTable) (P : Profile) where
-  no_formula : (m : Option Method) (o : Option Formula) (fs : Option (List Formula)) (y : Object) → is_present (that (is_formula A) o) ≡ false → judge_step ax th A P m o fs y ≡ None
+  no_formula : (m : Option Method) (o : Option Formula) (fs : Option (List Formula)) (y : Object) → is_some (that (is_formula A) o) ≡ false → judge_step ax th A P m o fs y ≡ None
   no_formula None o fs y h = refl
   no_formula (Some m) None fs y h = refl
   no_formula (Some m) (Some F) None y h = refl

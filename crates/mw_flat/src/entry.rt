@@ -1,6 +1,5 @@
 //! Which events a log may have.
-ghost use Rattle.std.specs.Prelude.{◌≡◌, IfOk};
-ghost use Rattle.mw_model.specs.Values.Definition.{is_present};
+ghost use Rattle.std.specs.Prelude.{◌≡◌, IfOk, is_some};
 ghost use Rattle.mw_commands.specs.Commands.Log.{natural_of, naturals_of, entry_of};
 ghost use Rattle.mw_heap.specs.Objects.{object_at, IsIn};
 ghost use Rattle.mw_theory.specs.Words.{IsEvent};
@@ -12,7 +11,7 @@ use mw_theory::Event;
 // Whether an object is a natural.
 fn is_natural(heap: &Heap, x: Ref) -> bool
     requires { IsIn heap.now.objects x }
-    ensures { result ≡ is_present (natural_of (object_at heap.now.objects x)) }
+    ensures { result ≡ is_some (natural_of (object_at heap.now.objects x)) }
 {
     matches!(heap.view(x), View::Nat(_))
 }
@@ -20,7 +19,7 @@ fn is_natural(heap: &Heap, x: Ref) -> bool
 // Whether an object is a proper list of naturals.
 fn are_naturals(heap: &Heap, list: Ref) -> bool
     requires { IsIn heap.now.objects list }
-    ensures { result ≡ is_present (naturals_of (object_at heap.now.objects list)) }
+    ensures { result ≡ is_some (naturals_of (object_at heap.now.objects list)) }
 {
     let mut rest = list;
     while let View::Pair(first, more) = heap.view(rest) {
@@ -36,7 +35,7 @@ fn are_naturals(heap: &Heap, list: Ref) -> bool
 pub(crate) fn is_entry(heap: &Heap, x: Ref, event: Event) -> Result<bool, Memory>
     requires within { IsIn heap.now.objects x }
     requires event { IsEvent heap.now.objects x event }
-    ensures { IfOk result (λ b. b ≡ is_present (entry_of (object_at heap.now.objects x))) }
+    ensures { IfOk result (λ b. b ≡ is_some (entry_of (object_at heap.now.objects x))) }
 {
     heap.in_range(x);
     match event {

@@ -8,9 +8,10 @@ use crate::step::write_step;
 use indexmap::IndexSet;
 use mw_heap::{Heap, Memory, Ref, looks_for};
 
-// The most bytes of the steps of an event, and how many more for each step.
+// The most bytes of the steps of an event, which are held until it is judged: 64 megabytes.
 const MOST_BYTES: usize = 1 << 26;
 
+// How many more for each step: more than most take, so that a long proof is never refused for its length.
 const BYTES_FOR_A_STEP: usize = 1 << 10;
 
 // Room for most steps.

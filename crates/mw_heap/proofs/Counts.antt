@@ -1,7 +1,7 @@
 -- How many cells of a kind a list of cells has, and where the n-th of them stands.
 use Rattle.std.proofs.Common.{◌≡◌, ℕ, zero, suc, ◌+◌, ◌<◌, ◌≤◌, Bool, true, false, Some, List, [], ◌∷◌, ◌++◌, length, take, drop, get_or, slice_get, refl, sym, ap, ◌∙◌, arith}
-use Rattle.mw_heap.specs.declared.cell.Cell.{Cell}
-use Rattle.mw_heap.specs.declared.cell.Cell.TheVariants.{Small, Large, Symbol, Pair}
+use Rattle.mw_heap.specs.declared.store.cell.Cell.{Cell}
+use Rattle.mw_heap.specs.declared.store.cell.Cell.TheVariants.{Small, Large, Symbol, Pair}
 use Rattle.mw_heap.specs.Cells.{one_if, count_of, is_large, is_named, natural_count, name_count}
 use Rattle.mw_heap.proofs.Lists.{split_at}
 use Rattle.std.proofs.lemmas.List.{take-append-drop}

@@ -5,9 +5,9 @@ use Rattle.std.proofs.lemmas.Bool.{and_from}
 use Rattle.std.proofs.lemmas.List.{take_all}
 use Rattle.std.proofs.Math.Seq.{take-append_seam}
 use Rattle.indexmap.specs.IndexSet.{insert_key}
-use Rattle.mw_heap.specs.declared.cell.Cell.{Cell}
-use Rattle.mw_heap.specs.declared.cell.Cell.TheVariants.{Small, Large, Symbol, Pair}
-use Rattle.mw_heap.specs.contracts.cell.CellPartialEq.TheImpl.{ghosts}
+use Rattle.mw_heap.specs.declared.store.cell.Cell.{Cell}
+use Rattle.mw_heap.specs.declared.store.cell.Cell.TheVariants.{Small, Large, Symbol, Pair}
+use Rattle.mw_heap.specs.contracts.store.cell.CellPartialEq.TheImpl.{ghosts}
 
 -- a cell is equal to itself
 pub cell_eq-refl : (c : Cell) → ghosts.eq c c ≡ true

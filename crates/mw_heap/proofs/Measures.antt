@@ -1,19 +1,18 @@
 -- The lengths of naturals, symbols and pairs, and what they tell.
-use Rattle.std.proofs.Common.{◌≡◌, ℕ, ◌+◌, ◌-◌, ◌≤◌, ◌<◌, Bool, true, false, cond, ltb, min, List, [], ◌∷◌, ◌++◌, ◌⊎◌, inl, inr, length, refl, sym, ap, ◌∙◌, subst, if◌then◌else◌, ◌/◌, ◌%◌, IsTrue, arith, length-append, ltb-true, ltb-false, lt-ltb}
+use Rattle.std.proofs.Common.{◌≡◌, ℕ, ◌+◌, ◌-◌, ◌≤◌, ◌<◌, Bool, true, false, cond, ltb, min, List, [], ◌∷◌, ◌++◌, ◌⊎◌, inl, inr, length, refl, sym, ap, ◌∙◌, if◌then◌else◌, ◌/◌, ◌%◌, IsTrue, arith, length-append, ltb-true, ltb-false, lt-ltb}
 use Rattle.mw_model.specs.Terms.Object.{Object, Natural, Symbol, Pair, Name, nil_name, same_name, is_name}
 use Rattle.mw_model.proofs.Names.{same_name-eq}
 use Rattle.mw_model.specs.Texts.Printing.{text_of, tail_text, end_text, name_text, is_bare, numeral, numeral_from}
-use Rattle.mw_heap.specs.declared.lengths.Length.{Length}
-use Rattle.mw_heap.specs.declared.lengths.Length.TheVariants.{Nil, Atom, Pair as Joined, Long}
-use Rattle.mw_heap.specs.Lengths.{text_length, text_told, rest_told, atom_length, pair_length, length_of}
+use Rattle.mw_heap.specs.declared.store.lengths.Length.TheVariants.{Nil, Atom, Pair as Joined, Long}
+use Rattle.mw_heap.specs.Lengths.{text_length, tail_length, text_told, tail_told, atom_length, pair_length, length_of}
 
--- a text of more than 65,536 bytes, or of as many at most
-long_or_short : (n : ℕ) → ((ltb 65536 n ≡ true) × (65536 < n)) ⊎ ((ltb 65536 n ≡ false) × (n ≤ 65536))
-long_or_short n = go (ltb 65536 n) refl
+-- a number is past a bound or not
+past_or_not : (bound n : ℕ) → ((ltb bound n ≡ true) × (bound < n)) ⊎ ((ltb bound n ≡ false) × (n ≤ bound))
+past_or_not bound n = go (ltb bound n) refl
   where
-    go : (b : Bool) → ltb 65536 n ≡ b → ((ltb 65536 n ≡ true) × (65536 < n)) ⊎ ((ltb 65536 n ≡ false) × (n ≤ 65536))
-    go true e = inl (e, ltb-true 65536 n e)
-    go false e = inr (e, ltb-false 65536 n e)
+    go : (b : Bool) → ltb bound n ≡ b → ((ltb bound n ≡ true) × (bound < n)) ⊎ ((ltb bound n ≡ false) × (n ≤ bound))
+    go true e = inl (e, ltb-true bound n e)
+    go false e = inr (e, ltb-false bound n e)
 
 -- ---- no text is empty
 
@@ -43,7 +42,7 @@ some-text (Natural n) = some-numeral n
 some-text (Symbol s) = some-name_text s
 some-text (Pair a d) = omega arith
 
--- a text as the rest of a list has its closing parenthesis
+-- a text as the tail of a list has its closing parenthesis
 pub some-tail_text : (x : Object) → 0 < length (tail_text x)
 some-tail_text (Natural n) = omega arith
 some-tail_text (Symbol s) = go (same_name s nil_name)
@@ -53,86 +52,89 @@ some-tail_text (Symbol s) = go (same_name s nil_name)
     go false = omega arith
 some-tail_text (Pair a d) = omega arith
 
+length-pair_text : (a d : Object) → length (text_of (Pair a d)) ≡ length (text_of a) + length (tail_text d) + 1
+length-pair_text a d = omega (arith, length-append (text_of a) (tail_text d))
+
+some_pair-text : (a d : Object) → 2 ≤ length (text_of (Pair a d))
+some_pair-text a d = omega (arith, length-pair_text a d, some-text a)
+
 -- ---- what is told of a text
 
 atom-text : (n : ℕ) → 0 < n → text_told (atom_length n) ≡ min n 65537
-atom-text n some = elim (long_or_short n) [
+atom-text n some = elim (past_or_not 65536 n) [
   | inl h ↦ ap (λ b. text_told (cond b Long (Atom (n - 1)))) h.0 ∙ omega (arith, h.1)
   | inr h ↦ ap (λ b. text_told (cond b Long (Atom (n - 1)))) h.0 ∙ omega (arith, h.1)
 ]
 
-pair-text : (n : ℕ) → 0 < n → text_told (pair_length n) ≡ min n 65537
-pair-text n some = elim (long_or_short n) [
-  | inl h ↦ ap (λ b. text_told (cond b Long (Joined (n - 1)))) h.0 ∙ omega (arith, h.1)
-  | inr h ↦ ap (λ b. text_told (cond b Long (Joined (n - 1)))) h.0 ∙ omega (arith, h.1)
+pair-text : (n : ℕ) → 2 ≤ n → text_told (pair_length n) ≡ min n 65537
+pair-text n some = elim (past_or_not 65537 n) [
+  | inl h ↦ ap (λ b. text_told (cond b Long (Joined (n - 2)))) h.0 ∙ omega (arith, h.1)
+  | inr h ↦ ap (λ b. text_told (cond b Long (Joined (n - 2)))) h.0 ∙ omega (arith, h.1)
 ]
 
 pub tells_text : (x : Object) → text_told (length_of x) ≡ text_length x
 tells_text (Natural n) = atom-text (length (text_of (Natural n))) (some-text (Natural n))
-tells_text (Pair a d) = pair-text (length (text_of (Pair a d))) (some-text (Pair a d))
+tells_text (Pair a d) = pair-text (length (text_of (Pair a d))) (some_pair-text a d)
 tells_text (Symbol s) = go (same_name s nil_name) refl
   where
     go : (b : Bool) → same_name s nil_name ≡ b → text_told (cond b Nil (atom_length (length (text_of (Symbol s))))) ≡ text_length (Symbol s)
     go true e = ap (λ t. text_length (Symbol t)) (sym (same_name-eq s nil_name e))
     go false e = atom-text (length (text_of (Symbol s))) (some-text (Symbol s))
 
--- what is told of the text as the rest of a list, which has a closing parenthesis: its length, or that it is long
-abbrev TellsRest : Length → ℕ → Type 0
-TellsRest told n = (rest_told told + 1 ≡ n) ⊎ ((65536 ≤ rest_told told) × (65536 < n))
+-- ---- what is told of a text as the tail of a list
 
 length-end_text : (t : List ℕ) → length (end_text false t) ≡ length t + 4
 length-end_text t = omega (arith, length-append t (41 ∷ []))
 
-atom-rest : (n : ℕ) → 0 < n → TellsRest (atom_length n) (n + 4)
-atom-rest n some = elim (long_or_short n) [
-  | inl h ↦ inr (subst (λ b. 65536 ≤ rest_told (cond b Long (Atom (n - 1)))) (sym h.0) (omega arith), omega (arith, h.1))
-  | inr h ↦ inl (ap (λ b. rest_told (cond b Long (Atom (n - 1))) + 1) h.0 ∙ omega (arith, some))
+atom-tail : (n : ℕ) → 0 < n → tail_told (atom_length n) ≡ min (n + 4 - 1) 65537
+atom-tail n some = elim (past_or_not 65536 n) [
+  | inl h ↦ ap (λ b. tail_told (cond b Long (Atom (n - 1)))) h.0 ∙ omega (arith, h.1)
+  | inr h ↦ ap (λ b. tail_told (cond b Long (Atom (n - 1)))) h.0 ∙ omega (arith, h.1, some)
 ]
 
-pair-rest : (n : ℕ) → 0 < n → TellsRest (pair_length n) n
-pair-rest n some = elim (long_or_short n) [
-  | inl h ↦ inr (subst (λ b. 65536 ≤ rest_told (cond b Long (Joined (n - 1)))) (sym h.0) (omega arith), h.1)
-  | inr h ↦ inl (ap (λ b. rest_told (cond b Long (Joined (n - 1))) + 1) h.0 ∙ omega (arith, some))
+pair-tail : (n : ℕ) → 2 ≤ n → tail_told (pair_length n) ≡ min (n - 1) 65537
+pair-tail n some = elim (past_or_not 65537 n) [
+  | inl h ↦ ap (λ b. tail_told (cond b Long (Joined (n - 2)))) h.0 ∙ omega (arith, h.1)
+  | inr h ↦ ap (λ b. tail_told (cond b Long (Joined (n - 2)))) h.0 ∙ omega (arith, h.1, some)
 ]
 
 length-pair_tail : (a d : Object) → length (tail_text (Pair a d)) ≡ length (text_of (Pair a d))
 length-pair_tail a d = omega (arith, length-append (text_of a) (tail_text d))
 
-tells_rest : (x : Object) → TellsRest (length_of x) (length (tail_text x))
-tells_rest (Natural n) = subst (TellsRest (atom_length (length (numeral n)))) (sym (length-end_text (numeral n))) (atom-rest (length (numeral n)) (some-numeral n))
-tells_rest (Pair a d) = subst (TellsRest (length_of (Pair a d))) (sym (length-pair_tail a d)) (pair-rest (length (text_of (Pair a d))) (some-text (Pair a d)))
-tells_rest (Symbol s) = go (same_name s nil_name)
+pub tells_tail : (x : Object) → tail_told (length_of x) ≡ tail_length x
+tells_tail (Natural n) = atom-tail (length (numeral n)) (some-numeral n) ∙ ap (λ l. min (l - 1) 65537) (sym (length-end_text (numeral n)))
+tells_tail (Pair a d) = pair-tail (length (text_of (Pair a d))) (some_pair-text a d) ∙ ap (λ l. min (l - 1) 65537) (sym (length-pair_tail a d))
+tells_tail (Symbol s) = go (same_name s nil_name)
   where
-    go : (b : Bool) → TellsRest (cond b Nil (atom_length (length (name_text s)))) (length (end_text b (name_text s)))
-    go true = inl refl
-    go false = subst (TellsRest (atom_length (length (name_text s)))) (sym (length-end_text (name_text s))) (atom-rest (length (name_text s)) (some-text (Symbol s)))
+    go : (b : Bool) → tail_told (cond b Nil (atom_length (length (name_text s)))) ≡ min (length (end_text b (name_text s)) - 1) 65537
+    go true = refl
+    go false = atom-tail (length (name_text s)) (some-text (Symbol s)) ∙ ap (λ l. min (l - 1) 65537) (sym (length-end_text (name_text s)))
 
 -- ---- a pair, by what is told of its parts
 
-pair_length-same : (m n : ℕ) → (m ≡ n) ⊎ ((65536 < m) × (65536 < n)) → pair_length m ≡ pair_length n
+pair_length-same : (m n : ℕ) → (m ≡ n) ⊎ ((65537 < m) × (65537 < n)) → pair_length m ≡ pair_length n
 pair_length-same m n (inl e) = ap pair_length e
-pair_length-same m n (inr l) = ap (λ b. cond b Long (Joined (m - 1))) (lt-ltb 65536 m l.0) ∙ sym (ap (λ b. cond b Long (Joined (n - 1))) (lt-ltb 65536 n l.1))
+pair_length-same m n (inr l) = ap (λ b. cond b Long (Joined (m - 2))) (lt-ltb 65537 m l.0) ∙ sym (ap (λ b. cond b Long (Joined (n - 2))) (lt-ltb 65537 n l.1))
 
-pub pair_length-parts : (a d : Object) → pair_length (text_told (length_of a) + rest_told (length_of d) + 2) ≡ length_of (Pair a d)
+-- what is told of the parts comes to the whole, or both are past what counts
+sums-or-past : (text tail whole first rest : ℕ) → first ≡ min text 65537 → rest ≡ min (tail - 1) 65537 → 0 < tail → whole ≡ text + tail + 1
+    → (first + rest + 2 ≡ whole) ⊎ ((65537 < first + rest + 2) × (65537 < whole))
+sums-or-past text tail whole first rest e f some w = elim (past_or_not 65537 text) [
+  | inl h ↦ inr (omega (arith, e, h.1), omega (arith, w, h.1))
+  | inr h ↦ elim (past_or_not 65537 (tail - 1)) [
+    | inl k ↦ inr (omega (arith, f, k.1), omega (arith, w, k.1))
+    | inr k ↦ inl (omega (arith, e, f, w, h.1, k.1, some))
+  ]
+]
+
+pub pair_length-parts : (a d : Object) → pair_length (text_told (length_of a) + tail_told (length_of d) + 2) ≡ length_of (Pair a d)
 pair_length-parts a d =
-    let text = tells_text a in
-    let some = some-text a in
-    let whole = length-append (text_of a) (tail_text d) in
-    pair_length-same (text_told (length_of a) + rest_told (length_of d) + 2) (length (text_of (Pair a d))) (elim (tells_rest d) [
-      | inl e ↦ sums text whole e
-      | inr l ↦ inr (omega (arith, text, some, l.0), omega (arith, some, whole, l.1))
-    ])
-  where
-    sums : text_told (length_of a) ≡ text_length a → length (text_of a ++ tail_text d) ≡ length (text_of a) + length (tail_text d) → rest_told (length_of d) + 1 ≡ length (tail_text d)
-        → (text_told (length_of a) + rest_told (length_of d) + 2 ≡ length (text_of (Pair a d))) ⊎ ((65536 < text_told (length_of a) + rest_told (length_of d) + 2) × (65536 < length (text_of (Pair a d))))
-    sums text whole e = elim (long_or_short (length (text_of a))) [
-      | inl h ↦ inr (omega (arith, text, h.1), omega (arith, whole, h.1))
-      | inr h ↦ inl (omega (arith, text, whole, e, h.1))
-    ]
+    pair_length-same (text_told (length_of a) + tail_told (length_of d) + 2) (length (text_of (Pair a d)))
+    (sums-or-past (length (text_of a)) (length (tail_text d)) (length (text_of (Pair a d))) (text_told (length_of a)) (tail_told (length_of d)) (tells_text a) (tells_tail d) (some-tail_text d) (length-pair_text a d))
 
 -- the length of an atom by what a conversion to 16 bits comes to
 pub short_atom : (n less : ℕ) → less ≡ n - 1 → less < 65536 → 0 < n → Atom less ≡ atom_length n
-short_atom n less e l some = elim (long_or_short n) [
+short_atom n less e l some = elim (past_or_not 65536 n) [
   | inl h ↦ absurd (omega (arith, e, l, h.1))
   | inr h ↦ ap Atom e ∙ sym (ap (λ b. cond b Long (Atom (n - 1))) h.0)
 ]
@@ -140,11 +142,11 @@ short_atom n less e l some = elim (long_or_short n) [
 pub long_atom : (n : ℕ) → 65535 < n - 1 → Long ≡ atom_length n
 long_atom n l = sym (ap (λ b. cond b Long (Atom (n - 1))) (lt-ltb 65536 n (omega (arith, l))))
 
-pub short_pair : (n less : ℕ) → less + 1 ≡ n → less < 65536 → Joined less ≡ pair_length n
-short_pair n less e l = elim (long_or_short n) [
+pub short_pair : (n less : ℕ) → less + 2 ≡ n → less < 65536 → Joined less ≡ pair_length n
+short_pair n less e l = elim (past_or_not 65537 n) [
   | inl h ↦ absurd (omega (arith, e, l, h.1))
-  | inr h ↦ ap Joined (omega (arith, e)) ∙ sym (ap (λ b. cond b Long (Joined (n - 1))) h.0)
+  | inr h ↦ ap Joined (omega (arith, e)) ∙ sym (ap (λ b. cond b Long (Joined (n - 2))) h.0)
 ]
 
-pub long_pair : (n : ℕ) → 65536 < n → Long ≡ pair_length n
-long_pair n l = sym (ap (λ b. cond b Long (Joined (n - 1))) (lt-ltb 65536 n l))
+pub long_pair : (n : ℕ) → 65537 < n → Long ≡ pair_length n
+long_pair n l = sym (ap (λ b. cond b Long (Joined (n - 2))) (lt-ltb 65537 n l))

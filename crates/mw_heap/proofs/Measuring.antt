@@ -1,8 +1,8 @@
 -- A heap that grows or is cut keeps the lengths of its objects.
 use Rattle.std.proofs.Common.{◌≡◌, ℕ, List, [], ◌∷◌, ◌++◌, length, map, refl, sym, ap, ◌∙◌, ◌⊎◌, inl, inr, Result, Ok, Err, OnOk, OnErr}
 use Rattle.std.proofs.lemmas.List.{map-append, append-nil, length-map}
-use Rattle.mw_heap.specs.declared.cell.Cell.{Cell}
-use Rattle.mw_heap.specs.declared.lengths.Length.{Length}
+use Rattle.mw_heap.specs.declared.store.cell.Cell.{Cell}
+use Rattle.mw_heap.specs.declared.store.lengths.Length.{Length}
 use Rattle.mw_heap.specs.Cells.{object, objects, IsSound}
 use Rattle.mw_heap.specs.Inserted.{Inserts}
 use Rattle.mw_heap.specs.Lengths.{length_of, Measures}

@@ -2,8 +2,8 @@
 use Rattle.std.proofs.Common.{◌≡◌, ℕ, true, false, List, refl, ap}
 use Rattle.mw_model.specs.Terms.Object.{Object, Natural, Symbol, Pair}
 use Rattle.mw_model.specs.Values.Primitive.{is_pair, is_symbol}
-use Rattle.mw_heap.specs.declared.view.View.{View}
-use Rattle.mw_heap.specs.declared.view.View.TheVariants.{Nat, Symbol as Named, Pair as Parts}
+use Rattle.mw_heap.specs.declared.store.view.View.{View}
+use Rattle.mw_heap.specs.declared.store.view.View.TheVariants.{Nat, Symbol as Named, Pair as Parts}
 use Rattle.mw_heap.specs.Objects.{Shows}
 
 symbol_no_pair : (x : Object) → is_symbol x ≡ true → is_pair x ≡ false

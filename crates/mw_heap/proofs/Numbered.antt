@@ -3,8 +3,8 @@ use Rattle.std.proofs.Common.{◌≡◌, ℕ, ◌<◌, ◌≤◌, ◌^◌, Bool,
 use Rattle.std.proofs.lemmas.List.{append-nil}
 use Rattle.std.proofs.lemmas.Option.{slice_get_within, get_or_from_slice_get}
 use Rattle.mw_model.specs.Terms.Object.{Natural, Symbol, is_name, name_of_bytes}
-use Rattle.mw_heap.specs.declared.cell.Cell.{Cell}
-use Rattle.mw_heap.specs.declared.cell.Cell.TheVariants.{Small, Large, Symbol as Named, Pair as Parts}
+use Rattle.mw_heap.specs.declared.store.cell.Cell.{Cell}
+use Rattle.mw_heap.specs.declared.store.cell.Cell.TheVariants.{Small, Large, Symbol as Named, Pair as Parts}
 use Rattle.mw_heap.specs.Objects.{Grows}
 use Rattle.mw_heap.specs.Cells.{count_of, is_large, is_named, natural_count, name_count, MayFollow, object, objects, IsInjective, AreCells, AreNaturals, AreNames, IsSound}
 use Rattle.mw_heap.specs.Inserted.{Inserts}

@@ -3,8 +3,8 @@ use Rattle.std.proofs.Common.{◌≡◌, ℕ, ◌<◌, ◌≤◌, List, [], ◌+
 use Rattle.std.proofs.lemmas.List.{append-nil, get_or_append_left, get_or-take, take-append-drop, length-take-le}
 use Rattle.std.proofs.Math.Seq.{take-append_seam}
 use Rattle.mw_model.specs.Terms.Object.{Object, Pair, NIL}
-use Rattle.mw_heap.specs.declared.view.View.{View}
-use Rattle.mw_heap.specs.declared.view.View.TheVariants.{Nat, Symbol, Pair as Parts}
+use Rattle.mw_heap.specs.declared.store.view.View.{View}
+use Rattle.mw_heap.specs.declared.store.view.View.TheVariants.{Nat, Symbol, Pair as Parts}
 use Rattle.mw_heap.specs.Objects.{object_at, IsIn, Grows, Shows, AreDistinct}
 
 -- growth of a heap from old to new

@@ -1,12 +1,11 @@
 -- The first of the words that has a name is the logic's primitive of this name.
-use Rattle.std.proofs.Common.{◌≡◌, ℕ, ◌+◌, suc, ◌<◌, add-one, Bool, true, false, cond, List, Option, Some, None, length, take, drop, get_or, refl, sym, ap, ◌∙◌}
-use Rattle.std.specs.Prelude.{option_map}
+use Rattle.std.proofs.Common.{◌≡◌, ℕ, ◌+◌, suc, ◌<◌, add-one, Bool, true, false, cond, List, Option, Some, None, length, take, drop, get_or, refl, sym, ap, ◌∙◌, option_map}
 use Rattle.std.proofs.Math.Seq.{drop-cons}
 use Rattle.mw_model.specs.Terms.Object.{Name, named, same_bytes, same_name}
 use Rattle.mw_model.specs.Values.Primitive.{Profile, One, Two, Equality, IsPair, Cons, Car, Cdr, IsSymbol, SymbolLess, IsNatural, Less, Plus, Minus, Times, or_product}
-use Rattle.mw_heap.specs.declared.primitive.Primitive.{Primitive as Word}
-use Rattle.mw_heap.specs.declared.primitive.Primitive.TheVariants as word
-use Rattle.mw_heap.specs.declared.primitive_name.TheConstants.{PRIMITIVES}
+use Rattle.mw_heap.specs.declared.vocabulary.primitive.Primitive.{Primitive as Word}
+use Rattle.mw_heap.specs.declared.vocabulary.primitive.Primitive.TheVariants as word
+use Rattle.mw_heap.specs.declared.vocabulary.primitive_name.TheConstants.{PRIMITIVES}
 use Rattle.mw_heap.specs.PrimitiveNames.{primitive_bytes, word_of, word_named, first_named}
 
 pub first_named-later : (ws : List Word) (i : ℕ) (d : Word) (bytes : List ℕ) → i < length ws → same_bytes (primitive_bytes (get_or ws i d)) bytes ≡ false → first_named (drop i ws) bytes ≡ first_named (drop (i + 1) ws) bytes

@@ -8,8 +8,8 @@ use Rattle.mw_model.specs.Values.Primitive.{is_symbol, name_of, number}
 use Rattle.mw_model.specs.Events.Evaluation.{range}
 use Rattle.mw_model.specs.Events.Fate.{is_out_of_range}
 use Rattle.mw_model.proofs.Names.{bytes-name_of_bytes, same_object-from, same_object-eq}
-use Rattle.mw_heap.specs.declared.cell.Cell.{Cell}
-use Rattle.mw_heap.specs.declared.cell.Cell.TheVariants.{Small, Large, Symbol as Named, Pair as Parts}
+use Rattle.mw_heap.specs.declared.store.cell.Cell.{Cell}
+use Rattle.mw_heap.specs.declared.store.cell.Cell.TheVariants.{Small, Large, Symbol as Named, Pair as Parts}
 use Rattle.mw_heap.specs.Objects.{object_at, IsIn, AreDistinct, StandsBefore, ArePartsOlder}
 use Rattle.mw_heap.specs.Cells.{object, objects, MayFollow, is_large, is_named, IsSound}
 use Rattle.mw_heap.proofs.Lists.{slice_get-some}

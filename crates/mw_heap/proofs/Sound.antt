@@ -4,7 +4,7 @@ use Rattle.std.proofs.lemmas.List.{append-nil, take-append-le, take_all, length-
 use Rattle.std.proofs.Math.Seq.{take-append_seam}
 use Rattle.std.proofs.lemmas.Option.{slice_get_within}
 use Rattle.mw_model.specs.Terms.Object.{Object}
-use Rattle.mw_heap.specs.declared.cell.Cell.{Cell}
+use Rattle.mw_heap.specs.declared.store.cell.Cell.{Cell}
 use Rattle.mw_heap.specs.Objects.{object_at, IsIn, Grows}
 use Rattle.mw_heap.specs.Cells.{one_if, is_large, is_named, natural_count, name_count, MayFollow, object, objects, IsInjective, AreCells, IsSound}
 use Rattle.mw_heap.specs.Inserted.{Inserts}

@@ -3,9 +3,9 @@ use Rattle.std.proofs.Common.{◌≡◌, ℕ, ◌+◌, ◌<◌, ◌≤◌, Bool,
 use Rattle.std.proofs.Math.Nat.{eq-or-lt_of_le}
 use Rattle.mw_model.specs.Terms.Object.{Object, same_object, NIL}
 use Rattle.mw_heap.specs.Objects.{object_at, IsIn, Grows}
-use Rattle.mw_heap.specs.declared.word.Word.{Word}
-use Rattle.mw_heap.specs.declared.word.Word.TheVariants as word
-use Rattle.mw_heap.specs.declared.word.TheConstants.{WORDS}
+use Rattle.mw_heap.specs.declared.vocabulary.word.Word.{Word}
+use Rattle.mw_heap.specs.declared.vocabulary.word.Word.TheVariants as word
+use Rattle.mw_heap.specs.declared.vocabulary.word.TheConstants.{WORDS}
 use Rattle.mw_heap.specs.Words.{word_object, place_of, word_count, KeepsWords}
 use Rattle.mw_heap.proofs.Objects.{IsIn-Grows, object_at-Grows, IsIn-take, object_at-take}
 

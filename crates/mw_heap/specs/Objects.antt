@@ -2,8 +2,8 @@
 use Rattle.std.specs.Prelude.{◌≡◌, ℕ, ◌<◌, true, List, ◌++◌, length, get_or}
 use Rattle.mw_model.specs.Terms.Object.{Object, Natural, Pair, NIL}
 use Rattle.mw_model.specs.Values.Primitive.{is_symbol}
-use Rattle.mw_heap.specs.declared.view.View.{View}
-use Rattle.mw_heap.specs.declared.view.View.TheVariants.{Nat, Symbol, Pair as Parts}
+use Rattle.mw_heap.specs.declared.store.view.View.{View}
+use Rattle.mw_heap.specs.declared.store.view.View.TheVariants.{Nat, Symbol, Pair as Parts}
 
 -- the object of a reference; NIL where the heap has none
 abbrev pub object_at : List Object → ℕ → Object

@@ -2,8 +2,8 @@
 use Rattle.std.specs.Prelude.{ℕ, cond, List, [], ◌∷◌, Option, Some, None, codes, option_map}
 use Rattle.mw_model.specs.Terms.Object.{Name, named, same_bytes, same_name}
 use Rattle.mw_model.specs.Values.Primitive.{Profile, Primitive, Equality, IsPair, Cons, Car, Cdr, IsSymbol, SymbolLess, IsNatural, Less, Plus, Minus, Times, primitive_named}
-use Rattle.mw_heap.specs.declared.primitive.Primitive.{Primitive as Word}
-use Rattle.mw_heap.specs.declared.primitive.Primitive.TheVariants as word
+use Rattle.mw_heap.specs.declared.vocabulary.primitive.Primitive.{Primitive as Word}
+use Rattle.mw_heap.specs.declared.vocabulary.primitive.Primitive.TheVariants as word
 
 abbrev pub primitive_bytes : Word → List ℕ
 primitive_bytes word.If = codes "IF"

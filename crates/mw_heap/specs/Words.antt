@@ -4,10 +4,10 @@ use Rattle.mw_model.specs.Terms.Object.{Object, Symbol, name_of_bytes}
 use Rattle.mw_heap.specs.Objects.{object_at, IsIn}
 use Rattle.mw_heap.specs.Cells.{objects, IsSound}
 use Rattle.mw_heap.specs.Lengths.{length_of}
-use Rattle.mw_heap.specs.declared.cell.Cell.{Cell}
-use Rattle.mw_heap.specs.declared.lengths.Length.{Length}
-use Rattle.mw_heap.specs.declared.word.Word.{Word}
-use Rattle.mw_heap.specs.declared.word.Word.TheVariants as word
+use Rattle.mw_heap.specs.declared.store.cell.Cell.{Cell}
+use Rattle.mw_heap.specs.declared.store.lengths.Length.{Length}
+use Rattle.mw_heap.specs.declared.vocabulary.word.Word.{Word}
+use Rattle.mw_heap.specs.declared.vocabulary.word.Word.TheVariants as word
 
 abbrev pub word_bytes : Word → List ℕ
 word_bytes word.Nil = codes "NIL"

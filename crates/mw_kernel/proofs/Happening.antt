@@ -9,7 +9,8 @@ use Rattle.mw_model.specs.Events.Evaluation.{Outcome, Value, Steps, Overflow, Wi
 use Rattle.mw_model.specs.Events.Theory.{Theory, IsSound}
 use Rattle.mw_model.specs.Texts.Printing.{text_of}
 use Rattle.mw_model.specs.Events.Refusal.{TERM, VARIABLES, LONG, EVENT, COUNT, Fate, Accepted, refuse, accept, need, must, unless}
-use Rattle.mw_model.specs.Events.Checking.{judged_as, or_else}
+use Rattle.mw_model.specs.Events.Checking.{judged_as}
+use Rattle.std.specs.Option.{option_or}
 use Rattle.mw_model.specs.Events.Admission.{Draft}
 use Rattle.mw_model.proofs.Demands.{by_word as judged_by_word}
 use Rattle.mw_model.specs.Reports.Keeping.{EventKeeps}
@@ -91,7 +92,7 @@ comes_to os t N (Profile n) = profile t (profile_event (object_at os n))
 -- the theory's checker judges proof by proof
 each-as : (t : Theory) (N : ℕ) (Fs : List Formula) (ps : Object) → each_judged (by_formula (judged_for N)) t 0 Fs ps ≡ each_judged judged_as t N Fs ps
 each-as t N [] ps = refl
-each-as t N (F ∷ Fs) ps = ap (or_else (judged_as t N F (car ps))) (each-as t N Fs (cdr ps))
+each-as t N (F ∷ Fs) ps = ap (option_or (judged_as t N F (car ps))) (each-as t N Fs (cdr ps))
 
 settled-as : (t : Theory) (N : ℕ) (ps : Object) (d : Demand) → settled (by_formula (judged_for N)) t 0 ps d ≡ settled judged_as t N ps d
 settled-as t N ps (Denied r) = refl

@@ -1,9 +1,9 @@
 -- What the theory's checker finds of a proof, by its answer.
-use Rattle.std.proofs.Common.{◌≡◌, ℕ, Bool, true, false, cond, List, [], ◌∷◌, length, Option, Some, None, refl, sym, ap, ◌∙◌, subst}
+use Rattle.std.proofs.Common.{◌≡◌, ℕ, Bool, true, false, cond, List, [], ◌∷◌, length, Option, Some, None, refl, sym, ap, ◌∙◌, subst, is_some}
 use Rattle.mw_model.specs.Terms.Object.{Name, Object, NIL, name_of_bytes, same_object, second_of}
 use Rattle.mw_model.specs.Terms.Term.{Term, Call, Formula, table_object}
 use Rattle.mw_model.specs.Values.Primitive.{name_of}
-use Rattle.mw_model.specs.Values.Definition.{Function, Block, Definitions, is_present}
+use Rattle.mw_model.specs.Values.Definition.{Function, Block, Definitions}
 use Rattle.mw_model.specs.Proofs.Proof.{constants}
 use Rattle.mw_model.specs.Events.Evaluation.{Value, evaluate, code_of}
 use Rattle.mw_model.specs.Events.Theory.{Theory, IsClaimed}
@@ -31,11 +31,11 @@ pub judged-concluded : (t : Theory) (N : ℕ) (formula p : Object) → same_obje
 judged-concluded t N formula p same = sym (ap (λ b. cond b (judged t p N) (Some CONCLUSION)) same)
 
 -- the built-in checker's answer
-pub found-good : (o : Option Formula) → is_present o ≡ true → None ≡ no_unless PROOF o
+pub found-good : (o : Option Formula) → is_some o ≡ true → None ≡ no_unless PROOF o
 found-good (Some F) h = refl
 found-good None h = cc
 
-pub found-bad : (o : Option Formula) → is_present o ≡ false → Some PROOF ≡ no_unless PROOF o
+pub found-bad : (o : Option Formula) → is_some o ≡ false → Some PROOF ≡ no_unless PROOF o
 found-bad None h = refl
 found-bad (Some F) h = cc
 

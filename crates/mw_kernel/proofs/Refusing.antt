@@ -1,10 +1,10 @@
 -- A VERIFY as the rules test it comes to what it comes to by the theory's checker.
-use Rattle.std.proofs.Common.{◌≡◌, ℕ, Bool, true, false, Option, Some, None, refl, ap, ◌∙◌}
+use Rattle.std.proofs.Common.{◌≡◌, ℕ, Bool, true, false, Option, Some, None, refl, ap, ◌∙◌, is_some}
 use Rattle.mw_model.specs.Terms.Object.{Object, Pair, list3}
 use Rattle.mw_model.specs.Terms.Term.{ArityTable, Formula, is_formula, formula_object}
 use Rattle.mw_model.specs.Terms.Reading.{that, formula_of, formula_under}
 use Rattle.mw_model.specs.Values.Primitive.{is_symbol}
-use Rattle.mw_model.specs.Values.Definition.{arity_table, is_present}
+use Rattle.mw_model.specs.Values.Definition.{arity_table}
 use Rattle.mw_model.specs.Events.Theory.{Theory}
 use Rattle.mw_model.specs.Events.Refusal.{Refusal, NAME, FORMULA, accept, need, must, unless}
 use Rattle.mw_model.specs.Events.Checking.{judged_as}
@@ -32,7 +32,7 @@ module _ (t : Theory) (N : ℕ) where
     by_formula : (F : Formula) → formula_object F ≡ b → unless t (judged_as t N F p) (accept (with_theorem t (formula_object F))) ≡ by_refusal t b (refusal_by true true (judged_for N t b p))
     by_formula F is = by_proof (judged_as t N F p) (formula_object F) ∙ ap (λ x. by_refusal t x (refusal_by true true (judged_for N t x p))) is
 
-    by_name : (n : Bool) (o : Option Formula) → ((F : Formula) → o ≡ Some F → formula_object F ≡ b) → must t NAME n (need t FORMULA o (λ F. unless t (judged_as t N F p) (accept (with_theorem t (formula_object F))))) ≡ by_refusal t b (refusal_by n (is_present o) (judged_for N t b p))
+    by_name : (n : Bool) (o : Option Formula) → ((F : Formula) → o ≡ Some F → formula_object F ≡ b) → must t NAME n (need t FORMULA o (λ F. unless t (judged_as t N F p) (accept (with_theorem t (formula_object F))))) ≡ by_refusal t b (refusal_by n (is_some o) (judged_for N t b p))
     unfolding must need
     by_name false o back = refl
     by_name true None back = refl

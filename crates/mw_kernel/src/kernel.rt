@@ -46,7 +46,8 @@ pub struct Kernel {
     took_long: bool,
 }
 
-// An event takes long where it takes more than so many turns in its runs, or so many looks at cells.
+// An event takes long where its runs take more turns than this, or it takes more looks at cells: some milliseconds, after
+// which its line is written at once.
 const LONG: u64 = 1 << 20;
 
 impl Model for Kernel {

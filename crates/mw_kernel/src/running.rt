@@ -12,11 +12,13 @@ use mw_code::{Entry, Table};
 use mw_heap::{Heap, Ref};
 use mw_machine::{Machine, Outcome};
 
-// Room is made first for runs of at most so many units and places of the stack, and so many instructions, which such a run does not count.
+// Room is made first for runs of at most this many units, each of which may make cells.
 const MOST_UNITS: u64 = 10_000;
 
+// And of at most this many places of the stack: 64 megabytes.
 const MOST_PLACES: u64 = 1 << 24;
 
+// And of at most this many instructions, by the length of all code, since such a run does not count them: about a second.
 const MOST_INSTRUCTIONS: u64 = 1 << 28;
 
 // Whether room is made first for a run of so many units, where a frame needs so many places, and a body has no more code than the table.

@@ -1,6 +1,6 @@
 //! The tests of a SWITCH.
-ghost use Rattle.std.specs.Prelude.{◌≡◌, IfOk, option_map};
-ghost use Rattle.mw_model.specs.Values.Definition.{Definitions, is_present};
+ghost use Rattle.std.specs.Prelude.{◌≡◌, IfOk, option_map, is_some};
+ghost use Rattle.mw_model.specs.Values.Definition.{Definitions};
 ghost use Rattle.mw_model.specs.Events.Theory.{Theory as Meant};
 ghost use Rattle.mw_model.specs.Events.Fate.{checker_named};
 ghost use Rattle.mw_heap.specs.Objects.{object_at, IsIn, Grows};
@@ -42,7 +42,7 @@ pub(crate) fn refusal_of_switch(
 fn may_check(heap: &Heap, name: Ref, table: &Table) -> bool
     requires within { IsIn heap.now.objects name }
     requires table { (D : Definitions) × StandsFor heap.now.objects table.now D }
-    ensures { (t : Meant) → StandsFor heap.now.objects table.now t.definitions → result ≡ is_present (checker_named t (object_at heap.now.objects name)) }
+    ensures { (t : Meant) → StandsFor heap.now.objects table.now t.definitions → result ≡ is_some (checker_named t (object_at heap.now.objects name)) }
 {
     if !is_symbol(heap, name) {
         return false;

@@ -1,13 +1,14 @@
 -- The number of some digits, one digit after the other.
 use Rattle.std.proofs.Common.{◌≡◌, ℕ, zero, suc, ◌+◌, ◌-◌, ◌*◌, ◌<◌, ◌≤◌, Bool, true, List, [], ◌∷◌, ◌++◌, length, take, get_or, refl, ap, ◌∙◌, arith, le_refl, add-one, leb, leb-true}
 use Rattle.std.proofs.lemmas.Bool.{and_parts}
-use Rattle.mw_model.specs.Texts.Lexemes.{all_are, is_digit, decimal_from, decimal_value}
+use Rattle.mw_model.specs.Texts.Lexemes.{is_digit, decimal_from, decimal_value}
+use Rattle.std.specs.List.{list_all}
 use Rattle.mw_lex.proofs.Runs.{take_more}
 
-pub all_at : (p : ℕ → Bool) (ds : List ℕ) (i : ℕ) → i < length ds → all_are p ds ≡ true → p (get_or ds i 0) ≡ true
+pub all_at : (p : ℕ → Bool) (ds : List ℕ) (i : ℕ) → i < length ds → list_all p ds ≡ true → p (get_or ds i 0) ≡ true
 all_at p [] i h a = absurd (omega arith)
-all_at p (d ∷ ds) zero h a = (and_parts (p d) (all_are p ds) a).0
-all_at p (d ∷ ds) (suc i) h a = all_at p ds i (omega arith) (and_parts (p d) (all_are p ds) a).1
+all_at p (d ∷ ds) zero h a = (and_parts (p d) (list_all p ds) a).0
+all_at p (d ∷ ds) (suc i) h a = all_at p ds i (omega arith) (and_parts (p d) (list_all p ds) a).1
 
 decimal_snoc : (n : ℕ) (ds : List ℕ) (d : ℕ) → decimal_from n (ds ++ d ∷ []) ≡ 10 * decimal_from n ds + (d - 48)
 decimal_snoc n [] d = refl
@@ -46,7 +47,7 @@ power_small i h = power_le i 8 h
 digit_below : (d : ℕ) → is_digit d ≡ true → d ≤ 57
 digit_below d h = leb-true d 57 (and_parts (leb 48 d) (leb d 57) h).1
 
-pub power_next : (ds : List ℕ) (i n : ℕ) → i < length ds → all_are is_digit ds ≡ true → n < power i → 10 * n + (get_or ds i 0 - 48) < power (i + 1)
+pub power_next : (ds : List ℕ) (i n : ℕ) → i < length ds → list_all is_digit ds ≡ true → n < power i → 10 * n + (get_or ds i 0 - 48) < power (i + 1)
 power_next ds i n h a b = let d = digit_below (get_or ds i 0) (all_at is_digit ds i h a) in rw add-one (omega (arith, d, b))
 
 pub power_more : (i : ℕ) → power (i + 1) ≡ 10 * power i

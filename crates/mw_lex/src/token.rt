@@ -1,7 +1,8 @@
 //! What tokens stand for.
 ghost use Rattle.std.specs.Prelude.{◌≡◌, ◌<◌, ◌≤◌, ◌^◌, true, ◌||◌, length, IfOk, OnOk, MatchOption};
 ghost use Rattle.mw_model.specs.Terms.Object.{Natural};
-ghost use Rattle.mw_model.specs.Texts.Lexemes.{all_are, decimal_value, is_constituent, is_digit, is_dot, like_number, token_form};
+ghost use Rattle.mw_model.specs.Texts.Lexemes.{decimal_value, is_constituent, is_digit, is_dot, like_number, token_form};
+ghost use Rattle.std.specs.List.{list_all};
 ghost use Rattle.mw_model.specs.Events.Fate.{is_out_of_range};
 ghost use Rattle.mw_heap.specs.Objects.{object_at, IsIn, Grows};
 ghost use Rattle.mw_lex.specs.Forms.{IsForm, begins_name};
@@ -29,7 +30,7 @@ pub fn token_of<const BEGINS: bool>(
     big: &mut bool,
     token: &[u8],
 ) -> Result<Token, Memory>
-    requires { all_are is_constituent token.now ≡ true }
+    requires { list_all is_constituent token.now ≡ true }
     ensures grows { Grows heap.old.objects heap.new.objects }
     ensures made { IfOk result (λ t. IsToken heap.new.objects t (token_form token.now)) }
     ensures big { OnOk result (big.new ≡ (big.old || form_big (token_form token.now))) }
@@ -44,7 +45,7 @@ pub fn token_of<const BEGINS: bool>(
 
 /// The number of at most nine digits, as most naturals and all labels have.
 pub fn few_digits(digits: &[u8]) -> u32
-    requires digits { all_are is_digit digits.now ≡ true }
+    requires digits { list_all is_digit digits.now ≡ true }
     requires few { length digits.now ≤ 9 }
     ensures { result ≡ decimal_value digits.now }
 {
@@ -111,7 +112,7 @@ fn like_number(token: &[u8]) -> bool
 }
 
 fn all_digits(token: &[u8]) -> bool
-    ensures { result ≡ all_are is_digit token.now }
+    ensures { result ≡ list_all is_digit token.now }
 {
     for b in token {
         if !digit(*b) {
@@ -122,7 +123,7 @@ fn all_digits(token: &[u8]) -> bool
 }
 
 fn all_dots(token: &[u8]) -> bool
-    ensures { result ≡ all_are is_dot token.now }
+    ensures { result ≡ list_all is_dot token.now }
 {
     for b in token {
         if *b != 46 {
@@ -139,7 +140,7 @@ fn natural_of(
     heap: &mut Heap,
     digits: &[u8],
 ) -> Result<Ref, Memory>
-    requires { all_are is_digit digits.now ≡ true }
+    requires { list_all is_digit digits.now ≡ true }
     ensures grows { Grows heap.old.objects heap.new.objects }
     ensures made { IfOk result (λ r. IsIn heap.new.objects r × (object_at heap.new.objects r ≡ clamp (Natural (decimal_value digits.now)))) }
     ensures big { OnOk result (big.new ≡ (big.old || is_out_of_range (Natural (decimal_value digits.now)))) }
@@ -155,7 +156,7 @@ fn natural_of(
 
 // The number of these digits, where it is below 2^128.
 fn decimal(digits: &[u8]) -> Option<u128>
-    requires { all_are is_digit digits.now ≡ true }
+    requires { list_all is_digit digits.now ≡ true }
     ensures { MatchOption result (2 ^ 128 ≤ decimal_value digits.now) (λ n. (n ≡ decimal_value digits.now) × (n < 2 ^ 128)) }
 {
     if digits.len() <= 9 {

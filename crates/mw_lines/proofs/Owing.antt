@@ -1,10 +1,9 @@
 -- What is found of a datum settles what is owed for it.
-use Rattle.std.proofs.Common.{◌≡◌, ◌∙◌, ℕ, Bool, true, false, not, List, [], ◌∷◌, ◌++◌, Option, Some, None, codes, refl, sym, ap, ap₂, subst}
+use Rattle.std.proofs.Common.{◌≡◌, ◌∙◌, ℕ, Bool, true, false, not, List, [], ◌∷◌, ◌++◌, Option, Some, None, codes, refl, sym, ap, ap₂, subst, is_some}
 use Rattle.mw_model.specs.Terms.Object.{Object, symbol, car, second_of, has_members, list2, list4}
 use Rattle.mw_model.specs.Terms.Term.{ArityTable, Formula}
 use Rattle.mw_model.specs.Terms.Reading.{formula_under, when}
 use Rattle.mw_model.specs.Values.Primitive.{is_symbol}
-use Rattle.mw_model.specs.Values.Definition.{is_present}
 use Rattle.mw_model.specs.Events.Fate.{is_out_of_range}
 use Rattle.mw_model.specs.Reports.Report.{spaced}
 use Rattle.mw_model.specs.Texts.Written.{IsWritten}
@@ -45,19 +44,19 @@ named_given os x name formula h =
     ∙ ap (λ c. when (not c) (when (is_symbol a) (formula_under initial_arities b))) (ap is_out_of_range (sym h.list) ∙ h.in_range)
     ∙ ap (λ c. when c (formula_under initial_arities b)) h.symbol
 
-pub present : {X : Type 0} (o : Option X) → is_present o ≡ true → (x : X) × (o ≡ Some x)
+pub present : {X : Type 0} (o : Option X) → is_some o ≡ true → (x : X) × (o ≡ Some x)
 present None e = cc
 present (Some x) e = (x, refl)
 
-pub absent : {X : Type 0} (o : Option X) → is_present o ≡ false → o ≡ None
+pub absent : {X : Type 0} (o : Option X) → is_some o ≡ false → o ≡ None
 absent None e = refl
 absent (Some x) e = cc
 
 -- nor does one whose second member is no formula
-pub no_formula_given : (os : List Object) (x : Object) (name formula : ℕ) (A : ArityTable) → IsNamed os x name formula → A ≡ initial_arities → is_present (formula_under A (object_at os formula)) ≡ false → formula_given x ≡ None
+pub no_formula_given : (os : List Object) (x : Object) (name formula : ℕ) (A : ArityTable) → IsNamed os x name formula → A ≡ initial_arities → is_some (formula_under A (object_at os formula)) ≡ false → formula_given x ≡ None
 no_formula_given os x name formula A named arity none =
     let y = object_at os formula in
-    named_given os x name formula named ∙ absent (formula_under initial_arities y) (ap (λ B. is_present (formula_under B y)) (sym arity) ∙ none)
+    named_given os x name formula named ∙ absent (formula_under initial_arities y) (ap (λ B. is_some (formula_under B y)) (sym arity) ∙ none)
 
 -- ---- what a decision is
 

@@ -20,7 +20,7 @@ use mw_slice::{Copies, copy};
 use mw_theory::{Event, event_of};
 use std::alloc::Global;
 
-// The most bytes of a text without labels.
+// The most bytes of a text without labels: the heap measures no longer one.
 const LONGEST: u64 = 65_536;
 
 // The members of a list up to its end, whatever ends it.

@@ -1,10 +1,9 @@
 -- A derivation by its members: it has the shape of a proof, its conclusion is a formula, its subproofs are derivations, and its rule holds.
-use Rattle.std.proofs.Common.{◌≡◌, ℕ, Bool, true, false, ◌&&◌, ◌||◌, cond, List, [], Option, Some, None, refl, sym, ap, ap₂, ◌∙◌, ◌⊎◌, inl, inr}
+use Rattle.std.proofs.Common.{◌≡◌, ℕ, Bool, true, false, ◌&&◌, ◌||◌, cond, List, [], Option, Some, None, refl, sym, ap, ap₂, ◌∙◌, ◌⊎◌, inl, inr, is_some}
 use Rattle.std.proofs.lemmas.Bool.{or_cases}
 use Rattle.mw_model.specs.Terms.Object.{Object, Natural, Symbol, Pair, NIL, same_name, same_object, nil_name, car, second_of, fourth_of, is_member}
 use Rattle.mw_model.specs.Terms.Term.{ArityTable, Formula, formula_object, is_formula, IsFormula}
 use Rattle.mw_model.specs.Terms.Reading.{formula_of, and_more, that, when}
-use Rattle.mw_model.specs.Values.Definition.{is_present}
 use Rattle.mw_model.specs.Laws.Rules.{is_formula_object}
 use Rattle.mw_model.proofs.Names.{same_object-eq}
 use Rattle.mw_model.proofs.ReadBack.{formula_back}
@@ -28,11 +27,11 @@ pub record StandsFor (A : ArityTable) (c : Object) : Type 0 where
 pub stands_for : (A : ArityTable) (c : Object) → is_formula_object A c ≡ true → StandsFor A c
 stands_for A c h = go (formula_of c) refl h
   where
-    formed : (F : Formula) (t : Bool) → is_present (when t (Some F)) ≡ true → t ≡ true
+    formed : (F : Formula) (t : Bool) → is_some (when t (Some F)) ≡ true → t ≡ true
     formed F true k = refl
     formed F false k = cc
 
-    go : (o : Option Formula) → formula_of c ≡ o → is_present (that (is_formula A) o) ≡ true → StandsFor A c
+    go : (o : Option Formula) → formula_of c ≡ o → is_some (that (is_formula A) o) ≡ true → StandsFor A c
     go None e k = cc
     go (Some F) e k = record { formula = F; read = e; formed = formed F (is_formula A F) k; is = sym (formula_back c F e) }
 
@@ -63,13 +62,13 @@ module _ (b : Basis) where
   no_list_derived (Some r) None x = refl
   no_list_derived (Some r) (Some F) x = refl
 
-  pub no_formula_derived : (r : Option Rule) (F : Option Formula) (Fs : Option (List Formula)) (x : Object) → is_present (that (is_formula b.table) F) ≡ false → derived_by r F Fs (Some x) ≡ None
+  pub no_formula_derived : (r : Option Rule) (F : Option Formula) (Fs : Option (List Formula)) (x : Object) → is_some (that (is_formula b.table) F) ≡ false → derived_by r F Fs (Some x) ≡ None
   no_formula_derived None F Fs x h = refl
   no_formula_derived (Some r) None Fs x h = refl
   no_formula_derived (Some r) (Some F) None x h = refl
   no_formula_derived (Some r) (Some F) (Some Fs) x h = go (is_formula b.table F) (derives b.axioms b.theorems b.table b.profile r F Fs x) h
     where
-      go : (s t : Bool) → is_present (when s (Some F)) ≡ false → when (s && t) (Some F) ≡ None
+      go : (s t : Bool) → is_some (when s (Some F)) ≡ false → when (s && t) (Some F) ≡ None
       go true t k = cc
       go false t k = refl
 

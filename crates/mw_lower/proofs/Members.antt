@@ -8,8 +8,8 @@ use Rattle.mw_model.specs.Terms.Object.{Object, Natural, Symbol, Pair, NIL, same
 use Rattle.mw_model.specs.Terms.Reading.{and_more}
 use Rattle.mw_model.specs.Proofs.Proof.{no_proofs, more_proofs}
 use Rattle.mw_heap.specs.Objects.{object_at, IsIn, Shows}
-use Rattle.mw_heap.specs.declared.view.View.{View}
-use Rattle.mw_heap.specs.declared.view.View.TheVariants.{Nat, Symbol as Word, Pair as Parts}
+use Rattle.mw_heap.specs.declared.store.view.View.{View}
+use Rattle.mw_heap.specs.declared.store.view.View.TheVariants.{Nat, Symbol as Word, Pair as Parts}
 use Rattle.mw_heap.specs.Lists.{list_object}
 use Rattle.mw_proof.specs.Step.{has_proof_shape}
 use Rattle.mw_proof.specs.Members.{AreMembers}

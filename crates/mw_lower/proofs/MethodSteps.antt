@@ -1,9 +1,8 @@
 -- Steps by the methods of proof: the conclusions are formulas, and the step that is made.
-use Rattle.std.proofs.Common.{◌≡◌, ℕ, Bool, true, List, inl, inr, sym, ap, ap₂, ◌∙◌}
+use Rattle.std.proofs.Common.{◌≡◌, ℕ, Bool, true, List, inl, inr, sym, ap, ap₂, ◌∙◌, is_some}
 use Rattle.std.specs.List.{All}
 use Rattle.mw_model.specs.Terms.Object.{Object, list4}
 use Rattle.mw_model.specs.Terms.Term.{ArityTable}
-use Rattle.mw_model.specs.Values.Definition.{is_present}
 use Rattle.mw_model.specs.Proofs.Judgment.{methods, method_among}
 use Rattle.mw_model.specs.Laws.Rules.{is_formula_object}
 use Rattle.mw_model.proofs.Judging.{goods_judge}
@@ -41,5 +40,5 @@ follows_by b os m qs read rs t e is answer = ap (λ cs. rule_holds b.axioms b.th
 pub conclusions_formed : (b : Basis) (os : List Object) (ps read rs : List ℕ) → ProvesSome b (list_object os ps) → read ≡ rs → list_object os rs ≡ conclusions_object (list_object os ps) → All (λ r. (A : ArityTable) × (is_formula_object A (object_at os r) ≡ true)) read
 conclusions_formed b os ps read rs h e is =
     let x = list_object os ps in
-    let all = sym (are_proofs-is b.axioms b.theorems b.table b.profile x) ∙ ap is_present (goods_judge b.axioms b.theorems b.table b.profile x h.0 h.1).1 in
+    let all = sym (are_proofs-is b.axioms b.theorems b.table b.profile x) ∙ ap is_some (goods_judge b.axioms b.theorems b.table b.profile x h.0 h.1).1 in
     All-map (λ r. is_formula_object b.table (object_at os r) ≡ true) (λ r. (A : ArityTable) × (is_formula_object A (object_at os r) ≡ true)) read (λ r f. (b.table, f)) (conclusions_formulas b os x read (proofs_conclude b x all) (ap (list_object os) e ∙ is))

@@ -4,13 +4,14 @@ use Rattle.std.proofs.lemmas.Bool.{and_right}
 use Rattle.mw_model.specs.Terms.Object.{Object, Natural, Symbol, Pair, NIL, same_name, same_object, nil_name, second_of}
 use Rattle.mw_model.specs.Terms.Term.{Formula, is_formula}
 use Rattle.mw_model.specs.Terms.Reading.{formula_of, and_more, when}
-use Rattle.mw_model.specs.Proofs.Proof.{Axiom, Theorem, PropositionalSchema, FunctionalEquality, BetaReduction, BaseEval, Expansion, Contraction, Associativity, Cut, Instantiation, Induction}
-use Rattle.mw_model.specs.Proofs.Judgment.{of_none, of_one, of_two}
+use Rattle.mw_model.specs.Proofs.Proof.{Method, Axiom, Theorem, PropositionalSchema, FunctionalEquality, BetaReduction, BaseEval, Expansion, Contraction, Associativity, Cut, Instantiation, Induction}
+use Rattle.mw_model.proofs.Rows.{of_none, of_one, of_two, rows, follows-rows}
 use Rattle.mw_model.specs.Laws.Rules.{is_formula_object}
 use Rattle.mw_model.specs.Laws.RulesInduction.{length_object}
 use Rattle.mw_model.proofs.ReadBack.{some_one, cond_some, and_more-back}
 use Rattle.mw_commands.specs.Commands.Derivation.{Rule, By, CommuteOr, ModusPonens, Symmetry, Transitivity, Replace}
 use Rattle.mw_commands.specs.Commands.DerivationTest.{rules, rule_among, derives}
+use Rattle.mw_commands.proofs.RuleRows.{commute-row, detach-row, symmetry-row, chain-row}
 use Rattle.mw_heap.specs.Objects.{object_at}
 use Rattle.mw_proof.specs.Step.{has_proof_shape, subproofs_of}
 use Rattle.mw_proof.specs.Members.{AreMembers}
@@ -36,24 +37,27 @@ of_two_over test (F ∷ G ∷ []) l = absurd (omega arith)
 of_two_over test (F ∷ G ∷ H ∷ Fs) l = refl
 
 module _ (b : Basis) where
+  over_row : (m : Method) (F : Formula) (Fs : List Formula) (x : Object) → IsOver (most_premises_of (By m)) (length Fs) → rows b.axioms b.theorems b.table b.profile m F Fs x ≡ false
+  over_row Axiom F Fs x l = and_right (same_object x NIL) _ (of_none_over _ Fs l)
+  over_row Theorem F Fs x l = and_right (same_object x NIL) _ (of_none_over _ Fs l)
+  over_row PropositionalSchema F Fs x l = and_right (same_object x NIL) _ (of_none_over _ Fs l)
+  over_row FunctionalEquality F Fs x l = and_right (same_object x NIL) _ (of_none_over _ Fs l)
+  over_row BetaReduction F Fs x l = and_right (same_object x NIL) _ (of_none_over _ Fs l)
+  over_row BaseEval F Fs x l = and_right (same_object x NIL) _ (of_none_over _ Fs l)
+  over_row Expansion F Fs x l = and_right (same_object x NIL) _ (of_one_over _ Fs l)
+  over_row Contraction F Fs x l = and_right (same_object x NIL) _ (of_one_over _ Fs l)
+  over_row Associativity F Fs x l = and_right (same_object x NIL) _ (of_one_over _ Fs l)
+  over_row Cut F Fs x l = and_right (same_object x NIL) _ (of_two_over _ Fs l)
+  over_row Instantiation F Fs x l = of_one_over _ Fs l
+  over_row Induction F Fs x l = absurd l
+
   -- a rule takes no more premises
   over : (r : Rule) (F : Formula) (Fs : List Formula) (x : Object) → IsOver (most_premises_of r) (length Fs) → derives b.axioms b.theorems b.table b.profile r F Fs x ≡ false
-  over (By Axiom) F Fs x l = and_right (same_object x NIL) _ (of_none_over _ Fs l)
-  over (By Theorem) F Fs x l = and_right (same_object x NIL) _ (of_none_over _ Fs l)
-  over (By PropositionalSchema) F Fs x l = and_right (same_object x NIL) _ (of_none_over _ Fs l)
-  over (By FunctionalEquality) F Fs x l = and_right (same_object x NIL) _ (of_none_over _ Fs l)
-  over (By BetaReduction) F Fs x l = and_right (same_object x NIL) _ (of_none_over _ Fs l)
-  over (By BaseEval) F Fs x l = and_right (same_object x NIL) _ (of_none_over _ Fs l)
-  over (By Expansion) F Fs x l = and_right (same_object x NIL) _ (of_one_over _ Fs l)
-  over (By Contraction) F Fs x l = and_right (same_object x NIL) _ (of_one_over _ Fs l)
-  over (By Associativity) F Fs x l = and_right (same_object x NIL) _ (of_one_over _ Fs l)
-  over (By Cut) F Fs x l = and_right (same_object x NIL) _ (of_two_over _ Fs l)
-  over (By Instantiation) F Fs x l = of_one_over _ Fs l
-  over (By Induction) F Fs x l = absurd l
-  over CommuteOr F Fs x l = and_right (same_object x NIL) _ (of_one_over _ Fs l)
-  over ModusPonens F Fs x l = and_right (same_object x NIL) _ (of_two_over _ Fs l)
-  over Symmetry F Fs x l = and_right (same_object x NIL) _ (of_one_over _ Fs l)
-  over Transitivity F Fs x l = and_right (same_object x NIL) _ (of_two_over _ Fs l)
+  over (By m) F Fs x l = follows-rows b.axioms b.theorems b.table b.profile m F Fs x ∙ over_row m F Fs x l
+  over CommuteOr F Fs x l = commute-row b.axioms b.theorems b.table b.profile F Fs x ∙ and_right (same_object x NIL) _ (of_one_over _ Fs l)
+  over ModusPonens F Fs x l = detach-row b.axioms b.theorems b.table b.profile F Fs x ∙ and_right (same_object x NIL) _ (of_two_over _ Fs l)
+  over Symmetry F Fs x l = symmetry-row b.axioms b.theorems b.table b.profile F Fs x ∙ and_right (same_object x NIL) _ (of_one_over _ Fs l)
+  over Transitivity F Fs x l = chain-row b.axioms b.theorems b.table b.profile F Fs x ∙ and_right (same_object x NIL) _ (of_two_over _ Fs l)
   over Replace F Fs x l = absurd l
 
   over_derived : (r : Option Rule) (F : Option Formula) (Fs : List Formula) (x : Object) → IsOver (most_premises r) (length Fs) → derived_by b r F (Some Fs) (Some x) ≡ None

@@ -2,7 +2,7 @@
 use Rattle.std.proofs.Common.{◌≡◌, ℕ, Bool, true, false, List, [], ◌∷◌, Option, Some, None, length, refl, sym, ap, ◌∙◌, subst}
 use Rattle.mw_model.specs.Terms.Object.{Object, NIL, list1}
 use Rattle.mw_model.specs.Terms.Term.{Formula}
-use Rattle.mw_model.specs.Proofs.Judgment.{of_one, of_two}
+use Rattle.mw_model.proofs.Rows.{of_one, of_two}
 use Rattle.mw_commands.specs.Commands.Derivation.{Rule}
 use Rattle.mw_commands.specs.Commands.DerivationTest.{derives}
 use Rattle.mw_heap.specs.Objects.{object_at}

@@ -1,7 +1,6 @@
 -- What a derivation becomes in a heap is what it turns to.
-use Rattle.std.proofs.Common.{◌≡◌, false, None, sym, ap, ◌∙◌}
+use Rattle.std.proofs.Common.{◌≡◌, false, None, sym, ap, ◌∙◌, is_some}
 use Rattle.mw_model.specs.Terms.Object.{Object}
-use Rattle.mw_model.specs.Values.Definition.{is_present}
 use Rattle.mw_model.specs.Events.Fate.{is_out_of_range}
 use Rattle.mw_model.proofs.Judging.{good_judge}
 use Rattle.mw_commands.specs.Commands.Derivation.{Turns}
@@ -14,7 +13,7 @@ becomes_turns b p q h r = record {
   formula = h.formula;
   derived = derive_good b.axioms b.theorems b.table b.profile p h.formula h.derived;
   proved = h.proved;
-  stays = λ k. h.stays (ap is_present (good_judge b.axioms b.theorems b.table b.profile p h.formula k).1);
+  stays = λ k. h.stays (ap is_some (good_judge b.axioms b.theorems b.table b.profile p h.formula k).1);
   in_range = λ k. r;
 }
 

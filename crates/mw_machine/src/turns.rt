@@ -4,9 +4,10 @@ ghost use Rattle.mw_machine.specs.Turns.{AreTaken, AreFewer, taken_since};
 
 use mw_heap::Memory;
 
-// The turns of any run, for the lambda calls and tests that take no unit, and one round more, since they are taken by rounds.
+// The turns of any run, for the lambda calls and tests that take no unit: a fifth of a second. One round more, since they are taken by rounds.
 const MOST_TURNS: u64 = (1 << 26) + 256;
 
+// The turns of each unit that a run may take: a call of a function takes one unit, and the code of most bodies is shorter.
 const TURNS_FOR_A_UNIT: u64 = 64;
 
 /// The turns of a run, which takes one for each instruction, a round of them at a time: those that are left, or, where they are not

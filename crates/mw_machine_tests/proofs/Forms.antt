@@ -1,9 +1,9 @@
 -- Terms that are made of others.
-use Rattle.std.proofs.Common.{◌≡◌, ℕ, true, List, [], Some, refl, ap, ap₂, ◌∙◌}
+use Rattle.std.proofs.Common.{◌≡◌, ℕ, true, List, [], Some, refl, ap, ap₂, ◌∙◌, option_map}
 use Rattle.std.proofs.lemmas.Bool.{and_from}
 use Rattle.mw_model.specs.Terms.Object.{Object, Natural, Pair, symbol, named, NIL}
 use Rattle.mw_model.specs.Terms.Term.{Call, Constant, NoTerms, More, is_term, is_closed}
-use Rattle.mw_model.specs.Terms.Reading.{term_of, more_terms, plain_call}
+use Rattle.mw_model.specs.Terms.Reading.{term_of, map2}
 use Rattle.mw_model.specs.Values.Definition.{arity_table}
 use Rattle.mw_heap.specs.Objects.{object_at, IsIn, Grows}
 use Rattle.mw_heap.proofs.Objects.{IsIn-Grows, object_at-Grows}
@@ -20,7 +20,7 @@ car-term os r x within (t, h) is = (
   Call (named "CAR") (More t NoTerms),
   record {
     within = within;
-    read = ap term_of is ∙ ap (λ o. plain_call (named "CAR") (more_terms o (Some NoTerms))) h.read;
+    read = ap term_of is ∙ ap (λ o. option_map (Call (named "CAR")) (map2 More o (Some NoTerms))) h.read;
     term = and_from (is_term (arity_table no_functions) t) true h.term refl;
     closed = and_from (is_closed [] t) true h.closed refl;
   },
@@ -31,7 +31,7 @@ sum-term os r x y within (t, h) (u, k) is = (
   Call (named "+") (More t (More u NoTerms)),
   record {
     within = within;
-    read = ap term_of is ∙ ap₂ (λ o p. plain_call (named "+") (more_terms o (more_terms p (Some NoTerms)))) h.read k.read;
+    read = ap term_of is ∙ ap₂ (λ o p. option_map (Call (named "+")) (map2 More o (map2 More p (Some NoTerms)))) h.read k.read;
     term = and_from (is_term (arity_table no_functions) t) _ h.term (and_from (is_term (arity_table no_functions) u) true k.term refl);
     closed = and_from (is_closed [] t) _ h.closed (and_from (is_closed [] u) true k.closed refl);
   },

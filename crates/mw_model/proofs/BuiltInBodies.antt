@@ -1,10 +1,10 @@
 -- Each answer of descending functions is the value of the body, where calls have these answers.
-use Rattle.std.proofs.Common.{◌≡◌, ◌≢◌, Bool, true, false, ◌&&◌, ◌||◌, cond, List, [], ◌∷◌, Option, Some, None, refl, sym, ap, ap₂, ◌∙◌, subst, ◌⊎◌, inl, inr}
+use Rattle.std.proofs.Common.{◌≡◌, ◌≢◌, Bool, true, false, ◌&&◌, ◌||◌, cond, List, [], ◌∷◌, Option, Some, None, refl, sym, ap, ap₂, ◌∙◌, subst, ◌⊎◌, inl, inr, is_some}
 use Rattle.std.proofs.lemmas.Bool.{and_parts, and_from, or_cases, or_left, or_right}
 use Rattle.mw_model.specs.Terms.Object.{Name, Object, same_name}
 use Rattle.mw_model.specs.Terms.Term.{Term, Terms, Variable, Constant, If, Call, Lambda, NoTerms, More, is_among}
 use Rattle.mw_model.specs.Values.Primitive.{Profile, Primitive, primitive_named, choose}
-use Rattle.mw_model.specs.Values.Definition.{Function, function_named, is_present}
+use Rattle.mw_model.specs.Values.Definition.{Function, function_named}
 use Rattle.mw_model.specs.Values.Value.{Environment, bind, block_calls}
 use Rattle.mw_model.proofs.Names.{same_name-eq, same_name-refl, name_cases}
 use Rattle.mw_model.proofs.Values.{ev_det}
@@ -14,7 +14,7 @@ use Rattle.mw_model.proofs.BuiltInCalls.{value_among, not_among-other, descendin
 
 -- equal answers to the names of a term give it one value
 module _ (P : Profile) (R S : Answers) (N : List Name) (same : (f : Name) → is_among f N ≡ true → (vs : List Object) → R f vs ≡ S f vs) where
-  answer_on-same : (o : Option Primitive) (f : Name) (vs : List Object) → is_present o || is_among f N ≡ true → answer_on o (R f) vs ≡ answer_on o (S f) vs
+  answer_on-same : (o : Option Primitive) (f : Name) (vs : List Object) → is_some o || is_among f N ≡ true → answer_on o (R f) vs ≡ answer_on o (S f) vs
   answer_on-same None f vs i = same f i vs
   answer_on-same (Some p) f vs i = refl
 
@@ -30,7 +30,7 @@ module _ (P : Profile) (R S : Answers) (N : List Name) (same : (f : Name) → is
         let ec = value_at-same e c q.1 in
         ap (λ u. choose u (value_at P R e b) (value_at P R e c)) ea ∙ ap₂ (choose (value_at P S e a)) eb ec
     value_at-same e (Call f ts) i =
-        let p = and_parts (all_calls_among P N ts) (is_present (primitive_named P f) || is_among f N) i in
+        let p = and_parts (all_calls_among P N ts) (is_some (primitive_named P f) || is_among f N) i in
         answer_on-same (primitive_named P f) f (values_at P R e ts) p.1 ∙ ap (answer_on (primitive_named P f) (S f)) (values_at-same e ts p.0)
     value_at-same e (Lambda xs b ts) i =
         let p = and_parts (all_calls_among P N ts) (calls_among P N b) i in
@@ -44,7 +44,7 @@ module _ (P : Profile) (R S : Answers) (N : List Name) (same : (f : Name) → is
 
 -- terms over fewer names
 module _ (P : Profile) (N M : List Name) (more : (f : Name) → is_among f N ≡ true → is_among f M ≡ true) where
-  known_more : (o : Option Primitive) (f : Name) → is_present o || is_among f N ≡ true → is_present o || is_among f M ≡ true
+  known_more : (o : Option Primitive) (f : Name) → is_some o || is_among f N ≡ true → is_some o || is_among f M ≡ true
   known_more None f i = more f i
   known_more (Some p) f i = refl
 
@@ -57,7 +57,7 @@ module _ (P : Profile) (N M : List Name) (more : (f : Name) → is_among f N ≡
         let q = and_parts (calls_among P N b) (calls_among P N c) p.1 in
         and_from _ _ (calls_among-more a p.0) (and_from _ _ (calls_among-more b q.0) (calls_among-more c q.1))
     calls_among-more (Call f ts) i =
-        let p = and_parts (all_calls_among P N ts) (is_present (primitive_named P f) || is_among f N) i in
+        let p = and_parts (all_calls_among P N ts) (is_some (primitive_named P f) || is_among f N) i in
         and_from _ _ (all_calls_among-more ts p.0) (known_more (primitive_named P f) f p.1)
     calls_among-more (Lambda xs b ts) i =
         let p = and_parts (all_calls_among P N ts) (calls_among P N b) i in
@@ -70,7 +70,7 @@ module _ (P : Profile) (N M : List Name) (more : (f : Name) → is_among f N ≡
         and_from _ _ (calls_among-more t p.0) (all_calls_among-more ts p.1)
 
   module _ (g x : Name) (xs : List Name) (own : is_among g M ≡ true) where
-    descending_call : (o : Option Primitive) (f : Name) (b : Bool) → is_present o || (is_among f N || (same_name g f && b)) ≡ true → is_present o || is_among f M ≡ true
+    descending_call : (o : Option Primitive) (f : Name) (b : Bool) → is_some o || (is_among f N || (same_name g f && b)) ≡ true → is_some o || is_among f M ≡ true
     descending_call None f b i = go (or_cases (is_among f N) (same_name g f && b) i)
       where
         go : (is_among f N ≡ true) ⊎ ((same_name g f && b) ≡ true) → is_among f M ≡ true
@@ -87,7 +87,7 @@ module _ (P : Profile) (N M : List Name) (more : (f : Name) → is_among f N ≡
           let q = and_parts (descends P N g x xs (k || tests_pair P x a) b) (descends P N g x xs k c) p.1 in
           and_from _ _ (descends-among k a p.0) (and_from _ _ (descends-among (k || tests_pair P x a) b q.0) (descends-among k c q.1))
       descends-among k (Call f ts) i =
-          let p = and_parts (all_descend P N g x xs k ts) (is_present (primitive_named P f) || (is_among f N || (same_name g f && (k && is_part P x (actual_for x xs ts))))) i in
+          let p = and_parts (all_descend P N g x xs k ts) (is_some (primitive_named P f) || (is_among f N || (same_name g f && (k && is_part P x (actual_for x xs ts))))) i in
           and_from _ _ (all_descend-among k ts p.0) (descending_call (primitive_named P f) f (k && is_part P x (actual_for x xs ts)) p.1)
       descends-among k (Lambda ys b ts) i =
           let p = and_parts (all_descend P N g x xs k ts) (calls_among P N b) i in

@@ -1,10 +1,10 @@
 -- The answers of descending functions are values: those of their blocks, by the levels that their falling arguments need.
-use Rattle.std.proofs.Common.{◌≡◌, ◌≢◌, ℕ, zero, suc, ◌<◌, ◌≤◌, Bool, true, false, ◌&&◌, ◌||◌, not, cond, List, [], ◌∷◌, map, Option, Some, None, refl, sym, subst, ◌⊎◌, inl, inr, arith}
+use Rattle.std.proofs.Common.{◌≡◌, ◌≢◌, ℕ, zero, suc, ◌<◌, ◌≤◌, Bool, true, false, ◌&&◌, ◌||◌, not, cond, List, [], ◌∷◌, map, Option, Some, None, refl, sym, subst, ◌⊎◌, inl, inr, arith, is_some}
 use Rattle.std.proofs.lemmas.Bool.{and_parts, or_cases, both_ways, not-true, false≢true}
 use Rattle.mw_model.specs.Terms.Object.{Name, Object, same_name, same_object, NIL}
 use Rattle.mw_model.specs.Terms.Term.{Term, Terms, Variable, Constant, If, Call, Lambda, NoTerms, More, is_among}
 use Rattle.mw_model.specs.Values.Primitive.{Profile, Primitive, primitive_named, is_pair, choose}
-use Rattle.mw_model.specs.Values.Definition.{Function, Block, is_present}
+use Rattle.mw_model.specs.Values.Definition.{Function, Block}
 use Rattle.mw_model.specs.Values.Value.{Environment, lookup, bind, Calls, OnCall, HasValue, HaveValues, OnFunction, CallAtSomeDepth, block_calls}
 use Rattle.mw_model.specs.BuiltIns.BuiltIn.{block_of}
 use Rattle.mw_model.proofs.Names.{same_name-eq, same_name-refl, name_cases, object_cases}
@@ -20,7 +20,7 @@ module _ (P : Profile) (C : Calls) (R : Answers) where
       go (inl q) = subst (λ t. HasValue P C e (If a b c) (cond t w v)) (sym q.0) (inr (subst (λ z. HasValue P C e a z) q.1 ha, hc q.1))
       go (inr q) = subst (λ t. HasValue P C e (If a b c) (cond t w v)) (sym q.0) (inl (u, q.1, ha, hb q.1))
 
-  call_value : (o : Option Primitive) (f : Name) (vs : List Object) (b : Bool) → is_present o || b ≡ true → (b ≡ true → C f vs (R f vs)) → OnCall C o f vs (answer_on o (R f) vs)
+  call_value : (o : Option Primitive) (f : Name) (vs : List Object) (b : Bool) → is_some o || b ≡ true → (b ≡ true → C f vs (R f vs)) → OnCall C o f vs (answer_on o (R f) vs)
   call_value None f vs b i h = h i
   call_value (Some p) f vs b i h = refl
 
@@ -35,7 +35,7 @@ module _ (P : Profile) (C : Calls) (R : Answers) where
           let q = and_parts (calls_among P N b) (calls_among P N c) p.1 in
           if_value e a b c (value_at P R e a) (value_at P R e b) (value_at P R e c) (value_among e a p.0) (λ _. value_among e b q.0) (λ _. value_among e c q.1)
       value_among e (Call f ts) i =
-          let p = and_parts (all_calls_among P N ts) (is_present (primitive_named P f) || is_among f N) i in
+          let p = and_parts (all_calls_among P N ts) (is_some (primitive_named P f) || is_among f N) i in
           (values_at P R e ts, values_among e ts p.0, call_value (primitive_named P f) f (values_at P R e ts) (is_among f N) p.1 (λ h. old f h (values_at P R e ts)))
       value_among e (Lambda xs b ts) i =
           let p = and_parts (all_calls_among P N ts) (calls_among P N b) i in
@@ -72,7 +72,7 @@ module _ (P : Profile) (C : Calls) (R : Answers) where
             let q = and_parts (descends P N g x xs (k || tests_pair P x a) b) (descends P N g x xs k c) p.1 in
             if_value e a b c (value_at P R e a) (value_at P R e b) (value_at P R e c) (value_descending e le k known a p.0) (λ y. value_descending e le (k || tests_pair P x a) (λ h. known_more e k known a y (or_cases k (tests_pair P x a) h)) b q.0) (λ _. value_descending e le k known c q.1)
         value_descending e le k known (Call f ts) i =
-            let p = and_parts (all_descend P N g x xs k ts) (is_present (primitive_named P f) || (is_among f N || (same_name g f && (k && is_part P x (actual_for x xs ts))))) i in
+            let p = and_parts (all_descend P N g x xs k ts) (is_some (primitive_named P f) || (is_among f N || (same_name g f && (k && is_part P x (actual_for x xs ts))))) i in
             (values_at P R e ts, values_descending e le k known ts p.0, call_value (primitive_named P f) f (values_at P R e ts) (is_among f N || (same_name g f && (k && is_part P x (actual_for x xs ts)))) p.1 (λ h. named_call e le k known f ts (or_cases (is_among f N) (same_name g f && (k && is_part P x (actual_for x xs ts))) h)))
         value_descending e le k known (Lambda ys b ts) i =
             let p = and_parts (all_descend P N g x xs k ts) (calls_among P N b) i in

@@ -1,11 +1,12 @@
 -- Each call of a built-in function or witness has a value, and so has each term over them.
-use Rattle.std.proofs.Common.{◌≡◌, ◌≢◌, Bool, true, false, ◌||◌, cond, List, [], ◌∷◌, ◌++◌, append_assoc, Some, None, refl, sym, ap, ◌∙◌, subst, ◌⊎◌, inl, inr}
+use Rattle.std.proofs.Common.{◌≡◌, ◌≢◌, Bool, true, false, ◌||◌, cond, List, [], ◌∷◌, ◌++◌, append_assoc, Some, None, refl, sym, ap, ◌∙◌, subst, ◌⊎◌, inl, inr, is_some}
 use Rattle.std.proofs.lemmas.Bool.{or_cases, or_left, or_right, false≢true}
 use Prim.Native.String.{String}
 use Rattle.mw_model.specs.Terms.Object.{Name, Object, named, same_name}
 use Rattle.mw_model.specs.Terms.Term.{is_among}
 use Rattle.mw_model.specs.Values.Primitive.{Profile, One, Two}
-use Rattle.mw_model.specs.Values.Definition.{Function, Block, Functions, Choice, arities, are_blocks, is_present, is_defined}
+use Rattle.mw_model.specs.Values.Definition.{Function, Block, Functions, Choice, arities, are_blocks}
+use Rattle.mw_model.specs.Laws.CallDepth.{is_defined}
 use Rattle.mw_model.specs.Values.Value.{bind, OnFunction, pick, CallAtSomeDepth, IsWitness, block_calls, IsTotal}
 use Rattle.mw_model.specs.BuiltIns.BuiltIn.{block_of, built_in, built_in_definitions}
 use Rattle.mw_model.specs.BuiltIns.BuiltInProofs.{logic_provable_witness, logic_provablep}
@@ -30,7 +31,7 @@ alone_among : (B : List Function) (f : Name) → is_defined (alone B) f ≡ true
 alone_among [] f h = absurd (false≢true h)
 alone_among (g ∷ B) f h = go (same_name g.name f) refl h (alone_among B f)
   where
-    go : (t : Bool) → same_name g.name f ≡ t → is_present (cond t (Some g) None) || is_defined (alone B) f ≡ true → (is_defined (alone B) f ≡ true → is_among f (names B) ≡ true) → same_name f g.name || is_among f (names B) ≡ true
+    go : (t : Bool) → same_name g.name f ≡ t → is_some (cond t (Some g) None) || is_defined (alone B) f ≡ true → (is_defined (alone B) f ≡ true → is_among f (names B) ≡ true) → same_name f g.name || is_among f (names B) ≡ true
     go true e i ih = or_left (same_name f g.name) (is_among f (names B)) (same_name-from f g.name (sym (same_name-eq g.name f e)))
     go false e i ih = or_right (same_name f g.name) (is_among f (names B)) (ih i)
 
@@ -39,9 +40,9 @@ among_alone [] f h = absurd (false≢true h)
 among_alone (g ∷ B) f h = go (name_cases g.name f) (or_cases (same_name f g.name) (is_among f (names B)) h) (among_alone B f)
   where
     go : ((same_name g.name f ≡ true) × (g.name ≡ f)) ⊎ ((same_name g.name f ≡ false) × (g.name ≢ f)) → (same_name f g.name ≡ true) ⊎ (is_among f (names B) ≡ true) → (is_among f (names B) ≡ true → is_defined (alone B) f ≡ true) → is_defined (alone (g ∷ B)) f ≡ true
-    go (inl q) h ih = ap (λ t. is_present (cond t (Some g) None) || is_defined (alone B) f) q.0
+    go (inl q) h ih = ap (λ t. is_some (cond t (Some g) None) || is_defined (alone B) f) q.0
     go (inr q) (inl e) ih = absurd (q.1 (sym (same_name-eq f g.name e)))
-    go (inr q) (inr i) ih = or_right (is_present (cond (same_name g.name f) (Some g) None)) (is_defined (alone B) f) (ih i)
+    go (inr q) (inr i) ih = or_right (is_some (cond (same_name g.name f) (Some g) None)) (is_defined (alone B) f) (ih i)
 
 module _ (P : Profile) where
   calls_have : (D : List Block) → DefinedHave P D → CallsHave P (block_calls P D) (arities P D)
@@ -57,7 +58,7 @@ module _ (P : Profile) where
   plain_have : (X : Block) (D : List Block) → are_blocks P (X ∷ D) ≡ true → IsPlain D X → DefinedHave P D → DefinedHave P (X ∷ D)
   plain_have (Functions (h ∷ [])) D w i all f d vs = go (same_name h.name f) d
     where
-      go : (t : Bool) → is_present (cond t (Some h) None) || is_defined D f ≡ true → Has (OnFunction (block_calls P D) (CallAtSomeDepth P (block_calls P D) (h ∷ [])) (cond t (Some h) None) f vs)
+      go : (t : Bool) → is_some (cond t (Some h) None) || is_defined D f ≡ true → Has (OnFunction (block_calls P D) (CallAtSomeDepth P (block_calls P D) (h ∷ [])) (cond t (Some h) None) f vs)
       go true d k =
           term_has P (block_calls P D) (arities P D) (calls_have D all) (bind h.formals vs) h.body i
           (λ v hv. k v (block_fold P (block_calls P D) (h ∷ []) h vs v (older_to P (block_of h) D w (bind h.formals vs) h.body v i hv)))

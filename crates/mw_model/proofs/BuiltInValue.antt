@@ -1,9 +1,9 @@
 -- Functions as total ones: the value of a term where each call has an answer, and answers by as many levels as the falling argument has pairs.
-use Rattle.std.specs.Prelude.{ℕ, zero, suc, ◌+◌, Bool, true, false, ◌&&◌, ◌||◌, not, cond, List, [], ◌∷◌, Option, Some, None}
+use Rattle.std.specs.Prelude.{ℕ, zero, suc, ◌+◌, Bool, true, false, ◌&&◌, ◌||◌, not, cond, List, [], ◌∷◌, Option, Some, None, is_some}
 use Rattle.mw_model.specs.Terms.Object.{Name, Object, Natural, Symbol, Pair, same_name, nil_name, NIL}
 use Rattle.mw_model.specs.Terms.Term.{Term, Terms, Variable, Constant, If, Call, Lambda, NoTerms, More, is_among}
 use Rattle.mw_model.specs.Values.Primitive.{Profile, Primitive, Car, Cdr, IsPair, primitive_named, apply, first_value, choose}
-use Rattle.mw_model.specs.Values.Definition.{Function, is_present}
+use Rattle.mw_model.specs.Values.Definition.{Function}
 use Rattle.mw_model.specs.Values.Value.{Environment, lookup, bind}
 
 -- an answer for each call
@@ -54,7 +54,7 @@ abbrev mutual
   calls_among P N (Variable x) = true
   calls_among P N (Constant c) = true
   calls_among P N (If a b c) = calls_among P N a && (calls_among P N b && calls_among P N c)
-  calls_among P N (Call f ts) = all_calls_among P N ts && (is_present (primitive_named P f) || is_among f N)
+  calls_among P N (Call f ts) = all_calls_among P N ts && (is_some (primitive_named P f) || is_among f N)
   calls_among P N (Lambda xs b ts) = all_calls_among P N ts && calls_among P N b
 
   pub all_calls_among : Profile → List Name → Terms → Bool
@@ -120,7 +120,7 @@ abbrev mutual
   descends P N g x xs k (Constant c) = true
   descends P N g x xs k (If a b c) = descends P N g x xs k a && (descends P N g x xs (k || tests_pair P x a) b && descends P N g x xs k c)
   descends P N g x xs k (Call f ts) =
-      all_descend P N g x xs k ts && (is_present (primitive_named P f) || (is_among f N || (same_name g f && (k && is_part P x (actual_for x xs ts)))))
+      all_descend P N g x xs k ts && (is_some (primitive_named P f) || (is_among f N || (same_name g f && (k && is_part P x (actual_for x xs ts)))))
   descends P N g x xs k (Lambda ys b ts) = all_descend P N g x xs k ts && calls_among P N b
 
   pub all_descend : Profile → List Name → Name → Name → List Name → Bool → Terms → Bool

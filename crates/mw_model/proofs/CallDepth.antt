@@ -1,12 +1,12 @@
 -- The value of a call, by its depth: what the calls of the last block and of an earlier one come to.
-use Rattle.std.proofs.Common.{◌≡◌, ℕ, zero, suc, Bool, true, false, ◌||◌, List, [], ◌∷◌, Option, Some, None, refl, sym, ap₂, ◌∙◌, subst}
+use Rattle.std.proofs.Common.{◌≡◌, ℕ, zero, suc, Bool, true, false, ◌||◌, List, [], ◌∷◌, Option, Some, None, refl, sym, ap₂, ◌∙◌, subst, is_some}
 use Rattle.mw_model.specs.Terms.Object.{Name, Object, same_name}
 use Rattle.mw_model.specs.Terms.Term.{Terms, Call}
 use Rattle.mw_model.specs.Values.Primitive.{Profile, Primitive, primitive_named}
-use Rattle.mw_model.specs.Values.Definition.{Function, Block, Functions, Choice, definitions, function_named, is_present, is_defined}
-use Rattle.mw_model.specs.Values.Value.{Environment, bind, Calls, BlockCalls, OnCall, HaveValues, OnFunction, CallWithin, IsWitness, pick, block_calls, block_calls_within, IsValueWithin}
+use Rattle.mw_model.specs.Values.Definition.{Function, Block, Functions, Choice, definitions, function_named}
+use Rattle.mw_model.specs.Values.Value.{Environment, bind, Calls, BlockCalls, OnCall, HaveValues, OnFunction, CallWithin, IsWitness, pick, block_calls}
 use Rattle.mw_model.specs.Proofs.Proof.{constants}
-use Rattle.mw_model.specs.Laws.CallDepth.{CallOfFunction, CallOfWitness, CallOfEarlier}
+use Rattle.mw_model.specs.Laws.CallDepth.{CallOfFunction, CallOfWitness, CallOfEarlier, is_defined, block_calls_within, IsValueWithin}
 use Rattle.mw_model.proofs.Names.{same_name-refl}
 use Rattle.mw_model.proofs.Depth.{at_some_depth, from_some_depth}
 
@@ -65,7 +65,7 @@ left_false false h = refl
 past_block : (P : Profile) (L : Block) (D : List Block) (k : ℕ) (f : Name) (vs : List Object) (v : Object) → is_defined (L ∷ []) f ≡ false → block_calls_within P (L ∷ D) k f vs v → block_calls P D f vs v
 past_block P (Functions B) D k f vs v n c = go (function_named B f) n c
   where
-    go : (o : Option Function) → (is_present o || false) ≡ false → OnFunction (block_calls P D) (CallWithin P (block_calls P D) B k) o f vs v → block_calls P D f vs v
+    go : (o : Option Function) → (is_some o || false) ≡ false → OnFunction (block_calls P D) (CallWithin P (block_calls P D) B k) o f vs v → block_calls P D f vs v
     go None e c = c
     go (Some h) e c = cc
 past_block P (Choice g y xs b) D k f vs v n c = subst (λ t. pick t (IsWitness P (block_calls P D) y xs b vs v) (block_calls P D f vs v)) (left_false (same_name g f) n) c
@@ -73,7 +73,7 @@ past_block P (Choice g y xs b) D k f vs v n c = subst (λ t. pick t (IsWitness P
 before_block : (P : Profile) (L : Block) (D : List Block) (k : ℕ) (f : Name) (vs : List Object) (v : Object) → is_defined (L ∷ []) f ≡ false → block_calls P D f vs v → block_calls_within P (L ∷ D) k f vs v
 before_block P (Functions B) D k f vs v n c = go (function_named B f) n
   where
-    go : (o : Option Function) → (is_present o || false) ≡ false → OnFunction (block_calls P D) (CallWithin P (block_calls P D) B k) o f vs v
+    go : (o : Option Function) → (is_some o || false) ≡ false → OnFunction (block_calls P D) (CallWithin P (block_calls P D) B k) o f vs v
     go None e = c
     go (Some h) e = cc
 before_block P (Choice g y xs b) D k f vs v n c = subst (λ t. pick t (IsWitness P (block_calls P D) y xs b vs v) (block_calls P D f vs v)) (sym (left_false (same_name g f) n)) c

@@ -1,10 +1,11 @@
 -- The names that blocks define are those of the arity table other than IF and the primitives.
-use Rattle.std.proofs.Common.{◌≡◌, ◌≢◌, ℕ, Bool, true, false, ◌||◌, cond, List, [], ◌∷◌, length, Option, Some, None, refl, sym, ap, ◌∙◌, subst, ◌⊎◌, inl, inr, ⊎_elim}
+use Rattle.std.proofs.Common.{◌≡◌, ◌≢◌, ℕ, Bool, true, false, ◌||◌, cond, List, [], ◌∷◌, length, Option, Some, None, refl, sym, ap, ◌∙◌, subst, ◌⊎◌, inl, inr, ⊎_elim, is_some}
 use Rattle.std.proofs.lemmas.Bool.{or_cases, both_ways, false≢true}
 use Rattle.mw_model.specs.Terms.Object.{Name, named, same_name}
 use Rattle.mw_model.specs.Terms.Term.{ArityTable, arity_of, is_call_name}
 use Rattle.mw_model.specs.Values.Primitive.{Profile, One, Two, Primitive, Times, or_product, primitive_name, primitive_arity, primitive_among, primitive_named, primitive_arities, add_primitives, shared_primitives}
-use Rattle.mw_model.specs.Values.Definition.{Function, Block, Functions, Choice, function_named, add_functions, arities, is_present, is_defined}
+use Rattle.mw_model.specs.Values.Definition.{Function, Block, Functions, Choice, function_named, add_functions, arities}
+use Rattle.mw_model.specs.Laws.CallDepth.{is_defined}
 use Rattle.mw_model.proofs.Names.{name_cases}
 use Rattle.mw_model.proofs.Older.{add_keeps}
 
@@ -52,7 +53,7 @@ module _ (P : Profile) where
   arity_defined [] f n c o a = cc (primitive_arities-none P f c o)
   arity_defined (Functions B ∷ D) f n c o a = go (function_named B f) refl (arity_defined D f n c o)
     where
-      go : (q : Option Function) → function_named B f ≡ q → (arity_of (arities P D) f ≡ Some n → is_defined D f ≡ true) → is_present q || is_defined D f ≡ true
+      go : (q : Option Function) → function_named B f ≡ q → (arity_of (arities P D) f ≡ Some n → is_defined D f ≡ true) → is_some q || is_defined D f ≡ true
       go (Some h) e ih = refl
       go None e ih = ih (sym (add_keeps B (arities P D) f e) ∙ a)
   arity_defined (Choice g y xs b ∷ D) f n c o a = go (same_name g f) a (arity_defined D f n c o)
@@ -73,17 +74,17 @@ module _ (P : Profile) where
       go false (inl e) = absurd (false≢true e)
       go false (inr h) = h
 
-  functions_arity : (B : List Function) (A : ArityTable) (f : Name) → (is_present (function_named B f) ≡ true) ⊎ HasArity A f → HasArity (add_functions B A) f
+  functions_arity : (B : List Function) (A : ArityTable) (f : Name) → (is_some (function_named B f) ≡ true) ⊎ HasArity A f → HasArity (add_functions B A) f
   functions_arity [] A f (inl e) = absurd (false≢true e)
   functions_arity [] A f (inr h) = h
   functions_arity (g ∷ B) A f h = functions_arity B ((g.name, length g.formals) ∷ A) f (go (same_name g.name f) refl h)
     where
-      go : (t : Bool) → same_name g.name f ≡ t → (is_present (cond t (Some g) (function_named B f)) ≡ true) ⊎ HasArity A f → (is_present (function_named B f) ≡ true) ⊎ HasArity ((g.name, length g.formals) ∷ A) f
+      go : (t : Bool) → same_name g.name f ≡ t → (is_some (cond t (Some g) (function_named B f)) ≡ true) ⊎ HasArity A f → (is_some (function_named B f) ≡ true) ⊎ HasArity ((g.name, length g.formals) ∷ A) f
       go true e h = inr (one_more A g.name f (length g.formals) (inl e))
       go false e (inl p) = inl p
       go false e (inr h) = inr (one_more A g.name f (length g.formals) (inr h))
 
   pub defined_arity : (D : List Block) (f : Name) → is_defined D f ≡ true → HasArity (arities P D) f
   defined_arity [] f h = absurd (false≢true h)
-  defined_arity (Functions B ∷ D) f h = functions_arity B (arities P D) f (⊎_elim inl (λ p. inr (defined_arity D f p)) (or_cases (is_present (function_named B f)) (is_defined D f) h))
+  defined_arity (Functions B ∷ D) f h = functions_arity B (arities P D) f (⊎_elim inl (λ p. inr (defined_arity D f p)) (or_cases (is_some (function_named B f)) (is_defined D f) h))
   defined_arity (Choice g y xs b ∷ D) f h = one_more (arities P D) g f (length xs) (⊎_elim inl (λ p. inr (defined_arity D f p)) (or_cases (same_name g f) (is_defined D f) h))

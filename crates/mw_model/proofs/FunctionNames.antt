@@ -1,10 +1,10 @@
 -- A name in the arity table of well-made definitions is a function name.
-use Rattle.std.proofs.Common.{◌≡◌, ℕ, Bool, true, false, ◌&&◌, cond, List, [], ◌∷◌, length, Some, refl, subst}
+use Rattle.std.proofs.Common.{◌≡◌, ℕ, Bool, true, false, ◌&&◌, cond, List, [], ◌∷◌, length, Some, refl, subst, is_none}
 use Rattle.std.proofs.lemmas.Bool.{and_parts, and_from}
 use Rattle.mw_model.specs.Terms.Object.{Name, same_name}
 use Rattle.mw_model.specs.Terms.Term.{ArityTable, arity_of, is_function_name}
 use Rattle.mw_model.specs.Values.Primitive.{Profile, One, Two, primitive_arities}
-use Rattle.mw_model.specs.Values.Definition.{Function, Block, Functions, Choice, function_named, add_functions, arities, is_absent, is_new, are_new, are_blocks}
+use Rattle.mw_model.specs.Values.Definition.{Function, Block, Functions, Choice, function_named, add_functions, arities, is_new, are_new, are_blocks}
 use Rattle.mw_model.proofs.Names.{same_name-eq}
 use Rattle.mw_model.proofs.Older.{functions_new, choice_new}
 
@@ -33,9 +33,9 @@ new_names : (B : List Function) (A C : ArityTable) → are_new C B ≡ true → 
 unfolding are_function_names
 new_names [] A C w h = h
 new_names (g ∷ B) A C w h =
-    let p = and_parts (is_new C g.name) (is_absent (function_named B g.name) && are_new C B) w in
-    let q = and_parts (is_absent (function_named B g.name)) (are_new C B) p.1 in
-    let r = and_parts (is_function_name g.name) (is_absent (arity_of C g.name)) p.0 in
+    let p = and_parts (is_new C g.name) (is_none (function_named B g.name) && are_new C B) w in
+    let q = and_parts (is_none (function_named B g.name)) (are_new C B) p.1 in
+    let r = and_parts (is_function_name g.name) (is_none (arity_of C g.name)) p.0 in
     new_names B ((g.name, length g.formals) ∷ A) C q.1 (and_from (is_function_name g.name) (are_function_names A) r.0 h)
 
 module _ (P : Profile) where
@@ -45,7 +45,7 @@ module _ (P : Profile) where
   block_names (Functions B ∷ D) w = let p = functions_new P B D w in new_names B (arities P D) (arities P D) p.0 (block_names D p.2)
   block_names (Choice g y xs b ∷ D) w =
       let p = choice_new P g y xs b D w in
-      and_from (is_function_name g) (are_function_names (arities P D)) (and_parts (is_function_name g) (is_absent (arity_of (arities P D) g)) p.0).0 (block_names D p.1)
+      and_from (is_function_name g) (are_function_names (arities P D)) (and_parts (is_function_name g) (is_none (arity_of (arities P D) g)) p.0).0 (block_names D p.1)
 
   pub table_names : (D : List Block) → are_blocks P D ≡ true → (f : Name) (n : ℕ) → arity_of (arities P D) f ≡ Some n → is_function_name f ≡ true
   table_names D w f n a = found (arities P D) (block_names D w) f n a

@@ -2,26 +2,27 @@
 pub use Rattle.mw_model.proofs.Names.{name_of_bytes-bytes}
 use Rattle.std.proofs.Common.{◌≡◌, ℕ, suc, ◌+◌, Bool, true, false, ◌||◌, ◌&&◌, List, [], ◌∷◌, ◌++◌, length, refl, sym, ap, ap₂, ◌∙◌, if◌then◌else◌, arith, append_assoc, length-append}
 use Rattle.std.proofs.lemmas.Bool.{and_parts, both_ways}
-use Rattle.mw_model.specs.Terms.Object.{Object, Symbol, Name, is_name, is_name_byte, are_name_bytes, name_of_bytes}
-use Rattle.mw_model.specs.Texts.Lexemes.{Atom, Stray, fault, TOKEN, Ending, Ends, Goes, lexemes_from, class_else, Constituent, piece, extent, token, atom, barred, glued, glued_bar, all_are, run_of, after_run, is_constituent, Whole, token_form}
+use Rattle.mw_model.specs.Terms.Object.{Object, Symbol, Name, is_name, is_name_byte, name_of_bytes}
+use Rattle.mw_model.specs.Texts.Lexemes.{Atom, Stray, fault, TOKEN, Ending, Ends, Goes, lexemes_from, class_else, Constituent, piece, extent, token, atom, barred, glued, glued_bar, run_of, after_run, is_constituent, Whole, token_form}
+use Rattle.std.specs.List.{list_all}
 
 -- nothing, or a byte that is not of the class
 abbrev pub StopsRun : (ℕ → Bool) → List ℕ → Type 0
 StopsRun p [] = Unit {0}
 StopsRun p (b ∷ y) = p b ≡ false
 
-pub run_of-append : (p : ℕ → Bool) (t z : List ℕ) → all_are p t ≡ true → StopsRun p z → run_of p (t ++ z) ≡ t
+pub run_of-append : (p : ℕ → Bool) (t z : List ℕ) → list_all p t ≡ true → StopsRun p z → run_of p (t ++ z) ≡ t
 run_of-append p [] [] h f = refl
 run_of-append p [] (b ∷ y) h f = ap (λ v. if v then b ∷ run_of p y else []) f
 run_of-append p (c ∷ t) z h f =
-    let a = and_parts (p c) (all_are p t) h in
+    let a = and_parts (p c) (list_all p t) h in
     ap (λ v. if v then c ∷ run_of p (t ++ z) else []) a.0 ∙ ap (λ u. c ∷ u) (run_of-append p t z a.1 f)
 
-pub after_run-append : (p : ℕ → Bool) (t z : List ℕ) → all_are p t ≡ true → StopsRun p z → after_run p (t ++ z) ≡ z
+pub after_run-append : (p : ℕ → Bool) (t z : List ℕ) → list_all p t ≡ true → StopsRun p z → after_run p (t ++ z) ≡ z
 after_run-append p [] [] h f = refl
 after_run-append p [] (b ∷ y) h f = ap (λ v. if v then after_run p y else b ∷ y) f
 after_run-append p (c ∷ t) z h f =
-    let a = and_parts (p c) (all_are p t) h in
+    let a = and_parts (p c) (list_all p t) h in
     ap (λ v. if v then after_run p (t ++ z) else c ∷ (t ++ z)) a.0 ∙ after_run-append p t z a.1 f
 
 -- bytes that are taken
@@ -65,10 +66,10 @@ atom-allowed Ends bad o x end (b ∷ y) h = ap (λ v. if v then Atom o x ∷ Str
 atom-allowed Goes bad o x end (b ∷ y) h = ap (λ v. if v then Atom o x ∷ Stray (fault TOKEN end) ∷ [] else Atom o x ∷ []) h
 
 -- a token that stands for an atom
-pub lexemes_from-token : (e : Ending) (o c : ℕ) (t z : List ℕ) (x : Object) → all_are is_constituent (c ∷ t) ≡ true → token_form (c ∷ t) ≡ Whole x → Delimits e z →
+pub lexemes_from-token : (e : Ending) (o c : ℕ) (t z : List ℕ) (x : Object) → list_all is_constituent (c ∷ t) ≡ true → token_form (c ∷ t) ≡ Whole x → Delimits e z →
     lexemes_from e o 0 ((c ∷ t) ++ z) ≡ Atom o x ∷ lexemes_from e (o + length (c ∷ t)) 0 z
 lexemes_from-token e o c t z x h f d =
-    let a = and_parts (is_constituent c) (all_are is_constituent t) h in
+    let a = and_parts (is_constituent c) (list_all is_constituent t) h in
     let y = t ++ z in
     ap (λ k. piece k e o c y ++ lexemes_from e (suc o) (extent k y) y) (ap (λ v. if v then Constituent else class_else c) a.0)
     ∙ ap₂ (λ u v. token e o (c ∷ u) (token_form (c ∷ u)) v ++ lexemes_from e (suc o) (length u) y)
@@ -78,7 +79,7 @@ lexemes_from-token e o c t z x h f d =
     (lexemes_from-taken e t z (suc o) ∙ ap (λ n. lexemes_from e n 0 z) (omega arith))
 
 -- a name in bars
-are_name_bytes-all : (n : List ℕ) → are_name_bytes n ≡ all_are is_name_byte n
+are_name_bytes-all : (n : List ℕ) → list_all is_name_byte n ≡ list_all is_name_byte n
 are_name_bytes-all [] = refl
 are_name_bytes-all (c ∷ n) = ap (λ v. is_name_byte c && v) (are_name_bytes-all n)
 
@@ -92,7 +93,7 @@ lexemes_from-bars e o s (c ∷ n) z q d =
     let m = c ∷ n in
     let y = (m ++ 124 ∷ []) ++ z in
     let assoc : y ≡ m ++ 124 ∷ z = append_assoc m (124 ∷ []) z in
-    let are : all_are is_name_byte m ≡ true = sym (ap (λ v. is_name_byte c && v) (are_name_bytes-all n)) ∙ sym (ap is_name q) ∙ s.valid in
+    let are : list_all is_name_byte m ≡ true = sym (ap (λ v. is_name_byte c && v) (are_name_bytes-all n)) ∙ sym (ap is_name q) ∙ s.valid in
     ap (λ y. barred e o (run_of is_name_byte y) (after_run is_name_byte y) ++ lexemes_from e (suc o) (suc (length (run_of is_name_byte y))) y) assoc
     ∙ ap₂ (λ u v. barred e o u v ++ lexemes_from e (suc o) (suc (length u)) (m ++ 124 ∷ z)) (run_of-append is_name_byte m (124 ∷ z) are refl) (after_run-append is_name_byte m (124 ∷ z) are refl)
     ∙ ap₂ (λ u v. u ++ v)

@@ -15,6 +15,7 @@ pub mod Readable
 pub mod Read
 pub mod SubstituteObject
 pub mod EqualityExact
+pub mod Rows
 pub mod Follows
 pub mod Judging
 pub mod RulesExact

@@ -7,7 +7,8 @@ use Rattle.mw_model.specs.Texts.Lexemes.{Fault, Ends, Goes}
 use Rattle.mw_model.specs.Texts.Grammar.{Book, book, reading, limit, cut_short, trees}
 use Rattle.mw_model.specs.Events.Theory.{Theory, initial}
 use Rattle.mw_model.specs.Events.Fate.{fate, next, after}
-use Rattle.mw_model.specs.Reports.Report.{line, lines, lines_so_far, report, last_line}
+use Rattle.mw_model.specs.Reports.Report.{line, lines, report, last_line}
+use Rattle.mw_model.specs.Laws.Lines.{lines_so_far}
 use Rattle.mw_model.proofs.ReadingGrows.{BookGrows, reading_grows}
 
 -- ---- a whole book

@@ -1,10 +1,10 @@
 -- A new name is no primitive's, and neither IF nor QUOTE; each name of a block that is well made was new.
-use Rattle.std.proofs.Common.{◌≡◌, Bool, true, false, ◌&&◌, not, cond, List, [], ◌∷◌, length, Option, Some, None, refl, sym, ap, ap₂, ◌∙◌, subst}
+use Rattle.std.proofs.Common.{◌≡◌, Bool, true, false, ◌&&◌, not, cond, List, [], ◌∷◌, length, Option, Some, None, refl, sym, ap, ap₂, ◌∙◌, subst, is_some, is_none}
 use Rattle.std.proofs.lemmas.Bool.{and_parts, false≢true}
 use Rattle.mw_model.specs.Terms.Object.{Name, named, same_name}
 use Rattle.mw_model.specs.Terms.Term.{ArityTable, arity_of, is_function_name, is_call_name}
 use Rattle.mw_model.specs.Values.Primitive.{Profile, One, Two, Primitive, Times, primitive_name, primitive_arity, shared_primitives, primitive_among, or_product, primitive_named, add_primitives, primitive_arities}
-use Rattle.mw_model.specs.Values.Definition.{Function, Block, Functions, Choice, function_named, add_functions, arities, is_absent, is_present, is_new, are_new, are_blocks}
+use Rattle.mw_model.specs.Values.Definition.{Function, Block, Functions, Choice, function_named, add_functions, arities, is_new, are_new, are_blocks}
 use Rattle.mw_model.specs.Values.Truth.{Each}
 use Rattle.mw_model.proofs.Names.{same_name-eq, same_name-refl}
 use Rattle.mw_model.proofs.Older.{cond_none, not_named, arity_stays, functions_new, choice_new}
@@ -12,12 +12,12 @@ use Rattle.mw_model.proofs.Older.{cond_none, not_named, arity_stays, functions_n
 pub none_some : {X : Type 0} (x : X) → None ≡ Some x → ⊥
 none_some x h = cc
 
-absent_none : {X : Type 0} (o : Option X) → is_absent o ≡ true → o ≡ None
+absent_none : {X : Type 0} (o : Option X) → is_none o ≡ true → o ≡ None
 absent_none None h = refl
 absent_none (Some x) h = absurd (false≢true h)
 
 pub new_absent : (A : ArityTable) (f : Name) → is_new A f ≡ true → arity_of A f ≡ None
-new_absent A f h = absent_none (arity_of A f) (and_parts (is_function_name f) (is_absent (arity_of A f)) h).1
+new_absent A f h = absent_none (arity_of A f) (and_parts (is_function_name f) (is_none (arity_of A f)) h).1
 
 -- the primitives
 primitives_none : (ps : List Primitive) (A : ArityTable) (f : Name) → arity_of (add_primitives ps A) f ≡ None → (primitive_among ps f ≡ None) × (arity_of A f ≡ None)
@@ -79,25 +79,25 @@ not_quote f h = go (same_name f (named "QUOTE")) refl
 
 pub new_call_name : (P : Profile) (D : List Block) (f : Name) → is_new (arities P D) f ≡ true → is_call_name f ≡ true
 new_call_name P D f h =
-    ap₂ (λ q i. not q && not i) (not_quote f (and_parts (is_function_name f) (is_absent (arity_of (arities P D) f)) h).0)
+    ap₂ (λ q i. not q && not i) (not_quote f (and_parts (is_function_name f) (is_none (arity_of (arities P D) f)) h).0)
     (not_if P f (none_below P D f (new_absent (arities P D) f h)))
 
 -- the names of a block
 pub each_new : (A : ArityTable) (B : List Function) → are_new A B ≡ true → Each (λ h. is_new A h.name ≡ true) B
 each_new A [] w = tt
 each_new A (h ∷ B) w =
-    let p = and_parts (is_new A h.name) (is_absent (function_named B h.name) && are_new A B) w in
-    (p.0, each_new A B (and_parts (is_absent (function_named B h.name)) (are_new A B) p.1).1)
+    let p = and_parts (is_new A h.name) (is_none (function_named B h.name) && are_new A B) w in
+    (p.0, each_new A B (and_parts (is_none (function_named B h.name)) (are_new A B) p.1).1)
 
-pub no_if : (P : Profile) (B : List Function) (D : List Block) → are_blocks P (Functions B ∷ D) ≡ true → is_present (function_named B (named "IF")) ≡ false
-no_if P B D w = ap is_present (not_named (arities P D) B (named "IF") 3 (functions_new P B D w).0 (if_known P D (functions_new P B D w).2))
+pub no_if : (P : Profile) (B : List Function) (D : List Block) → are_blocks P (Functions B ∷ D) ≡ true → is_some (function_named B (named "IF")) ≡ false
+no_if P B D w = ap is_some (not_named (arities P D) B (named "IF") 3 (functions_new P B D w).0 (if_known P D (functions_new P B D w).2))
 
 -- each function of the block is the one that its name finds, since the names are distinct
 pub each_found : (A : ArityTable) (B : List Function) → are_new A B ≡ true → Each (λ h. function_named B h.name ≡ Some h) B
 each_found A [] w = tt
 each_found A (g ∷ B) w =
-    let p = and_parts (is_new A g.name) (is_absent (function_named B g.name) && are_new A B) w in
-    let q = and_parts (is_absent (function_named B g.name)) (are_new A B) p.1 in
+    let p = and_parts (is_new A g.name) (is_none (function_named B g.name) && are_new A B) w in
+    let q = and_parts (is_none (function_named B g.name)) (are_new A B) p.1 in
     (ap (λ b. cond b (Some g) (function_named B g.name)) (same_name-refl g.name), others B (absent_none (function_named B g.name) q.0) (each_found A B q.1))
   where
     other : (h : Function) → function_named B g.name ≡ None → function_named B h.name ≡ Some h → (b : Bool) → same_name g.name h.name ≡ b → cond b (Some g) (function_named B h.name) ≡ Some h

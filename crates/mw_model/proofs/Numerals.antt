@@ -2,16 +2,17 @@
 use Rattle.std.proofs.Common.{◌≡◌, ℕ, zero, suc, ◌+◌, ◌-◌, ◌*◌, ◌/◌, ◌%◌, ◌^◌, ◌≤◌, ◌<◌, Bool, true, false, List, [], ◌∷◌, ◌++◌, length, refl, sym, ap, ◌∙◌, if◌then◌else◌, leb, ltb, arith, decimal, le-leb, ltb-true, ltb-false}
 use Rattle.std.proofs.lemmas.Bool.{and_parts, and_from}
 use Rattle.std.proofs.lemmas.Fmt.{decimal_step_wide, decimal_digit}
-use Rattle.mw_model.specs.Texts.Lexemes.{all_are, is_digit, decimal_from, decimal_value}
+use Rattle.mw_model.specs.Texts.Lexemes.{is_digit, decimal_from, decimal_value}
+use Rattle.std.specs.List.{list_all}
 use Rattle.mw_model.specs.Texts.Printing.{numeral, numeral_from}
 
 -- one or more digits, with the value n
 abbrev pub IsNumeral : ℕ → List ℕ → Type 0
-IsNumeral n ds = (all_are is_digit ds ≡ true) × (decimal_value ds ≡ n) × (0 < length ds)
+IsNumeral n ds = (list_all is_digit ds ≡ true) × (decimal_value ds ≡ n) × (0 < length ds)
 
-pub all_are-append : (p : ℕ → Bool) (t u : List ℕ) → all_are p t ≡ true → all_are p u ≡ true → all_are p (t ++ u) ≡ true
+pub all_are-append : (p : ℕ → Bool) (t u : List ℕ) → list_all p t ≡ true → list_all p u ≡ true → list_all p (t ++ u) ≡ true
 all_are-append p [] u h k = k
-all_are-append p (c ∷ t) u h k = let a = and_parts (p c) (all_are p t) h in and_from (p c) (all_are p (t ++ u)) a.0 (all_are-append p t u a.1 k)
+all_are-append p (c ∷ t) u h k = let a = and_parts (p c) (list_all p t) h in and_from (p c) (list_all p (t ++ u)) a.0 (all_are-append p t u a.1 k)
 
 decimal_from-more : (m d : ℕ) (t : List ℕ) → decimal_from m (t ++ d ∷ []) ≡ 10 * decimal_from m t + (d - 48)
 decimal_from-more m d [] = refl

@@ -1,10 +1,10 @@
 -- Reading back asks only that calls have names that a call may have.
-use Rattle.std.proofs.Common.{◌≡◌, Bool, true, false, ◌&&◌, cond, not, List, [], ◌∷◌, Some, refl, ap, ap₂, ◌∙◌}
+use Rattle.std.proofs.Common.{◌≡◌, Bool, true, false, ◌&&◌, cond, not, List, [], ◌∷◌, Some, refl, ap, ap₂, ◌∙◌, option_map}
 use Rattle.std.proofs.lemmas.Bool.{and_parts, not-true}
 use Rattle.std.specs.Cmp.{both_ways as same_test}
 use Rattle.mw_model.specs.Terms.Object.{Name, named, same_name, same_object}
 use Rattle.mw_model.specs.Terms.Term.{Term, Terms, Variable, Constant, If, Call, Lambda, NoTerms, More, Formula, Equal, Not, Or, term_object, terms_object, formula_object, names_object, is_call_name, ArityTable, is_term, is_formula, IsFormula}
-use Rattle.mw_model.specs.Terms.Reading.{names_of, and_more, more_terms, if_of, plain_call, lambda_of, term_of, terms_of, equal_of, not_of, or_of, formula_of}
+use Rattle.mw_model.specs.Terms.Reading.{names_of, and_more, if_of, lambda_of, term_of, terms_of, formula_of, map2}
 use Rattle.mw_model.specs.Terms.Same.{same_term, same_formula}
 use Rattle.mw_model.specs.Terms.Substitution.{Substitution, substitute, substitute_each, substitute_formula, image, actuals_for, is_substitution}
 use Rattle.mw_model.proofs.Names.{same_object-eq, same_object-from}
@@ -60,18 +60,18 @@ mutual
   pub readable_term : (t : Term) → Readable t → term_of (term_object t) ≡ Some t
   readable_term (Variable x) i = refl
   readable_term (Constant c) i = refl
-  readable_term (If a b c) i = ap if_of (ap₂ more_terms (readable_term a i.0) (ap₂ more_terms (readable_term b i.1) (ap (λ o. more_terms o (Some NoTerms)) (readable_term c i.2))))
-  readable_term (Call f ts) i = rw (not_quote f i.0, not_if f i.0) (ap (plain_call f) (readable_terms ts i.1))
+  readable_term (If a b c) i = ap if_of (ap₂ (map2 More) (readable_term a i.0) (ap₂ (map2 More) (readable_term b i.1) (ap (λ o. map2 More o (Some NoTerms)) (readable_term c i.2))))
+  readable_term (Call f ts) i = rw (not_quote f i.0, not_if f i.0) (ap (option_map (Call f)) (readable_terms ts i.1))
   readable_term (Lambda xs b ts) i = ap (λ o. lambda_of true o (term_of (term_object b)) (terms_of (terms_object ts))) (names_read xs) ∙ ap₂ (lambda_of true (Some xs)) (readable_term b i.0) (readable_terms ts i.1)
 
   pub readable_terms : (ts : Terms) → AreReadable ts → terms_of (terms_object ts) ≡ Some ts
   readable_terms NoTerms i = refl
-  readable_terms (More t ts) i = ap₂ more_terms (readable_term t i.0) (readable_terms ts i.1)
+  readable_terms (More t ts) i = ap₂ (map2 More) (readable_term t i.0) (readable_terms ts i.1)
 
 pub readable_formula : (F : Formula) → ReadableFormula F → formula_of (formula_object F) ≡ Some F
-readable_formula (Equal a b) i = ap₂ equal_of (readable_term a i.0) (readable_term b i.1)
-readable_formula (Not F) i = ap not_of (readable_formula F i)
-readable_formula (Or F G) i = ap₂ or_of (readable_formula F i.0) (readable_formula G i.1)
+readable_formula (Equal a b) i = ap₂ (map2 Equal) (readable_term a i.0) (readable_term b i.1)
+readable_formula (Not F) i = ap (option_map Not) (readable_formula F i)
+readable_formula (Or F G) i = ap₂ (map2 Or) (readable_formula F i.0) (readable_formula G i.1)
 
 -- objects are read in one way
 pub term_object-one : (t u : Term) → Readable t → Readable u → term_object t ≡ term_object u → t ≡ u

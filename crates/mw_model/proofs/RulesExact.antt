@@ -1,11 +1,10 @@
 -- The tests on objects of formulas are those on formulas: connectives, beta reduction and instances.
-use Rattle.std.proofs.Common.{◌≡◌, Bool, true, false, ◌&&◌, cond, [], Option, Some, None, refl, sym, ap, ap₂, ◌∙◌, subst}
+use Rattle.std.proofs.Common.{◌≡◌, Bool, true, false, ◌&&◌, cond, [], Option, Some, None, refl, sym, ap, ap₂, ◌∙◌, subst, option_map, is_some}
 use Rattle.mw_model.specs.Terms.Object.{Name, Object, Natural, Symbol, Pair, same_name, same_object, nil_name}
 use Rattle.mw_model.specs.Terms.Term.{Term, Variable, Constant, If, Call, Lambda, Formula, Equal, Not, Or, term_object, formula_object, ArityTable, is_term, IsFormula, is_variable}
 use Rattle.mw_model.specs.Terms.Same.{same_formula}
 use Rattle.mw_model.specs.Terms.Reading.{term_of, that, when, if_nil, and_more}
-use Rattle.mw_model.specs.Terms.Substitution.{Substitution, substitute, substitute_formula, actuals_for, substitution_object, substitution_of, pair_for, is_substitution}
-use Rattle.mw_model.specs.Values.Definition.{is_present}
+use Rattle.mw_model.specs.Terms.Substitution.{Substitution, substitute, substitute_formula, actuals_for, substitution_object, substitution_of, is_substitution}
 use Rattle.mw_model.specs.Proofs.Judgment.{is_schema, is_beta, is_expansion, is_contraction, is_associativity, is_cut, is_instance}
 use Rattle.mw_model.specs.Laws.Rules.{object_is_schema, object_is_expansion, object_is_contraction, object_is_associativity, object_is_cut, substitute_object, substitute_formula_object, object_is_beta, is_substitution_object, object_is_instance}
 use Rattle.mw_model.proofs.Readable.{ReadableFormula, formula_readable, same_object-terms, same_object-formulas, substitute-readable, substitute_formula-readable, substitution_readable, actuals_for-readable}
@@ -60,11 +59,11 @@ abbrev pub passes : {X : Type 0} → (X → Bool) → Option X → Bool
 passes test None = false
 passes test (Some x) = test x
 
-pub that-present : {X : Type 0} (test : X → Bool) (o : Option X) → is_present (that test o) ≡ passes test o
+pub that-present : {X : Type 0} (test : X → Bool) (o : Option X) → is_some (that test o) ≡ passes test o
 that-present test None = refl
 that-present test (Some x) = go (test x)
   where
-    go : (b : Bool) → is_present (when b (Some x)) ≡ b
+    go : (b : Bool) → is_some (when b (Some x)) ≡ b
     go true = refl
     go false = refl
 
@@ -91,7 +90,7 @@ module _ (A : ArityTable) where
       none true false = refl
       none false b = refl
 
-      go : (o : Option Term) (p : Option Substitution) → (is_variable x && (passes (is_term A) o && passes (is_substitution A) p)) ≡ passes (is_substitution A) (and_more (pair_for x o) p)
+      go : (o : Option Term) (p : Option Substitution) → (is_variable x && (passes (is_term A) o && passes (is_substitution A) p)) ≡ passes (is_substitution A) (and_more (option_map (λ t. (x, t)) o) p)
       go None p = none (is_variable x) true
       go (Some u) None = none (is_variable x) (is_term A u)
       go (Some u) (Some s) = refl

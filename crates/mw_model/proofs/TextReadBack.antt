@@ -3,7 +3,8 @@ use Rattle.std.proofs.Common.{◌≡◌, ℕ, zero, suc, ◌+◌, ◌≤◌, ◌
 use Rattle.mw_model.specs.Terms.Object.{Object, Natural, Symbol, Pair, Name, NIL, nil_name, same_name}
 use Rattle.mw_model.specs.Texts.Lexemes.{Lexeme, Atom, Open, Close, Dot, Mark, End, Fault, unfinished, Ending, Ends, Goes, lexemes_from}
 use Rattle.mw_model.specs.Texts.Grammar.{Labels, Unused, Got, and_then, and_tail, Datum, First, Tail, read, book, pairing, and_data, and_events, enough, data_of, reading, trees, limit, cut_short}
-use Rattle.mw_model.specs.Texts.Printing.{text_of, tail_text, numeral, name_text, end_text, text_lines}
+use Rattle.mw_model.specs.Texts.Printing.{text_of, tail_text, numeral, name_text, end_text}
+use Rattle.mw_model.specs.Laws.Lines.{text_lines}
 use Rattle.mw_model.specs.Texts.Written.{labels_begun}
 use Rattle.mw_model.proofs.Names.{same_name-eq}
 use Rattle.mw_model.proofs.Lexing.{Delimits}

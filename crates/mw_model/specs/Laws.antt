@@ -8,3 +8,4 @@ pub mod Rewriting
 pub mod AxiomsText
 pub mod BuiltInText
 pub mod BuiltInReading
+pub mod Lines

@@ -4,9 +4,9 @@ ghost use Rattle.mw_model.specs.Terms.Object.{Name, Object};
 ghost use Rattle.mw_model.specs.Terms.Term.{Term, Terms, Call};
 ghost use Rattle.mw_model.specs.Values.Primitive.{Profile, primitive_named};
 ghost use Rattle.mw_model.specs.Values.Definition.{Definitions, IsWellMade, definitions};
-ghost use Rattle.mw_model.specs.Values.Value.{Environment, IsValue, IsValueWithin};
+ghost use Rattle.mw_model.specs.Values.Value.{Environment, IsValue};
 ghost use Rattle.mw_model.specs.Events.Evaluation.{Value, evaluate};
-ghost use Rattle.mw_model.specs.Laws.CallDepth.{CallOfEarlier, CallOfFunction, CallOfWitness};
+ghost use Rattle.mw_model.specs.Laws.CallDepth.{CallOfEarlier, CallOfFunction, CallOfWitness, IsValueWithin};
 
 /// A term has at most one value, whatever the definitions.
 pub fn one_value()

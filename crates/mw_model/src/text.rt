@@ -11,8 +11,9 @@ ghost use Rattle.mw_model.specs.Laws.BuiltInReading.{blocks_of};
 ghost use Rattle.mw_model.specs.Laws.BuiltInText.{built_in_text};
 ghost use Rattle.mw_model.specs.Texts.Lexemes.{Ending, Ends, Goes, Fault, decimal_value};
 ghost use Rattle.mw_model.specs.Texts.Grammar.{book, limit, reading, trees};
-ghost use Rattle.mw_model.specs.Texts.Printing.{numeral, text_lines, text_of};
-ghost use Rattle.mw_model.specs.Reports.Report.{lines_so_far, report};
+ghost use Rattle.mw_model.specs.Texts.Printing.{numeral, text_of};
+ghost use Rattle.mw_model.specs.Laws.Lines.{text_lines, lines_so_far};
+ghost use Rattle.mw_model.specs.Reports.Report.{report};
 
 /// What is printed is read back: an object alone, an object on a line, and any objects, each on a line.
 pub fn text_read_back()

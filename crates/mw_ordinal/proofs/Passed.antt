@@ -4,8 +4,8 @@ use Rattle.mw_model.specs.Terms.Object.{Object, Natural, Symbol, Pair, same_obje
 use Rattle.mw_model.specs.Values.Primitive.{number, is_natural, is_pair}
 use Rattle.mw_model.specs.Laws.Ordinal.{is_ordinal, leads_below}
 use Rattle.mw_ordinal.specs.Leading.{may_lead}
-use Rattle.mw_heap.specs.declared.view.View.{View}
-use Rattle.mw_heap.specs.declared.view.View.TheVariants.{Nat, Symbol as Name, Pair as Parts}
+use Rattle.mw_heap.specs.declared.store.view.View.{View}
+use Rattle.mw_heap.specs.declared.store.view.View.TheVariants.{Nat, Symbol as Name, Pair as Parts}
 use Rattle.mw_heap.specs.Objects.{Shows}
 
 -- the test of the rest goes last

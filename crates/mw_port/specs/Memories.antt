@@ -1,5 +1,5 @@
 -- Sources and sinks in memory: how many bytes a call moves, and which calls fail.
-use Rattle.std.specs.Prelude.{ℕ, ◌+◌, Bool, ◌&&◌, nat_eq, nat_lt, List, length, slice_index, max, min, if◌then◌else◌}
+use Rattle.std.specs.Prelude.{ℕ, ◌+◌, Bool, ◌&&◌, nat_eq, nat_lt, List, length, slice_index, max, min, Option, None, if◌then◌else◌}
 use Rattle.std.specs.List.{list_any}
 use Rattle.mw_port.specs.Ports.{last_count}
 
@@ -35,3 +35,7 @@ pub record Taking : Type 0 where
 -- the count of faults of what never fails, and of shortages of what needs no memory
 abbrev pub no_faults : ℕ
 no_faults = 0
+
+-- the bytes of what tells none
+abbrev pub untold : Option (List ℕ)
+untold = None

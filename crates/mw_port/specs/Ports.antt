@@ -25,7 +25,3 @@ abbrev pub Takes : Option (List ℕ) → Option (List ℕ) → List ℕ → Type
 Takes (Some old) (Some new) piece = new ≡ old ++ piece
 Takes None None piece = Unit {0}
 Takes _ _ piece = ⊥
-
--- the bytes of what tells none
-abbrev pub untold : Option (List ℕ)
-untold = None

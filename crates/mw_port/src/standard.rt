@@ -1,13 +1,13 @@
 //! The standard streams: the edge that is trusted. They tell no bytes, but hand on what the stream below them moves.
 ghost use Rattle.std.specs.Prelude.{◌≡◌, ◌<◌, ◌≤◌, length, take, IfOk, OnOk, OnErr, IsErrOf};
 ghost use Rattle.std.specs.Io.KnownBytes.{Consumes, Appends, Keeps, IsAtEnd};
-ghost use Rattle.mw_port.specs.Memories.{no_faults};
-ghost use Rattle.mw_port.specs.Ports.{Rises, Gives, HasEnded, Takes, untold};
+ghost use Rattle.mw_port.specs.Memories.{no_faults, untold};
+ghost use Rattle.mw_port.specs.Ports.{Rises, Gives, HasEnded, Takes};
 
 use crate::{Failed, Halt, Sink, Source};
 use std::io::{ErrorKind, Read, Write};
 
-/// How often a call that was interrupted is tried again.
+/// How often a call that was interrupted is tried again: no system interrupts that many in a row, and the loop has an end.
 const TRIES: u32 = 1_000_000;
 
 /// Standard input, or any other reader.

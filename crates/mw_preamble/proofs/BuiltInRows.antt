@@ -4,12 +4,12 @@ use Rattle.std.proofs.lemmas.List.{map-append}
 use Rattle.mw_model.specs.Terms.Object.{Object, NIL}
 use Rattle.mw_model.specs.Terms.Term.{ArityTable, formula_object}
 use Rattle.mw_model.specs.Values.Primitive.{Profile, One, Two, primitive_arities}
-use Rattle.mw_model.specs.Values.Definition.{Function, Block, Functions, Choice, function_axiom, function_axioms, block_axioms, add_functions, add_block, arities, arity_table}
+use Rattle.mw_model.specs.Values.Definition.{Function, Block, Functions, Choice, function_axiom, block_axioms, add_functions, add_block, arities, arity_table}
 use Rattle.mw_model.specs.BuiltIns.BuiltIn.{built_in}
 use Rattle.mw_preamble.specs.Admitted.{definitions_of, axioms_in_order}
 use Rattle.mw_preamble.specs.Rows.{function_rows, block_rows, rows_before, built_in_rows, are_rows, with_rows, axioms_of}
 
-axioms_of-functions : (B : List Function) (rest : Object) → axioms_of (function_rows B rest) ≡ map formula_object (function_axioms B) ++ axioms_of rest
+axioms_of-functions : (B : List Function) (rest : Object) → axioms_of (function_rows B rest) ≡ map formula_object (map function_axiom B) ++ axioms_of rest
 axioms_of-functions [] rest = refl
 axioms_of-functions (h ∷ B) rest = ap (λ l. formula_object (function_axiom h) ∷ l) (axioms_of-functions B rest)
 

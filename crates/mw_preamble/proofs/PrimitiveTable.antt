@@ -1,12 +1,11 @@
 -- The entries of the table of the primitives, added one after the other.
-use Rattle.std.proofs.Common.{◌≡◌, ℕ, ◌+◌, ◌<◌, Bool, true, None, ◌&&◌, List, [], ◌∷◌, length, get_or, drop, refl, sym, ap, ap₂, ◌∙◌, subst, drop-cons, add-one}
+use Rattle.std.proofs.Common.{◌≡◌, ℕ, ◌+◌, ◌<◌, Bool, true, None, ◌&&◌, List, [], ◌∷◌, length, get_or, drop, refl, sym, ap, ap₂, ◌∙◌, subst, drop-cons, add-one, is_none}
 use Rattle.std.proofs.lemmas.Bool.{and_parts}
 use Rattle.mw_model.specs.Terms.Object.{name_of_bytes}
 use Rattle.mw_model.specs.Terms.Term.{ArityTable, arity_of}
 use Rattle.mw_model.specs.Values.Primitive.{One, Two, primitive_arities}
-use Rattle.mw_model.specs.Values.Definition.{is_absent}
-use Rattle.mw_heap.specs.declared.primitive.Primitive.{Primitive}
-use Rattle.mw_heap.specs.declared.primitive.Primitive.TheVariants.{Times}
+use Rattle.mw_heap.specs.declared.vocabulary.primitive.Primitive.{Primitive}
+use Rattle.mw_heap.specs.declared.vocabulary.primitive.Primitive.TheVariants.{Times}
 use Rattle.mw_heap.specs.PrimitiveNames.{primitive_bytes}
 use Rattle.mw_preamble.specs.declared.primitives.TheConstants.{PRIMITIVES}
 use Rattle.mw_preamble.proofs.RowShape.{absent_none}
@@ -20,7 +19,7 @@ with_entries A (e ∷ es) = with_entries (with_entry A e) es
 
 abbrev pub are_new : ArityTable → List (Primitive × ℕ) → Bool
 are_new A [] = true
-are_new A (e ∷ es) = is_absent (arity_of A (name_of_bytes (primitive_bytes e.0))) && are_new (with_entry A e) es
+are_new A (e ∷ es) = is_none (arity_of A (name_of_bytes (primitive_bytes e.0))) && are_new (with_entry A e) es
 
 pub table_new : are_new [] PRIMITIVES ≡ true
 table_new = refl
@@ -38,7 +37,7 @@ pub turn : (A : ArityTable) (es : List (Primitive × ℕ)) (i : ℕ) (d : Primit
 turn A es i d bytes within new is =
     let e = get_or es i d in
     let next : drop i es ≡ e ∷ drop (i + 1) es = drop-cons es i d within ∙ ap (λ k. e ∷ drop k es) (sym (add-one i)) in
-    let parts = and_parts (is_absent (arity_of A (name_of_bytes (primitive_bytes e.0)))) (are_new (with_entry A e) (drop (i + 1) es)) (subst (λ l. are_new A l ≡ true) next new) in
+    let parts = and_parts (is_none (arity_of A (name_of_bytes (primitive_bytes e.0)))) (are_new (with_entry A e) (drop (i + 1) es)) (subst (λ l. are_new A l ≡ true) next new) in
     let turned : Turn A es i (primitive_bytes e.0) e.1 = record {
       absent = absent_none (arity_of A (name_of_bytes (primitive_bytes e.0))) parts.0;
       new = parts.1;

@@ -1,14 +1,13 @@
 -- A row that may be added to a table, with its parts named.
-use Rattle.std.proofs.Common.{◌≡◌, ℕ, ◌^◌, true, None, Option, Some, List, ◌∷◌, refl, sym, ap, ◌∙◌, subst, ltb}
+use Rattle.std.proofs.Common.{◌≡◌, ℕ, ◌^◌, true, None, Option, Some, List, ◌∷◌, refl, sym, ap, ◌∙◌, subst, ltb, is_none}
 use Rattle.std.proofs.lemmas.Bool.{and_parts}
 use Rattle.mw_model.specs.Terms.Object.{Object, Natural, Symbol, Pair, name_of_bytes}
 use Rattle.mw_model.specs.Values.Primitive.{name_of}
 use Rattle.mw_model.specs.Terms.Term.{ArityTable, arity_of}
-use Rattle.mw_model.specs.Values.Definition.{is_absent}
 use Rattle.mw_model.proofs.Names.{name_of_bytes-bytes}
 use Rattle.mw_preamble.specs.Rows.{is_row, with_row}
 
-pub absent_none : {X : Type 0} (o : Option X) → is_absent o ≡ true → o ≡ None
+pub absent_none : {X : Type 0} (o : Option X) → is_none o ≡ true → o ≡ None
 absent_none None h = refl
 absent_none (Some x) h = cc
 
@@ -20,7 +19,7 @@ adds : (A : ArityTable) (x a : Object) (n : ℕ) (bytes : List ℕ) → is_row A
 adds A (Symbol f) a n bytes h e =
     let is : name_of_bytes bytes ≡ f = ap name_of_bytes (sym e) ∙ name_of_bytes-bytes f in
     record {
-      absent = ap (arity_of A) is ∙ absent_none (arity_of A f) (and_parts (ltb n (2 ^ 64)) (is_absent (arity_of A f)) h).1;
+      absent = ap (arity_of A) is ∙ absent_none (arity_of A f) (and_parts (ltb n (2 ^ 64)) (is_none (arity_of A f)) h).1;
       added = ap (λ g. (g, n) ∷ A) is;
     }
 adds A (Natural m) a n bytes h e = cc

@@ -3,8 +3,8 @@ use Rattle.std.proofs.Common.{◌≡◌, ◌≤◌, ◌++◌, length, refl, lit�
 use Rattle.mw_model.specs.Texts.Grammar.{limit}
 use Rattle.mw_model.specs.Texts.Printing.{text_of}
 use Rattle.mw_heap.specs.Variants.{profile_of}
-use Rattle.mw_heap.specs.declared.profile.Profile.{Profile}
-use Rattle.mw_heap.specs.declared.profile.Profile.TheVariants.{One, Two}
+use Rattle.mw_heap.specs.declared.vocabulary.profile.Profile.{Profile}
+use Rattle.mw_heap.specs.declared.vocabulary.profile.Profile.TheVariants.{One, Two}
 use Rattle.mw_preamble.specs.Rows.{built_in_rows}
 use Rattle.mw_preamble.specs.Texts.{differing}
 use Rattle.mw_preamble.specs.declared.text.TheConstants.{BEFORE, AFTER}

@@ -1,9 +1,9 @@
 -- The rows that are read: of each built-in definition its name, how many arguments it takes, and its axiom.
-use Rattle.std.specs.Prelude.{◌≡◌, ℕ, ◌^◌, Bool, true, false, ◌&&◌, ltb, List, [], ◌∷◌, length}
+use Rattle.std.specs.Prelude.{◌≡◌, ℕ, ◌^◌, Bool, true, false, ◌&&◌, ltb, List, [], ◌∷◌, length, is_none}
 use Rattle.mw_model.specs.Terms.Object.{Name, Object, Natural, Symbol, Pair, NIL, cdr}
 use Rattle.mw_model.specs.Terms.Term.{Formula, formula_object, ArityTable, arity_of}
 use Rattle.mw_model.specs.Values.Primitive.{Profile}
-use Rattle.mw_model.specs.Values.Definition.{Function, Block, Functions, Choice, function_axiom, choice_axiom, is_absent}
+use Rattle.mw_model.specs.Values.Definition.{Function, Block, Functions, Choice, function_axiom, choice_axiom}
 use Rattle.mw_model.specs.BuiltIns.BuiltIn.{built_in}
 
 -- (NAME n . axiom)
@@ -30,7 +30,7 @@ built_in_rows P = rows_before (built_in P) NIL
 
 -- A row that may be added to the table: its function is new.
 abbrev pub is_row : ArityTable → Object → Bool
-is_row A (Pair (Symbol f) (Pair (Natural n) a)) = ltb n (2 ^ 64) && is_absent (arity_of A f)
+is_row A (Pair (Symbol f) (Pair (Natural n) a)) = ltb n (2 ^ 64) && is_none (arity_of A f)
 is_row A x = false
 
 abbrev pub with_row : ArityTable → Object → ArityTable

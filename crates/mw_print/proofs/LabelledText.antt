@@ -1,9 +1,9 @@
 -- The text with labels of an object, on its own and before more.
-use Rattle.std.proofs.Common.{◌≡◌, ℕ, suc, ◌+◌, ◌≤◌, Bool, true, false, ◌&&◌, not, eqb, List, [], ◌∷◌, ◌++◌, length, Option, None, refl, sym, ap, ◌∙◌, if◌then◌else◌, arith, append-nil, eqb-true}
-use Rattle.std.specs.Prelude.{codes}
+use Rattle.std.proofs.Common.{◌≡◌, ℕ, suc, ◌+◌, ◌≤◌, Bool, true, false, ◌&&◌, not, eqb, List, [], ◌∷◌, ◌++◌, length, Option, None, refl, sym, ap, ◌∙◌, if◌then◌else◌, arith, append-nil, eqb-true, codes}
 use Rattle.std.proofs.lemmas.Bool.{and_parts, and_from, both_ways}
-use Rattle.mw_model.specs.Terms.Object.{Object, Natural, Symbol, Pair, Name, nil_name, same_name, symbol, is_name, is_name_byte, are_name_bytes}
-use Rattle.mw_model.specs.Texts.Lexemes.{Lexeme, Atom, Open, Mark, Ref, End, Fault, Ends, lexemes, lexemes_from, unfinished, all_are, is_digit}
+use Rattle.mw_model.specs.Terms.Object.{Object, Natural, Symbol, Pair, Name, nil_name, same_name, symbol, is_name, is_name_byte}
+use Rattle.mw_model.specs.Texts.Lexemes.{Lexeme, Atom, Open, Mark, Ref, End, Fault, Ends, lexemes, lexemes_from, unfinished, is_digit}
+use Rattle.std.specs.List.{list_all}
 use Rattle.mw_model.specs.Texts.Grammar.{Labels as Begun, Unused, Got, Datum, read, book, and_data, and_events, enough, data_of}
 use Rattle.mw_model.specs.Texts.Printing.{numeral, name_text, end_text, is_bare}
 use Rattle.mw_model.specs.Texts.Written.{labels_begun, IsLabelled}
@@ -59,9 +59,9 @@ module _ (x : Object) (after : Begun) where
 abbrev is_inside : ℕ → Bool
 is_inside b = not (eqb b 10)
 
-all_both : (t u : List ℕ) → all_are is_inside t ≡ true → all_are is_inside u ≡ true → all_are is_inside (t ++ u) ≡ true
+all_both : (t u : List ℕ) → list_all is_inside t ≡ true → list_all is_inside u ≡ true → list_all is_inside (t ++ u) ≡ true
 all_both [] u h k = k
-all_both (c ∷ t) u h k = let a = and_parts (is_inside c) (all_are is_inside t) h in and_from (is_inside c) (all_are is_inside (t ++ u)) a.0 (all_both t u a.1 k)
+all_both (c ∷ t) u h k = let a = and_parts (is_inside c) (list_all is_inside t) h in and_from (is_inside c) (list_all is_inside (t ++ u)) a.0 (all_both t u a.1 k)
 
 inside_if : (p : ℕ → Bool) → p 10 ≡ false → (b : ℕ) → p b ≡ true → is_inside b ≡ true
 inside_if p miss b h = go (eqb b 10) refl
@@ -70,40 +70,40 @@ inside_if p miss b h = go (eqb b 10) refl
     go true e = absurd (both_ways (p 10) miss (ap p (sym (eqb-true b 10 e)) ∙ h))
     go false e = refl
 
-all_inside : (p : ℕ → Bool) → p 10 ≡ false → (t : List ℕ) → all_are p t ≡ true → all_are is_inside t ≡ true
+all_inside : (p : ℕ → Bool) → p 10 ≡ false → (t : List ℕ) → list_all p t ≡ true → list_all is_inside t ≡ true
 all_inside p miss [] h = refl
-all_inside p miss (b ∷ t) h = let a = and_parts (p b) (all_are p t) h in and_from (is_inside b) (all_are is_inside t) (inside_if p miss b a.0) (all_inside p miss t a.1)
+all_inside p miss (b ∷ t) h = let a = and_parts (p b) (list_all p t) h in and_from (is_inside b) (list_all is_inside t) (inside_if p miss b a.0) (all_inside p miss t a.1)
 
-numeral_line : (n : ℕ) → all_are is_inside (numeral n) ≡ true
+numeral_line : (n : ℕ) → list_all is_inside (numeral n) ≡ true
 numeral_line n = all_inside is_digit refl (numeral n) (numeral_is n).0
 
-names_all : (n : List ℕ) → are_name_bytes n ≡ all_are is_name_byte n
+names_all : (n : List ℕ) → list_all is_name_byte n ≡ list_all is_name_byte n
 names_all [] = refl
 names_all (c ∷ n) = ap (λ v. is_name_byte c && v) (names_all n)
 
-bytes_line : (n : List ℕ) → is_name n ≡ true → all_are is_inside n ≡ true
+bytes_line : (n : List ℕ) → is_name n ≡ true → list_all is_inside n ≡ true
 bytes_line [] h = refl
 bytes_line (c ∷ n) h = all_inside is_name_byte refl (c ∷ n) (ap (λ v. is_name_byte c && v) (sym (names_all n)) ∙ h)
 
-name_line : (s : Name) → all_are is_inside (name_text s) ≡ true
+name_line : (s : Name) → list_all is_inside (name_text s) ≡ true
 name_line s = go (is_bare s)
   where
-    bytes : all_are is_inside s.bytes ≡ true
+    bytes : list_all is_inside s.bytes ≡ true
     bytes = bytes_line s.bytes s.valid
 
-    go : (v : Bool) → all_are is_inside (if v then s.bytes else 124 ∷ (s.bytes ++ 124 ∷ [])) ≡ true
+    go : (v : Bool) → list_all is_inside (if v then s.bytes else 124 ∷ (s.bytes ++ 124 ∷ [])) ≡ true
     go true = bytes
     go false = all_both s.bytes (124 ∷ []) bytes refl
 
-end_line : (v : Bool) (t : List ℕ) → all_are is_inside t ≡ true → all_are is_inside (end_text v t) ≡ true
+end_line : (v : Bool) (t : List ℕ) → list_all is_inside t ≡ true → list_all is_inside (end_text v t) ≡ true
 end_line true t h = refl
 end_line false t h = all_both t (41 ∷ []) h refl
 
-label_line : (n b : ℕ) → is_inside b ≡ true → all_are is_inside (35 ∷ (numeral n ++ b ∷ [])) ≡ true
+label_line : (n b : ℕ) → is_inside b ≡ true → list_all is_inside (35 ∷ (numeral n ++ b ∷ [])) ≡ true
 label_line n b h = all_both (numeral n) (b ∷ []) (numeral_line n) (and_from (is_inside b) true h refl)
 
 abbrev IsLine : Labelled → Type 0
-IsLine w = all_are is_inside w.text ≡ true
+IsLine w = list_all is_inside w.text ≡ true
 
 by_way_line : (v : Way) (x : Object) (l : Labels) (body : Labels → Labelled) → ((m : Labels) → IsLine (body m)) → IsLine (by_way v x l body)
 by_way_line (Again n) x l body h = label_line n 35 refl

@@ -15,7 +15,7 @@ use crate::piece::Piece;
 use indexmap::{IndexMap, IndexSet};
 use mw_heap::{Heap, Memory, Ref, View};
 
-// The greatest label.
+// The greatest label that can be read again: nine digits.
 const MOST: u32 = 999999999;
 
 // The label of a pair, if it has one.

@@ -8,7 +8,7 @@ ghost use Rattle.mw_print.specs.Printing.{Prints};
 use crate::text::text;
 use mw_heap::{Heap, Ref, View, is_bare_name};
 
-// The longest text that is shown, in bytes.
+// The longest text that is shown, in bytes, as the definition of fates has it: the heap keeps it beside each cell in two bytes.
 pub(crate) const LONGEST: u64 = 65536;
 
 /// What printing did.
@@ -28,7 +28,7 @@ pub fn text_len(heap: &Heap, x: Ref) -> u64
     requires { IsIn heap.now.objects x }
     ensures { result ≡ min (length (text_of (object_at heap.now.objects x))) (longest + 1) }
 {
-    heap.text_length(x)
+    heap.lengths(x).0
 }
 
 // The name of a symbol whose text it is.

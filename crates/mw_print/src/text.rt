@@ -58,7 +58,7 @@ pub(crate) fn text(heap: &Heap, alloc: Global, x: Ref) -> Result<Vec<u8>, Memory
     requires { IsIn heap.now.objects x }
     ensures { IfOk result (λ text. text.items ≡ text_of (object_at heap.now.objects x)) }
 {
-    let mut out = Vec::with_capacity(alloc, heap.text_length(x) as usize)?;
+    let mut out = Vec::with_capacity(alloc, heap.lengths(x).0 as usize)?;
     let mut parts = Vec::with_capacity(alloc, PARTS)?;
     parts.push(Part::Text(x))?;
     while let Some(part) = parts.pop() {

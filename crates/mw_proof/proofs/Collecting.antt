@@ -11,9 +11,9 @@ use Rattle.mw_model.specs.Laws.Rules.{is_formula_object}
 use Rattle.mw_model.specs.Laws.RulesInduction.{length_object}
 use Rattle.mw_model.proofs.Names.{same_object-eq}
 use Rattle.mw_heap.specs.Objects.{object_at, IsIn, Shows}
-use Rattle.mw_heap.specs.declared.view.View.{View}
+use Rattle.mw_heap.specs.declared.store.view.View.{View}
 use Rattle.mw_term.specs.Marking.{ObjectMark, AreMarks}
-use Rattle.mw_heap.specs.declared.view.View.TheVariants.{Nat, Symbol as Word, Pair as Parts}
+use Rattle.mw_heap.specs.declared.store.view.View.TheVariants.{Nat, Symbol as Word, Pair as Parts}
 use Rattle.mw_proof.specs.Step.{conclusions_object}
 use Rattle.mw_heap.specs.Lists.{list_object}
 use Rattle.mw_proof.specs.Judging.{have_conclusions, AreConclusions, IsWithin, IsOver}

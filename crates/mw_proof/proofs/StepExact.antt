@@ -1,11 +1,10 @@
 -- Judging is a local test: an object is a proof exactly where its parts, its subproofs and its step are as they should be.
-use Rattle.std.proofs.Common.{◌≡◌, Bool, true, false, ◌&&◌, ◌||◌, cond, List, [], Option, Some, None, refl, sym, ap, ap₂, ◌∙◌, subst}
+use Rattle.std.proofs.Common.{◌≡◌, Bool, true, false, ◌&&◌, ◌||◌, cond, List, [], Option, Some, None, refl, sym, ap, ap₂, ◌∙◌, subst, is_some}
 use Rattle.std.proofs.lemmas.Bool.{and_parts, and_right}
 use Rattle.mw_model.specs.Terms.Object.{Object, Natural, Symbol, Pair, same_name, same_object, nil_name, NIL, second_of}
 use Rattle.mw_model.specs.Terms.Term.{Formula, formula_object, ArityTable, is_formula, IsFormula}
 use Rattle.mw_model.specs.Terms.Reading.{formula_of, and_more, that, when}
 use Rattle.mw_model.specs.Values.Primitive.{Profile}
-use Rattle.mw_model.specs.Values.Definition.{is_present}
 use Rattle.mw_model.specs.Values.Truth.{Each}
 use Rattle.mw_model.specs.Proofs.Proof.{Method}
 use Rattle.mw_model.specs.Proofs.Judgment.{methods, method_among, follows, judge_step, judge, judge_each}
@@ -52,45 +51,45 @@ module _ (ax th : Object) (A : ArityTable) (P : Profile) where
   judge_each-conclusions (Symbol s) Fs h = let q : [] ≡ Fs = some_one (cond_some (same_name s nil_name) (Some []) Fs h).1 in (ap formulas_object (sym q), subst (Each (IsFormula A)) q tt)
   judge_each-conclusions (Natural n) Fs h = cc
 
-  present-and_more : {X : Type 0} (o : Option X) (p : Option (List X)) → is_present (and_more o p) ≡ (is_present o && is_present p)
+  present-and_more : {X : Type 0} (o : Option X) (p : Option (List X)) → is_some (and_more o p) ≡ (is_some o && is_some p)
   present-and_more None p = refl
   present-and_more (Some x) None = refl
   present-and_more (Some x) (Some xs) = refl
 
-  pub are_proofs-is : (ps : Object) → is_present (judge_each ax th A P ps) ≡ are_proofs ax th A P ps
+  pub are_proofs-is : (ps : Object) → is_some (judge_each ax th A P ps) ≡ are_proofs ax th A P ps
   are_proofs-is (Pair p ps) = present-and_more (judge ax th A P p) (judge_each ax th A P ps) ∙ ap (λ b. is_proof ax th A P p && b) (are_proofs-is ps)
   are_proofs-is (Natural n) = refl
-  are_proofs-is (Symbol s) = elim (same_name s nil_name) as (λ b. is_present {X = List Formula} (cond b (Some []) None) ≡ b) [ true ↦ refl | false ↦ refl ]
+  are_proofs-is (Symbol s) = elim (same_name s nil_name) as (λ b. is_some {T = List Formula} (cond b (Some []) None) ≡ b) [ true ↦ refl | false ↦ refl ]
 
   and-false : (a b : Bool) → (a && (b && false)) ≡ false
   and-false true true = refl
   and-false true false = refl
   and-false false b = refl
 
-  both_tests : {X : Type 0} (F : X) (f w p r : Bool) → p ≡ true → (f ≡ true → w ≡ r) → is_present (when (f && w) (Some F)) ≡ (is_present (when f (Some F)) && (p && r))
+  both_tests : {X : Type 0} (F : X) (f w p r : Bool) → p ≡ true → (f ≡ true → w ≡ r) → is_some (when (f && w) (Some F)) ≡ (is_some (when f (Some F)) && (p && r))
   both_tests F false w p r e k = refl
   both_tests F true true true r e k = k refl
   both_tests F true false true r e k = k refl
   both_tests F true w false r e k = cc
 
   -- a step, where what the conclusion and the subproofs stand for are named
-  step_named : (om : Option Method) (c cs : Object) (ps : Bool) (x : Object) (o : Option Formula) → ((F : Formula) → o ≡ Some F → formula_object F ≡ c) → (fs : Option (List Formula)) → is_present fs ≡ ps → ((Fs : List Formula) → fs ≡ Some Fs → (formulas_object Fs ≡ cs) × Each (IsFormula A) Fs) → is_present (judge_step ax th A P om o fs x) ≡ (is_present (that (is_formula A) o) && (ps && rule_holds ax th A P om c cs x))
-  step_named None c cs ps x o e fs q r = sym (and-false (is_present (that (is_formula A) o)) ps)
+  step_named : (om : Option Method) (c cs : Object) (ps : Bool) (x : Object) (o : Option Formula) → ((F : Formula) → o ≡ Some F → formula_object F ≡ c) → (fs : Option (List Formula)) → is_some fs ≡ ps → ((Fs : List Formula) → fs ≡ Some Fs → (formulas_object Fs ≡ cs) × Each (IsFormula A) Fs) → is_some (judge_step ax th A P om o fs x) ≡ (is_some (that (is_formula A) o) && (ps && rule_holds ax th A P om c cs x))
+  step_named None c cs ps x o e fs q r = sym (and-false (is_some (that (is_formula A) o)) ps)
   step_named (Some m) c cs ps x None e fs q r = refl
   step_named (Some m) c cs ps x (Some F) e None q r =
-      sym (ap (λ b. is_present (when (is_formula A F) (Some F)) && (b && rule_holds ax th A P (Some m) c cs x)) (sym q) ∙ and_right (is_present (when (is_formula A F) (Some F))) false refl)
+      sym (ap (λ b. is_some (when (is_formula A F) (Some F)) && (b && rule_holds ax th A P (Some m) c cs x)) (sym q) ∙ and_right (is_some (when (is_formula A F) (Some F))) false refl)
   step_named (Some m) c cs ps x (Some F) e (Some Fs) q r =
       let parts = r Fs refl in
       both_tests F (is_formula A F) (follows ax th A P m F Fs x) ps (rule_holds ax th A P (Some m) c cs x) (sym q) (λ i. sym (ap₂ (λ y ys. rule_holds ax th A P (Some m) y ys x) (sym (e F refl)) (sym parts.0) ∙ rule_holds-is ax th A P m F Fs x i parts.1))
 
-  judge_step-is : (m c ps x : Object) → is_present (judge_step ax th A P (method_among methods m) (formula_of c) (judge_each ax th A P ps) x) ≡ (is_formula_object A c && (are_proofs ax th A P ps && rule_holds ax th A P (method_among methods m) c (conclusions_object ps) x))
+  judge_step-is : (m c ps x : Object) → is_some (judge_step ax th A P (method_among methods m) (formula_of c) (judge_each ax th A P ps) x) ≡ (is_formula_object A c && (are_proofs ax th A P ps && rule_holds ax th A P (method_among methods m) c (conclusions_object ps) x))
   judge_step-is m c ps x = step_named (method_among methods m) c (conclusions_object ps) (are_proofs ax th A P ps) x (formula_of c) (formula_back c) (judge_each ax th A P ps) (are_proofs-is ps) (judge_each-conclusions ps)
 
-  present-when : {X : Type 0} (b : Bool) (o : Option X) (t : Bool) → is_present o ≡ t → is_present (when b o) ≡ (b && t)
+  present-when : {X : Type 0} (b : Bool) (o : Option X) (t : Bool) → is_some o ≡ t → is_some (when b o) ≡ (b && t)
   present-when true o t e = e
   present-when false o t e = refl
 
-  present-shape : {X : Type 0} (b : Bool) (o : Option X) (t : Bool) → is_present o ≡ t → is_present (when b o) ≡ ((b || false) && t)
+  present-shape : {X : Type 0} (b : Bool) (o : Option X) (t : Bool) → is_some o ≡ t → is_some (when b o) ≡ ((b || false) && t)
   present-shape true o t e = e
   present-shape false o t e = refl
 

@@ -1,9 +1,8 @@
 -- One step of judging: what must hold of an object, beside that its subproofs are proofs, for it to be a proof.
-use Rattle.std.specs.Prelude.{Bool, false, ◌&&◌, ◌||◌}
+use Rattle.std.specs.Prelude.{Bool, false, ◌&&◌, ◌||◌, is_some}
 use Rattle.mw_model.specs.Terms.Object.{Object, Natural, Symbol, Pair, same_name, nil_name, NIL, car, second_of, third_of, fourth_of, has_members}
 use Rattle.mw_model.specs.Terms.Term.{ArityTable}
 use Rattle.mw_model.specs.Values.Primitive.{Profile}
-use Rattle.mw_model.specs.Values.Definition.{is_present}
 use Rattle.mw_model.specs.Proofs.Judgment.{methods, method_among, judge}
 use Rattle.mw_model.specs.Laws.Rules.{is_formula_object}
 use Rattle.mw_rules.specs.Step.{rule_holds}
@@ -27,7 +26,7 @@ step_holds axioms theorems A P p = rule_holds axioms theorems A P (method_among 
 
 -- the object is a proof; a proper list of proofs
 abbrev pub is_proof : Object → Object → ArityTable → Profile → Object → Bool
-is_proof axioms theorems A P p = is_present (judge axioms theorems A P p)
+is_proof axioms theorems A P p = is_some (judge axioms theorems A P p)
 
 abbrev pub are_proofs : Object → Object → ArityTable → Profile → Object → Bool
 are_proofs axioms theorems A P (Pair p ps) = is_proof axioms theorems A P p && are_proofs axioms theorems A P ps

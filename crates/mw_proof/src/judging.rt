@@ -10,7 +10,7 @@ ghost use Rattle.mw_proof.specs.Gathered.{HoldsAlone};
 ghost use Rattle.mw_proof.specs.Judging.{basis, is_proof_on};
 ghost use Rattle.mw_proof.specs.Judgments.{IsJudgment, Reaches, DecidesEach, HasStepForEach, HasStepForSome};
 
-use crate::decide::decide;
+use crate::step::decide;
 use indexmap::IndexSet;
 use mw_heap::{Heap, Memory, Profile, Ref};
 use mw_rules::Known;

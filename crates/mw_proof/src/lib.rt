@@ -2,10 +2,10 @@
 #![tactic(auto)]
 
 mod conclusions;
-mod decide;
 mod judging;
 mod members;
 mod rewriter;
+mod step;
 
 ghost use Rattle.std.specs.Prelude.{◌≡◌, Some};
 ghost use Rattle.mw_model.specs.Terms.Object.{Object, second_of};
@@ -19,6 +19,7 @@ pub use judging::{Judged, judge, judge_counted};
 pub use members::{Members, members_of};
 pub use mw_subst::Steps;
 pub use rewriter::{Rewriter, Rewritten};
+pub use step::decide;
 
 /// Judging is a local test: an object is a proof exactly where it has the shape of one, its conclusion is a formula, its
 /// subproofs are proofs and the rule of its method holds. What is judged a proof proves the formula that it names.

@@ -1,7 +1,8 @@
 -- What a token's end makes of a parser.
 use Rattle.std.proofs.Common.{◌≡◌, ℕ, ◌+◌, ◌<◌, Bool, true, false, List, [], ◌∷◌, ◌++◌, length, take, Some, refl, sym, ap, ◌∙◌, subst, true≢false, append_assoc}
 use Rattle.mw_model.specs.Terms.Object.{Object}
-use Rattle.mw_model.specs.Texts.Lexemes.{Atom, Dot, Wrong, fault, TOKEN, Ending, all_are, is_constituent, TokenForm, Whole, Point, Bad, token_form, glued, glued_bar, lexemes_from}
+use Rattle.mw_model.specs.Texts.Lexemes.{Atom, Dot, Wrong, fault, TOKEN, Ending, is_constituent, TokenForm, Whole, Point, Bad, token_form, glued, glued_bar, lexemes_from}
+use Rattle.std.specs.List.{list_all}
 use Rattle.mw_model.specs.Texts.Grammar.{book, and_events}
 use Rattle.mw_read.specs.Machine.{State, Idle, Within, Full, Broken, Members, Tailed, Quoting, Marking, Turn, quiet, event, on, is_full, IsSound}
 use Rattle.mw_read.specs.Resume.{resume, onward, following}
@@ -74,7 +75,7 @@ module _ (os : List Object) (t : State) (old new : Parser) (rest : List ℕ) (n 
   wrong_quiet : (o : ℕ) (j : ℕ) → is_full t ≡ false → IsSound t → (on t (Wrong o (Some (fault TOKEN j)))).events ≡ []
   wrong_quiet o j f k = ap (λ (u : Turn). u.events) (wrong_breaks t o (fault TOKEN j) f k)
 
-  module _ (i : old.begun ≡ Token) (f : is_full t ≡ false) (k : IsSound t) (l : 0 < length whole) (a : all_are is_constituent whole ≡ true) (m : new.begun ≡ AfterToken) (s : new.start ≡ old.start + length whole) where
+  module _ (i : old.begun ≡ Token) (f : is_full t ≡ false) (k : IsSound t) (l : 0 < length whole) (a : list_all is_constituent whole ≡ true) (m : new.begun ≡ AfterToken) (s : new.start ≡ old.start + length whole) where
     -- a datum, or a part of what is open
     whole_pending : (y : Object) → token_form whole ≡ Whole y → Took os new.stack outcomes.Pending (on t (Atom old.start y)) → Advances os t old rest outcomes.Pending n new
     whole_pending y v q =

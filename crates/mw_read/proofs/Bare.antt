@@ -1,10 +1,10 @@
 -- Lists by their lengths.
 use Rattle.std.proofs.Common.{◌≡◌, ℕ, zero, suc, ◌<◌, ◌+◌, Bool, true, false, List, [], ◌∷◌, ◌++◌, length, take, drop, get_or, refl, sym, ap, ◌∙◌, arith, ◌==◌, eqb-true, eqb, ◌≤◌, append_assoc, length-append, true≢false, ◌⊎◌, inl, inr}
 use Rattle.std.proofs.lemmas.Bool.{and_parts, and_from}
-use Rattle.mw_model.specs.Texts.Lexemes.{all_are}
+use Rattle.std.specs.List.{list_all}
 use Rattle.mw_lex.specs.Runs.{StartsWith}
 use Rattle.std.proofs.lemmas.List.{length-take-le, take-append-drop}
-use Rattle.mw_model.specs.Terms.Object.{is_name_byte, are_name_bytes}
+use Rattle.mw_model.specs.Terms.Object.{is_name_byte}
 use Rattle.mw_lex.proofs.Runs.{take_more}
 
 pub empty_is : {A : Type 0} (xs : List A) (n : ℕ) → n ≡ length xs → true ≡ (n == 0) → xs ≡ []
@@ -24,9 +24,9 @@ split_at [] n h = absurd (omega arith)
 split_at (x ∷ xs) zero h = refl
 split_at (x ∷ xs) (suc n) h = ap (λ u. x ∷ u) (split_at xs n (omega arith))
 
-pub all_append : (p : ℕ → Bool) (xs ys : List ℕ) → all_are p xs ≡ true → all_are p ys ≡ true → all_are p (xs ++ ys) ≡ true
+pub all_append : (p : ℕ → Bool) (xs ys : List ℕ) → list_all p xs ≡ true → list_all p ys ≡ true → list_all p (xs ++ ys) ≡ true
 all_append p [] ys h k = k
-all_append p (x ∷ xs) ys h k = let m = and_parts (p x) (all_are p xs) h in and_from (p x) (all_are p (xs ++ ys)) m.0 (all_append p xs ys m.1 k)
+all_append p (x ∷ xs) ys h k = let m = and_parts (p x) (list_all p xs) h in and_from (p x) (list_all p (xs ++ ys)) m.0 (all_append p xs ys m.1 k)
 
 -- a text that has begun, or begins here, has a byte
 pub some_length : (p : ℕ → Bool) (xs rest : List ℕ) (n : ℕ) → (0 < length xs) ⊎ StartsWith p rest → (n < length rest → p (get_or rest n 0) ≡ false) → n < length rest → 0 < length (xs ++ take n rest)
@@ -63,9 +63,9 @@ not_eqb a b h = go (eqb a b) refl
     go true e = absurd (h (eqb-true a b e))
     go false e = e
 
-pub are_names : (bytes : List ℕ) → all_are is_name_byte bytes ≡ true → are_name_bytes bytes ≡ true
+pub are_names : (bytes : List ℕ) → list_all is_name_byte bytes ≡ true → list_all is_name_byte bytes ≡ true
 are_names [] h = refl
-are_names (b ∷ bytes) h = let m = and_parts (is_name_byte b) (all_are is_name_byte bytes) h in and_from (is_name_byte b) (are_name_bytes bytes) m.0 (are_names bytes m.1)
+are_names (b ∷ bytes) h = let m = and_parts (is_name_byte b) (list_all is_name_byte bytes) h in and_from (is_name_byte b) (list_all is_name_byte bytes) m.0 (are_names bytes m.1)
 
 pub take_run : (xs : List ℕ) (n : ℕ) → n ≤ length xs → length (take n xs) ≡ n
 take_run xs n h = length-take-le n xs h

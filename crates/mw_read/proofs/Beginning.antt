@@ -1,15 +1,16 @@
 -- What a byte makes of a parser where no text has begun.
 use Rattle.std.proofs.Common.{◌≡◌, ℕ, zero, suc, ◌+◌, ◌-◌, ◌<◌, ◌≤◌, Bool, true, false, List, [], ◌∷◌, ◌++◌, length, take, drop, get_or, Some, Result, Ok, Err, IfOk, refl, sym, ap, ◌∙◌, subst, arith, true≢false, if◌then◌else◌}
 use Rattle.std.proofs.lemmas.List.{take_all, length-drop, drop_all}
+use Rattle.std.proofs.lemmas.Grind.{get_or_after_one}
 use Rattle.mw_model.specs.Terms.Object.{Object}
-use Rattle.mw_model.specs.Texts.Lexemes.{Lexeme, Stray, Fault, fault, DOT, TOKEN, BYTE, Ending, Goes, glued, glued_bar, is_constituent, Class, class, piece, extent, lexemes_from}
+use Rattle.mw_model.specs.Texts.Lexemes.{Lexeme, Stray, Fault, fault, DOT, TOKEN, BYTE, Ending, Goes, glued, glued_bar, is_constituent, is_white, Class, class, piece, extent, lexemes_from}
 use Rattle.mw_model.specs.Texts.Lexemes as lex
 use Rattle.mw_model.specs.Texts.Grammar.{book, and_events}
 use Rattle.mw_read.specs.Machine.{State, Idle, Within, Full, Broken, Turn, on, is_full, IsSound}
 use Rattle.mw_read.specs.Resume.{resume, onward, following}
 use Rattle.mw_read.specs.Held.{Holds, Took}
 use Rattle.mw_lex.specs.Runs.{StartsWith}
-use Rattle.mw_read.specs.Parsing.{ahead, meaning_of, Fits, IsText, is_inside, Advances, IsAfter, IsFirst, Begins, Moves, Moved, offset_of, offset_at, weight}
+use Rattle.mw_read.specs.Parsing.{ahead, meaning_of, Fits, IsText, is_inside, Advances, IsAfter, IsFirst, Begins, EndsAt, Moves, Moved, offset_of, offset_at, weight}
 use Rattle.mw_read.specs.declared.parser.Begun.{Begun}
 use Rattle.mw_read.specs.declared.parser.Begun.TheVariants.{Nothing, Comment, Token, Bars, Barred, Hash, AfterToken, AfterBar}
 use Rattle.mw_read.specs.declared.parser.Parser.{Parser}
@@ -218,18 +219,26 @@ weight_small Hash = omega arith
 weight_small AfterToken = omega arith
 weight_small AfterBar = omega arith
 
-moved_past : (old mid new : Parser) (rest : List ℕ) (n : ℕ) → offset_of mid ≡ offset_of old + 1 → Moved mid (drop 1 rest) n new → Moved old rest (n + 1) new
-moved_past old mid new rest n o m = record {
+moved_past : (old mid new : Parser) (rest : List ℕ) (n : ℕ) → offset_of mid ≡ offset_of old + 1 → 0 < length rest → Moved mid (drop 1 rest) n new → Moved old rest (n + 1) new
+moved_past old mid new rest n o some m = record {
   offset = (let k : offset_of new ≡ offset_of old + (n + 1) = omega (arith, o, m.offset) in k);
   left = subst (λ u. Fits new.begun Goes u) (drop_next rest n) m.left;
   started = m.started;
   less = λ l. omega (arith, weight_small new.begun);
+  stops = λ q. omega (arith, m.stops q, length-drop 1 rest, some);
 }
 
-pub moves_past : (r : Outcome) (old mid new : Parser) (rest : List ℕ) (n : ℕ) → offset_of mid ≡ offset_of old + 1 → Moves r mid (drop 1 rest) n new → Moves r old rest (n + 1) new
-moves_past outcomes.Pending old mid new rest n o m = moved_past old mid new rest n o m
-moves_past (outcomes.Datum x) old mid new rest n o m = moved_past old mid new rest n o m
-moves_past (outcomes.Fault f) old mid new rest n o m = tt
+ends_past : (m : Begun) (rest : List ℕ) (n : ℕ) → is_white (get_or rest 0 0) ≡ false → EndsAt m (drop 1 rest) n → EndsAt m rest (n + 1)
+ends_past m rest n w e = record { between = e.between; last = last }
+  where
+    last : (k : ℕ) → n + 1 ≡ suc k → is_white (get_or rest k 0) ≡ false
+    last zero h = w
+    last (suc k) h = ap is_white (ap (λ i. get_or rest i 0) (let j : suc k ≡ 1 + k = omega arith in j) ∙ sym (get_or_after_one rest k 0)) ∙ e.last k (omega (arith, h))
+
+pub moves_past : (r : Outcome) (old mid new : Parser) (rest : List ℕ) (n : ℕ) → offset_of mid ≡ offset_of old + 1 → 0 < length rest → is_white (get_or rest 0 0) ≡ false → Moves r mid (drop 1 rest) n new → Moves r old rest (n + 1) new
+moves_past outcomes.Pending old mid new rest n o some w m = moved_past old mid new rest n o some m
+moves_past (outcomes.Datum x) old mid new rest n o some w m = (moved_past old mid new rest n o some m.0, ends_past new.begun rest n w m.1)
+moves_past (outcomes.Fault f) old mid new rest n o some w m = tt
 
 moved_on : (old mid new : Parser) (rest : List ℕ) (n : ℕ) → offset_of mid ≡ offset_of old → 0 < n → Moved mid rest n new → Moved old rest n new
 moved_on old mid new rest n o s m = record {
@@ -237,11 +246,12 @@ moved_on old mid new rest n o s m = record {
   left = m.left;
   started = m.started;
   less = λ l. omega (arith, weight_small new.begun);
+  stops = m.stops;
 }
 
 pub moves_on : (r : Outcome) (old mid new : Parser) (rest : List ℕ) (n : ℕ) → offset_of mid ≡ offset_of old → 0 < n → Moves r mid rest n new → Moves r old rest n new
 moves_on outcomes.Pending old mid new rest n o s m = moved_on old mid new rest n o s m
-moves_on (outcomes.Datum x) old mid new rest n o s m = moved_on old mid new rest n o s m
+moves_on (outcomes.Datum x) old mid new rest n o s m = (moved_on old mid new rest n o s m.0, m.1)
 moves_on (outcomes.Fault f) old mid new rest n o s m = tt
 
 pub is_token : (m : Begun) (rest : List ℕ) → Begins m rest → (m ≡ Bars → ⊥) → (m ≡ Hash → ⊥) → (m ≡ Token) × StartsWith is_constituent rest
@@ -284,5 +294,5 @@ module _ (os : List Object) (t : State) (old mid new : Parser) (i : mid.begun �
   pub after_advances : (rest : List ℕ) (r : Outcome) (n : ℕ) → 0 < length rest → IsAfter old.begun false (get_or rest 0 0) → Moves r mid rest n new → Advances os t mid rest r n new → Advances os t old rest r n new
   after_advances [] r n l h m q = absurd (omega arith)
   after_advances (b ∷ rest) outcomes.Pending n l h m q = (q.0, q.1, q.2, λ e z fit. same_take b rest n (some_taken (b ∷ rest) n l m) h e z ∙ q.3 e z fit)
-  after_advances (b ∷ rest) (outcomes.Datum x) n l h m q = (q.0, q.1, q.2, λ e z fit. same_take b rest n (some_taken (b ∷ rest) n l m) h e z ∙ q.3 e z fit)
+  after_advances (b ∷ rest) (outcomes.Datum x) n l h m q = (q.0, q.1, q.2, λ e z fit. same_take b rest n (some_taken (b ∷ rest) n l m.0) h e z ∙ q.3 e z fit)
   after_advances (b ∷ rest) (outcomes.Fault f) n l h m q = λ e z. same_after b h e (rest ++ z) ∙ q e z

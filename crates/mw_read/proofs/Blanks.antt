@@ -78,6 +78,7 @@ module _ (os : List Object) (old : Parser) (i : IsBetween old.begun) where
     left = tt;
     started = tt;
     less = λ l. let w : 0 < weight old.begun + 2 * 1 = omega arith in w;
+    stops = λ q. absurd (true≢false (sym q));
   }
 
   white_advances : (rest : List ℕ) → IsFirst lex.White rest → (t : State) → Holds os old.stack t → Advances os t old rest outcomes.Pending 1 passed

@@ -2,7 +2,8 @@
 use Rattle.std.proofs.Common.{◌≡◌, ℕ, ◌+◌, ◌<◌, ◌≤◌, true, false, List, [], ◌∷◌, ◌++◌, length, Some, suc, refl, sym, ap, ◌∙◌, subst, arith, append-nil, if◌then◌else◌, le-ltb}
 use Rattle.std.proofs.lemmas.Bool.{and_parts}
 use Rattle.mw_model.specs.Terms.Object.{Object, Symbol, name_of_bytes, is_name_byte}
-use Rattle.mw_model.specs.Texts.Lexemes.{Atom, Wrong, Fault, fault, END, LABEL, Ending, Ends, all_are, is_constituent, is_digit, TokenForm, Whole, Point, Bad, token_form, token, label, lexemes_from, End, unfinished, glued_bar}
+use Rattle.mw_model.specs.Texts.Lexemes.{Atom, Wrong, Fault, fault, END, LABEL, Ending, Ends, is_constituent, is_digit, TokenForm, Whole, Point, Bad, token_form, token, label, lexemes_from, End, unfinished, glued_bar}
+use Rattle.std.specs.List.{list_all}
 use Rattle.mw_model.specs.Texts.Grammar.{book}
 use Rattle.mw_read.specs.Machine.{State, Turn, on, is_full, IsSound}
 use Rattle.mw_read.specs.Resume.{resume, following}
@@ -27,17 +28,17 @@ token_one o t (Whole y) = refl
 token_one o t Point = refl
 token_one o t Bad = refl
 
-token_ends_fault : (s : State) (o : ℕ) (t : List ℕ) (f : Fault) → 0 < length t → all_are is_constituent t ≡ true → following (on s (token_lexeme o false (token_form t))) (End (unfinished Ends (o + length t)) ∷ []) ≡ book [] (Some f) →
+token_ends_fault : (s : State) (o : ℕ) (t : List ℕ) (f : Fault) → 0 < length t → list_all is_constituent t ≡ true → following (on s (token_lexeme o false (token_form t))) (End (unfinished Ends (o + length t)) ∷ []) ≡ book [] (Some f) →
     resume s (lexemes_from Ends o 0 t) ≡ book [] (Some f)
 token_ends_fault s o [] f l a q = absurd (omega arith)
 token_ends_fault s o (c ∷ t) f l a q =
-    let k = and_parts (is_constituent c) (all_are is_constituent t) a in
+    let k = and_parts (is_constituent c) (list_all is_constituent t) a in
     let v = token_form (c ∷ t) in
     let r = End (unfinished Ends (o + length (c ∷ t))) ∷ [] in
     ap (resume s) (token_ends Ends o c t (constituent_class c k.0) k.1 ∙ ap (λ u. u ++ r) (token_one o (c ∷ t) v)) ∙ on_step s (token_lexeme o false v) (token_solid o false v) r ∙ q
 
 module _ (os : List Object) (t : State) (old new : Parser) (f : is_full t ≡ false) (k : IsSound t) (l : 0 < length old.token.items) where
-  module _ (i : old.begun ≡ Token) (a : all_are is_constituent old.token.items ≡ true) (m : new.begun ≡ AfterToken) (s : new.start ≡ old.start + length (old.token.items ++ [])) where
+  module _ (i : old.begun ≡ Token) (a : list_all is_constituent old.token.items ≡ true) (m : new.begun ≡ AfterToken) (s : new.start ≡ old.start + length (old.token.items ++ [])) where
     n : old.token.items ++ [] ≡ old.token.items
     n = append-nil old.token.items
 
@@ -46,14 +47,14 @@ module _ (os : List Object) (t : State) (old new : Parser) (f : is_full t ≡ fa
 
     pub token_lasts : (r : Outcome) → Took os new.stack r (on t (token_lexeme old.start false (token_form (old.token.items ++ [])))) → Lasts os t old r new
     token_lasts outcomes.Pending q = (
-      token_pending os t old new [] 0 0 false [] i f k (subst (λ u. 0 < length u) (sym n) l) (subst (λ u. all_are is_constituent u ≡ true) (sym n) a) m s (token_form (old.token.items ++ [])) refl q,
+      token_pending os t old new [] 0 0 false [] i f k (subst (λ u. 0 < length u) (sym n) l) (subst (λ u. list_all is_constituent u ≡ true) (sym n) a) m s (token_form (old.token.items ++ [])) refl q,
       ap is_inside m,
       here,
       λ e x h. subst (λ b. Fits b e x) (sym i) tt,
     )
     token_lasts (outcomes.Datum x) q = (
       ap is_inside i,
-      token_datum os t old new [] 0 0 false [] i f k (subst (λ u. 0 < length u) (sym n) l) (subst (λ u. all_are is_constituent u ≡ true) (sym n) a) m s x (token_form (old.token.items ++ [])) refl q,
+      token_datum os t old new [] 0 0 false [] i f k (subst (λ u. 0 < length u) (sym n) l) (subst (λ u. list_all is_constituent u ≡ true) (sym n) a) m s x (token_form (old.token.items ++ [])) refl q,
       subst (λ u. IsStarted u new.token.items) (sym m) tt,
       here,
       omega (arith, ap weight m, ap weight i),
@@ -64,7 +65,7 @@ module _ (os : List Object) (t : State) (old new : Parser) (f : is_full t ≡ fa
         ∙ token_ends_fault t old.start old.token.items (fault_of x) l a
         (ap (λ (u : Turn). following u (End (unfinished Ends (old.start + length old.token.items)) ∷ [])) (sym (ap (λ u. on t (token_lexeme old.start false (token_form u))) n) ∙ q))
 
-  module _ (i : old.begun ≡ Barred) (a : all_are is_name_byte old.token.items ≡ true) (m : new.begun ≡ AfterBar) (s : new.start ≡ old.start + 2 + length (old.token.items ++ [])) where
+  module _ (i : old.begun ≡ Barred) (a : list_all is_name_byte old.token.items ≡ true) (m : new.begun ≡ AfterBar) (s : new.start ≡ old.start + 2 + length (old.token.items ++ [])) where
     bars_here : offset_of new ≡ offset_of old
     bars_here =
         offset_is new AfterBar (length new.token.items) (old.start + 2 + length (old.token.items ++ [])) m refl s
@@ -102,7 +103,7 @@ module _ (os : List Object) (t : State) (old new : Parser) (f : is_full t ≡ fa
         ∙ ap (λ (u : Turn). following u (after glued_bar Ends end [])) (took_is (outcomes.Fault x) q)
 
 -- a text that cannot end
-pub bars_end : (t : State) (old : Parser) → old.begun ≡ Bars → all_are is_name_byte old.token.items ≡ true → is_full t ≡ false → IsSound t → meaning_of Ends t old [] ≡ book [] (Some (fault END (offset_of old)))
+pub bars_end : (t : State) (old : Parser) → old.begun ≡ Bars → list_all is_name_byte old.token.items ≡ true → is_full t ≡ false → IsSound t → meaning_of Ends t old [] ≡ book [] (Some (fault END (offset_of old)))
 bars_end t old i a f k =
     let o = old.start in
     let n = old.token.items in
@@ -115,7 +116,7 @@ bars_end t old i a f k =
     ∙ ap (λ (u : Turn). following u r) (wrong_breaks t o (fault END (o + 1 + length n)) f k)
     ∙ ap (λ j. book [] (Some (fault END j))) ((let e : o + 1 + length n ≡ o + length n + 1 = omega arith in e) ∙ sym (offset_is old Bars (length n) o i refl refl))
 
-pub hash_end : (t : State) (old : Parser) → old.begun ≡ Hash → all_are is_digit old.token.items ≡ true → length old.token.items ≤ 9 → is_full t ≡ false → IsSound t → meaning_of Ends t old [] ≡ book [] (Some (fault END (offset_of old)))
+pub hash_end : (t : State) (old : Parser) → old.begun ≡ Hash → list_all is_digit old.token.items ≡ true → length old.token.items ≤ 9 → is_full t ≡ false → IsSound t → meaning_of Ends t old [] ≡ book [] (Some (fault END (offset_of old)))
 hash_end t old i a c f k =
     let o = old.start in
     let n = old.token.items in

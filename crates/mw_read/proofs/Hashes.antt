@@ -2,7 +2,8 @@
 use Rattle.std.proofs.Common.{◌≡◌, ℕ, suc, ◌+◌, ◌<◌, ◌≤◌, Bool, true, false, not, List, [], ◌∷◌, ◌++◌, length, take, get_or, Some, refl, sym, ap, ap₂, ◌∙◌, subst, arith, true≢false, if◌then◌else◌, append_assoc, eqb, eqb-true, ltb, lt-ltb, le-ltb, length-append}
 use Rattle.std.proofs.lemmas.Bool.{and_parts, eqb-false}
 use Rattle.mw_model.specs.Terms.Object.{Object}
-use Rattle.mw_model.specs.Texts.Lexemes.{Mark, Ref, Wrong, fault, LABEL, Ending, Goes, all_are, run_of, after_run, is_digit, is_inside_comment, decimal_value, label, lexemes_from, extent, Hash}
+use Rattle.mw_model.specs.Texts.Lexemes.{Mark, Ref, Wrong, fault, LABEL, Ending, Goes, run_of, after_run, is_digit, is_inside_comment, decimal_value, label, lexemes_from, extent, Hash}
+use Rattle.std.specs.List.{list_all}
 use Rattle.mw_model.specs.Texts.Grammar.{book, and_events}
 use Rattle.mw_read.specs.Machine.{State, Idle, Turn, on, is_full, IsSound}
 use Rattle.mw_read.specs.Resume.{resume, onward, following}
@@ -23,10 +24,10 @@ use Rattle.mw_read.proofs.Bare.{take_run}
 use Rattle.mw_read.proofs.Holding.{sound_clamp}
 use Rattle.mw_read.proofs.Parsing.{wrong_breaks, following_event}
 
-pub comment_run : (e : Ending) (o : ℕ) (r z : List ℕ) → all_are is_inside_comment r ≡ true → lexemes_from e o 0 (59 ∷ (r ++ z)) ≡ lexemes_from e (o + length r) 0 (59 ∷ z)
+pub comment_run : (e : Ending) (o : ℕ) (r z : List ℕ) → list_all is_inside_comment r ≡ true → lexemes_from e o 0 (59 ∷ (r ++ z)) ≡ lexemes_from e (o + length r) 0 (59 ∷ z)
 comment_run e o [] z h = ap (λ n. lexemes_from e n 0 (59 ∷ z)) (omega arith)
 comment_run e o (b ∷ r) z h =
-    let k = and_parts (is_inside_comment b) (all_are is_inside_comment r) h in
+    let k = and_parts (is_inside_comment b) (list_all is_inside_comment r) h in
     ap (λ v. lexemes_from e (suc o) (length (if v then b ∷ run_of is_inside_comment (r ++ z) else [])) (b ∷ (r ++ z))) k.0
     ∙ comment_run e (suc o) r z k.1
     ∙ ap (λ n. lexemes_from e n 0 (59 ∷ z)) (omega arith)
@@ -38,7 +39,7 @@ line_end b h = go (eqb b 10) refl h
     go true e k = eqb-true b 10 e
     go false e k = absurd (true≢false k)
 
-pub comment_line : (e : Ending) (o : ℕ) (rest : List ℕ) (n : ℕ) (z : List ℕ) → n < length rest → all_are is_inside_comment (take n rest) ≡ true → is_inside_comment (get_or rest n 0) ≡ false →
+pub comment_line : (e : Ending) (o : ℕ) (rest : List ℕ) (n : ℕ) (z : List ℕ) → n < length rest → list_all is_inside_comment (take n rest) ≡ true → is_inside_comment (get_or rest n 0) ≡ false →
     lexemes_from e o 0 (59 ∷ (take (n + 1) rest ++ z)) ≡ lexemes_from e (o + n + 2) 0 z
 comment_line e o rest n z l h k =
     ap (λ u. lexemes_from e o 0 (59 ∷ (u ++ z))) (take_more rest n l)
@@ -48,7 +49,7 @@ comment_line e o rest n z l h k =
     ∙ ap (λ i. lexemes_from e i 0 z) (omega arith)
 
 -- ten digits are too many
-pub hash_long : (e : Ending) (s : State) (o : ℕ) (d x : List ℕ) → all_are is_digit d ≡ true → 9 < length d → is_full s ≡ false → IsSound s → resume s (lexemes_from e o 0 (35 ∷ (d ++ x))) ≡ book [] (Some (fault LABEL o))
+pub hash_long : (e : Ending) (s : State) (o : ℕ) (d x : List ℕ) → list_all is_digit d ≡ true → 9 < length d → is_full s ≡ false → IsSound s → resume s (lexemes_from e o 0 (35 ∷ (d ++ x))) ≡ book [] (Some (fault LABEL o))
 hash_long e s o d x a l f k =
     let y = d ++ x in
     let r = lexemes_from e (suc o) (extent Hash y) y in
@@ -77,7 +78,7 @@ label_solid o (c ∷ d) b = two (eqb b 61) (eqb b 35)
     two false true = tt
     two false false = tt
 
-pub hash_step : (e : Ending) (s : State) (o b : ℕ) (d z : List ℕ) → all_are is_digit d ≡ true → is_digit b ≡ false → length d ≤ 9 →
+pub hash_step : (e : Ending) (s : State) (o b : ℕ) (d z : List ℕ) → list_all is_digit d ≡ true → is_digit b ≡ false → length d ≤ 9 →
     resume s (lexemes_from e o 0 (35 ∷ (d ++ b ∷ z))) ≡ following (on s (label_lexeme o d b)) (lexemes_from e (o + 2 + length d) 0 z)
 hash_step e s o b d z a n l =
     let r = lexemes_from e (o + 2 + length d) 0 z in
@@ -121,9 +122,9 @@ free_parser os p e k = record {
 
 -- a label, or a fault in its place
 pub hash_advance : (os : List Object) (t : State) (old new : Parser) (rest : List ℕ) (n : ℕ) (d x : List ℕ) (b : ℕ) (r : Outcome) →
-    ((z : List ℕ) → rest ++ z ≡ take n rest ++ (x ++ z)) → all_are is_digit d ≡ true → is_digit b ≡ false → length d ≤ 9 →
+    ((z : List ℕ) → rest ++ z ≡ take n rest ++ (x ++ z)) → list_all is_digit d ≡ true → is_digit b ≡ false → length d ≤ 9 →
     ((e : Ending) (z : List ℕ) → meaning_of e t old (take n rest ++ z) ≡ resume t (lexemes_from e old.start 0 (35 ∷ (d ++ b ∷ z)))) →
-    Took os new.stack r (on t (label_lexeme old.start d b)) → EndsHash r (length d) old new → Advances os t old rest r n new
+    Took os new.stack r (on t (label_lexeme old.start d b)) → EndsHash r (length d) b old new → Advances os t old rest r n new
 hash_advance os t old new rest n d x b outcomes.Pending e a c l m q s =
     let w = on t (label_lexeme old.start d b) in
     let o : old.start + 2 + length d ≡ new.start = sym s.1 in (

@@ -10,6 +10,7 @@ pub mod Holding
 pub mod Digits
 pub mod Parsing
 pub mod Bare
+pub mod White
 pub mod Advancing
 pub mod Hashes
 pub mod Beginning

@@ -2,7 +2,8 @@
 use Rattle.std.proofs.Common.{◌≡◌, ℕ, suc, ◌+◌, ◌<◌, Bool, true, false, List, [], ◌∷◌, ◌++◌, length, map, eqb, ◌&&◌, Some, refl, sym, ap, ◌∙◌, arith, true≢false, if◌then◌else◌, append_assoc, append-nil}
 use Rattle.std.proofs.lemmas.Bool.{and_parts}
 use Rattle.mw_model.specs.Terms.Object.{Object, Natural, Symbol, name_of_bytes, is_name_byte}
-use Rattle.mw_model.specs.Texts.Lexemes.{Lexeme, Atom, Dot, Wrong, Stray, Fault, fault, TOKEN, BYTE, Ending, Ends, Goes, all_are, is_constituent, TokenForm, Whole, Point, Bad, token_form, token, atom, glued, glued_bar, class, class_else, Constituent, lexemes_from, is_digit, is_dot, like_number, decimal_value, raised}
+use Rattle.mw_model.specs.Texts.Lexemes.{Lexeme, Atom, Dot, Wrong, Stray, Fault, fault, TOKEN, BYTE, Ending, Ends, Goes, is_constituent, TokenForm, Whole, Point, Bad, token_form, token, atom, glued, glued_bar, class, class_else, Constituent, lexemes_from, is_digit, is_dot, like_number, decimal_value, raised}
+use Rattle.std.specs.List.{list_all}
 use Rattle.mw_model.specs.Texts.Grammar.{book, and_events}
 use Rattle.mw_read.specs.Machine.{State, Idle, Within, Full, Broken, Members, Tailed, Quoting, Marking, Turn, quiet, event, on, is_full, IsSound}
 use Rattle.mw_read.specs.Resume.{resume, following}
@@ -47,11 +48,11 @@ token_solid o false Point = tt
 token_solid o g Bad = tt
 
 -- a fault that the token is, whatever follows the byte after it
-pub token_faults : (e : Ending) (s : State) (o b : ℕ) (g : Bool) (t x : List ℕ) (f : Fault) → 0 < length t → all_are is_constituent t ≡ true → is_constituent b ≡ false → glued b ≡ g →
+pub token_faults : (e : Ending) (s : State) (o b : ℕ) (g : Bool) (t x : List ℕ) (f : Fault) → 0 < length t → list_all is_constituent t ≡ true → is_constituent b ≡ false → glued b ≡ g →
     on s (token_lexeme o g (token_form t)) ≡ quiet (Broken f) → resume s (lexemes_from e o 0 (t ++ b ∷ x)) ≡ book [] (Some f)
 token_faults e s o b g [] x f l a n h q = absurd (omega arith)
 token_faults e s o b g (c ∷ t) x f l a n h q =
-    let k = and_parts (is_constituent c) (all_are is_constituent t) a in
+    let k = and_parts (is_constituent c) (list_all is_constituent t) a in
     let m = token_first o g (c ∷ t) (token_form (c ∷ t)) b h in
     let r = lexemes_from e (o + length (c ∷ t)) 0 (b ∷ x) in
     ap (resume s) (token_lexemes e x o b c t (constituent_class c k.0) k.1 n ∙ ap (λ u. u ++ r) m.1)
@@ -59,17 +60,17 @@ token_faults e s o b g (c ∷ t) x f l a n h q =
     ∙ ap (λ (u : Turn). following u (m.0 ++ r)) q
 
 -- a token whose datum is whole, and whatever may follow it
-pub token_whole : (e : Ending) (o : ℕ) (t z : List ℕ) (y : Object) → 0 < length t → all_are is_constituent t ≡ true → token_form t ≡ Whole y → Fits AfterToken e z →
+pub token_whole : (e : Ending) (o : ℕ) (t z : List ℕ) (y : Object) → 0 < length t → list_all is_constituent t ≡ true → token_form t ≡ Whole y → Fits AfterToken e z →
     lexemes_from e o 0 (t ++ z) ≡ Atom o y ∷ after glued e (o + length t) z
 token_whole e o [] z y l a w h = absurd (omega arith)
 token_whole Goes o (c ∷ t) [] y l a w h = absurd h
 token_whole Ends o (c ∷ t) [] y l a w h =
-    let k = and_parts (is_constituent c) (all_are is_constituent t) a in
+    let k = and_parts (is_constituent c) (list_all is_constituent t) a in
     ap (λ u. lexemes_from Ends o 0 (c ∷ u)) (append-nil t)
     ∙ token_ends Ends o c t (constituent_class c k.0) k.1
     ∙ ap (λ f. token Ends o (c ∷ t) f [] ++ lexemes_from Ends (o + length (c ∷ t)) 0 []) w
 token_whole e o (c ∷ t) (b ∷ x) y l a w h =
-    let k = and_parts (is_constituent c) (all_are is_constituent t) a in
+    let k = and_parts (is_constituent c) (list_all is_constituent t) a in
     let end = o + length (c ∷ t) in
     token_lexemes e x o b c t (constituent_class c k.0) k.1 h
     ∙ ap (λ f. token Goes o (c ∷ t) f (b ∷ []) ++ lexemes_from e end 0 (b ∷ x)) w
@@ -107,21 +108,21 @@ point_one : (t : List ℕ) → token_form t ≡ Point → length t ≡ 1
 point_one [] h = absurd cc
 point_one (b ∷ []) h = refl
 point_one (b ∷ c ∷ t) h =
-    absurd (no_point (Natural (decimal_value (b ∷ c ∷ t))) (Symbol (name_of_bytes (map raised (b ∷ c ∷ t)))) (all_are is_digit (b ∷ c ∷ t)) (like_number (b ∷ c ∷ t)) (eqb b 46) (all_are is_dot (b ∷ c ∷ t)) h)
+    absurd (no_point (Natural (decimal_value (b ∷ c ∷ t))) (Symbol (name_of_bytes (map raised (b ∷ c ∷ t)))) (list_all is_digit (b ∷ c ∷ t)) (like_number (b ∷ c ∷ t)) (eqb b 46) (list_all is_dot (b ∷ c ∷ t)) h)
 
 -- a dot that is taken, and whatever may follow it
-pub token_dot : (e : Ending) (s u : State) (o : ℕ) (t z : List ℕ) → 0 < length t → all_are is_constituent t ≡ true → token_form t ≡ Point → is_full s ≡ false → IsSound s → on s (Dot o) ≡ quiet u → IsSound u →
+pub token_dot : (e : Ending) (s u : State) (o : ℕ) (t z : List ℕ) → 0 < length t → list_all is_constituent t ≡ true → token_form t ≡ Point → is_full s ≡ false → IsSound s → on s (Dot o) ≡ quiet u → IsSound u →
     Fits AfterToken e z → resume s (lexemes_from e o 0 (t ++ z)) ≡ resume u (after glued e (o + length t) z)
 token_dot e s u o [] z l a w f k q v h = absurd (omega arith)
 token_dot Goes s u o (c ∷ t) [] l a w f k q v h = absurd h
 token_dot Ends s u o (c ∷ t) [] l a w f k q v h =
-    let m = and_parts (is_constituent c) (all_are is_constituent t) a in
+    let m = and_parts (is_constituent c) (list_all is_constituent t) a in
     ap (λ u. resume s (lexemes_from Ends o 0 (c ∷ u))) (append-nil t)
     ∙ ap (resume s) (token_ends Ends o c t (constituent_class c m.0) m.1 ∙ ap (λ f. token Ends o (c ∷ t) f [] ++ lexemes_from Ends (o + length (c ∷ t)) 0 []) w)
     ∙ on_step s (Dot o) tt (lexemes_from Ends (o + length (c ∷ t)) 0 [])
     ∙ ap (λ (w : Turn). following w (lexemes_from Ends (o + length (c ∷ t)) 0 [])) q
 token_dot e s u o (c ∷ t) (b ∷ x) l a w f k q v h =
-    let m = and_parts (is_constituent c) (all_are is_constituent t) a in
+    let m = and_parts (is_constituent c) (list_all is_constituent t) a in
     let end = o + length (c ∷ t) in
     let r = lexemes_from e end 0 (b ∷ x) in
     ap (resume s) (token_lexemes e x o b c t (constituent_class c m.0) m.1 h ∙ ap (λ f. token Goes o (c ∷ t) f (b ∷ []) ++ r) w)
@@ -140,7 +141,7 @@ pub following_event : (w : Turn) (x : Object) (r : List Lexeme) → w ≡ event 
 following_event w x r q = ap (λ (u : Turn). following u r) q
 
 -- a name between bars, and whatever may follow it
-pub bars_whole : (e : Ending) (o : ℕ) (t z : List ℕ) → 0 < length t → all_are is_name_byte t ≡ true → Fits AfterBar e z →
+pub bars_whole : (e : Ending) (o : ℕ) (t z : List ℕ) → 0 < length t → list_all is_name_byte t ≡ true → Fits AfterBar e z →
     lexemes_from e o 0 (124 ∷ (t ++ 124 ∷ z)) ≡ Atom o (Symbol (name_of_bytes t)) ∷ after glued_bar e (o + 2 + length t) z
 bars_whole e o [] z l a h = absurd (omega arith)
 bars_whole Goes o (c ∷ n) [] l a h = absurd h
@@ -153,7 +154,7 @@ bars_whole e o (c ∷ n) (b ∷ x) l a h =
     ∙ atom_after e glued_bar o (Symbol (name_of_bytes t)) (o + 2 + length t) b x
 
 -- a byte that no name may hold
-pub bars_faults : (e : Ending) (s : State) (o b : ℕ) (t x : List ℕ) → all_are is_name_byte t ≡ true → is_name_byte b ≡ false → eqb b 124 ≡ false → is_full s ≡ false → IsSound s →
+pub bars_faults : (e : Ending) (s : State) (o b : ℕ) (t x : List ℕ) → list_all is_name_byte t ≡ true → is_name_byte b ≡ false → eqb b 124 ≡ false → is_full s ≡ false → IsSound s →
     resume s (lexemes_from e o 0 (124 ∷ (t ++ b ∷ x))) ≡ book [] (Some (fault BYTE (o + 1 + length t)))
 bars_faults e s o b t x a n q f k =
     let r = lexemes_from e (suc o) (suc (length t)) (t ++ b ∷ x) in

@@ -1,5 +1,5 @@
 -- A text that goes on in the next piece.
-use Rattle.std.proofs.Common.{◌≡◌, ℕ, ◌+◌, ◌<◌, ◌⊎◌, inl, inr, Bool, false, List, [], ◌∷◌, ◌++◌, length, take, drop, sym, ap, ◌∙◌, subst, arith, append_assoc, length-append, zero, suc, get_or, true≢false}
+use Rattle.std.proofs.Common.{◌≡◌, ℕ, ◌+◌, ◌<◌, ◌⊎◌, inl, inr, Bool, false, List, [], ◌∷◌, ◌++◌, length, take, drop, refl, sym, ap, ◌∙◌, subst, arith, append_assoc, length-append, zero, suc, get_or, true≢false}
 use Rattle.std.proofs.lemmas.List.{take_all}
 use Rattle.mw_model.specs.Terms.Object.{Object}
 use Rattle.mw_model.specs.Texts.Lexemes.{Ending, Goes, lexemes_from}
@@ -60,6 +60,7 @@ module _ (old new : Parser) (bytes : List ℕ) (g : GoesOn old.begun (old.token.
     left = subst (λ m. Fits m Goes (drop (length bytes) bytes)) (sym b) (goes_fits old.begun whole g Goes (drop (length bytes) bytes));
     started = subst (λ m. IsStarted m new.token.items) (sym b) (subst (λ x. IsStarted old.begun x) (sym i) (goes_started old.begun whole g));
     less = λ l. omega (arith, ap weight b, l);
+    stops = λ q. refl;
   }
 
   pub pause_advances : (os : List Object) (t : State) → IsParser os old → new.stack ≡ old.stack → Holds os old.stack t → Advances os t old bytes outcomes.Pending (length bytes) new

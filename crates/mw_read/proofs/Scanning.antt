@@ -1,12 +1,12 @@
 -- What a parser does with one part of a piece after another.
-use Rattle.std.proofs.Common.{◌≡◌, ℕ, zero, suc, ◌+◌, ◌*◌, ◌<◌, ◌≤◌, List, [], ◌∷◌, ◌++◌, length, take, drop, refl, sym, ap, ◌∙◌, subst, arith, append_assoc}
-use Rattle.std.proofs.lemmas.List.{length-drop, drop-drop}
+use Rattle.std.proofs.Common.{◌≡◌, ℕ, zero, suc, ◌+◌, ◌*◌, ◌<◌, ◌≤◌, true, false, List, [], ◌∷◌, ◌++◌, length, take, drop, get_or, refl, sym, ap, ◌∙◌, subst, arith, append_assoc}
+use Rattle.std.proofs.lemmas.List.{length-drop, drop-drop, get_or-drop}
 use Rattle.mw_model.specs.Terms.Object.{Object}
-use Rattle.mw_model.specs.Texts.Lexemes.{Ending, Goes}
+use Rattle.mw_model.specs.Texts.Lexemes.{Ending, Goes, is_white}
 use Rattle.mw_heap.specs.Objects.{Grows}
 use Rattle.mw_read.specs.Machine.{State}
 use Rattle.mw_read.specs.Held.{Holds}
-use Rattle.mw_read.specs.Parsing.{meaning_of, Fits, Advances, Moves, Moved, offset_of, weight}
+use Rattle.mw_read.specs.Parsing.{meaning_of, Fits, Advances, EndsAt, Moves, Moved, is_inside, offset_of, weight}
 use Rattle.mw_read.specs.Standing.{Reached, Reaches}
 use Rattle.mw_read.specs.declared.parser.Begun.{Begun}
 use Rattle.mw_read.specs.declared.parser.Begun.TheVariants.{Nothing, Comment, Token, Bars, Barred, Hash, AfterToken, AfterBar}
@@ -49,6 +49,11 @@ fits_take AfterBar e x y zero w h l = absurd (omega (arith, l))
 fits_take AfterBar e [] y (suc n) w h l = absurd h
 fits_take AfterBar e (b ∷ x) y (suc n) w h l = h
 
+heavy_inside : (m : Begun) → 0 < weight m → is_inside m ≡ true
+heavy_inside Token l = refl
+heavy_inside Barred l = refl
+heavy_inside m l = absurd (omega arith)
+
 pub take_both : (m n : ℕ) (xs : List ℕ) → take (m + n) xs ≡ take m xs ++ take n (drop m xs)
 take_both zero n xs = ap (λ k. take k xs) (let e : 0 + n ≡ n = omega arith in e)
 take_both (suc m) n [] = none (suc m + n) ∙ sym (none n)
@@ -75,11 +80,24 @@ module _ (first : List Object) (old : Parser) (piece : List ℕ) (os : List Obje
         subst (λ u. Fits old.begun e u) (sym (ap (λ y. y ++ x) (take_both at n piece) ∙ append_assoc (take at piece) (take n rest) x))
         (s.reached.fits e (take n rest ++ x) (fits_take mid.begun e rest x n (weight new.begun) s.reached.left (m.less some_rest)));
     less = omega (arith, m.less some_rest, s.reached.less);
+    stops = λ l i. omega (arith, m.stops i, length-drop at piece, some);
   }
+
+  -- a datum ends in what was taken last, since a text that goes on comes from another piece
+  ends : (n : ℕ) → Moved mid rest n new → EndsAt new.begun rest n → EndsAt new.begun piece (at + n)
+  ends n m e = record { between = e.between; last = last n m e }
+    where
+      last : (n : ℕ) → Moved mid rest n new → EndsAt new.begun rest n → (k : ℕ) → at + n ≡ suc k → is_white (get_or piece k 0) ≡ false
+      last zero m e k h =
+          let taken : 0 < at = omega (arith, h) in
+          let heavy : 0 < weight mid.begun = omega (arith, m.less some_rest) in
+          absurd (omega (arith, some, s.reached.stops taken (heavy_inside mid.begun heavy)))
+      last (suc n) m e k h =
+          ap is_white (ap (λ i. get_or piece i 0) (let j : k ≡ at + n = omega (arith, h) in j) ∙ sym (get_or-drop at piece n 0)) ∙ e.last n refl
 
   pub scan_reaches : (r : Outcome) (n : ℕ) → Moves r mid rest n new → Reaches r old piece (at + n) new
   scan_reaches outcomes.Pending n m = both n m
-  scan_reaches (outcomes.Datum x) n m = (both n m, omega (arith, m.less some_rest, s.reached.less))
+  scan_reaches (outcomes.Datum x) n m = (both n m.0, omega (arith, m.0.less some_rest, s.reached.less), ends n m.0 m.1)
   scan_reaches (outcomes.Fault f) n m = tt
 
   on_again : (t u : State) (n : ℕ) → ((e : Ending) (z : List ℕ) → Fits mid.begun e z → meaning_of e t old (take at piece ++ z) ≡ meaning_of e u mid z) → Moved mid rest n new →
@@ -98,7 +116,7 @@ module _ (first : List Object) (old : Parser) (piece : List ℕ) (os : List Obje
   scan_advances (outcomes.Datum x) n m f t h =
       let a = s.advances t h in
       let q = f a.0 a.1 in
-      (q.0, q.1, q.2, λ e z fit. on_again t a.0 n a.3 m e z ∙ q.3 e z fit)
+      (q.0, q.1, q.2, λ e z fit. on_again t a.0 n a.3 m.0 e z ∙ q.3 e z fit)
   scan_advances (outcomes.Fault x) n m f t h =
       let a = s.advances t h in
       λ e z. ap (meaning_of e t old) (take_cut [] piece at z) ∙ a.3 e (rest ++ z) (fits_more mid.begun e rest z s.reached.left) ∙ f a.0 a.1 e z

@@ -1,15 +1,16 @@
 -- What a parser's answers say of the whole book.
 use Rattle.std.proofs.Common.{◌≡◌, ℕ, zero, suc, ◌+◌, ◌-◌, ◌<◌, ◌≤◌, Bool, true, false, leb, min, List, [], ◌∷◌, ◌++◌, length, take, drop, Option, Some, None, refl, sym, ap, ◌∙◌, subst, arith, true≢false, leb-true, append_assoc, append-nil, length-append, le-ltb, if◌then◌else◌}
 use Rattle.std.proofs.lemmas.Bool.{le-leb, and_parts}
-use Rattle.std.proofs.lemmas.List.{take_all, drop_all, take_min, take-take, drop-take, length-take-le, length-drop, take-append-le}
+use Rattle.std.proofs.lemmas.List.{take_all, drop_all, take_min, take-take, drop-take, length-take-le, length-drop, take-append-le, get_or-take}
 use Rattle.std.proofs.Math.Nat.{min-le_left, min-le_right}
 use Rattle.mw_model.specs.Terms.Object.{Object}
-use Rattle.mw_model.specs.Texts.Lexemes.{Fault, fault, LENGTH, LABEL, Wrong, End, Ending, Ends, Goes, lexemes_from, all_are, is_constituent, token_form}
+use Rattle.mw_model.specs.Texts.Lexemes.{Fault, fault, LENGTH, LABEL, Wrong, End, Ending, Ends, Goes, lexemes_from, is_constituent, is_white, token_form}
+use Rattle.std.specs.List.{list_all}
 use Rattle.mw_model.specs.Texts.Grammar.{book, and_events, reading, limit, cut_short, trees}
 use Rattle.mw_read.specs.Machine.{State, Idle, IsSound, is_full, end_fault}
 use Rattle.mw_read.specs.Resume.{resume, onward}
 use Rattle.mw_read.specs.Held.{Holds, Completes}
-use Rattle.mw_read.specs.Parsing.{ahead, meaning_of, Fits, IsText, IsParser, IsStarted, Advances, is_inside, offset_of, offset_at}
+use Rattle.mw_read.specs.Parsing.{ahead, meaning_of, Fits, IsText, IsBetween, IsParser, IsStarted, Advances, EndsAt, is_inside, offset_of, offset_at}
 use Rattle.mw_read.specs.Standing.{Reached, Reaches, Stands, Follows, Gives, GivesAfter, GivesLast, Says, Finishes, Lasts}
 use Rattle.mw_read.specs.declared.parser.Begun.{Begun}
 use Rattle.mw_read.specs.declared.parser.Begun.TheVariants.{Nothing, Comment, Token, Bars, Barred, Hash, AfterToken, AfterBar}
@@ -83,7 +84,7 @@ more_meaning u Nothing t o h x f k = ended u [] k
 more_meaning u Comment t o h x f k = ended u [] k
 more_meaning u Token [] o h x f k = ended u [] k
 more_meaning u Token (c ∷ t) o h x f k =
-    let a = and_parts (is_constituent c) (all_are is_constituent t) x in
+    let a = and_parts (is_constituent c) (list_all is_constituent t) x in
     ap (λ y. resume u (lexemes_from Goes o 0 (c ∷ y))) (append-nil t)
     ∙ ap (resume u) (token_ends Goes o c t (constituent_class c a.0) a.1 ∙ ap (λ l. l ++ End None ∷ []) (token_open o (c ∷ t) (token_form (c ∷ t))))
     ∙ stopped u o (End None ∷ []) (f refl) k
@@ -212,6 +213,12 @@ says_of os old g given piece n p y steps.End h s = absurd h
 says_of os old g given piece n p y (steps.Syntax k o) h s = absurd h
 says_of os old g given piece n p y steps.Memory h s = absurd h
 
+between_ends : (m : Begun) (t : List ℕ) (o : ℕ) → IsBetween m → resume Idle (ahead Ends m t o []) ≡ book [] None
+between_ends Nothing t o i = refl
+between_ends AfterToken t o i = refl
+between_ends AfterBar t o i = refl
+between_ends m t o i = absurd i
+
 -- the part of a piece that a book may have
 module _ (os0 os : List Object) (old mid : Parser) (g : List ℕ) (given : List Object) (s : Stands os0 old g given) (piece : List ℕ) (k : ℕ) (e : k ≡ min (length piece) (limit - offset_of old)) where
   abbrev part : List ℕ
@@ -248,6 +255,22 @@ module _ (os0 os : List Object) (old mid : Parser) (g : List ℕ) (given : List 
       ∙ same_take (k - n) (limit - offset_of mid) (drop n piece) (omega (arith, e, m.offset, length-drop n piece, l, part_length)))
       m.left
 
+  -- where the book ends there, the datum is its last
+  complete_there : (y : Object) (n : ℕ) → Reached old part n mid → IsBetween mid.begun → ((e : Ending) (z : List ℕ) → Fits mid.begun e z → meaning_of e s.state old (take n part ++ z) ≡ and_events y (meaning_of e Idle mid z)) →
+      reading Ends (g ++ take n part) ≡ book (given ++ y ∷ []) None
+  complete_there y n m i f =
+      let fit = fits_end mid.begun in
+      ap (reading Ends) (ap (λ u. g ++ u) (sym (append-nil (take n part))))
+      ∙ s.means Ends (take n part ++ []) (m.fits Ends [] fit)
+      ∙ ap (onward given) (f Ends [] fit ∙ ap (and_events y) (between_ends mid.begun mid.token.items mid.start i))
+      ∙ onward_book given (y ∷ []) None
+
+  ends_there : (n : ℕ) → n ≤ length part → EndsAt mid.begun part n → EndsAt mid.begun piece n
+  ends_there n l e = record {
+    between = e.between;
+    last = λ j h. ap is_white (sym (get_or-take k piece j 0 (omega (arith, h, l, part_length)))) ∙ e.last j h;
+  }
+
   pub datum_after : (x : ℕ) (n : ℕ) → n ≤ length part → Reaches (outcomes.Datum x) old part n mid → Advances os s.state old part (outcomes.Datum x) n mid →
       (y : Object) × Completes os mid.stack x y × GivesAfter old g given piece y n (uncut mid)
   datum_after x n l m q = (
@@ -255,6 +278,8 @@ module _ (os0 os : List Object) (old mid : Parser) (g : List ℕ) (given : List 
     q.1,
     record {
       taken = (let j : n ≤ length piece = omega (arith, l, part_length, k_within) in j);
+      complete = subst (λ u. reading Ends (g ++ u) ≡ book (given ++ q.0 ∷ []) None) (take-take n k piece (omega (arith, l, part_length))) (complete_there q.0 n m.0 m.2.between q.3);
+      ends = ends_there n l m.2;
       stands = λ any.
           subst (λ u. Stands any (uncut mid) (g ++ u) (given ++ q.0 ∷ [])) (take-take n k piece (omega (arith, l, part_length)))
           (given_stands os0 os old mid g given s x q.0 (take n part) q.1 q.2 m.0.started (reached_offset n l m.0) (reached_short n l) m.0.fits q.3 any);

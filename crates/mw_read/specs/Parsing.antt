@@ -1,8 +1,9 @@
 -- What a parser stands for: what is open, and the text that has begun.
-use Rattle.std.specs.Prelude.{◌≡◌, ℕ, ◌+◌, ◌*◌, ◌<◌, ◌≤◌, ◌⊎◌, Bool, true, false, List, [], ◌∷◌, ◌++◌, length, take, drop, Some, if◌then◌else◌}
+use Rattle.std.specs.Prelude.{◌≡◌, ℕ, suc, ◌+◌, ◌*◌, ◌<◌, ◌≤◌, ◌⊎◌, Bool, true, false, List, [], ◌∷◌, ◌++◌, length, take, drop, get_or, Some, if◌then◌else◌}
 use Rattle.mw_model.specs.Terms.Object.{Object, is_name_byte}
 use Rattle.mw_model.specs.Texts.Lexemes as lex
-use Rattle.mw_model.specs.Texts.Lexemes.{class, Lexeme, Stray, fault, TOKEN, Ending, Ends, Goes, all_are, is_constituent, is_digit, glued, glued_bar, lexemes_from}
+use Rattle.mw_model.specs.Texts.Lexemes.{class, Lexeme, Stray, fault, TOKEN, Ending, Ends, Goes, is_constituent, is_digit, is_white, glued, glued_bar, lexemes_from}
+use Rattle.std.specs.List.{list_all}
 use Rattle.mw_model.specs.Texts.Grammar.{Book, book, and_events}
 use Rattle.mw_read.specs.Machine.{State, Idle}
 use Rattle.mw_read.specs.Resume.{resume}
@@ -47,10 +48,10 @@ Fits m e x = Unit {0}
 
 -- the bytes that begin or go on with a text
 abbrev pub IsText : Begun → List ℕ → Type 0
-IsText Token t = all_are is_constituent t ≡ true
-IsText Bars t = all_are is_name_byte t ≡ true
-IsText Barred t = (all_are is_name_byte t ≡ true) × (0 < length t)
-IsText Hash t = (all_are is_digit t ≡ true) × (length t ≤ 9)
+IsText Token t = list_all is_constituent t ≡ true
+IsText Bars t = list_all is_name_byte t ≡ true
+IsText Barred t = (list_all is_name_byte t ≡ true) × (0 < length t)
+IsText Hash t = (list_all is_digit t ≡ true) × (length t ≤ 9)
 IsText m t = Unit {0}
 
 -- a datum has begun
@@ -74,10 +75,10 @@ Advances os t old rest (outcomes.Datum r) n new =
     (x : Object) × Completes os new.stack r x × IsParser os new × ((e : Ending) (z : List ℕ) → Fits new.begun e z → meaning_of e t old (take n rest ++ z) ≡ and_events x (meaning_of e Idle new z))
 Advances os t old rest (outcomes.Fault f) n new = (e : Ending) (x : List ℕ) → meaning_of e t old (rest ++ x) ≡ book [] (Some (fault_of f))
 
--- the label of n digits has ended, unless it is a fault
-abbrev pub EndsHash : Outcome → ℕ → Parser → Parser → Type 0
-EndsHash (outcomes.Fault f) n old new = Unit {0}
-EndsHash r n old new = (new.begun ≡ Nothing) × (new.start ≡ old.start + 2 + n)
+-- the label of n digits has ended with byte b, unless it is a fault
+abbrev pub EndsHash : Outcome → ℕ → ℕ → Parser → Parser → Type 0
+EndsHash (outcomes.Fault f) n b old new = Unit {0}
+EndsHash r n b old new = (new.begun ≡ Nothing) × (new.start ≡ old.start + 2 + n) × (is_white b ≡ false)
 
 -- the number of bytes taken, where a text of n bytes has begun at o
 abbrev pub offset_at : Begun → ℕ → ℕ → ℕ
@@ -104,6 +105,18 @@ abbrev pub IsStarted : Begun → List ℕ → Type 0
 IsStarted Token t = 0 < length t
 IsStarted m t = Unit {0}
 
+-- no text goes on here
+abbrev pub IsBetween : Begun → Type 0
+IsBetween Nothing = Unit {0}
+IsBetween AfterToken = Unit {0}
+IsBetween AfterBar = Unit {0}
+IsBetween m = ⊥
+
+-- No text goes on after the first n bytes, and the last of them, if there is one, is no white space.
+pub record EndsAt (m : Begun) (rest : List ℕ) (n : ℕ) : Type 0 where
+  pub between : IsBetween m
+  pub last : (k : ℕ) → n ≡ suc k → is_white (get_or rest k 0) ≡ false
+
 -- n bytes of the rest were taken, and what is left may follow
 pub record Moved (old : Parser) (rest : List ℕ) (n : ℕ) (new : Parser) : Type 0 where
   pub offset : offset_of new ≡ offset_of old + n
@@ -111,10 +124,14 @@ pub record Moved (old : Parser) (rest : List ℕ) (n : ℕ) (new : Parser) : Typ
   pub started : IsStarted new.begun new.token.items
   -- a byte was taken, or a text has ended
   pub less : 0 < length rest → weight new.begun < weight old.begun + 2 * n
+  -- a text that goes on took all that there is
+  pub stops : is_inside new.begun ≡ true → n ≡ length rest
 
+-- a datum ends where what was taken ends
 abbrev pub Moves : Outcome → Parser → List ℕ → ℕ → Parser → Type 0
 Moves (outcomes.Fault f) old rest n new = Unit {0}
-Moves r old rest n new = Moved old rest n new
+Moves outcomes.Pending old rest n new = Moved old rest n new
+Moves (outcomes.Datum r) old rest n new = Moved old rest n new × EndsAt new.begun rest n
 
 -- Does g say whether byte b may not stand after what was read?
 abbrev pub IsAfter : Begun → Bool → ℕ → Type 0
@@ -122,13 +139,6 @@ IsAfter Nothing g b = g ≡ false
 IsAfter AfterToken g b = g ≡ glued b
 IsAfter AfterBar g b = g ≡ glued_bar b
 IsAfter m g b = ⊥
-
--- no text goes on here
-abbrev pub IsBetween : Begun → Type 0
-IsBetween Nothing = Unit {0}
-IsBetween AfterToken = Unit {0}
-IsBetween AfterBar = Unit {0}
-IsBetween m = ⊥
 
 -- the first byte is of this class
 abbrev pub IsFirst : lex.Class → List ℕ → Type 0

@@ -11,7 +11,7 @@ use Rattle.mw_read.specs.Kinds.{kind_of}
 use Rattle.mw_read.specs.Piles.{fault_of}
 use Rattle.mw_read.specs.Held.{Holds}
 use Rattle.mw_read.specs.Shown.{ShowsEvent}
-use Rattle.mw_read.specs.Parsing.{meaning_of, Fits, IsParser, IsStarted, Advances, is_inside, offset_of, weight}
+use Rattle.mw_read.specs.Parsing.{meaning_of, Fits, IsParser, IsStarted, Advances, EndsAt, is_inside, offset_of, weight}
 use Rattle.mw_read.specs.declared.parser.Parser.{Parser}
 use Rattle.mw_read.specs.declared.step.Outcome.{Outcome}
 use Rattle.mw_read.specs.declared.step.Outcome.TheVariants as outcomes
@@ -25,11 +25,12 @@ pub record Reached (old : Parser) (piece : List ℕ) (n : ℕ) (new : Parser) : 
   pub started : IsStarted new.begun new.token.items
   pub fits : (e : Ending) (x : List ℕ) → Fits new.begun e x → Fits old.begun e (take n piece ++ x)
   pub less : weight new.begun ≤ weight old.begun + 2 * n
+  pub stops : 0 < n → is_inside new.begun ≡ true → n ≡ length piece
 
 abbrev pub Reaches : Outcome → Parser → List ℕ → ℕ → Parser → Type 0
 Reaches (outcomes.Fault f) old piece n new = Unit {0}
 Reaches outcomes.Pending old piece n new = Reached old piece n new
-Reaches (outcomes.Datum r) old piece n new = Reached old piece n new × (weight new.begun < weight old.begun + 2 * n)
+Reaches (outcomes.Datum r) old piece n new = Reached old piece n new × (weight new.begun < weight old.begun + 2 * n) × EndsAt new.begun piece n
 
 -- Bytes g were read, and these data of them given: whatever may follow, the book is those data and what is still to come.
 pub record Stands (os : List Object) (p : Parser) (g : List ℕ) (given : List Object) : Type 0 where
@@ -96,9 +97,11 @@ Gives os y s = ⊥
 abbrev pub work : Parser → List ℕ → ℕ
 work p x = weight p.begun + 2 * length x
 
--- After g and the first n bytes of the piece datum y was given. What stands then stands in any heap.
+-- After g and the first n bytes of the piece datum y was given: it is complete there, and ends there. What stands then stands in any heap.
 pub record GivesAfter (old : Parser) (g : List ℕ) (given : List Object) (piece : List ℕ) (y : Object) (n : ℕ) (p : Parser) : Type 0 where
   pub taken : n ≤ length piece
+  pub complete : reading Ends (g ++ take n piece) ≡ book (given ++ y ∷ []) None
+  pub ends : EndsAt p.begun piece n
   pub stands : (os : List Object) → Stands os p (g ++ take n piece) (given ++ y ∷ [])
   pub left : Follows p (drop n piece)
   pub less : work p (drop n piece) < work old piece

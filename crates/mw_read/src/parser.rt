@@ -35,7 +35,7 @@ pub(crate) enum Begun {
     AfterBar,
 }
 
-// The longest book.
+// The longest book, in bytes, which the definition of texts fixes: hours of reading.
 const LIMIT: u64 = 1 << 40;
 
 /// A parser of a book that comes in pieces.

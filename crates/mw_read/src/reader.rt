@@ -100,8 +100,8 @@ impl Reader {
     }
 
     /// What `next` would answer if the piece were fed, and how many of its bytes that takes; but only a token that the end of the piece
-    /// cuts is copied. After a datum the rest of the piece comes next, and after `More` the next piece. After `Syntax` and `Memory`
-    /// it answers the same again.
+    /// cuts is copied. A datum takes the bytes up to its end and not beyond: the rest of the piece, with the white space after it, comes
+    /// next. After `More` the next piece does. After `Syntax` and `Memory` it answers the same again.
     pub fn step(&mut self, heap: &mut Heap, piece: &[u8]) -> (Step, usize)
         requires stands { IsStanding heap.old.objects self.old.parser ⊎ HasEnded self.old.parser }
         requires awaits { IsAwaiting self.old ⊎ HasEnded self.old.parser }

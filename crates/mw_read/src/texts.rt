@@ -1,7 +1,8 @@
 //! Where lexemes end, and texts of more than one byte: tokens, names between bars, labels and comments.
 ghost use Rattle.std.specs.Prelude.{◌≡◌, ℕ, ◌+◌, ◌<◌, ◌≤◌, ◌^◌, ◌⊎◌, true, false, List, ◌++◌, length, take, IfOk};
 ghost use Rattle.mw_model.specs.Terms.Object.{Object, is_name_byte, name_of_bytes, Symbol};
-ghost use Rattle.mw_model.specs.Texts.Lexemes.{all_are, is_constituent, is_digit, token_form, Atom, Ending};
+ghost use Rattle.mw_model.specs.Texts.Lexemes.{is_constituent, is_digit, token_form, Atom, Ending};
+ghost use Rattle.std.specs.List.{list_all};
 ghost use Rattle.mw_heap.specs.Objects.{Grows};
 ghost use Rattle.mw_read.specs.Machine.{State, on, is_full};
 ghost use Rattle.mw_read.specs.Piles.{pile_of, is_ready};
@@ -138,7 +139,7 @@ impl Parser {
     ) -> Result<Outcome, Memory>
         requires parser { IsParser heap.old.objects self.old }
         requires inside { is_inside self.old.begun ≡ true }
-        requires token { all_are is_constituent (self.old.token.items ++ bytes.now) ≡ true }
+        requires token { list_all is_constituent (self.old.token.items ++ bytes.now) ≡ true }
         requires room { self.old.start + (length self.old.token.items + length bytes.now) < 2 ^ 50 }
         ensures grows { Grows heap.old.objects heap.new.objects }
         ensures took { IfOk result (λ r. (t : State) → Holds heap.old.objects self.old.stack t → is_full t ≡ false →
@@ -158,7 +159,7 @@ impl Parser {
     pub(crate) fn end_bars(&mut self, heap: &mut Heap, bytes: &[u8]) -> Result<Outcome, Memory>
         requires parser { IsParser heap.old.objects self.old }
         requires inside { is_inside self.old.begun ≡ true }
-        requires name { all_are is_name_byte (self.old.token.items ++ bytes.now) ≡ true }
+        requires name { list_all is_name_byte (self.old.token.items ++ bytes.now) ≡ true }
         requires some { 0 < length (self.old.token.items ++ bytes.now) }
         requires room { self.old.start + (length self.old.token.items + length bytes.now) < 2 ^ 50 }
         ensures grows { Grows heap.old.objects heap.new.objects }
@@ -179,13 +180,13 @@ impl Parser {
     fn end_hash(&mut self, heap: &mut Heap, bytes: &[u8], b: u8) -> Result<Outcome, Memory>
         requires parser { IsParser heap.old.objects self.old }
         requires inside { is_inside self.old.begun ≡ true }
-        requires digits { all_are is_digit (self.old.token.items ++ bytes.now) ≡ true }
+        requires digits { list_all is_digit (self.old.token.items ++ bytes.now) ≡ true }
         requires few { length (self.old.token.items ++ bytes.now) ≤ 9 }
         requires room { self.old.start < 2 ^ 50 }
         ensures grows { Grows heap.old.objects heap.new.objects }
         ensures took { IfOk result (λ r. (t : State) → Holds heap.old.objects self.old.stack t → is_full t ≡ false →
             Took heap.new.objects self.new.stack r (on t (label_lexeme self.old.start (self.old.token.items ++ bytes.now) b))) }
-        ensures ended { IfOk result (λ r. EndsHash r (length (self.old.token.items ++ bytes.now)) self.old self.new) }
+        ensures ended { IfOk result (λ r. EndsHash r (length (self.old.token.items ++ bytes.now)) b self.old self.new) }
     {
         keep_after(&mut self.token, bytes)?;
         let text = whole_text(&self.token, bytes);
@@ -248,7 +249,7 @@ fn end_token<const BEGINS: bool>(
 ) -> Result<Outcome, Memory>
     requires stack { IsStack heap.old.objects stack.old }
     requires begins { is_ready (pile_of heap.old.objects stack.old.layers.items) ≡ false }
-    requires token { all_are is_constituent token.now ≡ true }
+    requires token { list_all is_constituent token.now ≡ true }
     requires room { start < 2 ^ 50 }
     ensures grows { Grows heap.old.objects heap.new.objects }
     ensures took { IfOk result (λ r. (t : State) → Holds heap.old.objects stack.old t → is_full t ≡ false →

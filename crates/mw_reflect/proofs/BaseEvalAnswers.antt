@@ -1,9 +1,8 @@
 -- The reference checker's base evaluation is the rule's, in each profile.
-use Rattle.std.proofs.Common.{◌≡◌, Bool, true, false, ◌&&◌, ◌||◌, cond, List, [], ◌∷◌, Option, Some, None, refl, sym, ap, ap₂, ◌∙◌, subst}
+use Rattle.std.proofs.Common.{◌≡◌, Bool, true, false, ◌&&◌, ◌||◌, cond, List, [], ◌∷◌, Option, Some, None, refl, sym, ap, ap₂, ◌∙◌, subst, is_some}
 use Rattle.mw_model.specs.Terms.Object.{Name, Object, Natural, Symbol, Pair, named, symbol, same_name, same_object, NIL, car, cdr, second_of, third_of, truth_of, list2, has_members, is_member}
 use Rattle.mw_model.specs.Terms.Term.{Term, Variable, Constant, If, Call, Lambda, Formula, Equal, Not, Or, term_object, terms_object, formula_object, names_object, ArityTable, IsFormula}
 use Rattle.mw_model.specs.Values.Primitive.{Profile, One, Two, Primitive, Equality, IsPair, Cons, Car, Cdr, IsSymbol, SymbolLess, IsNatural, Less, Plus, Minus, Times, primitive_name, shared_primitives, product, primitive_among, primitive_named, or_product, apply_to, choose, first_value, second_value, is_pair}
-use Rattle.mw_model.specs.Values.Definition.{is_present}
 use Rattle.mw_model.specs.BuiltIns.BuiltInRules.{product_list, primitive_list}
 use Rattle.mw_model.specs.Proofs.Proof.{three_terms}
 use Rattle.mw_model.specs.Proofs.Judgment.{is_base_eval}
@@ -74,25 +73,25 @@ list_is : (P : Profile) → primitive_list P ≡ Pair (symbol "IF") (names_of_pr
 unfolding names_of_primitives
 list_is P = refl
 
-member_primitives : (ps : List Primitive) (rest : Object) (f : Name) → is_member (Symbol f) (names_of_primitives ps rest) ≡ (is_present (primitive_among ps f) || is_member (Symbol f) rest)
+member_primitives : (ps : List Primitive) (rest : Object) (f : Name) → is_member (Symbol f) (names_of_primitives ps rest) ≡ (is_some (primitive_among ps f) || is_member (Symbol f) rest)
 unfolding names_of_primitives
 member_primitives [] rest f = refl
 member_primitives (p ∷ ps) rest f = ap₂ (λ a b. a || b) (same_name-swap f (primitive_name p)) (member_primitives ps rest f) ∙ go (same_name (primitive_name p) f)
   where
-    go : (b : Bool) → (b || (is_present (primitive_among ps f) || is_member (Symbol f) rest)) ≡ (is_present (cond b (Some p) (primitive_among ps f)) || is_member (Symbol f) rest)
+    go : (b : Bool) → (b || (is_some (primitive_among ps f) || is_member (Symbol f) rest)) ≡ (is_some (cond b (Some p) (primitive_among ps f)) || is_member (Symbol f) rest)
     go true = refl
     go false = refl
 
-with_product : (P : Profile) (f : Name) (o : Option Primitive) → (is_present o || is_member (Symbol f) (product_list P)) ≡ is_present (or_product P f o)
+with_product : (P : Profile) (f : Name) (o : Option Primitive) → (is_some o || is_member (Symbol f) (product_list P)) ≡ is_some (or_product P f o)
 with_product P f (Some p) = refl
 with_product One f None = go (same_name (primitive_name Times) f)
   where
-    go : (b : Bool) → false ≡ is_present {X = Primitive} (cond b None None)
+    go : (b : Bool) → false ≡ is_some {T = Primitive} (cond b None None)
     go true = refl
     go false = refl
 with_product Two f None = ap (λ b. b || false) (same_name-swap f (primitive_name Times)) ∙ go (same_name (primitive_name Times) f)
   where
-    go : (b : Bool) → (b || false) ≡ is_present (cond b (Some Times) None)
+    go : (b : Bool) → (b || false) ≡ is_some (cond b (Some Times) None)
     go true = refl
     go false = refl
 
@@ -101,7 +100,7 @@ module _ (P : Profile) where
   primitivep-answer x = answer-body P "LOGIC.PRIMITIVEP" (x ∷ []) ∙ memberp-answer P x (primitive_list P)
 
   abbrev is_known : Name → Bool
-  is_known f = same_name f (named "IF") || is_present (primitive_named P f)
+  is_known f = same_name f (named "IF") || is_some (primitive_named P f)
 
   member_known : (f : Name) → is_member (Symbol f) (primitive_list P) ≡ is_known f
   member_known f = ap (is_member (Symbol f)) (list_is P) ∙ ap (λ b. same_name f (named "IF") || b) (member_primitives shared_primitives (product_list P) f ∙ with_product P f (primitive_among shared_primitives f))
@@ -151,7 +150,7 @@ module _ (P : Profile) where
       go None e k = product_name f p (same_name (primitive_name Times) f) refl k
 
   -- the value of the call
-  apply-answer : (f : Name) (vs : List Object) (i : Bool) (o : Option Primitive) → same_name f (named "IF") ≡ i → primitive_named P f ≡ o → (i || is_present o) ≡ true → (v : Object) → same_object v (answer P "LOGIC.APPLY" (Symbol f ∷ values_object vs ∷ [])) ≡ is_that_value (cond i (Some (choose (first_value vs) (second_value vs) (third_value vs))) (value_by o vs)) v
+  apply-answer : (f : Name) (vs : List Object) (i : Bool) (o : Option Primitive) → same_name f (named "IF") ≡ i → primitive_named P f ≡ o → (i || is_some o) ≡ true → (v : Object) → same_object v (answer P "LOGIC.APPLY" (Symbol f ∷ values_object vs ∷ [])) ≡ is_that_value (cond i (Some (choose (first_value vs) (second_value vs) (third_value vs))) (value_by o vs)) v
   apply-answer f vs true o e q k v =
       ap (same_object v) (ap (λ z. answer P "LOGIC.APPLY" (Symbol z ∷ values_object vs ∷ [])) (same_name-eq f (named "IF") e)
       ∙ (apply_if-answer P (values_object vs) ∙ (ap₂ (λ a b. choose a b (third_of (values_object vs))) (first_is vs) (second_is vs) ∙ ap (choose (first_value vs) (second_value vs)) (third_is vs))))
@@ -162,7 +161,7 @@ module _ (P : Profile) where
       ap (same_object v) (ap (λ z. answer P "LOGIC.APPLY" (Symbol z ∷ values_object vs ∷ [])) (sym n) ∙ (apply_to-answer P p (values_object vs) (ap (primitive_named P) n ∙ q) ∙ ap₂ (apply_to p) (first_is vs) (second_is vs)))
       ∙ same_object-swap v _
 
-  no_value : (i : Bool) (o : Option Primitive) (u : Option Object) (vs : List Object) (v : Object) → (i || is_present o) ≡ false → is_that_value (cond i u (value_by o vs)) v ≡ false
+  no_value : (i : Bool) (o : Option Primitive) (u : Option Object) (vs : List Object) (v : Object) → (i || is_some o) ≡ false → is_that_value (cond i u (value_by o vs)) v ≡ false
   no_value true o u vs v h = cc
   no_value false None u vs v h = refl
   no_value false (Some p) u vs v h = cc

@@ -23,7 +23,7 @@ use Rattle.mw_model.proofs.Evaluates.{evaluate_value}
 use Rattle.mw_truth.specs.Reached.{JudgesTruly}
 use Rattle.mw_truth.proofs.ProofsTrue.{proved_true}
 use Rattle.mw_truth.proofs.Reached.{initial_sound, built_in_judges, event_keeps-truly, after_sound, sound_consistent}
-use Rattle.mw_reflect.specs.Laws.{checker_call, SaysYes}
+use Rattle.mw_reflect.specs.Laws.{checker_call, SaysYes, SaysTruly}
 use Rattle.mw_reflect.proofs.ProofAnswers.{conclusion_of-proof}
 use Rattle.mw_reflect.proofs.Provable.{provable_to}
 use Rattle.mw_reflect.proofs.ClaimsTrue.{claim_true}
@@ -67,13 +67,16 @@ says_yes Steps h = cc
 says_yes Overflow h = cc
 says_yes Witness h = cc
 
--- what the run of a claimed function says yes to
-pub run_true : (t : Theory) → IsSound t → (f : Name) → IsClaimed t (Some f) → (p : Object) (N : ℕ) (v : Object) (left : ℕ) → v ≢ NIL → evaluate t.definitions N [] (checker_call f t.definitions p t.axioms t.theorems) ≡ Value v left → (F : Formula) → IsFormula (arity_table t.definitions) F → second_of p ≡ formula_object F → IsTrueIn t.definitions F
-run_true t s f claimed p N v left answered ran F i q =
+-- what the run of a function with a true claim says yes to, and so that of a claimed function
+pub true_claim_true : (t : Theory) → IsSound t → (f : Name) → IsTrueIn t.definitions (claim f) → SaysTruly t f
+true_claim_true t s f claimed p N v left answered ran F i q =
     claim_true t.definitions (s.made, s.begun) t.axioms t.theorems
     (λ r G g. (proved_true t.definitions s.made s.total s.begun t.axioms t.theorems s.axioms_true s.theorems_true r G g).1)
-    f [] p (claim_is_true t s f claimed)
+    f [] p claimed
     (v, answered, evaluate_value t.definitions s.made N [] (checker_call f t.definitions p t.axioms t.theorems) v left ran) F i q
+
+pub run_true : (t : Theory) → IsSound t → (f : Name) → IsClaimed t (Some f) → SaysTruly t f
+run_true t s f claimed = true_claim_true t s f (claim_is_true t s f claimed)
 
 -- what LOGIC.PROVABLEP says yes to
 pub provable_true : (t : Theory) → IsSound t → (e : Environment) (F : Formula) → IsFormula (arity_table t.definitions) F → SaysYes (named "LOGIC.PROVABLEP") t.definitions e (formula_object F) t.axioms t.theorems → IsTrueIn t.definitions F

@@ -1,11 +1,10 @@
 -- LOGIC.PROOFP's value is the test of proofs: by recursion on the proof, with the subproofs' conclusions as formulas.
-use Rattle.std.proofs.Common.{◌≡◌, ℕ, ◌+◌, Bool, true, false, ◌&&◌, ◌||◌, cond, eqb, List, [], ◌∷◌, Option, Some, None, refl, sym, ap, ap₂, ◌∙◌, arith}
+use Rattle.std.proofs.Common.{◌≡◌, ℕ, ◌+◌, Bool, true, false, ◌&&◌, ◌||◌, cond, eqb, List, [], ◌∷◌, Option, Some, None, refl, sym, ap, ap₂, ◌∙◌, arith, is_some}
 use Rattle.std.proofs.lemmas.Bool.{ne_eqb}
 use Rattle.mw_model.specs.Terms.Object.{Name, Object, Natural, Symbol, Pair, named, symbol, same_name, same_object, nil_name, NIL, T, car, second_of, third_of, fourth_of, truth_of, is_member}
 use Rattle.mw_model.specs.Terms.Term.{Formula, formula_object, ArityTable, arity_of, table_object, is_function_name, is_formula}
 use Rattle.mw_model.specs.Terms.Reading.{formula_of, and_more, when}
 use Rattle.mw_model.specs.Values.Primitive.{Profile}
-use Rattle.mw_model.specs.Values.Definition.{is_present}
 use Rattle.mw_model.specs.Proofs.Proof.{Method, Proves, proof, ProveEach, no_proofs, more_proofs}
 use Rattle.mw_model.specs.Proofs.Judgment.{methods, method_among, follows, judge_step, judge, judge_each}
 use Rattle.mw_model.specs.Laws.RulesInduction.{formulas_object, is_list_object, length_object}
@@ -46,9 +45,9 @@ four_members a b c d (Natural n) = refl
 four_members a b c d (Symbol s) = and_true (same_name s nil_name)
 four_members a b c d (Pair x y) = ap (λ t. is_list_object y && t) (five_or_more y) ∙ and_false (is_list_object y)
 
-when_present : (a b : Bool) (o : Option Formula) → a ≡ b → (a && is_present o) ≡ is_present (when b o)
-when_present a true o h = ap (λ t. t && is_present o) h
-when_present a false o h = ap (λ t. t && is_present o) h
+when_present : (a b : Bool) (o : Option Formula) → a ≡ b → (a && is_some o) ≡ is_some (when b o)
+when_present a true o h = ap (λ t. t && is_some o) h
+when_present a false o h = ap (λ t. t && is_some o) h
 
 module _ (P : Profile) (A : ArityTable) (three_arguments : arity_of A (named "IF") ≡ Some 3) (names : (f : Name) (n : ℕ) → arity_of A f ≡ Some n → is_function_name f ≡ true) (axioms theorems : Object) where
   abbrev proof_value : Object → Object
@@ -57,16 +56,16 @@ module _ (P : Profile) (A : ArityTable) (three_arguments : arity_of A (named "IF
   abbrev proofs_value : Object → Object
   proofs_value p = answer P "LOGIC.FLAG-PROOFP" (symbol "LIST" ∷ p ∷ axioms ∷ theorems ∷ table_object A ∷ [])
 
-  kept : (b : Bool) (F : Formula) → b ≡ is_present (when b (Some F))
+  kept : (b : Bool) (F : Formula) → b ≡ is_some (when b (Some F))
   kept true F = refl
   kept false F = refl
 
-  step_present : (F : Formula) (Fs : List Formula) (x : Object) (o : Option Method) → is_formula A F ≡ true → passes (λ k. follows axioms theorems A P k F Fs x) o ≡ is_present (judge_step axioms theorems A P o (Some F) (Some Fs) x)
+  step_present : (F : Formula) (Fs : List Formula) (x : Object) (o : Option Method) → is_formula A F ≡ true → passes (λ k. follows axioms theorems A P k F Fs x) o ≡ is_some (judge_step axioms theorems A P o (Some F) (Some Fs) x)
   step_present F Fs x None h = refl
   step_present F Fs x (Some k) h = ap (λ b. b && follows axioms theorems A P k F Fs x) (sym h) ∙ kept (is_formula A F && follows axioms theorems A P k F Fs x) F
 
   -- the step, where the conclusion is a formula and the subproofs are proofs
-  last_part : (p : Object) (oF : Option Formula) (oFs : Option (List Formula)) → formula_of (second_of p) ≡ oF → judge_each axioms theorems A P (third_of p) ≡ oFs → passes (is_formula A) oF ≡ true → is_present oFs ≡ true → answer P "LOGIC.STEP-OKP" (p ∷ axioms ∷ theorems ∷ table_object A ∷ []) ≡ truth_of (is_present (judge_step axioms theorems A P (method_among methods (car p)) oF oFs (fourth_of p)))
+  last_part : (p : Object) (oF : Option Formula) (oFs : Option (List Formula)) → formula_of (second_of p) ≡ oF → judge_each axioms theorems A P (third_of p) ≡ oFs → passes (is_formula A) oF ≡ true → is_some oFs ≡ true → answer P "LOGIC.STEP-OKP" (p ∷ axioms ∷ theorems ∷ table_object A ∷ []) ≡ truth_of (is_some (judge_step axioms theorems A P (method_among methods (car p)) oF oFs (fourth_of p)))
   last_part p None oFs hF hs f g = cc
   last_part p (Some F) None hF hs f g = cc
   last_part p (Some F) (Some Fs) hF hs f g =
@@ -75,26 +74,26 @@ module _ (P : Profile) (A : ArityTable) (three_arguments : arity_of A (named "IF
       step-answer P axioms theorems A three_arguments names F f Fs js (fourth_of p) p (sym (formula_back (second_of p) F hF)) (conclusions-answer axioms theorems A P (third_of p) Fs gs) refl
       ∙ ap truth_of (step_present F Fs (fourth_of p) (method_among methods (car p)) f)
 
-  step_absent : (o : Option Method) (oF : Option Formula) (oFs : Option (List Formula)) (x : Object) → (passes (is_formula A) oF && (is_present oFs && is_present (judge_step axioms theorems A P o oF oFs x))) ≡ is_present (judge_step axioms theorems A P o oF oFs x)
-  step_absent None oF oFs x = ap (λ t. passes (is_formula A) oF && t) (and_false (is_present oFs)) ∙ and_false (passes (is_formula A) oF)
+  step_absent : (o : Option Method) (oF : Option Formula) (oFs : Option (List Formula)) (x : Object) → (passes (is_formula A) oF && (is_some oFs && is_some (judge_step axioms theorems A P o oF oFs x))) ≡ is_some (judge_step axioms theorems A P o oF oFs x)
+  step_absent None oF oFs x = ap (λ t. passes (is_formula A) oF && t) (and_false (is_some oFs)) ∙ and_false (passes (is_formula A) oF)
   step_absent (Some k) None oFs x = refl
   step_absent (Some k) (Some F) None x = and_false (is_formula A F)
   step_absent (Some k) (Some F) (Some Fs) x = go (is_formula A F) (follows axioms theorems A P k F Fs x)
     where
-      go : (a b : Bool) → (a && is_present (when (a && b) (Some F))) ≡ is_present (when (a && b) (Some F))
+      go : (a b : Bool) → (a && is_some (when (a && b) (Some F))) ≡ is_some (when (a && b) (Some F))
       go true b = refl
       go false b = refl
 
   abbrev judged_step : Object → Object → Option Formula
   judged_step y z = judge_step axioms theorems A P (method_among methods y) (formula_of (second_of (Pair y z))) (judge_each axioms theorems A P (third_of (Pair y z))) (fourth_of (Pair y z))
 
-  by_parts : (y z : Object) → proofs_value (third_of (Pair y z)) ≡ truth_of (is_present (judge_each axioms theorems A P (third_of (Pair y z)))) → proof_value (Pair y z) ≡ truth_of (has_two_to_four (Pair y z) && is_present (judged_step y z))
+  by_parts : (y z : Object) → proofs_value (third_of (Pair y z)) ≡ truth_of (is_some (judge_each axioms theorems A P (third_of (Pair y z)))) → proof_value (Pair y z) ≡ truth_of (has_two_to_four (Pair y z) && is_some (judged_step y z))
   by_parts y z ih =
       answer-body P "LOGIC.FLAG-PROOFP" (symbol "PROOF" ∷ Pair y z ∷ axioms ∷ theorems ∷ table_object A ∷ [])
       ∙ (and_then (is_list_object (Pair y z)) _ (listp-answer P (Pair y z)) (λ _.
       and_then (is_member (Natural (length_object (Pair y z))) two_to_four) _ (ap (λ n. answer P "LOGIC.MEMBERP" (n ∷ two_to_four ∷ [])) (len-answer P (Pair y z)) ∙ memberp-answer P (Natural (length_object (Pair y z))) two_to_four) (λ _.
       and_then (passes (is_formula A) (formula_of (second_of (Pair y z)))) _ (formulap-answer P A three_arguments (second_of (Pair y z)) ∙ ap truth_of (that-present (is_formula A) (formula_of (second_of (Pair y z))))) (λ f.
-      and_then (is_present (judge_each axioms theorems A P (third_of (Pair y z)))) _ ih (λ g.
+      and_then (is_some (judge_each axioms theorems A P (third_of (Pair y z)))) _ ih (λ g.
       last_part (Pair y z) (formula_of (second_of (Pair y z))) (judge_each axioms theorems A P (third_of (Pair y z))) refl refl f g))))
       ∙ ap truth_of (ap (λ t. is_list_object (Pair y z) && (is_member (Natural (length_object (Pair y z))) two_to_four && t)) (step_absent (method_among methods y) (formula_of (second_of (Pair y z))) (judge_each axioms theorems A P (third_of (Pair y z))) (fourth_of (Pair y z))) ∙ and_assoc (is_list_object (Pair y z)) (is_member (Natural (length_object (Pair y z))) two_to_four) _))
 
@@ -104,13 +103,13 @@ module _ (P : Profile) (A : ArityTable) (three_arguments : arity_of A (named "IF
   neither : (b c : Bool) → b ≡ false → truth_of (b && c) ≡ NIL
   neither b c h = ap (λ t. truth_of (t && c)) h
 
-  more_present : (o : Option Formula) (q : Option (List Formula)) → (is_present o && is_present q) ≡ is_present (and_more o q)
+  more_present : (o : Option Formula) (q : Option (List Formula)) → (is_some o && is_some q) ≡ is_some (and_more o q)
   more_present None q = refl
   more_present (Some F) None = refl
   more_present (Some F) (Some Fs) = refl
 
   mutual
-    proof-answer : (p : Object) → proof_value p ≡ truth_of (is_present (judge axioms theorems A P p))
+    proof-answer : (p : Object) → proof_value p ≡ truth_of (is_some (judge axioms theorems A P p))
     proof-answer (Natural n) = answer-body P "LOGIC.FLAG-PROOFP" (symbol "PROOF" ∷ Natural n ∷ axioms ∷ theorems ∷ table_object A ∷ [])
     proof-answer (Symbol n) = answer-body P "LOGIC.FLAG-PROOFP" (symbol "PROOF" ∷ Symbol n ∷ axioms ∷ theorems ∷ table_object A ∷ [])
     proof-answer (Pair m (Natural n)) = by_parts m (Natural n) no_subproofs
@@ -121,16 +120,16 @@ module _ (P : Profile) (A : ArityTable) (three_arguments : arity_of A (named "IF
     proof-answer (Pair m (Pair c (Pair ps (Symbol s)))) = by_parts m (Pair c (Pair ps (Symbol s))) (proofs-answer ps) ∙ ap truth_of (when_present (same_name s nil_name && true) (same_name s nil_name) _ (and_true (same_name s nil_name)))
     proof-answer (Pair m (Pair c (Pair ps (Pair x z)))) = by_parts m (Pair c (Pair ps (Pair x z))) (proofs-answer ps) ∙ ap truth_of (when_present (has_two_to_four (Pair m (Pair c (Pair ps (Pair x z))))) (same_object z NIL) _ (four_members m c ps x z))
 
-    proofs-answer : (ps : Object) → proofs_value ps ≡ truth_of (is_present (judge_each axioms theorems A P ps))
+    proofs-answer : (ps : Object) → proofs_value ps ≡ truth_of (is_some (judge_each axioms theorems A P ps))
     proofs-answer (Natural n) = answer-body P "LOGIC.FLAG-PROOFP" (symbol "LIST" ∷ Natural n ∷ axioms ∷ theorems ∷ table_object A ∷ [])
     proofs-answer (Symbol s) = answer-body P "LOGIC.FLAG-PROOFP" (symbol "LIST" ∷ Symbol s ∷ axioms ∷ theorems ∷ table_object A ∷ []) ∙ go (same_name s nil_name)
       where
-        go : (b : Bool) → truth_of b ≡ truth_of (is_present {X = List Formula} (cond b (Some []) None))
+        go : (b : Bool) → truth_of b ≡ truth_of (is_some {T = List Formula} (cond b (Some []) None))
         go true = refl
         go false = refl
     proofs-answer (Pair p ps) =
         answer-body P "LOGIC.FLAG-PROOFP" (symbol "LIST" ∷ Pair p ps ∷ axioms ∷ theorems ∷ table_object A ∷ [])
-        ∙ (and_then (is_present (judge axioms theorems A P p)) (is_present (judge_each axioms theorems A P ps)) (proof-answer p) (λ _. proofs-answer ps) ∙ ap truth_of (more_present (judge axioms theorems A P p) (judge_each axioms theorems A P ps)))
+        ∙ (and_then (is_some (judge axioms theorems A P p)) (is_some (judge_each axioms theorems A P ps)) (proof-answer p) (λ _. proofs-answer ps) ∙ ap truth_of (more_present (judge axioms theorems A P p) (judge_each axioms theorems A P ps)))
 
-  pub proofp-answer : (p : Object) → answer P "LOGIC.PROOFP" (p ∷ axioms ∷ theorems ∷ table_object A ∷ []) ≡ truth_of (is_present (judge axioms theorems A P p))
+  pub proofp-answer : (p : Object) → answer P "LOGIC.PROOFP" (p ∷ axioms ∷ theorems ∷ table_object A ∷ []) ≡ truth_of (is_some (judge axioms theorems A P p))
   proofp-answer p = answer-body P "LOGIC.PROOFP" (p ∷ axioms ∷ theorems ∷ table_object A ∷ []) ∙ proof-answer p

@@ -1,11 +1,11 @@
 -- LOGIC.PROVABLEP: its witness is a proof of the wanted conclusion wherever there is one.
-use Rattle.std.proofs.Common.{◌≡◌, ◌↔◌, Bool, true, false, ◌&&◌, ◌||◌, List, [], ◌∷◌, Some, refl, sym, ap, ap₂, ◌∙◌, subst, ◌⊎◌, inl, inr}
+use Rattle.std.proofs.Common.{◌≡◌, ◌↔◌, Bool, true, false, ◌&&◌, ◌||◌, List, [], ◌∷◌, Some, refl, sym, ap, ap₂, ◌∙◌, subst, ◌⊎◌, inl, inr, is_some}
 use Rattle.std.proofs.lemmas.Bool.{and_parts, and_from, or_cases}
 use Prim.Native.String.{String}
 use Rattle.mw_model.specs.Terms.Object.{Name, Object, named, same_name, same_object, second_of, T, truth_of}
 use Rattle.mw_model.specs.Terms.Term.{Term, is_among, arity_of, table_object}
 use Rattle.mw_model.specs.Values.Primitive.{Profile, One, Two}
-use Rattle.mw_model.specs.Values.Definition.{Block, Definitions, arities, arity_table, is_present}
+use Rattle.mw_model.specs.Values.Definition.{Block, Definitions, arities, arity_table}
 use Rattle.mw_model.specs.Values.Value.{Environment, Calls, bind, HasValue, HaveValues, Satisfies, IsWitness, block_calls}
 use Rattle.mw_model.specs.Events.Writing.{terms, var, call, ◌&◌}
 use Rattle.mw_model.specs.Proofs.Judgment.{judge}
@@ -53,14 +53,14 @@ module _ (D : Definitions) (begun : BeginsBuiltIn D) (axioms theorems : Object) 
   P = D.profile
 
   abbrev pub proves : Object → Object → Bool
-  proves c p = is_present (judge axioms theorems (arity_table D) P p) && same_object (second_of p) c
+  proves c p = is_some (judge axioms theorems (arity_table D) P p) && same_object (second_of p) c
 
   abbrev at : Object → Object → Environment
   at p c = (named "PROOF", p) ∷ bind free_names (arguments D begun axioms theorems c)
 
   body_value : (p c : Object) → value_at P (built_in_value P) (at p c) proves_body ≡ truth_of (proves c p)
   body_value p c =
-      and_then (is_present (judge axioms theorems (arity_table D) P p)) (same_object (second_of p) c) (proofp_answer-test D begun axioms theorems p)
+      and_then (is_some (judge axioms theorems (arity_table D) P p)) (same_object (second_of p) c) (proofp_answer-test D begun axioms theorems p)
       (λ _. ap (λ v. truth_of (same_object v c)) (answer-body P "LOGIC.CONCLUSION" (p ∷ [])))
 
   -- the body's value, where the two functions that it calls have their answers
@@ -144,13 +144,13 @@ module _ (D : Definitions) (begun : BeginsBuiltIn D) (axioms theorems : Object) 
   -- some object is a proof of c
   pub proved_to : (c p : Object) → proves c p ≡ true → IsProved D axioms theorems c
   proved_to c p h =
-      let q = and_parts (is_present (judge axioms theorems (arity_table D) P p)) (same_object (second_of p) c) h in
+      let q = and_parts (is_some (judge axioms theorems (arity_table D) P p)) (same_object (second_of p) c) h in
       let s = present (judge axioms theorems (arity_table D) P p) q.0 in
       (p, (s.0, judge_good axioms theorems (arity_table D) P p s.0 s.1), same_object-eq (second_of p) c q.1)
 
   proved_from : (c : Object) (q : IsProved D axioms theorems c) → proves c q.0 ≡ true
   proved_from c q =
-      and_from (is_present (judge axioms theorems (arity_table D) P q.0)) (same_object (second_of q.0) c) (ap is_present (good_judge axioms theorems (arity_table D) P q.0 q.1.0 q.1.1).1) (same_object-from (second_of q.0) c q.2)
+      and_from (is_some (judge axioms theorems (arity_table D) P q.0)) (same_object (second_of q.0) c) (ap is_some (good_judge axioms theorems (arity_table D) P q.0 q.1.0 q.1.1).1) (same_object-from (second_of q.0) c q.2)
 
   pub provable_to : (e : Environment) (c : Object) → SaysYes (named "LOGIC.PROVABLEP") D e c axioms theorems → IsProved D axioms theorems c
   provable_to e c h =

@@ -1,8 +1,8 @@
 -- The reference checker says yes exactly to proofs: in all definitions that begin with the built-in ones.
-use Rattle.std.proofs.Common.{◌≡◌, ◌↔◌, Bool, true, false, List, [], ◌∷◌, Option, Some, None, refl, subst}
+use Rattle.std.proofs.Common.{◌≡◌, ◌↔◌, Bool, true, false, List, [], ◌∷◌, Option, Some, None, refl, subst, is_some}
 use Rattle.mw_model.specs.Terms.Object.{Object, named, T, truth_of}
 use Rattle.mw_model.specs.Terms.Term.{table_object}
-use Rattle.mw_model.specs.Values.Definition.{Definitions, arity_table, is_present}
+use Rattle.mw_model.specs.Values.Definition.{Definitions, arity_table}
 use Rattle.mw_model.specs.Values.Value.{Environment, IsValue, block_calls}
 use Rattle.mw_model.specs.Proofs.Judgment.{judge}
 use Rattle.mw_model.proofs.Depth.{one_value}
@@ -16,13 +16,13 @@ use Rattle.mw_truth.proofs.Tells.{t_not_nil}
 use Rattle.mw_reflect.specs.Laws.{checker_call, SaysYes, BeginsBuiltIn, IsProof}
 use Rattle.mw_reflect.proofs.ProofAnswers.{proofp-answer}
 
-pub present : {X : Type 0} (o : Option X) → is_present o ≡ true → (x : X) × (o ≡ Some x)
+pub present : {X : Type 0} (o : Option X) → is_some o ≡ true → (x : X) × (o ≡ Some x)
 present None h = cc
 present (Some x) h = (x, refl)
 
 module _ (D : Definitions) (begun : BeginsBuiltIn D) (axioms theorems : Object) where
   abbrev is_proof : Object → Bool
-  is_proof p = is_present (judge axioms theorems (arity_table D) D.profile p)
+  is_proof p = is_some (judge axioms theorems (arity_table D) D.profile p)
 
   abbrev pub arguments : Object → List Object
   arguments p = p ∷ axioms ∷ theorems ∷ table_object (arity_table D) ∷ []
@@ -50,4 +50,4 @@ module _ (D : Definitions) (begun : BeginsBuiltIn D) (axioms theorems : Object) 
           go false k q = absurd (h.1 q)
 
       from : IsProof D axioms theorems p → SaysYes (named "LOGIC.PROOFP") D e p axioms theorems
-      from g = (T, t_not_nil, subst (λ o. IsValue D e (checker_call (named "LOGIC.PROOFP") D p axioms theorems) (truth_of (is_present o))) (good_judge axioms theorems (arity_table D) D.profile p g.0 g.1).1 (proofp_value e p))
+      from g = (T, t_not_nil, subst (λ o. IsValue D e (checker_call (named "LOGIC.PROOFP") D p axioms theorems) (truth_of (is_some o))) (good_judge axioms theorems (arity_table D) D.profile p g.0 g.1).1 (proofp_value e p))

@@ -7,7 +7,8 @@ use Rattle.mw_model.specs.Values.Primitive.{Profile, choose}
 use Rattle.mw_model.specs.Terms.Substitution.{substitution_of}
 use Rattle.mw_model.specs.Values.Truth.{Each}
 use Rattle.mw_model.specs.Proofs.Proof.{Method, Axiom, Theorem, PropositionalSchema, FunctionalEquality, BetaReduction, BaseEval, Expansion, Contraction, Associativity, Cut, Instantiation, Induction, method_name}
-use Rattle.mw_model.specs.Proofs.Judgment.{methods, method_among, is_schema, last_disjunct, is_functional_equality, is_beta, is_base_eval, is_expansion, is_contraction, is_associativity, is_cut, is_instance, of_none, of_one, of_two, follows}
+use Rattle.mw_model.specs.Proofs.Judgment.{methods, method_among, is_schema, last_disjunct, is_functional_equality, is_beta, is_base_eval, is_expansion, is_contraction, is_associativity, is_cut, is_instance, follows}
+use Rattle.mw_model.proofs.Rows.{of_none, of_one, of_two, rows, follows-rows}
 use Rattle.mw_model.specs.Laws.RulesInduction.{formulas_object, length_object}
 use Rattle.mw_model.proofs.Names.{same_object-eq}
 use Rattle.mw_model.proofs.Readable.{formula_readable}
@@ -131,24 +132,27 @@ module _ (P : Profile) where
     abbrev F' : Object
     F' = formula_object F
 
-    by_method : (m : Method) → at (Symbol (method_name m)) ≡ truth_of (follows axioms theorems A P m F Fs x)
-    by_method Axiom = with_none x Fs _ (is_member F' axioms) (memberp-answer P F' axioms)
-    by_method Theorem = with_none x Fs _ (is_member F' theorems) (memberp-answer P F' theorems)
-    by_method PropositionalSchema = with_none x Fs _ (is_schema F) (schema-answer P F' ∙ ap truth_of (object_is_schema-exact F (formula_readable A F i)))
-    by_method FunctionalEquality = with_none x Fs _ (is_functional_equality F (last_disjunct F)) (functional_equality-answer P A names F i)
-    by_method BetaReduction = with_none x Fs _ (is_beta F) (beta-answer P A F i)
-    by_method BaseEval = with_none x Fs _ (is_base_eval P F) (base_eval-answer P A F i)
-    by_method Expansion =
+    by_row : (m : Method) → at (Symbol (method_name m)) ≡ truth_of (rows axioms theorems A P m F Fs x)
+    by_row Axiom = with_none x Fs _ (is_member F' axioms) (memberp-answer P F' axioms)
+    by_row Theorem = with_none x Fs _ (is_member F' theorems) (memberp-answer P F' theorems)
+    by_row PropositionalSchema = with_none x Fs _ (is_schema F) (schema-answer P F' ∙ ap truth_of (object_is_schema-exact F (formula_readable A F i)))
+    by_row FunctionalEquality = with_none x Fs _ (is_functional_equality F (last_disjunct F)) (functional_equality-answer P A names F i)
+    by_row BetaReduction = with_none x Fs _ (is_beta F) (beta-answer P A F i)
+    by_row BaseEval = with_none x Fs _ (is_base_eval P F) (base_eval-answer P A F i)
+    by_row Expansion =
         with_one x Fs (λ a. answer P "LOGIC.EXPANSION-OKP" (F' ∷ a ∷ [])) (is_expansion F) (λ G q. expansion-answer P F' (formula_object G) ∙ ap truth_of (object_is_expansion-exact F G (formula_readable A F i) (formula_readable A G (the_first G [] q))))
-    by_method Contraction =
+    by_row Contraction =
         with_one x Fs (λ a. answer P "LOGIC.CONTRACTION-OKP" (F' ∷ a ∷ [])) (is_contraction F) (λ G q. contraction-answer P F' (formula_object G) ∙ ap truth_of (object_is_contraction-exact F G (formula_readable A F i) (formula_readable A G (the_first G [] q))))
-    by_method Associativity =
+    by_row Associativity =
         with_one x Fs (λ a. answer P "LOGIC.ASSOCIATIVITY-OKP" (F' ∷ a ∷ [])) (is_associativity F) (λ G q. associativity-answer P F' (formula_object G) ∙ ap truth_of (object_is_associativity-exact F G (formula_readable A F i) (formula_readable A G (the_first G [] q))))
-    by_method Cut =
+    by_row Cut =
         with_two x Fs (λ a b. answer P "LOGIC.CUT-OKP" (F' ∷ a ∷ b ∷ [])) (is_cut F) (λ G H q. cut-answer P F' (formula_object G) (formula_object H) ∙ ap truth_of (object_is_cut-exact F G H (formula_readable A F i) (formula_readable A G (the_first G (H ∷ []) q)) (formula_readable A H (the_second G H [] q))))
-    by_method Instantiation =
+    by_row Instantiation =
         one_alone Fs (λ a. answer P "LOGIC.INSTANTIATION-OKP" (F' ∷ a ∷ x ∷ table_object A ∷ [])) (λ G. is_instance A F G (substitution_of x)) (λ G q. instantiation-answer P A three G F' x ∙ ap truth_of (object_is_instance-exact A F G i (the_first G [] q) x))
-    by_method Induction = induction-answer P A three F (formulas_object Fs) x ∙ ap truth_of (object_is_induction-exact A F Fs x i js)
+    by_row Induction = induction-answer P A three F (formulas_object Fs) x ∙ ap truth_of (object_is_induction-exact A F Fs x i js)
+
+    by_method : (m : Method) → at (Symbol (method_name m)) ≡ truth_of (follows axioms theorems A P m F Fs x)
+    by_method m = by_row m ∙ ap truth_of (sym (follows-rows axioms theorems A P m F Fs x))
 
     no_method : (m : Object) → method_among methods m ≡ None → at m ≡ NIL
     no_method m h =

@@ -1,9 +1,9 @@
 -- LOGIC.FLAG-TERMP and LOGIC.TERMP are the test that an object is that of a term.
-use Rattle.std.proofs.Common.{◌≡◌, ℕ, ◌+◌, Bool, true, false, ◌&&◌, not, cond, eqb, List, [], ◌∷◌, length, Option, Some, None, refl, sym, ap, ap₂, ◌∙◌, arith}
+use Rattle.std.proofs.Common.{◌≡◌, ℕ, ◌+◌, Bool, true, false, ◌&&◌, not, cond, eqb, List, [], ◌∷◌, length, Option, Some, None, refl, sym, ap, ap₂, ◌∙◌, arith, option_map}
 use Rattle.std.proofs.lemmas.Bool.{ne_eqb}
 use Rattle.mw_model.specs.Terms.Object.{Name, Object, Natural, Symbol, Pair, named, symbol, same_name, same_object, nil_name, NIL, truth_of, cdr}
-use Rattle.mw_model.specs.Terms.Term.{Term, Terms, Constant, NoTerms, More, names_object, terms_object, count, is_closed, are_distinct, are_variables, ArityTable, arity_of, has_arity, is_call_name, is_term, are_terms, table_object}
-use Rattle.mw_model.specs.Terms.Reading.{names_of, constant_of, if_of, plain_call, lambda_of, more_terms, term_of, terms_of}
+use Rattle.mw_model.specs.Terms.Term.{Term, Terms, Constant, NoTerms, More, names_object, terms_object, count, is_closed, are_distinct, are_variables, ArityTable, arity_of, has_arity, is_call_name, is_term, are_terms, table_object, Call}
+use Rattle.mw_model.specs.Terms.Reading.{names_of, constant_of, if_of, lambda_of, term_of, terms_of, map2}
 use Rattle.mw_model.specs.Values.Primitive.{Profile, choose}
 use Rattle.mw_model.specs.Laws.Rules.{is_term_object}
 use Rattle.mw_model.specs.Laws.RulesInduction.{is_list_object, length_object}
@@ -56,16 +56,16 @@ module _ (P : Profile) (A : ArityTable) (three : arity_of A (named "IF") ≡ Som
   if_of-test n (Some (More a (More b (More c (More d ts))))) h =
       ap (λ t. t && are_terms A (More a (More b (More c (More d ts))))) (ne_eqb n 3 (λ e. let q = h (More a (More b (More c (More d ts)))) refl in omega (arith, q, e)))
 
-  plain_call-test : (f : Name) (n m : ℕ) (d : Option Terms) → is_call_name f ≡ true → arity_of A f ≡ Some m → ((ts : Terms) → d ≡ Some ts → n ≡ count ts) → eqb n m && passes (are_terms A) d ≡ passes (is_term A) (plain_call f d)
+  plain_call-test : (f : Name) (n m : ℕ) (d : Option Terms) → is_call_name f ≡ true → arity_of A f ≡ Some m → ((ts : Terms) → d ≡ Some ts → n ≡ count ts) → eqb n m && passes (are_terms A) d ≡ passes (is_term A) (option_map (Call f) d)
   plain_call-test f n m None c a h = and_false (eqb n m)
   plain_call-test f n m (Some ts) c a h =
       ap (λ t. t && are_terms A ts) (eqb-swap n m ∙ ap (eqb m) (h ts refl)) ∙ ap₂ (λ t o. t && (has_arity o (count ts) && are_terms A ts)) (sym c) (sym a)
 
-  plain_call-unknown : (f : Name) (d : Option Terms) → arity_of A f ≡ None → false ≡ passes (is_term A) (plain_call f d)
+  plain_call-unknown : (f : Name) (d : Option Terms) → arity_of A f ≡ None → false ≡ passes (is_term A) (option_map (Call f) d)
   plain_call-unknown f None a = refl
   plain_call-unknown f (Some ts) a = sym (and_false (is_call_name f)) ∙ ap (λ o. is_call_name f && (has_arity o (count ts) && are_terms A ts)) (sym a)
 
-  call_answer-cases : (f : Name) (r : Object) (q i : Bool) → same_name f (named "QUOTE") ≡ q → same_name f (named "IF") ≡ i → (o : Option ℕ) → arity_of A f ≡ o → (d : Option Terms) → terms_of r ≡ d → choose (truth_of q) (truth_of (q && has_length (Pair (Symbol f) r) 2)) (choose (arity_pair f o) (choose (truth_of (same_object (Natural (length_object r)) (cdr (arity_pair f o)))) (truth_of (passes (are_terms A) d)) NIL) NIL) ≡ truth_of (passes (is_term A) (cond q (constant_of r) (cond i (if_of d) (plain_call f d))))
+  call_answer-cases : (f : Name) (r : Object) (q i : Bool) → same_name f (named "QUOTE") ≡ q → same_name f (named "IF") ≡ i → (o : Option ℕ) → arity_of A f ≡ o → (d : Option Terms) → terms_of r ≡ d → choose (truth_of q) (truth_of (q && has_length (Pair (Symbol f) r) 2)) (choose (arity_pair f o) (choose (truth_of (same_object (Natural (length_object r)) (cdr (arity_pair f o)))) (truth_of (passes (are_terms A) d)) NIL) NIL) ≡ truth_of (passes (is_term A) (cond q (constant_of r) (cond i (if_of d) (option_map (Call f) d))))
   call_answer-cases f r true i hq hi o ho d hd = ap truth_of (constant_of-test A f r)
   call_answer-cases f r false true hq hi None ho d hd = absurd (cc (sym three, ap (arity_of A) (same_name-eq f (named "IF") hi), ho))
   call_answer-cases f r false true hq hi (Some n) ho d hd =
@@ -89,7 +89,7 @@ module _ (P : Profile) (A : ArityTable) (three : arity_of A (named "IF") ≡ Som
       ∙ (ap₂ (λ n t. choose (truth_of (same_name f (named "QUOTE"))) (truth_of (same_name f (named "QUOTE") && has_length (Pair (Symbol f) r) 2)) (choose (arity_pair f (arity_of A f)) (choose (truth_of (same_object n (cdr (arity_pair f (arity_of A f))))) t NIL) NIL)) (len-answer P r) ih
       ∙ call_answer-cases f r (same_name f (named "QUOTE")) (same_name f (named "IF")) refl refl (arity_of A f) refl (terms_of r) refl))
 
-  more_terms-test : (o : Option Term) (d : Option Terms) → passes (is_term A) o && passes (are_terms A) d ≡ passes (are_terms A) (more_terms o d)
+  more_terms-test : (o : Option Term) (d : Option Terms) → passes (is_term A) o && passes (are_terms A) d ≡ passes (are_terms A) (map2 More o d)
   more_terms-test None d = refl
   more_terms-test (Some t) None = and_false (is_term A t)
   more_terms-test (Some t) (Some ts) = refl

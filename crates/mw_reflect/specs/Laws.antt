@@ -1,9 +1,9 @@
 -- What the reference checker, provability and a claim say, and which theories events reach.
-use Rattle.std.specs.Prelude.{◌≡◌, ◌≢◌, ◌↔◌, ℕ, List, [], ◌∷◌, Some}
+use Rattle.std.specs.Prelude.{◌≡◌, ◌≢◌, ◌↔◌, ℕ, List, [], ◌∷◌, Some, is_some}
 use Rattle.mw_model.specs.Terms.Object.{Name, Object, named, NIL, T, second_of, truth_of, Member}
 use Rattle.mw_model.specs.Terms.Term.{Term, Constant, Call, Formula, Equal, formula_object, table_object, IsFormula}
 use Rattle.mw_model.specs.Values.Primitive.{One}
-use Rattle.mw_model.specs.Values.Definition.{Definitions, arity_table, IsWellMade, is_present}
+use Rattle.mw_model.specs.Values.Definition.{Definitions, arity_table, IsWellMade}
 use Rattle.mw_model.specs.Values.Value.{Environment, IsValue}
 use Rattle.mw_model.specs.Values.Truth.{IsTrueIn}
 use Rattle.mw_model.specs.Proofs.Proof.{constants, Proves}
@@ -42,7 +42,7 @@ ReferenceChecker =
 -- and its value is T or NIL
 abbrev pub ReferenceValue : Type 0
 ReferenceValue =
-    (D : Definitions) → BeginsBuiltIn D → (e : Environment) (axioms theorems p : Object) → IsValue D e (checker_call (named "LOGIC.PROOFP") D p axioms theorems) (truth_of (is_present (judge axioms theorems (arity_table D) D.profile p)))
+    (D : Definitions) → BeginsBuiltIn D → (e : Environment) (axioms theorems p : Object) → IsValue D e (checker_call (named "LOGIC.PROOFP") D p axioms theorems) (truth_of (is_some (judge axioms theorems (arity_table D) D.profile p)))
 
 -- LOGIC.PROVABLEP does not fail to say yes exactly where not no object is such a proof
 abbrev pub Provability : Type 0
@@ -64,10 +64,17 @@ abbrev pub Claims : Type 0
 Claims =
     (D : Definitions) → BeginsBuiltIn D → (axioms theorems : Object) → ((q : Object) (G : Formula) → Proves axioms theorems (arity_table D) D.profile q G → IsTrueIn D G) → (f : Name) (e : Environment) (p : Object) → IsTrueIn D (claim f) → SaysYes f D e p axioms theorems → (F : Formula) → IsFormula (arity_table D) F → second_of p ≡ formula_object F → IsTrueIn D F
 
--- In a sound theory, what the run of any function with a claim among the theorems says yes to has a true conclusion.
+-- In the theory, what a run of f says yes to has a true conclusion.
+abbrev pub SaysTruly : Theory → Name → Type 0
+SaysTruly t f =
+    (p : Object) (N : ℕ) (v : Object) (left : ℕ) → v ≢ NIL → evaluate t.definitions N [] (checker_call f t.definitions p t.axioms t.theorems) ≡ Value v left → (F : Formula) → IsFormula (arity_table t.definitions) F → second_of p ≡ formula_object F → IsTrueIn t.definitions F
+
+-- A sound theory's functions with a true claim do, and so those with a claim among the theorems.
+abbrev pub TrueClaimsSayTruly : Type 0
+TrueClaimsSayTruly = (t : Theory) → IsSound t → (f : Name) → IsTrueIn t.definitions (claim f) → SaysTruly t f
+
 abbrev pub RunsSayTruly : Type 0
-RunsSayTruly =
-    (t : Theory) → IsSound t → (f : Name) → IsClaimed t (Some f) → (p : Object) (N : ℕ) (v : Object) (left : ℕ) → v ≢ NIL → evaluate t.definitions N [] (checker_call f t.definitions p t.axioms t.theorems) ≡ Value v left → (F : Formula) → IsFormula (arity_table t.definitions) F → second_of p ≡ formula_object F → IsTrueIn t.definitions F
+RunsSayTruly = (t : Theory) → IsSound t → (f : Name) → IsClaimed t (Some f) → SaysTruly t f
 
 -- Each event keeps any sound theory sound, and accepts only what is true, whichever checker the theory has.
 abbrev pub EventsKeepAny : Type 0

@@ -10,7 +10,7 @@ ghost use Rattle.mw_model.specs.Values.Value.{block_calls};
 ghost use Rattle.mw_model.specs.BuiltIns.BuiltIn.{built_in};
 ghost use Rattle.mw_model.specs.Laws.Rules.{is_term_object, is_formula_object, is_substitution_object};
 ghost use Rattle.mw_model.specs.Events.Theory.{BeginsWith};
-ghost use Rattle.mw_reflect.specs.Laws.{ReferenceChecker, ReferenceValue, Provability, ProvableIsProved, ProvableIsTrue, Claims, RunsSayTruly, EventsKeepAny, CheckersJudgeTruly, EventsKeep, ReachedIsSound, ReachedIsConsistent};
+ghost use Rattle.mw_reflect.specs.Laws.{ReferenceChecker, ReferenceValue, Provability, ProvableIsProved, ProvableIsTrue, Claims, TrueClaimsSayTruly, RunsSayTruly, EventsKeepAny, CheckersJudgeTruly, EventsKeep, ReachedIsSound, ReachedIsConsistent};
 
 /// In all definitions that begin with the built-in ones, LOGIC.TERMP, LOGIC.FORMULAP and LOGIC.SIGMAP say yes exactly on
 /// the objects of terms, formulas and substitutions under an arity table in which IF has its three arguments.
@@ -44,9 +44,10 @@ pub fn claims()
     ensures { Claims }
 {}
 
-/// In a sound theory, what the run of any function with a claim among the theorems says yes to has a true conclusion. And each event keeps
-/// the theory sound and accepts only what is true, whichever checker the theory has.
+/// In a sound theory, what the run of any function with a true claim says yes to has a true conclusion, and so that of any function with a
+/// claim among the theorems. And each event keeps the theory sound and accepts only what is true, whichever checker the theory has.
 pub fn claimed_runs()
+    ensures true_claims { TrueClaimsSayTruly }
     ensures runs { RunsSayTruly }
     ensures events { EventsKeepAny }
 {}

@@ -1,8 +1,8 @@
 -- Where `clap` finds no fault in the words, it takes them: for a simple command whose arguments have no rule on one another and whose
 -- defaults pass.
-use Rattle.std.proofs.Common.{◌≡◌, ◌⊎◌, ◌+◌, ◌==◌, ◌&&◌, ◌||◌, ℕ, Bool, true, false, cond, not, zero, suc, nat_lt, nat_le, List, [], ◌∷◌, length, min, drop, Option, Some, None, is_some, inl, inr, refl, ap, codes, eqb-true, le-leb, ltb-false, true≢false, arith}
+use Rattle.std.proofs.Common.{◌≡◌, ◌⊎◌, ◌+◌, ◌==◌, ◌&&◌, ◌||◌, ℕ, Bool, true, false, cond, not, zero, suc, nat_lt, nat_le, List, [], ◌∷◌, length, min, drop, Option, Some, None, is_some, inl, inr, refl, ap, codes, eqb-true, le-leb, ltb-false, true≢false, arith, find}
 use Rattle.std.proofs.lemmas.Bool.{and_from, and_parts}
-use Rattle.std.specs.Prelude.{find, encode_utf8, slice_get}
+use Rattle.std.specs.Prelude.{encode_utf8, slice_get}
 use Rattle.std.specs.List.{list_all, list_any}
 use Rattle.std.specs.Option.{option_map_or}
 use Rattle.std.specs.Str.{bytes_eq, chars}

@@ -1,8 +1,10 @@
 -- The options and the arguments of the commands, and the numbers and the name that they give.
-use Rattle.std.specs.Prelude.{ℕ, Bool, true, false, ◌&&◌, cond, leb, List, [], ◌∷◌, ◌++◌, length, Option, Some, None, codes}
+use Rattle.std.specs.Prelude.{ℕ, Bool, true, false, ◌&&◌, cond, leb, List, [], ◌∷◌, ◌++◌, length, Option, Some, None, codes, option_and_then}
+use Rattle.std.specs.Option.{option_map_or}
 use Prim.Native.String.{String}
 use Rattle.mw_model.specs.Terms.Object.{Name, Object, Symbol, same_bytes}
-use Rattle.mw_model.specs.Texts.Lexemes.{Fault, is_digit, all_are, decimal_value}
+use Rattle.mw_model.specs.Texts.Lexemes.{Fault, is_digit, decimal_value}
+use Rattle.std.specs.List.{list_all}
 use Rattle.mw_model.specs.Texts.Grammar.{trees}
 use Rattle.clap.specs.Walk.{Text, Rule}
 use Rattle.clap.specs.Simple.{Shape, new_rule, new_shape}
@@ -38,17 +40,16 @@ default_steps = 10000000
 -- the number that the text is: at most so many decimal digits, and a value from the least to the most
 abbrev pub number_within : (digits least most : ℕ) → Text → Option ℕ
 number_within digits least most text =
-    cond (all_are is_digit text && (leb 1 (length text) && (leb (length text) digits && (leb least (decimal_value text) && leb (decimal_value text) most)))) (Some (decimal_value text)) None
+    cond (list_all is_digit text && (leb 1 (length text) && (leb (length text) digits && (leb least (decimal_value text) && leb (decimal_value text) most))))
+    (Some (decimal_value text)) None
 
 -- the step limit: from 1 to 10^12
 abbrev pub steps_of : Option Text → Option ℕ
-steps_of None = Some default_steps
-steps_of (Some text) = number_within 13 1 1000000000000 text
+steps_of text = option_map_or (number_within 13 1 1000000000000) text (Some default_steps)
 
 -- how many events the trial book has: up to 10^6
 abbrev pub events_of : Option Text → Option ℕ
-events_of None = None
-events_of (Some text) = number_within 7 0 1000000 text
+events_of text = option_and_then (number_within 7 0 1000000) text
 
 -- the symbol that a book is, where it is one datum without a fault
 abbrev pub symbol_among : List Object → Option Fault → Option Name
@@ -63,5 +64,4 @@ name_of (Some text) = let b = trees (text ++ 10 ∷ []) in symbol_among b.events
 -- `--help` alone
 abbrev pub is_help : List Text → Bool
 is_help (word ∷ []) = same_bytes word (codes "--help")
-is_help [] = false
-is_help (word ∷ other ∷ words) = false
+is_help _ = false

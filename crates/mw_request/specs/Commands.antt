@@ -1,5 +1,6 @@
 -- What the words of the command line ask for. How `clap` reads their options, and the numbers and the name among them, is in Arguments.
 use Rattle.std.specs.Prelude.{ℕ, true, cond, List, [], ◌∷◌, ◌++◌, Option, Some, None, codes}
+use Rattle.std.specs.Option.{option_map_or}
 use Prim.Native.String.{String}
 use Rattle.mw_model.specs.Terms.Object.{Name, same_bytes}
 use Rattle.mw_model.specs.Reports.Request.{Request, Check, Trial, Taut, Lower, Slice, Flat, Recheck, Help, Usage}
@@ -26,16 +27,13 @@ program =
 -- ---- the request
 
 abbrev pub with_number : (ℕ → Request) → Option ℕ → Request
-with_number request None = Usage
-with_number request (Some n) = request n
+with_number request n = option_map_or request n Usage
 
 abbrev pub trial_with : Option ℕ → Option ℕ → Request
-trial_with None steps = Usage
-trial_with (Some m) steps = with_number (Trial m) steps
+trial_with m steps = option_map_or (λ m. with_number (Trial m) steps) m Usage
 
 abbrev pub slice_with : Option Name → Option ℕ → Request
-slice_with None steps = Usage
-slice_with (Some name) steps = with_number (Slice name) steps
+slice_with name steps = option_map_or (λ name. with_number (Slice name) steps) name Usage
 
 abbrev pub request_named : List (List ℕ × Request) → Text → Request
 request_named [] word = Usage
@@ -45,12 +43,14 @@ request_named (p ∷ ps) word = cond (same_bytes p.0 word) p.1 (request_named ps
 abbrev pub request_with : Text → (steps : Option ℕ) → (events : Option ℕ) → (name : Option Name) → Request
 request_with word steps events name =
     request_named
-    ((codes "check", with_number Check steps) ∷ (codes "trial", trial_with events steps) ∷ (codes "taut", Taut) ∷ (codes "lower", with_number Lower steps) ∷ (codes "slice", slice_with name steps) ∷ (codes "flat", with_number Flat steps) ∷ (codes "recheck", Recheck) ∷ [])
+    ((codes "check", with_number Check steps) ∷ (codes "trial", trial_with events steps) ∷ (codes "taut", Taut) ∷
+    (codes "lower", with_number Lower steps) ∷ (codes "slice", slice_with name steps) ∷ (codes "flat", with_number Flat steps) ∷ (codes "recheck", Recheck) ∷ [])
     word
 
 abbrev pub request_of : Option (Text × List Row) → Request
 request_of None = Usage
-request_of (Some found) = request_with found.0 (steps_of (first_of (codes "steps") found.1)) (events_of (first_of (codes "events") found.1)) (name_of (first_of (codes "name") found.1))
+request_of (Some found) =
+    request_with found.0 (steps_of (first_of (codes "steps") found.1)) (events_of (first_of (codes "events") found.1)) (name_of (first_of (codes "name") found.1))
 
 abbrev pub asked : List Text → Request
 asked words = cond (is_help words) Help (cond (takes program words) (request_of (subcommand_of program words)) Usage)
@@ -61,4 +61,6 @@ help_lines [] = []
 help_lines (l ∷ ls) = codes l ++ 10 ∷ help_lines ls
 
 abbrev pub help_text : List ℕ
-help_text = help_lines ("milawa check [--steps N]" ∷ "milawa trial M [--steps N]" ∷ "milawa taut" ∷ "milawa lower [--steps N]" ∷ "milawa slice NAME [--steps N]" ∷ "milawa flat [--steps N]" ∷ "milawa recheck" ∷ [])
+help_text =
+    help_lines ("milawa check [--steps N]" ∷ "milawa trial M [--steps N]" ∷ "milawa taut" ∷
+    "milawa lower [--steps N]" ∷ "milawa slice NAME [--steps N]" ∷ "milawa flat [--steps N]" ∷ "milawa recheck" ∷ [])

@@ -1,6 +1,7 @@
 //! The numbers among the words of the command line.
 ghost use Rattle.std.specs.Prelude.{◌≡◌, ◌≤◌, Some, None, length, cond};
-ghost use Rattle.mw_model.specs.Texts.Lexemes.{all_are, is_digit, decimal_value};
+ghost use Rattle.mw_model.specs.Texts.Lexemes.{is_digit, decimal_value};
+ghost use Rattle.std.specs.List.{list_all};
 ghost use Rattle.mw_request.specs.Arguments as model;
 
 /// The number that the text is: at most so many decimal digits, and a value from the least to the most.
@@ -23,7 +24,7 @@ pub(crate) fn number_within(text: &str, digits: usize, least: u64, most: u64) ->
 // The number of these bytes, where all are digits.
 fn decimal(bytes: &[u8]) -> Option<u64>
     requires { length bytes.now ≤ 13 }
-    ensures { result ≡ cond (all_are is_digit bytes.now) (Some (decimal_value bytes.now)) None }
+    ensures { result ≡ cond (list_all is_digit bytes.now) (Some (decimal_value bytes.now)) None }
 {
     let mut number: u64 = 0;
     for byte in bytes {

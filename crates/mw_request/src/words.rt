@@ -41,7 +41,7 @@ pub enum Request {
     Usage,
 }
 
-// The step limit where the words name none.
+// The step limit where the words name none, as the definition of the command line has it: a run that takes all of it takes a tenth of a second.
 const DEFAULT_STEPS: u64 = 10_000_000;
 
 /// What the words ask for, as `clap` reads them and with numbers in range.

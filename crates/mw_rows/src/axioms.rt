@@ -467,9 +467,9 @@ fn book_of_axioms(alloc: Global, profile: u8, own: &str) -> Result<String, Alloc
     Ok(book)
 }
 
-// The report on so many events, of which each after the first shows an axiom.
+// What is due for so many events, of which each after the first shows an axiom.
 fn report_of_axioms(alloc: Global, events: u8) -> Result<String, AllocError> {
-    let mut report = String::from_str(alloc, "1 PROFILE - accepted\n")?;
+    let mut report = String::from_str(alloc, "0\n1 PROFILE - accepted\n")?;
     for number in 2..=events {
         writeln!(report, "{number} VERIFY AXIOM accepted")?;
     }
@@ -491,11 +491,11 @@ fn book_of_definitions(alloc: Global, profile: u8, own: &str) -> Result<String, 
     Ok(book)
 }
 
-// The report on 53 definitions, and on the wrong one.
+// What is due for 53 definitions, and for the wrong one.
 fn report_of_definitions(alloc: Global) -> Result<String, AllocError> {
     let mut report = String::from_str(
         alloc,
-        "1 PROFILE - accepted\n2 DEFINE USELESS accepted\n3 VERIFY CLAIM accepted\n4 SWITCH USELESS accepted\n",
+        "1\n1 PROFILE - accepted\n2 DEFINE USELESS accepted\n3 VERIFY CLAIM accepted\n4 SWITCH USELESS accepted\n",
     )?;
     for number in (5_u8..111).step_by(2) {
         writeln!(report, "{number} DEFINE-ALL - accepted")?;
@@ -507,14 +507,14 @@ fn report_of_definitions(alloc: Global) -> Result<String, AllocError> {
     Ok(report)
 }
 
-// The report on the axioms of a profile, where it is not the one that is due.
+// The answer to the axioms of a profile, where it is not the one that is due.
 fn other_axioms(alloc: Global, profile: u8, own: &str, events: u8) -> Result<String, AllocError> {
     let book = book_of_axioms(alloc, profile, own)?;
     let due = report_of_axioms(alloc, events)?;
     other_report(alloc, "10000000", book.as_str(), due.as_str())
 }
 
-// The report on the definitions of a profile, where it is not the one that is due.
+// The answer to the definitions of a profile, where it is not the one that is due.
 fn other_definitions(alloc: Global, profile: u8, own: &str) -> Result<String, AllocError> {
     let book = book_of_definitions(alloc, profile, own)?;
     let due = report_of_definitions(alloc)?;

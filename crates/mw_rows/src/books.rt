@@ -1,7 +1,7 @@
 //! The books of the guide to writing books, docs/BOOKS.md, with the reports that it states.
 use mw_answers::{
-    app_book, app_lines, expect_empty, other_report, other_report_after_ranks, shorthand_book,
-    shorthand_lines, wrap_book, wrap_lines, wrong_answers,
+    app_book, app_lines, due_after, expect_empty, other_report, other_report_after_ranks,
+    shorthand_book, shorthand_lines, wrap_book, wrap_lines, wrong_answers,
 };
 use std::alloc::{AllocError, Global};
 use std::test::Fail;
@@ -285,7 +285,8 @@ const AFTER_RANKS: &str = "(define app (x y)
 (eval (list (ev '(1 2)) (od '(1 2))))
 ";
 
-const OF_AFTER_RANKS: &str = "14 DEFINE APP accepted
+const OF_AFTER_RANKS: &str = "0
+14 DEFINE APP accepted
 15 EVAL - accepted (1 2 3)
 16 DEFINE-ALL - accepted
 17 EVAL - accepted (T NIL)
@@ -301,7 +302,8 @@ const AFTER_APP: &str = "(verify lists
 (eval (equal (app (app '(1 2) '(3)) '(4)) (app '(1 2) (app '(3) '(4)))))
 ";
 
-const OF_AFTER_APP: &str = "25 VERIFY LISTS accepted
+const OF_AFTER_APP: &str = "0
+25 VERIFY LISTS accepted
 26 EVAL - accepted T
 events 26 accepted 26 refused 0 level 1
 ";
@@ -313,7 +315,8 @@ const AFTER_WRAP: &str = "(switch wrap)
 (switch logic.proofp)
 ";
 
-const OF_AFTER_WRAP: &str = "9 SWITCH WRAP accepted
+const OF_AFTER_WRAP: &str = "1
+9 SWITCH WRAP accepted
 10 VERIFY REFL accepted
 11 VERIFY WRONG refused NIL
 12 SWITCH LOGIC.PROOFP accepted
@@ -336,26 +339,25 @@ const AFTER_SHORTHAND: &str = "(verify refl (pequal* x x) (axiom (pequal* x x)))
    (axiom (por* (pnot* (pequal* x y)) #1#)))))
 ";
 
-const OF_AFTER_SHORTHAND: &str = "19 VERIFY REFL accepted
+const OF_AFTER_SHORTHAND: &str = "1
+19 VERIFY REFL accepted
 20 VERIFY ITSELF accepted
 21 VERIFY WRONG refused NIL
 events 21 accepted 20 refused 1 level 3
 ";
 
-// The reports on what the guide shows after these books, where they are not the ones stated.
+// The answers to what the guide shows after these books, where they are not the ones stated.
 fn other_report_after_app(alloc: Global) -> Result<String, AllocError> {
     let mut book = String::from_str(alloc, app_book())?;
     book.push_str(AFTER_APP)?;
-    let mut due = app_lines(alloc, 14)?;
-    due.push_str(OF_AFTER_APP)?;
+    let due = due_after(alloc, app_lines(alloc, 14)?.as_str(), OF_AFTER_APP)?;
     other_report_after_ranks(alloc, "10000000", book.as_str(), due.as_str())
 }
 
 fn other_report_after_wrap(alloc: Global) -> Result<String, AllocError> {
     let mut book = String::from_str(alloc, wrap_book())?;
     book.push_str(AFTER_WRAP)?;
-    let mut due = wrap_lines(alloc, 1)?;
-    due.push_str(OF_AFTER_WRAP)?;
+    let due = due_after(alloc, wrap_lines(alloc, 1)?.as_str(), OF_AFTER_WRAP)?;
     other_report(alloc, "10000000", book.as_str(), due.as_str())
 }
 
@@ -363,9 +365,9 @@ fn other_report_after_shorthand(alloc: Global) -> Result<String, AllocError> {
     let mut book = String::from_str(alloc, wrap_book())?;
     book.push_str(shorthand_book())?;
     book.push_str(AFTER_SHORTHAND)?;
-    let mut due = wrap_lines(alloc, 1)?;
-    due.push_str(shorthand_lines(alloc, 9)?.as_str())?;
-    due.push_str(OF_AFTER_SHORTHAND)?;
+    let mut lines = wrap_lines(alloc, 1)?;
+    lines.push_str(shorthand_lines(alloc, 9)?.as_str())?;
+    let due = due_after(alloc, lines.as_str(), OF_AFTER_SHORTHAND)?;
     other_report(alloc, "10000000", book.as_str(), due.as_str())
 }
 

@@ -102,7 +102,8 @@ const AFTER_NEVER: &str = "(verify c (pequal* x y) (axiom (pequal* x x)))
 (profile 1)
 ";
 
-const OF_AFTER_NEVER: &str = "1 DEFINE NEVER accepted
+const OF_AFTER_NEVER: &str = "1
+1 DEFINE NEVER accepted
 2 VERIFY CLAIM accepted
 3 SWITCH NEVER accepted
 4 VERIFY REFL refused NIL
@@ -149,14 +150,16 @@ const OUTCOMES: [(&str, &str, &str); 8] = [
     ("10000000", "(logic.len thms)", "NIL"),
 ];
 
-// A number of units, and what is due for a theorem by the checker that runs LOGIC.PROOFP within them.
-const JUDGED: [(&str, &str); 2] = [
+// A number of units, the number that the program ends with, and what is due for a theorem by the checker that runs LOGIC.PROOFP within them.
+const JUDGED: [(&str, &str, &str); 2] = [
     (
         "10000000",
+        "0",
         "accepted\nevents 10 accepted 10 refused 0 level 2\n",
     ),
     (
         "10",
+        "1",
         "refused STEPS\nevents 10 accepted 9 refused 1 level 2\n",
     ),
 ];
@@ -170,11 +173,12 @@ const DEFINED: &str = "(switch wrap)
   (theorem (por* (pequal* (consp x) 'nil) (pequal* (ord< (rank (cdr x)) (rank x)) 't)))))
 ";
 
-// A number of units, and whether both proofs are taken within it: the first needs 1,534 units and the second 3,948.
-const DEFINED_WITHIN: [(&str, &str); 3] = [
-    ("3948", "accepted"),
-    ("3947", "refused STEPS"),
-    ("10000000", "accepted"),
+// A number of units, the number that the program ends with, and whether both proofs are taken within them: the first needs 1,534 units and the
+// second 3,948.
+const DEFINED_WITHIN: [(&str, &str, &str); 3] = [
+    ("3948", "0", "accepted"),
+    ("3947", "1", "refused STEPS"),
+    ("10000000", "0", "accepted"),
 ];
 
 /// A book that defines a checker whose two runs of this test are compared, so that it accepts nothing, proves its claim and switches
@@ -210,7 +214,7 @@ pub(crate) fn book_with_useless_checker(alloc: Global, test: &str) -> Result<Str
     )
 }
 
-// The report on a theorem under a checker with this test, within so many units, where it is not refused for this reason.
+// The answer to a theorem under a checker with this test, within so many units, where it is not refused for this reason.
 fn other_outcome(
     alloc: Global,
     steps: &str,
@@ -220,7 +224,7 @@ fn other_outcome(
     let book = book_with_useless_checker(alloc, test)?;
     let book = format!(in alloc; "{book}(verify refl (pequal* x x) (axiom (pequal* x x)))\n")?;
     let due = format!(in alloc;
-        "1 DEFINE USELESS accepted\n2 VERIFY CLAIM accepted\n3 SWITCH USELESS accepted\n4 VERIFY REFL refused {reason}\n"
+        "1\n1 DEFINE USELESS accepted\n2 VERIFY CLAIM accepted\n3 SWITCH USELESS accepted\n4 VERIFY REFL refused {reason}\n"
     )?;
     other_report(alloc, steps, book.as_str(), due.as_str())
 }
@@ -235,11 +239,12 @@ fn wrong_outcomes(alloc: Global) -> Result<String, AllocError> {
     Ok(wrong)
 }
 
-// The report on a theorem under the checker that runs LOGIC.PROOFP, after these lines, where it does not end so.
-fn other_wrap(alloc: Global, steps: &str, lines: &str, end: &str) -> Result<String, AllocError> {
+// The answer to a theorem under the checker that runs LOGIC.PROOFP, after these lines, where it is not the one of the row.
+fn other_wrap(alloc: Global, row: &(&str, &str, &str), lines: &str) -> Result<String, AllocError> {
+    let (steps, number, end) = *row;
     let mut book = String::from_str(alloc, wrap_book())?;
     book.push_str("(switch wrap)\n(verify refl (pequal* x x) (axiom (pequal* x x)))\n")?;
-    let due = format!(in alloc; "{lines}9 SWITCH WRAP accepted\n10 VERIFY REFL {end}")?;
+    let due = format!(in alloc; "{number}\n{lines}9 SWITCH WRAP accepted\n10 VERIFY REFL {end}")?;
     other_report(alloc, steps, book.as_str(), due.as_str())
 }
 
@@ -248,22 +253,22 @@ fn wrong_wraps(alloc: Global) -> Result<String, AllocError> {
     let mut wrong = String::new(alloc);
     let lines = wrap_lines(alloc, 1)?;
     for row in &JUDGED {
-        let other = other_wrap(alloc, row.0, lines.as_str(), row.1)?;
+        let other = other_wrap(alloc, row, lines.as_str())?;
         wrong.push_str(other.as_str())?;
     }
     Ok(wrong)
 }
 
-// The report on a recursion under the checker that runs LOGIC.PROOFP, after these lines, where it does not end so.
+// The answer to a recursion under the checker that runs LOGIC.PROOFP, after these lines, where it is not the one of the row.
 fn other_definition(
     alloc: Global,
-    steps: &str,
+    row: &(&str, &str, &str),
     lines: &str,
-    end: &str,
 ) -> Result<String, AllocError> {
+    let (steps, number, end) = *row;
     let mut book = String::from_str(alloc, wrap_book())?;
     book.push_str(DEFINED)?;
-    let due = format!(in alloc; "{lines}22 SWITCH WRAP accepted\n23 DEFINE APP {end}\n")?;
+    let due = format!(in alloc; "{number}\n{lines}22 SWITCH WRAP accepted\n23 DEFINE APP {end}\n")?;
     other_report_after_ranks(alloc, steps, book.as_str(), due.as_str())
 }
 
@@ -272,13 +277,13 @@ fn wrong_definitions(alloc: Global) -> Result<String, AllocError> {
     let mut wrong = String::new(alloc);
     let lines = wrap_lines(alloc, 14)?;
     for row in &DEFINED_WITHIN {
-        let other = other_definition(alloc, row.0, lines.as_str(), row.1)?;
+        let other = other_definition(alloc, row, lines.as_str())?;
         wrong.push_str(other.as_str())?;
     }
     Ok(wrong)
 }
 
-// The report on events after the switch to the checker that accepts nothing, where it is not the one expected.
+// The answer to events after the switch to the checker that accepts nothing, where it is not the one expected.
 fn other_report_after_never(alloc: Global) -> Result<String, AllocError> {
     let book = format!(in alloc; "{NEVER}{AFTER_NEVER}")?;
     other_report(alloc, "10000000", book.as_str(), OF_AFTER_NEVER)

@@ -42,16 +42,27 @@ no row: (print (none))
 const LIMITED: &str = "\
 1000
 (print (right))
-=> 1 PRINT - accepted (RIGHT)
+=> 0
+1 PRINT - accepted (RIGHT)
+----
+1000
+(print (number))
+=> 1
+1 PRINT - accepted (NUMBER)
 ----
 1000
 (print (report))
-=> 1 PRINT - accepted (ANOTHER)
+=> 0
+1 PRINT - accepted (ANOTHER)
 ----
 (print (none))
 ";
 
 const TOLD_LIMITED: &str = "\
+0
+1 PRINT - accepted (NUMBER)
+events 1 accepted 1 refused 0 level 1
+0
 1 PRINT - accepted (REPORT)
 events 1 accepted 1 refused 0 level 1
 no row: (print (none))

@@ -4,7 +4,7 @@ use Rattle.mw_model.specs.Terms.Object.{Object, Symbol, same_object}
 use Rattle.mw_model.specs.Proofs.Proof.{method_name}
 use Rattle.mw_model.specs.Proofs.Judgment.{method_among}
 use Rattle.mw_model.proofs.SameObject.{same_object-swap}
-use Rattle.mw_heap.specs.declared.word.Word.{Word}
+use Rattle.mw_heap.specs.declared.vocabulary.word.Word.{Word}
 use Rattle.mw_heap.specs.Words.{word_object}
 use Rattle.mw_rules.specs.declared.method.Method.{Method}
 use Rattle.mw_rules.specs.Methods.{method_of_logic}

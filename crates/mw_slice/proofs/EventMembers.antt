@@ -3,8 +3,8 @@ use Rattle.std.proofs.Common.{◌≡◌, ℕ, suc, ◌-◌, ◌+◌, ◌<◌, �
 use Rattle.std.proofs.lemmas.Bool.{and_parts}
 use Rattle.mw_model.specs.Terms.Object.{Name, Object, Natural, Symbol, Pair, NIL, named, symbol, same_name, same_object, second_of, third_of, fourth_of, sixth_of, has_members, list1}
 use Rattle.mw_model.specs.Values.Primitive.{is_pair}
-use Rattle.mw_model.specs.Terms.Reading.{when}
-use Rattle.mw_model.specs.Events.Fate.{EventWord, Verify, Define, Skolem, Switch, Eval, Print, DefineAll, SetProfile, event_word, with_members}
+use Rattle.mw_model.specs.Terms.Reading.{when, that}
+use Rattle.mw_model.specs.Events.Fate.{EventWord, Verify, Define, Skolem, Switch, Eval, Print, DefineAll, SetProfile, event_word, member_count}
 use Rattle.mw_model.proofs.Names.{same_object-eq}
 use Rattle.mw_model.proofs.SameObject.{same_object-swap}
 use Rattle.mw_commands.specs.Commands.Slice.{begins_with, proofs_by_word, theorems_named}
@@ -86,7 +86,7 @@ module _ (e : Object) where
   too_few w b h = ap (λ b. proofs_by_word (when b (Some w)) e) h
 
   no_proofs : (v d k w l p a f : Bool) → (v && has_members 4 e) ≡ false → (d && has_members 6 e) ≡ false → (a && has_members 3 e) ≡ false →
-      proofs_by_word (with_members e (cond v (Some Verify) (cond d (Some Define) (cond k (Some Skolem) (cond w (Some Switch) (cond l (Some Eval) (cond p (Some Print) (cond a (Some DefineAll) (cond f (Some SetProfile) None))))))))) e ≡ NIL
+      proofs_by_word (that (λ w. has_members (member_count w) e) (cond v (Some Verify) (cond d (Some Define) (cond k (Some Skolem) (cond w (Some Switch) (cond l (Some Eval) (cond p (Some Print) (cond a (Some DefineAll) (cond f (Some SetProfile) None))))))))) e ≡ NIL
   no_proofs true d k w l p a f hv hd ha = too_few Verify (has_members 4 e) hv
   no_proofs false true k w l p a f hv hd ha = too_few Define (has_members 6 e) hd
   no_proofs false false true w l p a f hv hd ha = without Skolem (has_members 5 e) refl

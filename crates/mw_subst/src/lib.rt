@@ -1,6 +1,7 @@
 //! Simultaneous substitution of terms for variables.
 #![tactic(auto)]
 
+mod formula;
 mod instance;
 mod memo;
 mod part;
@@ -9,6 +10,7 @@ mod sigma;
 mod steps;
 mod walk;
 
+pub use formula::formulas_substituted;
 pub use instance::is_instance;
 pub use read::sigma_of;
 pub use sigma::Sigma;

@@ -1,6 +1,6 @@
 -- The objects of references, and what parts come to, as the heap grows.
-use Rattle.std.proofs.Common.{◌≡◌, ℕ, suc, suc-le-suc, arith, List, [], ◌∷◌, map, Option, Some, None, refl, ap, ap₂, ◌∙◌}
-use Rattle.std.specs.Prelude.{All, IfSome, option_map}
+use Rattle.std.proofs.Common.{◌≡◌, ℕ, suc, suc-le-suc, arith, List, [], ◌∷◌, map, Option, Some, None, refl, ap, ap₂, ◌∙◌, option_map}
+use Rattle.std.specs.Prelude.{All, IfSome}
 use Rattle.mw_model.specs.Terms.Object.{Object}
 use Rattle.mw_heap.specs.Objects.{object_at, IsIn, Grows}
 use Rattle.mw_heap.proofs.Objects.{IsIn-Grows, object_at-Grows}

@@ -1,9 +1,8 @@
 -- An object that a formula is read from is that formula's.
-use Rattle.std.proofs.Common.{◌≡◌, true, Option, Some, None, refl, sym, ap, ◌∙◌}
+use Rattle.std.proofs.Common.{◌≡◌, true, Option, Some, None, refl, sym, ap, ◌∙◌, is_some}
 use Rattle.mw_model.specs.Terms.Object.{Object}
 use Rattle.mw_model.specs.Terms.Term.{Formula, formula_object, ArityTable, is_formula}
 use Rattle.mw_model.specs.Terms.Reading.{formula_of, formula_under, that}
-use Rattle.mw_model.specs.Values.Definition.{is_present}
 use Rattle.mw_model.specs.Laws.Rules.{is_formula_object}
 use Rattle.mw_model.proofs.ReadBack.{when_some, formula_back}
 
@@ -23,6 +22,6 @@ shown A x F e = go (formula_of x) (λ G. formula_back x G) e
 pub some_shown : (A : ArityTable) (x : Object) → is_formula_object A x ≡ true → (F : Formula) × (x ≡ formula_object F) × (is_formula A F ≡ true)
 some_shown A x e = go (formula_under A x) (shown A x) e
   where
-    go : (o : Option Formula) → ((F : Formula) → o ≡ Some F → (x ≡ formula_object F) × (is_formula A F ≡ true)) → is_present o ≡ true → (F : Formula) × (x ≡ formula_object F) × (is_formula A F ≡ true)
+    go : (o : Option Formula) → ((F : Formula) → o ≡ Some F → (x ≡ formula_object F) × (is_formula A F ≡ true)) → is_some o ≡ true → (F : Formula) × (x ≡ formula_object F) × (is_formula A F ≡ true)
     go None all h = cc
     go (Some F) all h = let p = all F refl in (F, p.0, p.1)

@@ -29,7 +29,7 @@ pub enum Decision {
     Memory,
 }
 
-// Formulas with more equations than this are not decided.
+// Formulas with more equations than this are not decided, as the definition of the command says: twelve have 4,096 choices of values.
 const MOST_EQUATIONS: usize = 12;
 
 // What comes of the proof by cases.

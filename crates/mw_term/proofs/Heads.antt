@@ -4,7 +4,6 @@ use Rattle.std.specs.List.{list_all}
 use Rattle.mw_model.specs.Terms.Object.{Name, Object, Pair, symbol, same_name, same_object, NIL}
 use Rattle.mw_model.specs.Terms.Term.{Term, ArityTable, is_among, firsts, variables, are_formals, is_closed, is_term}
 use Rattle.mw_model.specs.Terms.Reading.{names_of, term_of, when, that}
-use Rattle.mw_model.specs.Values.Definition.{is_present}
 use Rattle.mw_model.specs.Laws.Rules.{is_term_object}
 use Rattle.mw_model.proofs.Closed.{each_among, closed_variables}
 use Rattle.mw_model.proofs.ReadBack.{some_one}
@@ -37,20 +36,20 @@ formals_are (Some ys) xs h = go (are_formals ys) refl h
 term_is : (A : ArityTable) (x : Object) → is_term_object A x ≡ true → (t : Term) × (term_of x ≡ Some t) × (is_term A t ≡ true)
 term_is A x h = go (term_of x) refl h
   where
-    go : (o : Option Term) → term_of x ≡ o → is_present (that (is_term A) o) ≡ true → (t : Term) × (term_of x ≡ Some t) × (is_term A t ≡ true)
+    go : (o : Option Term) → term_of x ≡ o → is_some (that (is_term A) o) ≡ true → (t : Term) × (term_of x ≡ Some t) × (is_term A t ≡ true)
     go None e k = cc
     go (Some t) e k = (t, e, given (is_term A t) k)
       where
-        given : (b : Bool) → is_present (when b (Some t)) ≡ true → b ≡ true
+        given : (b : Bool) → is_some (when b (Some t)) ≡ true → b ≡ true
         given true q = refl
         given false q = cc
 
-head-no_term : (A : ArityTable) (o : Option (List Name)) (p : Option Term) → is_present (that (is_term A) p) ≡ false → head_count A o p ≡ None
+head-no_term : (A : ArityTable) (o : Option (List Name)) (p : Option Term) → is_some (that (is_term A) p) ≡ false → head_count A o p ≡ None
 head-no_term A None p h = refl
 head-no_term A (Some xs) None h = refl
 head-no_term A (Some xs) (Some b) h = go (are_formals xs) (is_closed xs b) (is_term A b) h
   where
-    go : (f c t : Bool) → is_present (when t (Some b)) ≡ false → cond (f && (c && t)) (Some (length xs)) None ≡ None
+    go : (f c t : Bool) → is_some (when t (Some b)) ≡ false → cond (f && (c && t)) (Some (length xs)) None ≡ None
     go true true true k = cc
     go true true false k = refl
     go true false t k = refl

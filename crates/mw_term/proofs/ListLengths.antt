@@ -1,8 +1,8 @@
 -- A list of terms has as many terms as it is long, and a list of formals as many formals: so a call's actuals are counted by a walk.
 use Rattle.std.proofs.Common.{◌≡◌, ℕ, suc, Bool, true, false, ◌&&◌, cond, eqb, List, [], length, Option, Some, None, is_some, refl, sym, ap, ap₂, ◌∙◌, subst, not, ◌+◌, arith, eqb-true, eq-eqb}
 use Rattle.mw_model.specs.Terms.Object.{Name, Object, Natural, Symbol, Pair, named, symbol, same_name, same_object, nil_name, NIL}
-use Rattle.mw_model.specs.Terms.Term.{Term, Terms, NoTerms, ArityTable, arity_of, count, are_formals, is_closed, is_term, are_terms}
-use Rattle.mw_model.specs.Terms.Reading.{names_of, and_more, more_terms, term_of, terms_of, when}
+use Rattle.mw_model.specs.Terms.Term.{Term, Terms, NoTerms, ArityTable, arity_of, count, are_formals, is_closed, is_term, are_terms, More}
+use Rattle.mw_model.specs.Terms.Reading.{names_of, and_more, term_of, terms_of, when, map2}
 use Rattle.mw_model.specs.Values.Primitive.{is_pair, is_symbol, name_of}
 use Rattle.mw_model.specs.Laws.Rules.{is_term_object}
 use Rattle.mw_model.proofs.ReadBack.{some_one}
@@ -45,7 +45,7 @@ terms_length (Symbol s) ts h = go (same_name s nil_name) h
     go false k = cc
 terms_length (Pair a r) ts h = go (term_of a) (terms_of r) (terms_length r) h
   where
-    go : (o : Option Term) (p : Option Terms) → ((us : Terms) → p ≡ Some us → count us ≡ length_of r) → more_terms o p ≡ Some ts → count ts ≡ suc (length_of r)
+    go : (o : Option Term) (p : Option Terms) → ((us : Terms) → p ≡ Some us → count us ≡ length_of r) → map2 More o p ≡ Some ts → count ts ≡ suc (length_of r)
     go None p rest k = cc
     go (Some t) None rest k = cc
     go (Some t) (Some us) rest k = ap count (sym (some_one k)) ∙ ap suc (rest us refl)

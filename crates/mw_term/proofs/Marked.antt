@@ -1,9 +1,8 @@
 -- What an object is, from what its parts are.
-use Rattle.std.proofs.Common.{◌≡◌, ℕ, suc, ◌+◌, Bool, true, false, ◌&&◌, ◌||◌, not, cond, eqb, List, length, Option, Some, None, refl, sym, ap, ap₂, ◌∙◌, eqb-true, arith}
+use Rattle.std.proofs.Common.{◌≡◌, ℕ, suc, ◌+◌, Bool, true, false, ◌&&◌, ◌||◌, not, cond, eqb, List, length, Option, Some, None, refl, sym, ap, ap₂, ◌∙◌, eqb-true, arith, option_map, is_some}
 use Rattle.mw_model.specs.Terms.Object.{Name, Object, Natural, Symbol, Pair, named, symbol, same_name, same_object, nil_name, NIL}
 use Rattle.mw_model.specs.Terms.Term.{Term, Terms, Variable, Constant, If, Call, Lambda, NoTerms, More, Formula, Equal, Not, Or, ArityTable, arity_of, has_arity, count, are_formals, is_closed, is_variable, is_term, are_terms, is_formula}
-use Rattle.mw_model.specs.Terms.Reading.{names_of, more_terms, constant_of, if_of, plain_call, lambda_of, term_of, terms_of, equal_of, not_of, or_of, formula_of, when, that}
-use Rattle.mw_model.specs.Values.Definition.{is_present}
+use Rattle.mw_model.specs.Terms.Reading.{names_of, constant_of, if_of, lambda_of, term_of, terms_of, formula_of, when, that, map2}
 use Rattle.mw_model.specs.Values.Primitive.{is_pair}
 use Rattle.mw_model.specs.Laws.Rules.{is_term_object, is_formula_object}
 use Rattle.mw_model.proofs.Names.{same_name-eq}
@@ -29,21 +28,21 @@ takes-none : (n : Option ℕ) → takes None n ≡ false
 takes-none None = refl
 takes-none (Some n) = refl
 
-pub is_present-when : {X : Type 0} (b : Bool) (x : X) → is_present (when b (Some x)) ≡ b
+pub is_present-when : {X : Type 0} (b : Bool) (x : X) → is_some (when b (Some x)) ≡ b
 is_present-when true x = refl
 is_present-when false x = refl
 
 pub is_term-symbol : (A : ArityTable) (x : Name) → is_term_object A (Symbol x) ≡ is_variable x
 is_term-symbol A x = is_present-when (is_variable x) (Variable x)
 
-constant_is : (A : ArityTable) (r : Object) → is_present (that (is_term A) (constant_of r)) ≡ is_single r
+constant_is : (A : ArityTable) (r : Object) → is_some (that (is_term A) (constant_of r)) ≡ is_single r
 constant_is A (Natural n) = refl
 constant_is A (Symbol s) = refl
 constant_is A (Pair c (Natural n)) = refl
 constant_is A (Pair c (Pair a b)) = refl
 constant_is A (Pair c (Symbol s)) = go (same_name s nil_name)
   where
-    go : (b : Bool) → is_present (that (is_term A) (cond b (Some (Constant c)) None)) ≡ b
+    go : (b : Bool) → is_some (that (is_term A) (cond b (Some (Constant c)) None)) ≡ b
     go true = refl
     go false = refl
 
@@ -76,7 +75,7 @@ four_or_more n = go (eqb (suc (suc (suc (suc n)))) 3) refl
     go false e = refl
 
 module _ (A : ArityTable) (f : Name) where
-  if_is : (o : Option Terms) → same_name f (named "IF") ≡ true → is_present (that (is_term A) (if_of o)) ≡ (takes (arity_of A f) (counted A o) && allows_if true (counted A o))
+  if_is : (o : Option Terms) → same_name f (named "IF") ≡ true → is_some (that (is_term A) (if_of o)) ≡ (takes (arity_of A f) (counted A o) && allows_if true (counted A o))
   if_is None e = refl
   if_is (Some NoTerms) e = not_three (arity_of A f) 0 true refl
   if_is (Some (More a NoTerms)) e = not_three (arity_of A f) 1 (is_term A a && true) refl
@@ -88,7 +87,7 @@ module _ (A : ArityTable) (f : Name) where
   if_is (Some (More a (More b (More c (More d ts))))) e =
       not_three (arity_of A f) (suc (suc (suc (suc (count ts))))) (is_term A a && (is_term A b && (is_term A c && (is_term A d && are_terms A ts)))) (four_or_more (count ts))
 
-  call_is : (o : Option Terms) → same_name f (named "QUOTE") ≡ false → same_name f (named "IF") ≡ false → is_present (that (is_term A) (plain_call f o)) ≡ (takes (arity_of A f) (counted A o) && allows_if false (counted A o))
+  call_is : (o : Option Terms) → same_name f (named "QUOTE") ≡ false → same_name f (named "IF") ≡ false → is_some (that (is_term A) (option_map (Call f) o)) ≡ (takes (arity_of A f) (counted A o) && allows_if false (counted A o))
   call_is None q i = refl
   call_is (Some ts) q i =
       is_present-when (is_term A (Call f ts)) (Call f ts)
@@ -100,7 +99,7 @@ module _ (A : ArityTable) (f : Name) where
   is_term-call r = go (same_name f (named "QUOTE")) (same_name f (named "IF")) refl refl
     where
       go : (q i : Bool) → same_name f (named "QUOTE") ≡ q → same_name f (named "IF") ≡ i
-          → is_present (that (is_term A) (cond q (constant_of r) (cond i (if_of (terms_of r)) (plain_call f (terms_of r))))) ≡ cond q (is_single r) (takes (arity_of A f) (term_count A r) && allows_if i (term_count A r))
+          → is_some (that (is_term A) (cond q (constant_of r) (cond i (if_of (terms_of r)) (option_map (Call f) (terms_of r))))) ≡ cond q (is_single r) (takes (arity_of A f) (term_count A r) && allows_if i (term_count A r))
       go true i e e' = constant_is A r
       go false true e e' = if_is (terms_of r) e'
       go false false e e' = call_is (terms_of r) e e'
@@ -113,7 +112,7 @@ lambda_test m n true false r s = sym (takes-none (cond s (Some n) None))
 lambda_test m n false q r s = sym (takes-none (cond s (Some n) None))
 
 -- ((lambda (x1 .. xn) b) t1 .. tn)
-lambda_is : (A : ArityTable) (t : Bool) (o : Option (List Name)) (p : Option Term) (q : Option Terms) → is_present (that (is_term A) (lambda_of t o p q)) ≡ takes (when t (head_count A o p)) (counted A q)
+lambda_is : (A : ArityTable) (t : Bool) (o : Option (List Name)) (p : Option Term) (q : Option Terms) → is_some (that (is_term A) (lambda_of t o p q)) ≡ takes (when t (head_count A o p)) (counted A q)
 lambda_is A false o p q = sym (takes-none (counted A q))
 lambda_is A true None p q = sym (takes-none (counted A q))
 lambda_is A true (Some xs) None q = sym (takes-none (counted A q))
@@ -137,9 +136,9 @@ one_more-counted n true true = ap Some (let e : suc n ≡ n + 1 = omega arith in
 one_more-counted n true false = refl
 one_more-counted n false c = refl
 
-more_is : (A : ArityTable) (o : Option Term) (p : Option Terms) → counted A (more_terms o p) ≡ one_more (is_present (that (is_term A) o)) (counted A p)
+more_is : (A : ArityTable) (o : Option Term) (p : Option Terms) → counted A (map2 More o p) ≡ one_more (is_some (that (is_term A) o)) (counted A p)
 more_is A None p = refl
-more_is A (Some t) None = sym (one_more-none (is_present (that (is_term A) (Some t))))
+more_is A (Some t) None = sym (one_more-none (is_some (that (is_term A) (Some t))))
 more_is A (Some t) (Some ts) = one_more-counted (count ts) (is_term A t) (are_terms A ts) ∙ ap (λ b. one_more b (cond (are_terms A ts) (Some (count ts)) None)) (sym (is_present-when (is_term A t) t))
 
 pub term_count-pair : (A : ArityTable) (a r : Object) → term_count A (Pair a r) ≡ one_more (is_term_object A a) (term_count A r)
@@ -153,25 +152,25 @@ term_count-symbol A s = go (same_name s nil_name)
     go false = refl
 
 -- formulas
-equal_is : (A : ArityTable) (o p : Option Term) → is_present (that (is_formula A) (equal_of o p)) ≡ (is_present (that (is_term A) o) && is_present (that (is_term A) p))
+equal_is : (A : ArityTable) (o p : Option Term) → is_some (that (is_formula A) (map2 Equal o p)) ≡ (is_some (that (is_term A) o) && is_some (that (is_term A) p))
 equal_is A None p = refl
-equal_is A (Some t) None = sym (and_false (is_present (that (is_term A) (Some t))))
+equal_is A (Some t) None = sym (and_false (is_some (that (is_term A) (Some t))))
 equal_is A (Some t) (Some u) = is_present-when (is_term A t && is_term A u) (Equal t u) ∙ sym (ap₂ (λ b c. b && c) (is_present-when (is_term A t) t) (is_present-when (is_term A u) u))
 
-not_is : (A : ArityTable) (o : Option Formula) → is_present (that (is_formula A) (not_of o)) ≡ is_present (that (is_formula A) o)
+not_is : (A : ArityTable) (o : Option Formula) → is_some (that (is_formula A) (option_map Not o)) ≡ is_some (that (is_formula A) o)
 not_is A None = refl
 not_is A (Some F) = is_present-when (is_formula A F) (Not F) ∙ sym (is_present-when (is_formula A F) F)
 
-or_is : (A : ArityTable) (o p : Option Formula) → is_present (that (is_formula A) (or_of o p)) ≡ (is_present (that (is_formula A) o) && is_present (that (is_formula A) p))
+or_is : (A : ArityTable) (o p : Option Formula) → is_some (that (is_formula A) (map2 Or o p)) ≡ (is_some (that (is_formula A) o) && is_some (that (is_formula A) p))
 or_is A None p = refl
-or_is A (Some F) None = sym (and_false (is_present (that (is_formula A) (Some F))))
+or_is A (Some F) None = sym (and_false (is_some (that (is_formula A) (Some F))))
 or_is A (Some F) (Some G) = is_present-when (is_formula A F && is_formula A G) (Or F G) ∙ sym (ap₂ (λ b c. b && c) (is_present-when (is_formula A F) F) (is_present-when (is_formula A G) G))
 
-when_is : {X : Type 0} (test : X → Bool) (b : Bool) (o : Option X) → is_present (that test (when b o)) ≡ (b && is_present (that test o))
+when_is : {X : Type 0} (test : X → Bool) (b : Bool) (o : Option X) → is_some (that test (when b o)) ≡ (b && is_some (that test o))
 when_is test true o = refl
 when_is test false o = refl
 
-cond_is : {X : Type 0} (test : X → Bool) (b : Bool) (o p : Option X) → is_present (that test (cond b o p)) ≡ cond b (is_present (that test o)) (is_present (that test p))
+cond_is : {X : Type 0} (test : X → Bool) (b : Bool) (o p : Option X) → is_some (that test (cond b o p)) ≡ cond b (is_some (that test o)) (is_some (that test p))
 cond_is test true o p = refl
 cond_is test false o p = refl
 
@@ -179,14 +178,14 @@ cond_is test false o p = refl
 pub is_formula-binary : (A : ArityTable) (h a b z : Object) → is_formula_object A (Pair h (Pair a (Pair b z)))
     ≡ (same_object z NIL && cond (same_object h (symbol "PEQUAL*")) (is_term_object A a && is_term_object A b) (same_object h (symbol "POR*") && (is_formula_object A a && is_formula_object A b)))
 is_formula-binary A h a b z =
-    when_is (is_formula A) (same_object z NIL) (cond (same_object h (symbol "PEQUAL*")) (equal_of (term_of a) (term_of b)) (when (same_object h (symbol "POR*")) (or_of (formula_of a) (formula_of b))))
+    when_is (is_formula A) (same_object z NIL) (cond (same_object h (symbol "PEQUAL*")) (map2 Equal (term_of a) (term_of b)) (when (same_object h (symbol "POR*")) (map2 Or (formula_of a) (formula_of b))))
     ∙ ap (λ t. same_object z NIL && t)
-    (cond_is (is_formula A) (same_object h (symbol "PEQUAL*")) (equal_of (term_of a) (term_of b)) (when (same_object h (symbol "POR*")) (or_of (formula_of a) (formula_of b)))
+    (cond_is (is_formula A) (same_object h (symbol "PEQUAL*")) (map2 Equal (term_of a) (term_of b)) (when (same_object h (symbol "POR*")) (map2 Or (formula_of a) (formula_of b)))
     ∙ ap₂ (cond (same_object h (symbol "PEQUAL*"))) (equal_is A (term_of a) (term_of b))
-    (when_is (is_formula A) (same_object h (symbol "POR*")) (or_of (formula_of a) (formula_of b)) ∙ ap (λ t. same_object h (symbol "POR*") && t) (or_is A (formula_of a) (formula_of b))))
+    (when_is (is_formula A) (same_object h (symbol "POR*")) (map2 Or (formula_of a) (formula_of b)) ∙ ap (λ t. same_object h (symbol "POR*") && t) (or_is A (formula_of a) (formula_of b))))
 
 pub is_formula-unary : (A : ArityTable) (h a : Object) (s : Name) → is_formula_object A (Pair h (Pair a (Symbol s))) ≡ ((same_name s nil_name && same_object h (symbol "PNOT*")) && is_formula_object A a)
-is_formula-unary A h a s = when_is (is_formula A) (same_name s nil_name && same_object h (symbol "PNOT*")) (not_of (formula_of a)) ∙ ap (λ t. (same_name s nil_name && same_object h (symbol "PNOT*")) && t) (not_is A (formula_of a))
+is_formula-unary A h a s = when_is (is_formula A) (same_name s nil_name && same_object h (symbol "PNOT*")) (option_map Not (formula_of a)) ∙ ap (λ t. (same_name s nil_name && same_object h (symbol "PNOT*")) && t) (not_is A (formula_of a))
 
 -- what ends neither with NIL nor with a pair is none
 pub is_formula-no_list : (A : ArityTable) (h x a z : Object) → x ≡ Pair a z → is_pair z ≡ false → same_object z NIL ≡ false → is_formula_object A (Pair h x) ≡ false

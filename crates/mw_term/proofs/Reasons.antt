@@ -4,7 +4,6 @@ use Rattle.std.proofs.Common.{◌≡◌, ℕ, ◌<◌, Bool, true, false, ◌&&�
 use Rattle.mw_model.specs.Terms.Object.{Name, Object, Natural, Symbol, Pair, named, symbol, same_name, same_object, nil_name, NIL}
 use Rattle.mw_model.specs.Terms.Term.{Term, Terms, ArityTable, arity_of, is_function_name, count, are_formals, is_closed, is_term, are_terms}
 use Rattle.mw_model.specs.Terms.Reading.{names_of, term_of, terms_of, when, that}
-use Rattle.mw_model.specs.Values.Definition.{is_present}
 use Rattle.mw_model.specs.Values.Primitive.{is_symbol}
 use Rattle.mw_model.specs.Laws.Rules.{is_term_object, is_formula_object}
 use Rattle.mw_heap.specs.Objects.{object_at, IsIn, ArePartsOlder, StandsBefore}
@@ -83,7 +82,7 @@ or-second true q e = refl
 or-second false q e = e
 
 -- the head of a lambda is the same by two tables that say the same of its body
-same_head : (A B : ArityTable) (o : Option (List Name)) (p : Option Term) → is_present (that (is_term A) p) ≡ is_present (that (is_term B) p) → head_count A o p ≡ head_count B o p
+same_head : (A B : ArityTable) (o : Option (List Name)) (p : Option Term) → is_some (that (is_term A) p) ≡ is_some (that (is_term B) p) → head_count A o p ≡ head_count B o p
 same_head A B None p h = refl
 same_head A B (Some xs) None h = refl
 same_head A B (Some xs) (Some b) h =

@@ -1,9 +1,9 @@
 -- The variables of a term's object are those of the term.
-use Rattle.std.proofs.Common.{◌≡◌, Bool, true, false, ◌&&◌, cond, List, [], ◌∷◌, ◌++◌, map, Option, Some, None, ℕ, refl, sym, ap, ap₂, ◌∙◌}
+use Rattle.std.proofs.Common.{◌≡◌, Bool, true, false, ◌&&◌, cond, List, [], ◌∷◌, ◌++◌, map, Option, Some, None, ℕ, refl, sym, ap, ap₂, ◌∙◌, option_map}
 use Rattle.std.proofs.lemmas.List.{append-nil}
 use Rattle.mw_model.specs.Terms.Object.{Name, Object, Natural, Symbol, Pair, named, symbol, same_name, same_object, nil_name, NIL}
-use Rattle.mw_model.specs.Terms.Term.{Term, Terms, Constant, NoTerms, More, occurrences, all_occurrences, firsts, variables}
-use Rattle.mw_model.specs.Terms.Reading.{names_of, more_terms, constant_of, if_of, plain_call, lambda_of, term_of, terms_of}
+use Rattle.mw_model.specs.Terms.Term.{Term, Terms, Constant, NoTerms, More, occurrences, all_occurrences, firsts, variables, Call}
+use Rattle.mw_model.specs.Terms.Reading.{names_of, constant_of, if_of, lambda_of, term_of, terms_of, map2}
 use Rattle.mw_model.proofs.ReadBack.{some_one, cond_some}
 use Rattle.mw_heap.specs.Objects.{object_at}
 use Rattle.mw_term.specs.Parts.{names_at, AreSymbols}
@@ -26,7 +26,7 @@ if_has (Some (More a (More b (More c NoTerms)))) t h =
     (More a (More b (More c NoTerms)), refl, ap (λ l. occurrences a ++ (occurrences b ++ l)) (append-nil (occurrences c)) ∙ ap occurrences (some_one h))
 if_has (Some (More a (More b (More c (More d ts))))) t h = cc
 
-call_has : (f : Name) (o : Option Terms) (t : Term) → plain_call f o ≡ Some t → (ts : Terms) × (o ≡ Some ts) × (all_occurrences ts ≡ occurrences t)
+call_has : (f : Name) (o : Option Terms) (t : Term) → option_map (Call f) o ≡ Some t → (ts : Terms) × (o ≡ Some ts) × (all_occurrences ts ≡ occurrences t)
 call_has f None t h = cc
 call_has f (Some ts) t h = (ts, refl, ap occurrences (some_one h))
 
@@ -37,7 +37,7 @@ lambda_has true (Some xs) None q t h = cc
 lambda_has true None p q t h = cc
 lambda_has false o p q t h = cc
 
-more_has : (o : Option Term) (p : Option Terms) (ts : Terms) → more_terms o p ≡ Some ts → (u : Term) × (us : Terms) × (o ≡ Some u) × (p ≡ Some us) × (occurrences u ++ all_occurrences us ≡ all_occurrences ts)
+more_has : (o : Option Term) (p : Option Terms) (ts : Terms) → map2 More o p ≡ Some ts → (u : Term) × (us : Terms) × (o ≡ Some u) × (p ≡ Some us) × (occurrences u ++ all_occurrences us ≡ all_occurrences ts)
 more_has None p ts h = cc
 more_has (Some u) None ts h = cc
 more_has (Some u) (Some us) ts h = (u, us, refl, refl, ap all_occurrences (some_one h))
@@ -49,7 +49,7 @@ mutual
   object_occurrences-term (Pair (Natural n) r) t h = cc
   object_occurrences-term (Pair (Symbol f) r) t h = go (same_name f (named "QUOTE")) (same_name f (named "IF")) (objects_occurrences-terms r) h
     where
-      go : (s q : Bool) → ((ts : Terms) → terms_of r ≡ Some ts → objects_occurrences r ≡ all_occurrences ts) → cond s (constant_of r) (cond q (if_of (terms_of r)) (plain_call f (terms_of r))) ≡ Some t → cond s [] (objects_occurrences r) ≡ occurrences t
+      go : (s q : Bool) → ((ts : Terms) → terms_of r ≡ Some ts → objects_occurrences r ≡ all_occurrences ts) → cond s (constant_of r) (cond q (if_of (terms_of r)) (option_map (Call f) (terms_of r))) ≡ Some t → cond s [] (objects_occurrences r) ≡ occurrences t
       go true q rest k = sym (constant_has_none r t k)
       go false true rest k = let p = if_has (terms_of r) t k in rest p.0 p.1 ∙ p.2
       go false false rest k = let p = call_has f (terms_of r) t k in rest p.0 p.1 ∙ p.2

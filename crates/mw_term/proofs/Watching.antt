@@ -6,7 +6,6 @@ use Rattle.std.proofs.lemmas.List.{length-take-le}
 use Rattle.mw_model.specs.Terms.Object.{Name, Object, Natural, Symbol, Pair, named, symbol, same_name, same_object, NIL}
 use Rattle.mw_model.specs.Terms.Term.{Term, Terms, Variable, Constant, If, Call, Lambda, NoTerms, More, Formula, Equal, Not, Or, ArityTable, arity_of, is_function_name, has_arity, count, are_formals, is_closed, is_term, are_terms, is_formula}
 use Rattle.mw_model.specs.Terms.Reading.{names_of, term_of, terms_of, formula_of, when, that}
-use Rattle.mw_model.specs.Values.Definition.{is_present}
 use Rattle.mw_model.proofs.Names.{same_name-eq}
 use Rattle.mw_heap.specs.Objects.{object_at, Grows}
 use Rattle.mw_heap.proofs.Objects.{object_at-Grows}
@@ -84,7 +83,7 @@ module _ (A B : ArityTable) (more : Extends A B) where
   more-formula (Not f) h = more-formula f h
   more-formula (Or f g) h = let p = both-true _ _ h in and-true _ _ (more-formula f p.0) (more-formula g p.1)
 
-  more-that : {X : Type 0} (test other : X → Bool) → ((x : X) → test x ≡ true → other x ≡ true) → (o : Option X) → is_present (that test o) ≡ true → is_present (that other o) ≡ true
+  more-that : {X : Type 0} (test other : X → Bool) → ((x : X) → test x ≡ true → other x ≡ true) → (o : Option X) → is_some (that test o) ≡ true → is_some (that other o) ≡ true
   more-that test other all None h = h
   more-that test other all (Some x) h = is_present-when (other x) x ∙ all x (sym (is_present-when (test x) x) ∙ h)
 

@@ -16,7 +16,8 @@ pub(crate) struct Bodies {
     held: usize,
 }
 
-// The variables that are held at most, but for those of one body alone: labels could make them as many as there are looks.
+// The variables that are held at most, but for those of one body alone: labels could make them as many as there are looks. They take some 30
+// megabytes.
 const MOST_HELD: usize = 1 << 20;
 
 // The variables that take as much memory as a body that has none.

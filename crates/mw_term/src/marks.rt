@@ -118,7 +118,7 @@ fn mark_up_to(
 pub struct Marks {
     pub(crate) cells: Vec<CellMark>,
     // whether memory was refused as they were made right: then no object gets a mark
-    is_without_memory: bool,
+    pub(crate) is_without_memory: bool,
     alloc: Global,
 }
 

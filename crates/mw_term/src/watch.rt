@@ -62,13 +62,16 @@ impl Watch {
 
     /// Makes the marks right under a table that has new names, once all that is noted with these was woken, and marks and notes the other
     /// objects of the heap. It takes time in proportion to the objects that wait and those that have come, and to the walks of `mark_terms`.
-    /// The error is memory that is refused, also where these walks take more looks than the objects that are watched allow. Then neither the marks nor the notes are right any more: `give_up`
-    /// forgets them.
+    /// The error is running out of memory, also where these walks take more looks than the objects that are watched allow, and at once
+    /// after `give_up`. Then neither the marks nor the notes are right any more: `give_up` forgets them.
     pub fn settle(&mut self, marks: &mut Marks, heap: &Heap, arity: &Arity) -> Result<(), Memory>
         requires marked { (A : ArityTable) × (AreMarks A heap.now.objects marks.old × IsAwake A arity.now heap.now.objects self.old) }
         ensures marked { OnOk result (AreMarks arity.now heap.now.objects marks.new) }
         ensures watch { OnOk result (IsWatch arity.now heap.now.objects self.new) }
     {
+        if marks.is_without_memory {
+            return Err(Memory);
+        }
         let had = self.lasting.len();
         if marks.len() < had {
             return Err(Memory);

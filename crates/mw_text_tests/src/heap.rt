@@ -69,7 +69,7 @@ fn orders_names(heap: &mut Heap) -> Result<bool, Memory> {
             heap.symbol_less(car, cdr),
             !heap.symbol_less(car, car),
             heap.nth(0) == car,
-            heap.text_length(car) == 3,
+            heap.lengths(car) == (3, 6),
             heap.mark_after(cdr) == heap.mark(),
             Mark::before(cdr) == heap.mark_after(car),
         ] == [true; 7],

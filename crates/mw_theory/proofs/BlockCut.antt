@@ -1,8 +1,9 @@
 -- The parts of a block are parts of its axioms: they stand before these, and stay after a cut behind them.
-use Rattle.std.proofs.Common.{◌≡◌, ℕ, ◌<◌, ◌≤◌, List, [], ◌∷◌, length, take, refl, sym, ap, ◌∙◌, subst, arith}
+use Rattle.std.proofs.Common.{◌≡◌, ℕ, ◌<◌, ◌≤◌, List, [], ◌∷◌, length, take, refl, sym, ap, ◌∙◌, subst, arith, map}
 use Rattle.mw_model.specs.Terms.Object.{Name, Object, Symbol, Pair}
 use Rattle.mw_model.specs.Terms.Term.{names_object, terms_object}
-use Rattle.mw_model.specs.Values.Definition.{Function as Defined, Block, Functions, Choice, variable_terms, function_axioms, block_axioms}
+use Rattle.mw_model.specs.Values.Definition.{Function as Defined, Block, Functions, Choice, variable_terms, block_axioms}
+use Rattle.mw_model.specs.Values.Definition.{function_axiom}
 use Rattle.mw_model.specs.Laws.RulesInduction.{formulas_object}
 use Rattle.mw_heap.specs.Objects.{object_at, IsIn, AreDistinct, ArePartsOlder, StandsBefore}
 use Rattle.mw_heap.proofs.Objects.{IsIn-take, object_at-take}
@@ -32,7 +33,7 @@ module _ (os : List Object) (distinct : AreDistinct os) (older : ArePartsOlder o
   is-cut : (x : ℕ) (o : Object) → IsIn os x → object_at os x ≡ o → StandsBefore os m o → object_at (take m os) x ≡ o
   is-cut x o i e s = object_at-take m os x (before-cut x o i e s) ∙ e
 
-  functions-cut : (ds : List Definition) (B : List Defined) → AreFunctions os ds B → StandsBefore os m (formulas_object (function_axioms B)) → AreFunctions (take m os) ds B
+  functions-cut : (ds : List Definition) (B : List Defined) → AreFunctions os ds B → StandsBefore os m (formulas_object (map function_axiom B)) → AreFunctions (take m os) ds B
   functions-cut [] [] h s = tt
   functions-cut (Function name formals body ∷ ds) (k ∷ B) h s =
       let f = h.0 in

@@ -1,5 +1,5 @@
 -- The names of a block, each with the number of its formals.
-use Rattle.std.proofs.Common.{◌≡◌, ℕ, zero, suc, ◌<◌, Bool, true, false, ◌&&◌, not, cond, List, [], ◌∷◌, ◌++◌, length, map, take, get_or, Option, Some, None, option_map, refl, sym, ap, ap₂, ◌∙◌, arith, append_assoc}
+use Rattle.std.proofs.Common.{◌≡◌, ℕ, zero, suc, ◌<◌, Bool, true, false, ◌&&◌, not, cond, List, [], ◌∷◌, ◌++◌, length, map, take, get_or, Option, Some, None, option_map, refl, sym, ap, ap₂, ◌∙◌, arith, append_assoc, is_none}
 use Rattle.std.specs.List.{All}
 use Rattle.std.proofs.lemmas.Bool.{and_parts, and_from}
 use Rattle.std.proofs.lemmas.List.Elements.{All-cons, All-nil}
@@ -7,7 +7,7 @@ use Rattle.mw_model.specs.Terms.Object.{Name, Object, Symbol, same_name}
 use Rattle.mw_model.specs.Terms.Term.{ArityTable, names_object, arity_of, is_function_name, is_among, is_variable, are_variables, are_distinct, are_formals, is_term, is_closed}
 use Rattle.mw_model.specs.Terms.Reading.{names_of}
 use Rattle.mw_model.specs.Values.Primitive.{is_symbol, name_of}
-use Rattle.mw_model.specs.Values.Definition.{Function as Defined, Block, Functions, Choice, function_named, add_functions, is_absent, is_new, is_some_function, are_new, are_functions, is_block}
+use Rattle.mw_model.specs.Values.Definition.{Function as Defined, Block, Functions, Choice, function_named, add_functions, is_new, is_some_function, are_new, are_functions, is_block}
 use Rattle.mw_model.proofs.Names.{same_name-eq, same_name-refl}
 use Rattle.mw_model.proofs.Readable.{names_read}
 use Rattle.mw_heap.specs.Objects.{object_at, IsIn, Grows}
@@ -119,24 +119,24 @@ module _ (os : List Object) where
   pairs_added [] (k ∷ B) A h = absurd h
   pairs_added (p ∷ ps) [] A h = absurd h
 
-none-of : {X : Type 0} (o : Option X) → is_absent o ≡ true → o ≡ None
+none-of : {X : Type 0} (o : Option X) → is_none o ≡ true → o ≡ None
 none-of None h = refl
 none-of (Some x) h = cc
 
 -- a new name stays new where a function of another name is added
-still-new : (A : ArityTable) (f : Name) (n : ℕ) (B : List Defined) → is_absent (function_named B f) ≡ true → are_new A B ≡ true → are_new ((f, n) ∷ A) B ≡ true
+still-new : (A : ArityTable) (f : Name) (n : ℕ) (B : List Defined) → is_none (function_named B f) ≡ true → are_new A B ≡ true → are_new ((f, n) ∷ A) B ≡ true
 still-new A f n [] absent w = refl
 still-new A f n (k ∷ B) absent w = go (same_name k.name f) refl absent (still-new A f n B)
   where
-    go : (b : Bool) → same_name k.name f ≡ b → is_absent (cond b (Some k) (function_named B f)) ≡ true → (is_absent (function_named B f) ≡ true → are_new A B ≡ true → are_new ((f, n) ∷ A) B ≡ true) → are_new ((f, n) ∷ A) (k ∷ B) ≡ true
+    go : (b : Bool) → same_name k.name f ≡ b → is_none (cond b (Some k) (function_named B f)) ≡ true → (is_none (function_named B f) ≡ true → are_new A B ≡ true → are_new ((f, n) ∷ A) B ≡ true) → are_new ((f, n) ∷ A) (k ∷ B) ≡ true
     go true e a others = cc
     go false e a others =
-        let p = and_parts (is_new A k.name) (is_absent (function_named B k.name) && are_new A B) w in
-        let q = and_parts (is_function_name k.name) (is_absent (arity_of A k.name)) p.0 in
-        let r = and_parts (is_absent (function_named B k.name)) (are_new A B) p.1 in
-        and_from (is_new ((f, n) ∷ A) k.name) (is_absent (function_named B k.name) && are_new ((f, n) ∷ A) B)
-        (and_from (is_function_name k.name) (is_absent (arity_of ((f, n) ∷ A) k.name)) q.0 (ap (λ b. is_absent (cond b (Some n) (arity_of A k.name))) (other (same_name f k.name) refl) ∙ q.1))
-        (and_from (is_absent (function_named B k.name)) (are_new ((f, n) ∷ A) B) r.0 (others a r.1))
+        let p = and_parts (is_new A k.name) (is_none (function_named B k.name) && are_new A B) w in
+        let q = and_parts (is_function_name k.name) (is_none (arity_of A k.name)) p.0 in
+        let r = and_parts (is_none (function_named B k.name)) (are_new A B) p.1 in
+        and_from (is_new ((f, n) ∷ A) k.name) (is_none (function_named B k.name) && are_new ((f, n) ∷ A) B)
+        (and_from (is_function_name k.name) (is_none (arity_of ((f, n) ∷ A) k.name)) q.0 (ap (λ b. is_none (cond b (Some n) (arity_of A k.name))) (other (same_name f k.name) refl) ∙ q.1))
+        (and_from (is_none (function_named B k.name)) (are_new ((f, n) ∷ A) B) r.0 (others a r.1))
       where
         other : (b : Bool) → same_name f k.name ≡ b → b ≡ false
         other true t = let z : same_name k.name f ≡ true = ap (λ g. same_name g f) (sym (same_name-eq f k.name t)) ∙ same_name-refl f in cc
@@ -146,9 +146,9 @@ module _ (os : List Object) where
   pub pairs_new : (ps : List (ℕ × ℕ)) (B : List Defined) (A : ArityTable) → ArePairs os ps B → are_new A B ≡ true → AreNew os A ps
   pairs_new [] [] A h w = tt
   pairs_new (p ∷ ps) (k ∷ B) A h w =
-      let a = and_parts (is_new A k.name) (is_absent (function_named B k.name) && are_new A B) w in
-      let b = and_parts (is_function_name k.name) (is_absent (arity_of A k.name)) a.0 in
-      let r = and_parts (is_absent (function_named B k.name)) (are_new A B) a.1 in
+      let a = and_parts (is_new A k.name) (is_none (function_named B k.name) && are_new A B) w in
+      let b = and_parts (is_function_name k.name) (is_none (arity_of A k.name)) a.0 in
+      let r = and_parts (is_none (function_named B k.name)) (are_new A B) a.1 in
       let name : name_of (object_at os p.0) ≡ k.name = ap name_of h.0.name_is in (
         ap (arity_of A) name ∙ none-of (arity_of A k.name) b.1,
         pairs_new ps B ((name_of (object_at os p.0), p.1) ∷ A) h.1 (ap (λ f. are_new ((f, p.1) ∷ A) B) name ∙ still-new A k.name p.1 B r.0 r.1),

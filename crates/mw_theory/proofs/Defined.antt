@@ -9,7 +9,7 @@ use Rattle.mw_model.specs.Events.Theory.{Theory, IsSound}
 use Rattle.mw_model.specs.Events.Refusal.{Refusal, EVENT, COUNT, Fate, Accepted, Refused, refuse, accept, need, must, unless}
 use Rattle.mw_model.specs.Events.Admission.{Draft, functions, measures, add_to_theory, skolem}
 use Rattle.mw_model.specs.Events.Demand.{define_demand, settled}
-use Rattle.mw_heap.specs.declared.refusal.Refusal.{Refusal as Reason}
+use Rattle.mw_heap.specs.declared.vocabulary.refusal.Refusal.{Refusal as Reason}
 use Rattle.mw_heap.specs.Variants.{refusal_of}
 use Rattle.mw_heap.specs.Objects.{object_at, IsIn, Grows}
 use Rattle.mw_heap.proofs.Objects.{Grows-refl}

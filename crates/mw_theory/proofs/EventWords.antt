@@ -1,10 +1,10 @@
 -- Which objects are events of which word, and what happens by an event.
 use Rattle.std.proofs.Common.{◌≡◌, ℕ, ◌<◌, Bool, false, not, cond, List, Option, Some, None, refl, sym, ap, ◌∙◌, arith}
 use Rattle.mw_model.specs.Terms.Object.{Object, Natural, Symbol, Pair, named, symbol, same_name, same_object, has_members}
-use Rattle.mw_model.specs.Terms.Reading.{when}
+use Rattle.mw_model.specs.Terms.Reading.{when, that}
 use Rattle.mw_model.specs.Events.Theory.{Theory}
 use Rattle.mw_model.specs.Events.Refusal.{EVENT, RANGE, refuse, need}
-use Rattle.mw_model.specs.Events.Fate.{EventWord, Verify, Define, Skolem, Switch, Eval, Print, DefineAll, SetProfile, event_word, with_members, is_out_of_range, happens, happens_by}
+use Rattle.mw_model.specs.Events.Fate.{EventWord, Verify, Define, Skolem, Switch, Eval, Print, DefineAll, SetProfile, event_word, is_out_of_range, happens, happens_by, member_count}
 use Rattle.mw_model.proofs.SameObject.{same_object-swap}
 use Rattle.mw_heap.specs.Objects.{object_at}
 use Rattle.mw_theory.specs.EventWords.{word_at, word_symbol, members_after}
@@ -60,7 +60,7 @@ no_word_at (Symbol s) hv hd hk hw he hp ha hf =
 pub no_event_word : (first rest : Object) → word_at first ≡ None → event_word (Pair first rest) ≡ None
 no_event_word (Natural n) rest h = refl
 no_event_word (Pair a b) rest h = refl
-no_event_word (Symbol s) rest h = ap (with_members (Pair (Symbol s) rest)) h
+no_event_word (Symbol s) rest h = ap (that (λ w. has_members (member_count w) (Pair (Symbol s) rest))) h
 
 -- another number of members
 pub other_members : (w : Word) (first rest : Object) → first ≡ word_symbol w → has_members (members_after w) rest ≡ false → event_word (Pair first rest) ≡ None

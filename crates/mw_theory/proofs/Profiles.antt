@@ -9,7 +9,7 @@ use Rattle.mw_model.specs.Events.Fate.{profile, begin_profile}
 use Rattle.mw_model.specs.Events.Fate.{profile_of as profile_asked}
 use Rattle.mw_heap.specs.Objects.{object_at}
 use Rattle.mw_heap.specs.Variants.{profile_of}
-use Rattle.mw_heap.specs.declared.profile.Profile.{Profile as Level}
+use Rattle.mw_heap.specs.declared.vocabulary.profile.Profile.{Profile as Level}
 use Rattle.mw_theory.specs.declared.world.World.{World}
 use Rattle.mw_theory.specs.Knowledge.{is_first}
 use Rattle.mw_theory.specs.Worlds.{theory_in, IsWorld}

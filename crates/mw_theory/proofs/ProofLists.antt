@@ -6,8 +6,8 @@ use Rattle.mw_model.specs.Values.Primitive.{is_pair}
 use Rattle.mw_model.specs.Laws.RulesInduction.{formulas_object, length_object}
 use Rattle.mw_model.specs.Events.Theory.{Theory}
 use Rattle.mw_model.specs.Events.Refusal.{Refusal, COUNT}
-use Rattle.mw_model.specs.Events.Checking.{or_else}
-use Rattle.mw_heap.specs.declared.refusal.Refusal.{Refusal as Reason}
+use Rattle.std.specs.Option.{option_or}
+use Rattle.mw_heap.specs.declared.vocabulary.refusal.Refusal.{Refusal as Reason}
 use Rattle.mw_heap.specs.Variants.{refusal_of}
 use Rattle.mw_heap.specs.Objects.{object_at, IsIn, Grows}
 use Rattle.mw_heap.proofs.Objects.{object_at-Grows, Grows-trans}
@@ -19,13 +19,13 @@ use Rattle.mw_theory.proofs.Held.{meant-grows}
 
 -- proof by proof, for a list of objects of formulas
 abbrev pub judged_each_for : Judge → Theory → Object → Object → Option Refusal
-judged_each_for J t (Pair f fs) ps = or_else (J t f (car ps)) (judged_each_for J t fs (cdr ps))
+judged_each_for J t (Pair f fs) ps = option_or (J t f (car ps)) (judged_each_for J t fs (cdr ps))
 judged_each_for J t (Natural n) ps = None
 judged_each_for J t (Symbol s) ps = None
 
 pub judged_each-for : (J : Judge) (t : Theory) (Fs : List Formula) (ps : Object) → judged_each_for J t (formulas_object Fs) ps ≡ judged_each J t Fs ps
 judged_each-for J t [] ps = refl
-judged_each-for J t (F ∷ Fs) ps = ap (or_else (J t (formula_object F) (car ps))) (judged_each-for J t Fs (cdr ps))
+judged_each-for J t (F ∷ Fs) ps = ap (option_or (J t (formula_object F) (car ps))) (judged_each-for J t Fs (cdr ps))
 
 pub judged_none_for : (J : Judge) (t : Theory) (fs ps : Object) → is_pair fs ≡ false → judged_each_for J t fs ps ≡ None
 judged_none_for J t (Natural n) ps h = refl
@@ -63,12 +63,12 @@ no_more (Symbol s) y h = refl
 no_more (Pair a b) y h = cc
 
 -- the first refusal, or the next ones
-pub refused_first : (r : Option Reason) (first others : Option Refusal) → is_some r ≡ true → option_map refusal_of r ≡ first → option_map refusal_of r ≡ or_else first others
+pub refused_first : (r : Option Reason) (first others : Option Refusal) → is_some r ≡ true → option_map refusal_of r ≡ first → option_map refusal_of r ≡ option_or first others
 refused_first None first others h e = cc
-refused_first (Some q) first others h e = ap (λ o. or_else o others) e
+refused_first (Some q) first others h e = ap (λ o. option_or o others) e
 
-pub none_first : (r : Option Reason) (first others : Option Refusal) → is_some r ≡ false → option_map refusal_of r ≡ first → or_else first others ≡ others
-none_first None first others h e = ap (λ o. or_else o others) (sym e)
+pub none_first : (r : Option Reason) (first others : Option Refusal) → is_some r ≡ false → option_map refusal_of r ≡ first → option_or first others ≡ others
+none_first None first others h e = ap (λ o. option_or o others) (sym e)
 none_first (Some q) first others h e = cc
 
 -- a pair that the grown heap shows
@@ -104,11 +104,11 @@ module _ (os : List Object) (t : Kept) (J : Judge) (obligations proofs : ℕ) wh
         ap (λ u. J u (object_at now formula) (object_at now proof)) (meant-grows os now w.grows t h)
         ∙ ap₂ (J theory) (object_at-Grows os now w.grows formula (omega (arith, formula_older, w.formulas_in))) (object_at-Grows os now w.grows proof (omega (arith, proof_older, w.rest_in)))
 
-    judged_on : judged_each_for J theory (object_at os obligations) (object_at os proofs) ≡ or_else judged_now (judged_each_for J theory (object_at os more) (object_at os others))
+    judged_on : judged_each_for J theory (object_at os obligations) (object_at os proofs) ≡ option_or judged_now (judged_each_for J theory (object_at os more) (object_at os others))
     judged_on =
         w.judged
         ∙ (ap₂ (judged_each_for J theory) formulas_are rest_is
-        ∙ ap (λ o. or_else o (judged_each_for J theory (object_at os more) (object_at os others))) (sym judged_before))
+        ∙ ap (λ o. option_or o (judged_each_for J theory (object_at os more) (object_at os others))) (sym judged_before))
 
     -- one more that is not refused
     pub Walks-next : (r : Option Reason) → is_some r ≡ false → option_map refusal_of r ≡ judged_now → (new : List Object) (ms : List ObjectMark) → Grows now new → AreMarks t.arity new ms → Walks new ms more others

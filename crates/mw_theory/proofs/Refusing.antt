@@ -3,7 +3,7 @@ use Rattle.std.proofs.Common.{◌≡◌, Bool, true, false, Option, Some, None, 
 use Rattle.mw_model.specs.Terms.Object.{Object}
 use Rattle.mw_model.specs.Events.Theory.{Theory}
 use Rattle.mw_model.specs.Events.Refusal.{Refusal, NAME, FORMULA}
-use Rattle.mw_heap.specs.declared.refusal.Refusal.{Refusal as Reason}
+use Rattle.mw_heap.specs.declared.vocabulary.refusal.Refusal.{Refusal as Reason}
 use Rattle.mw_heap.specs.Variants.{refusal_of}
 use Rattle.mw_theory.specs.Settling.{refusal_by, by_refusal, fate_by}
 

@@ -1,9 +1,9 @@
 -- A block extends the arity table, and a symbol that gets an arity is one of its names: what is noted with these alone waits.
-use Rattle.std.proofs.Common.{◌≡◌, ℕ, ◌+◌, ◌<◌, ◌⊎◌, Bool, true, false, ◌&&◌, cond, List, [], ◌∷◌, ◌++◌, length, get_or, take, Option, Some, None, inl, inr, refl, sym, ap, ◌∙◌, subst, true≢false}
+use Rattle.std.proofs.Common.{◌≡◌, ℕ, ◌+◌, ◌<◌, ◌⊎◌, Bool, true, false, ◌&&◌, cond, List, [], ◌∷◌, ◌++◌, length, get_or, take, Option, Some, None, inl, inr, refl, sym, ap, ◌∙◌, subst, true≢false, is_none}
 use Rattle.std.proofs.lemmas.List.{take_more}
 use Rattle.mw_model.specs.Terms.Object.{Name, Object, Symbol, same_name}
 use Rattle.mw_model.specs.Terms.Term.{ArityTable, arity_of, is_function_name}
-use Rattle.mw_model.specs.Values.Definition.{Function as Defined, Block, Functions, Choice, add_functions, add_block, is_absent, is_new, are_new, is_block, are_functions, is_some_function, function_named}
+use Rattle.mw_model.specs.Values.Definition.{Function as Defined, Block, Functions, Choice, add_functions, add_block, is_new, are_new, is_block, are_functions, is_some_function, function_named}
 use Rattle.mw_model.proofs.Names.{same_name-eq}
 use Rattle.mw_heap.specs.Objects.{object_at, IsIn, AreDistinct}
 use Rattle.mw_term.specs.Marking.{ObjectMark}
@@ -21,17 +21,17 @@ both : (a b : Bool) → (a && b) ≡ true → (a ≡ true) × (b ≡ true)
 both true b h = (refl, h)
 both false b h = absurd (true≢false (sym h))
 
-absent-none : (o : Option ℕ) → is_absent o ≡ true → o ≡ None
+absent-none : (o : Option ℕ) → is_none o ≡ true → o ≡ None
 absent-none None h = refl
 absent-none (Some n) h = absurd (true≢false (sym h))
 
 -- a name that is new is another than one that has an arity, and than a word
 module _ (A : ArityTable) (g : Name) (new : is_new A g ≡ true) where
   name : is_function_name g ≡ true
-  name = (both (is_function_name g) (is_absent (arity_of A g)) new).0
+  name = (both (is_function_name g) (is_none (arity_of A g)) new).0
 
   absent : arity_of A g ≡ None
-  absent = absent-none (arity_of A g) (both (is_function_name g) (is_absent (arity_of A g)) new).1
+  absent = absent-none (arity_of A g) (both (is_function_name g) (is_none (arity_of A g)) new).1
 
   other-known : (f : Name) (n : ℕ) → arity_of A f ≡ Some n → same_name g f ≡ false
   other-known f n e = go (same_name g f) refl
@@ -58,15 +58,15 @@ module _ (A : ArityTable) where
   functions-kept : (B : List Defined) (T : ArityTable) → are_new A B ≡ true → (f : Name) (n : ℕ) → arity_of A f ≡ Some n → arity_of (add_functions B T) f ≡ arity_of T f
   functions-kept [] T new f n e = refl
   functions-kept (h ∷ B) T new f n e =
-      let p = both (is_new A h.name) (is_absent (function_named B h.name) && are_new A B) new in
-      let q = both (is_absent (function_named B h.name)) (are_new A B) p.1 in
+      let p = both (is_new A h.name) (is_none (function_named B h.name) && are_new A B) new in
+      let q = both (is_none (function_named B h.name)) (are_new A B) p.1 in
       functions-kept B ((h.name, length h.formals) ∷ T) q.1 f n e ∙ front-other T h.name (length h.formals) f (other-known A h.name p.0 f n e)
 
   functions-words : (B : List Defined) (T : ArityTable) → are_new A B ≡ true → (f : Name) → is_function_name f ≡ false → arity_of (add_functions B T) f ≡ arity_of T f
   functions-words [] T new f w = refl
   functions-words (h ∷ B) T new f w =
-      let p = both (is_new A h.name) (is_absent (function_named B h.name) && are_new A B) new in
-      let q = both (is_absent (function_named B h.name)) (are_new A B) p.1 in
+      let p = both (is_new A h.name) (is_none (function_named B h.name) && are_new A B) new in
+      let q = both (is_none (function_named B h.name)) (are_new A B) p.1 in
       functions-words B ((h.name, length h.formals) ∷ T) q.1 f w ∙ front-other T h.name (length h.formals) f (other-word A h.name p.0 f w)
 
   block-extends : (B : Block) → is_block A B ≡ true → Extends A (add_block B A)

@@ -1,10 +1,11 @@
 -- Calls of functions, places in lists, and calls of lambdas, by their parts.
-use Rattle.std.proofs.Common.{◌≡◌, ℕ, zero, suc, Bool, true, false, ◌&&◌, ◌||◌, not, eqb, cond, List, length, Option, Some, None, refl, sym, ap, ap₂, ◌∙◌, subst, eqb-true, arith}
+use Rattle.std.proofs.Common.{◌≡◌, ℕ, zero, suc, Bool, true, false, ◌&&◌, ◌||◌, not, eqb, cond, List, length, Option, Some, None, refl, sym, ap, ap₂, ◌∙◌, subst, eqb-true, arith, option_and_then}
 use Rattle.mw_model.specs.Terms.Object.{Name, Object, Natural, Symbol, Pair, named, symbol, same_name, same_object, nil_name, NIL, list1, list2, list3}
 use Rattle.mw_model.specs.Terms.Term.{Term, Terms, NoTerms, More, If, Call, ArityTable, count, names_object, term_object, terms_object, is_term, are_terms, are_formals, is_closed}
-use Rattle.mw_model.specs.Terms.Reading.{names_of, more_terms, lambda_of, when}
+use Rattle.mw_model.specs.Terms.Reading.{names_of, lambda_of, when, map2}
 use Rattle.mw_model.specs.Values.Primitive.{is_pair}
-use Rattle.mw_model.specs.Events.Expansion.{Other, expanded, expanded_each, form_with}
+use Rattle.mw_model.specs.Events.Expansion.{Other, expanded, expanded_each}
+use Rattle.mw_model.specs.Events.Expansion.{form}
 use Rattle.mw_model.proofs.Names.{same_name-eq, same_object-eq}
 use Rattle.mw_model.proofs.ReadBack.{names_back}
 use Rattle.mw_translate.specs.Meaning.{Meaning, of_term, of_terms, of_head, head_meaning, meaning}
@@ -76,7 +77,7 @@ module _ (A : ArityTable) where
       by_name true e = ap (λ t. of_term A (Some (cond t (If a b c) (Call f (More a (More b (More c NoTerms))))))) e ∙ is_if (same_name-eq f (named "IF") e)
       by_name false e = ap (λ t. of_term A (Some (cond t (If a b c) (Call f (More a (More b (More c NoTerms))))))) e ∙ apart (More a (More b (More c NoTerms))) e
 
-    of_call : (p : Option Terms) → of_term A (form_with Other f p) ≡ combine1 (call_one f) (of_terms A p)
+    of_call : (p : Option Terms) → of_term A (option_and_then (form Other f) p) ≡ combine1 (call_one f) (of_terms A p)
     of_call None = refl
     of_call (Some NoTerms) = plain NoTerms (λ e. absurd (omega (arith, e)))
     of_call (Some (More a NoTerms)) = plain (More a NoTerms) (λ e. absurd (omega (arith, e)))
@@ -84,7 +85,7 @@ module _ (A : ArityTable) where
     of_call (Some (More a (More b (More c NoTerms)))) = by_name a b c (same_name f (named "IF")) refl
     of_call (Some (More a (More b (More c (More d ts))))) = plain (More a (More b (More c (More d ts)))) (λ e. absurd (omega (arith, e)))
 
-    pub call-terms : (r : Object) → of_term A (form_with Other f (expanded_each r)) ≡ combine1 (call_one f) (meaning A kind.Terms r)
+    pub call-terms : (r : Object) → of_term A (option_and_then (form Other f) (expanded_each r)) ≡ combine1 (call_one f) (meaning A kind.Terms r)
     call-terms r = of_call (expanded_each r)
 
   -- a place in a list
@@ -114,7 +115,7 @@ module _ (A : ArityTable) where
       go false true false = refl
       go false false t = refl
 
-  of_place : (n : ℕ) (o : Option Term) → of_term A (with_terms (place_of n) (more_terms o (Some NoTerms))) ≡ combine1 (place_one n) (of_term A o)
+  of_place : (n : ℕ) (o : Option Term) → of_term A (with_terms (place_of n) (map2 More o (Some NoTerms))) ≡ combine1 (place_one n) (of_term A o)
   of_place n None = refl
   of_place n (Some t) =
       ap₂ (λ b x. cond (takes A (named "CAR") 1 && (b && true)) (Some (list2 (symbol "CAR") x, 0)) None) (cdrs-term n t) (cdrs-object n t)
@@ -141,17 +142,17 @@ module _ (A : ArityTable) where
       go false = refl
   place-shape n (Pair a (Natural m)) h = go (expanded a)
     where
-      go : (o : Option Term) → of_term A (with_terms (place_of n) (more_terms o None)) ≡ None
+      go : (o : Option Term) → of_term A (with_terms (place_of n) (map2 More o None)) ≡ None
       go None = refl
       go (Some t) = refl
-  place-shape n (Pair a (Symbol s)) h = ap (λ b. of_term A (with_terms (place_of n) (more_terms (expanded a) (cond b (Some NoTerms) None)))) h ∙ go (expanded a)
+  place-shape n (Pair a (Symbol s)) h = ap (λ b. of_term A (with_terms (place_of n) (map2 More (expanded a) (cond b (Some NoTerms) None)))) h ∙ go (expanded a)
     where
-      go : (o : Option Term) → of_term A (with_terms (place_of n) (more_terms o None)) ≡ None
+      go : (o : Option Term) → of_term A (with_terms (place_of n) (map2 More o None)) ≡ None
       go None = refl
       go (Some t) = refl
   place-shape n (Pair a (Pair b z)) h = go (expanded a) (expanded b) (expanded_each z)
     where
-      go : (o p : Option Term) (q : Option Terms) → of_term A (with_terms (place_of n) (more_terms o (more_terms p q))) ≡ None
+      go : (o p : Option Term) (q : Option Terms) → of_term A (with_terms (place_of n) (map2 More o (map2 More p q))) ≡ None
       go None p q = refl
       go (Some t) None q = refl
       go (Some t) (Some u) None = refl

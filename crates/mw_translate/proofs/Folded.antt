@@ -2,7 +2,8 @@
 use Rattle.std.proofs.Common.{◌≡◌, Bool, true, false, ◌&&◌, cond, Option, Some, None, option_map, refl, sym, ap, ◌∙◌}
 use Rattle.mw_model.specs.Terms.Object.{Object, Natural, Symbol, Pair, named, symbol, same_object, NIL, list2, list3}
 use Rattle.mw_model.specs.Terms.Term.{Term, Terms, NoTerms, More, If, Constant, ArityTable, term_object, is_term}
-use Rattle.mw_model.specs.Terms.Reading.{more_terms, both, when}
+use Rattle.mw_model.specs.Terms.Reading.{when, map2}
+use Rattle.std.specs.Option.{option_zip}
 use Rattle.mw_model.specs.Values.Primitive.{is_pair}
 use Rattle.mw_model.specs.Events.Expansion.{expanded, expanded_each, and_term, or_term, list_term, cond_term, clauses}
 use Rattle.mw_translate.specs.Meaning.{Meaning, of_term, meaning}
@@ -15,7 +16,7 @@ abbrev pub quoted_nil : Object
 quoted_nil = list2 (symbol "QUOTE") NIL
 
 -- where there is a member, there is no empty list
-none_empty : (o : Option Term) (p : Option Terms) → more_terms o p ≡ Some NoTerms → ⊥
+none_empty : (o : Option Term) (p : Option Terms) → map2 More o p ≡ Some NoTerms → ⊥
 none_empty None p h = cc
 none_empty (Some t) None h = cc
 none_empty (Some t) (Some ts) h = absurd (apart h)
@@ -70,7 +71,7 @@ module _ (A : ArityTable) where
   combine3-twice f None p = refl
   combine3-twice f (Some a) p = refl
 
-  and_of : (o : Option Term) (p : Option Terms) → (p ≡ Some NoTerms → ⊥) → of_term A (option_map and_term (more_terms o p)) ≡ combine2 and_both (of_term A o) (of_term A (option_map and_term p))
+  and_of : (o : Option Term) (p : Option Terms) → (p ≡ Some NoTerms → ⊥) → of_term A (option_map and_term (map2 More o p)) ≡ combine2 and_both (of_term A o) (of_term A (option_map and_term p))
   and_of None p h = refl
   and_of (Some t) None h = sym (combine2-none and_both (of_term A (Some t)))
   and_of (Some t) (Some NoTerms) h = absurd (h refl)
@@ -81,13 +82,13 @@ module _ (A : ArityTable) where
       third (Some a) None = refl
       third (Some a) (Some b) = refl
 
-  or_of : (o : Option Term) (p : Option Terms) → (p ≡ Some NoTerms → ⊥) → of_term A (option_map or_term (more_terms o p)) ≡ combine2 or_both (of_term A o) (of_term A (option_map or_term p))
+  or_of : (o : Option Term) (p : Option Terms) → (p ≡ Some NoTerms → ⊥) → of_term A (option_map or_term (map2 More o p)) ≡ combine2 or_both (of_term A o) (of_term A (option_map or_term p))
   or_of None p h = refl
   or_of (Some t) None h = sym (combine2-none or_both (of_term A (Some t)))
   or_of (Some t) (Some NoTerms) h = absurd (h refl)
   or_of (Some t) (Some (More u us)) h = if-parts t t (or_term (More u us)) ∙ combine3-twice if_three (of_term A (Some t)) (of_term A (Some (or_term (More u us))))
 
-  list_of : (o : Option Term) (p : Option Terms) → of_term A (option_map list_term (more_terms o p)) ≡ combine2 list_both (of_term A o) (of_term A (option_map list_term p))
+  list_of : (o : Option Term) (p : Option Terms) → of_term A (option_map list_term (map2 More o p)) ≡ combine2 list_both (of_term A o) (of_term A (option_map list_term p))
   list_of None p = refl
   list_of (Some t) None = sym (combine2-none list_both (of_term A (Some t)))
   list_of (Some t) (Some ts) = go (takes A (named "CONS") 2) (is_term A t) (is_term A (list_term ts))
@@ -100,7 +101,7 @@ module _ (A : ArityTable) where
       go false true false = refl
       go false false q = refl
 
-  cond_of : (o p q : Option Term) → of_term A (cond_term (both o p) q) ≡ combine3 if_three (of_term A o) (of_term A p) (of_term A q)
+  cond_of : (o p q : Option Term) → of_term A (cond_term (option_zip o p) q) ≡ combine3 if_three (of_term A o) (of_term A p) (of_term A q)
   cond_of None p q = refl
   cond_of (Some a) None q = sym (second (of_term A (Some a)) (of_term A q))
     where
@@ -129,16 +130,16 @@ module _ (A : ArityTable) where
 
   -- the last member alone
   pub and-one : (a r : Object) → same_object r NIL ≡ true → meaning A kind.And (Pair a r) ≡ meaning A kind.Term a
-  and-one a r h = ap (λ p. of_term A (option_map and_term (more_terms (expanded a) p))) (nil_each r h) ∙ go (expanded a)
+  and-one a r h = ap (λ p. of_term A (option_map and_term (map2 More (expanded a) p))) (nil_each r h) ∙ go (expanded a)
     where
-      go : (o : Option Term) → of_term A (option_map and_term (more_terms o (Some NoTerms))) ≡ of_term A o
+      go : (o : Option Term) → of_term A (option_map and_term (map2 More o (Some NoTerms))) ≡ of_term A o
       go None = refl
       go (Some t) = refl
 
   pub or-one : (a r : Object) → same_object r NIL ≡ true → meaning A kind.Or (Pair a r) ≡ meaning A kind.Term a
-  or-one a r h = ap (λ p. of_term A (option_map or_term (more_terms (expanded a) p))) (nil_each r h) ∙ go (expanded a)
+  or-one a r h = ap (λ p. of_term A (option_map or_term (map2 More (expanded a) p))) (nil_each r h) ∙ go (expanded a)
     where
-      go : (o : Option Term) → of_term A (option_map or_term (more_terms o (Some NoTerms))) ≡ of_term A o
+      go : (o : Option Term) → of_term A (option_map or_term (map2 More o (Some NoTerms))) ≡ of_term A o
       go None = refl
       go (Some t) = refl
 
@@ -149,7 +150,7 @@ module _ (A : ArityTable) where
   cond-shape (Pair c (Natural n)) r h = refl
   cond-shape (Pair c (Symbol s)) r h = refl
   cond-shape (Pair c (Pair e (Natural n))) r h = refl
-  cond-shape (Pair c (Pair e (Symbol s))) r h = ap (λ t. of_term A (cond_term (when t (both (expanded c) (expanded e))) (clauses r))) h
+  cond-shape (Pair c (Pair e (Symbol s))) r h = ap (λ t. of_term A (cond_term (when t (option_zip (expanded c) (expanded e))) (clauses r))) h
   cond-shape (Pair c (Pair e (Pair a b))) r h = refl
 
   -- what is no pair and not NIL ends no members

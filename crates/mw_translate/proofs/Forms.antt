@@ -1,9 +1,9 @@
 -- A form by its word and what follows it.
-use Rattle.std.proofs.Common.{◌≡◌, ℕ, Bool, true, false, ◌&&◌, ◌||◌, not, cond, List, Option, Some, None, option_map, refl, sym, ap, ap₂, ◌∙◌, subst}
+use Rattle.std.proofs.Common.{◌≡◌, ℕ, Bool, true, false, ◌&&◌, ◌||◌, not, cond, List, Option, Some, None, option_map, refl, sym, ap, ap₂, ◌∙◌, subst, option_and_then}
 use Rattle.mw_model.specs.Terms.Object.{Name, Object, Natural, Symbol, Pair, named, symbol, same_name, same_object, nil_name, NIL, T, list2}
-use Rattle.mw_model.specs.Terms.Term.{Term, Terms, Constant, Variable, NoTerms, ArityTable}
-use Rattle.mw_model.specs.Terms.Reading.{more_terms, constant_of, when}
-use Rattle.mw_model.specs.Events.Expansion.{Abbreviation, AND, OR, COND, LIST, LET, LETSTAR, FIRST, SECOND, THIRD, FOURTH, FIFTH, QUOTE, Other, abbreviation_of, expanded, expanded_each, form, form_with, clause, clauses, cond_term, bindings, let_of, let_star, and_term, or_term, list_term}
+use Rattle.mw_model.specs.Terms.Term.{Term, Terms, Constant, Variable, NoTerms, ArityTable, More}
+use Rattle.mw_model.specs.Terms.Reading.{constant_of, when, map2}
+use Rattle.mw_model.specs.Events.Expansion.{Abbreviation, AND, OR, COND, LIST, LET, LETSTAR, FIRST, SECOND, THIRD, FOURTH, FIFTH, QUOTE, Other, abbreviation_of, expanded, expanded_each, form, clause, clauses, cond_term, bindings, let_star, and_term, or_term, list_term, let_term}
 use Rattle.mw_model.proofs.Names.{same_name-eq}
 use Rattle.mw_translate.specs.Meaning.{Meaning, of_term, meaning}
 use Rattle.mw_translate.specs.Forms.{with_terms, place_of, let_form, let_star_form}
@@ -21,21 +21,21 @@ by_word COND f r = clauses r
 by_word LET f r = let_form r
 by_word LETSTAR f r = let_star_form r
 by_word QUOTE f r = constant_of r
-by_word AND f r = form_with AND f (expanded_each r)
-by_word OR f r = form_with OR f (expanded_each r)
-by_word LIST f r = form_with LIST f (expanded_each r)
-by_word FIRST f r = form_with FIRST f (expanded_each r)
-by_word SECOND f r = form_with SECOND f (expanded_each r)
-by_word THIRD f r = form_with THIRD f (expanded_each r)
-by_word FOURTH f r = form_with FOURTH f (expanded_each r)
-by_word FIFTH f r = form_with FIFTH f (expanded_each r)
-by_word Other f r = form_with Other f (expanded_each r)
+by_word AND f r = option_and_then (form AND f) (expanded_each r)
+by_word OR f r = option_and_then (form OR f) (expanded_each r)
+by_word LIST f r = option_and_then (form LIST f) (expanded_each r)
+by_word FIRST f r = option_and_then (form FIRST f) (expanded_each r)
+by_word SECOND f r = option_and_then (form SECOND f) (expanded_each r)
+by_word THIRD f r = option_and_then (form THIRD f) (expanded_each r)
+by_word FOURTH f r = option_and_then (form FOURTH f) (expanded_each r)
+by_word FIFTH f r = option_and_then (form FIFTH f) (expanded_each r)
+by_word Other f r = option_and_then (form Other f) (expanded_each r)
 
-no_more : (o : Option Term) → more_terms o None ≡ None
+no_more : (o : Option Term) → map2 More o None ≡ None
 no_more None = refl
 no_more (Some t) = refl
 
-more_false : (w : Abbreviation) (f : Name) (o : Option Term) → form_with w f (more_terms o None) ≡ None
+more_false : (w : Abbreviation) (f : Name) (o : Option Term) → option_and_then (form w f) (map2 More o None) ≡ None
 more_false w f None = refl
 more_false w f (Some t) = refl
 
@@ -45,57 +45,57 @@ module _ (f : Name) where
   none_true LET v s e h = ap (λ z. form z f NoTerms) (sym e) ∙ (refl)
   none_true LETSTAR v s e h = ap (λ z. form z f NoTerms) (sym e) ∙ (refl)
   none_true QUOTE v s e h = ap (λ z. form z f NoTerms) (sym e) ∙ (refl)
-  none_true AND v s e h = ap (λ z. form z f NoTerms) (sym e) ∙ (ap (λ b. form_with AND f (cond b (Some NoTerms) None)) (sym h))
-  none_true OR v s e h = ap (λ z. form z f NoTerms) (sym e) ∙ (ap (λ b. form_with OR f (cond b (Some NoTerms) None)) (sym h))
-  none_true LIST v s e h = ap (λ z. form z f NoTerms) (sym e) ∙ (ap (λ b. form_with LIST f (cond b (Some NoTerms) None)) (sym h))
-  none_true FIRST v s e h = ap (λ z. form z f NoTerms) (sym e) ∙ (ap (λ b. form_with FIRST f (cond b (Some NoTerms) None)) (sym h))
-  none_true SECOND v s e h = ap (λ z. form z f NoTerms) (sym e) ∙ (ap (λ b. form_with SECOND f (cond b (Some NoTerms) None)) (sym h))
-  none_true THIRD v s e h = ap (λ z. form z f NoTerms) (sym e) ∙ (ap (λ b. form_with THIRD f (cond b (Some NoTerms) None)) (sym h))
-  none_true FOURTH v s e h = ap (λ z. form z f NoTerms) (sym e) ∙ (ap (λ b. form_with FOURTH f (cond b (Some NoTerms) None)) (sym h))
-  none_true FIFTH v s e h = ap (λ z. form z f NoTerms) (sym e) ∙ (ap (λ b. form_with FIFTH f (cond b (Some NoTerms) None)) (sym h))
-  none_true Other v s e h = ap (λ z. form z f NoTerms) (sym e) ∙ (ap (λ b. form_with Other f (cond b (Some NoTerms) None)) (sym h))
+  none_true AND v s e h = ap (λ z. form z f NoTerms) (sym e) ∙ (ap (λ b. option_and_then (form AND f) (cond b (Some NoTerms) None)) (sym h))
+  none_true OR v s e h = ap (λ z. form z f NoTerms) (sym e) ∙ (ap (λ b. option_and_then (form OR f) (cond b (Some NoTerms) None)) (sym h))
+  none_true LIST v s e h = ap (λ z. form z f NoTerms) (sym e) ∙ (ap (λ b. option_and_then (form LIST f) (cond b (Some NoTerms) None)) (sym h))
+  none_true FIRST v s e h = ap (λ z. form z f NoTerms) (sym e) ∙ (ap (λ b. option_and_then (form FIRST f) (cond b (Some NoTerms) None)) (sym h))
+  none_true SECOND v s e h = ap (λ z. form z f NoTerms) (sym e) ∙ (ap (λ b. option_and_then (form SECOND f) (cond b (Some NoTerms) None)) (sym h))
+  none_true THIRD v s e h = ap (λ z. form z f NoTerms) (sym e) ∙ (ap (λ b. option_and_then (form THIRD f) (cond b (Some NoTerms) None)) (sym h))
+  none_true FOURTH v s e h = ap (λ z. form z f NoTerms) (sym e) ∙ (ap (λ b. option_and_then (form FOURTH f) (cond b (Some NoTerms) None)) (sym h))
+  none_true FIFTH v s e h = ap (λ z. form z f NoTerms) (sym e) ∙ (ap (λ b. option_and_then (form FIFTH f) (cond b (Some NoTerms) None)) (sym h))
+  none_true Other v s e h = ap (λ z. form z f NoTerms) (sym e) ∙ (ap (λ b. option_and_then (form Other f) (cond b (Some NoTerms) None)) (sym h))
 
   none_false : (w : Abbreviation) (s : Name) → same_name s nil_name ≡ false → None ≡ by_word w f (Symbol s)
   none_false COND s h = ap (λ b. cond {A = Option Term} b (Some (Constant NIL)) None) (sym h)
   none_false LET s h = refl
   none_false LETSTAR s h = refl
   none_false QUOTE s h = refl
-  none_false AND s h = ap (λ b. form_with AND f (cond b (Some NoTerms) None)) (sym h)
-  none_false OR s h = ap (λ b. form_with OR f (cond b (Some NoTerms) None)) (sym h)
-  none_false LIST s h = ap (λ b. form_with LIST f (cond b (Some NoTerms) None)) (sym h)
-  none_false FIRST s h = ap (λ b. form_with FIRST f (cond b (Some NoTerms) None)) (sym h)
-  none_false SECOND s h = ap (λ b. form_with SECOND f (cond b (Some NoTerms) None)) (sym h)
-  none_false THIRD s h = ap (λ b. form_with THIRD f (cond b (Some NoTerms) None)) (sym h)
-  none_false FOURTH s h = ap (λ b. form_with FOURTH f (cond b (Some NoTerms) None)) (sym h)
-  none_false FIFTH s h = ap (λ b. form_with FIFTH f (cond b (Some NoTerms) None)) (sym h)
-  none_false Other s h = ap (λ b. form_with Other f (cond b (Some NoTerms) None)) (sym h)
+  none_false AND s h = ap (λ b. option_and_then (form AND f) (cond b (Some NoTerms) None)) (sym h)
+  none_false OR s h = ap (λ b. option_and_then (form OR f) (cond b (Some NoTerms) None)) (sym h)
+  none_false LIST s h = ap (λ b. option_and_then (form LIST f) (cond b (Some NoTerms) None)) (sym h)
+  none_false FIRST s h = ap (λ b. option_and_then (form FIRST f) (cond b (Some NoTerms) None)) (sym h)
+  none_false SECOND s h = ap (λ b. option_and_then (form SECOND f) (cond b (Some NoTerms) None)) (sym h)
+  none_false THIRD s h = ap (λ b. option_and_then (form THIRD f) (cond b (Some NoTerms) None)) (sym h)
+  none_false FOURTH s h = ap (λ b. option_and_then (form FOURTH f) (cond b (Some NoTerms) None)) (sym h)
+  none_false FIFTH s h = ap (λ b. option_and_then (form FIFTH f) (cond b (Some NoTerms) None)) (sym h)
+  none_false Other s h = ap (λ b. option_and_then (form Other f) (cond b (Some NoTerms) None)) (sym h)
 
   no_members : (w v : Abbreviation) (s : Name) (b : Bool) → w ≡ v → same_name s nil_name ≡ b → when b (elim w [ COND ↦ Some (Constant NIL) | _ ↦ form v f NoTerms ]) ≡ by_word w f (Symbol s)
   no_members w v s true e h = none_true w v s e h
   no_members w v s false e h = none_false w s h
 
-  one_true : (w v : Abbreviation) (a : Object) (s : Name) → w ≡ v → same_name s nil_name ≡ true → (elim w [ QUOTE ↦ Some (Constant a) | COND ↦ cond_term (clause a) (Some (Constant NIL)) | _ ↦ form_with v f (more_terms (expanded a) (Some NoTerms)) ]) ≡ by_word w f (Pair a (Symbol s))
+  one_true : (w v : Abbreviation) (a : Object) (s : Name) → w ≡ v → same_name s nil_name ≡ true → (elim w [ QUOTE ↦ Some (Constant a) | COND ↦ cond_term (clause a) (Some (Constant NIL)) | _ ↦ option_and_then (form v f) (map2 More (expanded a) (Some NoTerms)) ]) ≡ by_word w f (Pair a (Symbol s))
   one_true COND v a s e h = ap (λ b. cond_term (clause a) (cond b (Some (Constant NIL)) None)) (sym h)
-  one_true LET v a s e h = ap (λ z. form_with z f (more_terms (expanded a) (Some NoTerms))) (sym e) ∙ no_let (more_terms (expanded a) (Some NoTerms))
+  one_true LET v a s e h = ap (λ z. option_and_then (form z f) (map2 More (expanded a) (Some NoTerms))) (sym e) ∙ no_let (map2 More (expanded a) (Some NoTerms))
     where
-      no_let : (p : Option Terms) → form_with LET f p ≡ None
+      no_let : (p : Option Terms) → option_and_then (form LET f) p ≡ None
       no_let None = refl
       no_let (Some ts) = refl
-  one_true LETSTAR v a s e h = ap (λ z. form_with z f (more_terms (expanded a) (Some NoTerms))) (sym e) ∙ no_let (more_terms (expanded a) (Some NoTerms))
+  one_true LETSTAR v a s e h = ap (λ z. option_and_then (form z f) (map2 More (expanded a) (Some NoTerms))) (sym e) ∙ no_let (map2 More (expanded a) (Some NoTerms))
     where
-      no_let : (p : Option Terms) → form_with LETSTAR f p ≡ None
+      no_let : (p : Option Terms) → option_and_then (form LETSTAR f) p ≡ None
       no_let None = refl
       no_let (Some ts) = refl
   one_true QUOTE v a s e h = ap (λ b. cond b (Some (Constant a)) None) (sym h)
-  one_true AND v a s e h = ap (λ z. form_with z f (more_terms (expanded a) (Some NoTerms))) (sym e) ∙ (ap (λ b. form_with AND f (more_terms (expanded a) (cond b (Some NoTerms) None))) (sym h))
-  one_true OR v a s e h = ap (λ z. form_with z f (more_terms (expanded a) (Some NoTerms))) (sym e) ∙ (ap (λ b. form_with OR f (more_terms (expanded a) (cond b (Some NoTerms) None))) (sym h))
-  one_true LIST v a s e h = ap (λ z. form_with z f (more_terms (expanded a) (Some NoTerms))) (sym e) ∙ (ap (λ b. form_with LIST f (more_terms (expanded a) (cond b (Some NoTerms) None))) (sym h))
-  one_true FIRST v a s e h = ap (λ z. form_with z f (more_terms (expanded a) (Some NoTerms))) (sym e) ∙ (ap (λ b. form_with FIRST f (more_terms (expanded a) (cond b (Some NoTerms) None))) (sym h))
-  one_true SECOND v a s e h = ap (λ z. form_with z f (more_terms (expanded a) (Some NoTerms))) (sym e) ∙ (ap (λ b. form_with SECOND f (more_terms (expanded a) (cond b (Some NoTerms) None))) (sym h))
-  one_true THIRD v a s e h = ap (λ z. form_with z f (more_terms (expanded a) (Some NoTerms))) (sym e) ∙ (ap (λ b. form_with THIRD f (more_terms (expanded a) (cond b (Some NoTerms) None))) (sym h))
-  one_true FOURTH v a s e h = ap (λ z. form_with z f (more_terms (expanded a) (Some NoTerms))) (sym e) ∙ (ap (λ b. form_with FOURTH f (more_terms (expanded a) (cond b (Some NoTerms) None))) (sym h))
-  one_true FIFTH v a s e h = ap (λ z. form_with z f (more_terms (expanded a) (Some NoTerms))) (sym e) ∙ (ap (λ b. form_with FIFTH f (more_terms (expanded a) (cond b (Some NoTerms) None))) (sym h))
-  one_true Other v a s e h = ap (λ z. form_with z f (more_terms (expanded a) (Some NoTerms))) (sym e) ∙ (ap (λ b. form_with Other f (more_terms (expanded a) (cond b (Some NoTerms) None))) (sym h))
+  one_true AND v a s e h = ap (λ z. option_and_then (form z f) (map2 More (expanded a) (Some NoTerms))) (sym e) ∙ (ap (λ b. option_and_then (form AND f) (map2 More (expanded a) (cond b (Some NoTerms) None))) (sym h))
+  one_true OR v a s e h = ap (λ z. option_and_then (form z f) (map2 More (expanded a) (Some NoTerms))) (sym e) ∙ (ap (λ b. option_and_then (form OR f) (map2 More (expanded a) (cond b (Some NoTerms) None))) (sym h))
+  one_true LIST v a s e h = ap (λ z. option_and_then (form z f) (map2 More (expanded a) (Some NoTerms))) (sym e) ∙ (ap (λ b. option_and_then (form LIST f) (map2 More (expanded a) (cond b (Some NoTerms) None))) (sym h))
+  one_true FIRST v a s e h = ap (λ z. option_and_then (form z f) (map2 More (expanded a) (Some NoTerms))) (sym e) ∙ (ap (λ b. option_and_then (form FIRST f) (map2 More (expanded a) (cond b (Some NoTerms) None))) (sym h))
+  one_true SECOND v a s e h = ap (λ z. option_and_then (form z f) (map2 More (expanded a) (Some NoTerms))) (sym e) ∙ (ap (λ b. option_and_then (form SECOND f) (map2 More (expanded a) (cond b (Some NoTerms) None))) (sym h))
+  one_true THIRD v a s e h = ap (λ z. option_and_then (form z f) (map2 More (expanded a) (Some NoTerms))) (sym e) ∙ (ap (λ b. option_and_then (form THIRD f) (map2 More (expanded a) (cond b (Some NoTerms) None))) (sym h))
+  one_true FOURTH v a s e h = ap (λ z. option_and_then (form z f) (map2 More (expanded a) (Some NoTerms))) (sym e) ∙ (ap (λ b. option_and_then (form FOURTH f) (map2 More (expanded a) (cond b (Some NoTerms) None))) (sym h))
+  one_true FIFTH v a s e h = ap (λ z. option_and_then (form z f) (map2 More (expanded a) (Some NoTerms))) (sym e) ∙ (ap (λ b. option_and_then (form FIFTH f) (map2 More (expanded a) (cond b (Some NoTerms) None))) (sym h))
+  one_true Other v a s e h = ap (λ z. option_and_then (form z f) (map2 More (expanded a) (Some NoTerms))) (sym e) ∙ (ap (λ b. option_and_then (form Other f) (map2 More (expanded a) (cond b (Some NoTerms) None))) (sym h))
 
   one_false : (w : Abbreviation) (a : Object) (s : Name) → same_name s nil_name ≡ false → None ≡ by_word w f (Pair a (Symbol s))
   one_false COND a s h = sym (ap (λ b. cond_term (clause a) (cond b (Some (Constant NIL)) None)) h ∙ no_rest (clause a))
@@ -106,38 +106,38 @@ module _ (f : Name) where
   one_false LET a s h = refl
   one_false LETSTAR a s h = refl
   one_false QUOTE a s h = ap (λ b. cond {A = Option Term} b (Some (Constant a)) None) (sym h)
-  one_false AND a s h = sym (ap (λ b. form_with AND f (more_terms (expanded a) (cond b (Some NoTerms) None))) h ∙ more_false AND f (expanded a))
-  one_false OR a s h = sym (ap (λ b. form_with OR f (more_terms (expanded a) (cond b (Some NoTerms) None))) h ∙ more_false OR f (expanded a))
-  one_false LIST a s h = sym (ap (λ b. form_with LIST f (more_terms (expanded a) (cond b (Some NoTerms) None))) h ∙ more_false LIST f (expanded a))
-  one_false FIRST a s h = sym (ap (λ b. form_with FIRST f (more_terms (expanded a) (cond b (Some NoTerms) None))) h ∙ more_false FIRST f (expanded a))
-  one_false SECOND a s h = sym (ap (λ b. form_with SECOND f (more_terms (expanded a) (cond b (Some NoTerms) None))) h ∙ more_false SECOND f (expanded a))
-  one_false THIRD a s h = sym (ap (λ b. form_with THIRD f (more_terms (expanded a) (cond b (Some NoTerms) None))) h ∙ more_false THIRD f (expanded a))
-  one_false FOURTH a s h = sym (ap (λ b. form_with FOURTH f (more_terms (expanded a) (cond b (Some NoTerms) None))) h ∙ more_false FOURTH f (expanded a))
-  one_false FIFTH a s h = sym (ap (λ b. form_with FIFTH f (more_terms (expanded a) (cond b (Some NoTerms) None))) h ∙ more_false FIFTH f (expanded a))
-  one_false Other a s h = sym (ap (λ b. form_with Other f (more_terms (expanded a) (cond b (Some NoTerms) None))) h ∙ more_false Other f (expanded a))
+  one_false AND a s h = sym (ap (λ b. option_and_then (form AND f) (map2 More (expanded a) (cond b (Some NoTerms) None))) h ∙ more_false AND f (expanded a))
+  one_false OR a s h = sym (ap (λ b. option_and_then (form OR f) (map2 More (expanded a) (cond b (Some NoTerms) None))) h ∙ more_false OR f (expanded a))
+  one_false LIST a s h = sym (ap (λ b. option_and_then (form LIST f) (map2 More (expanded a) (cond b (Some NoTerms) None))) h ∙ more_false LIST f (expanded a))
+  one_false FIRST a s h = sym (ap (λ b. option_and_then (form FIRST f) (map2 More (expanded a) (cond b (Some NoTerms) None))) h ∙ more_false FIRST f (expanded a))
+  one_false SECOND a s h = sym (ap (λ b. option_and_then (form SECOND f) (map2 More (expanded a) (cond b (Some NoTerms) None))) h ∙ more_false SECOND f (expanded a))
+  one_false THIRD a s h = sym (ap (λ b. option_and_then (form THIRD f) (map2 More (expanded a) (cond b (Some NoTerms) None))) h ∙ more_false THIRD f (expanded a))
+  one_false FOURTH a s h = sym (ap (λ b. option_and_then (form FOURTH f) (map2 More (expanded a) (cond b (Some NoTerms) None))) h ∙ more_false FOURTH f (expanded a))
+  one_false FIFTH a s h = sym (ap (λ b. option_and_then (form FIFTH f) (map2 More (expanded a) (cond b (Some NoTerms) None))) h ∙ more_false FIFTH f (expanded a))
+  one_false Other a s h = sym (ap (λ b. option_and_then (form Other f) (map2 More (expanded a) (cond b (Some NoTerms) None))) h ∙ more_false Other f (expanded a))
 
-  one_member : (w v : Abbreviation) (a : Object) (s : Name) (b : Bool) → w ≡ v → same_name s nil_name ≡ b → when b (elim w [ QUOTE ↦ Some (Constant a) | COND ↦ cond_term (clause a) (Some (Constant NIL)) | _ ↦ form_with v f (more_terms (expanded a) (Some NoTerms)) ]) ≡ by_word w f (Pair a (Symbol s))
+  one_member : (w v : Abbreviation) (a : Object) (s : Name) (b : Bool) → w ≡ v → same_name s nil_name ≡ b → when b (elim w [ QUOTE ↦ Some (Constant a) | COND ↦ cond_term (clause a) (Some (Constant NIL)) | _ ↦ option_and_then (form v f) (map2 More (expanded a) (Some NoTerms)) ]) ≡ by_word w f (Pair a (Symbol s))
   one_member w v a s true e h = one_true w v a s e h
   one_member w v a s false e h = one_false w a s h
 
-  more_members : (w v : Abbreviation) (a b z : Object) → w ≡ v → (elim w [ COND ↦ cond_term (clause a) (cond_term (clause b) (clauses z)) | LET ↦ when (same_object z NIL) (let_of (bindings a) (expanded b)) | LETSTAR ↦ when (same_object z NIL) (let_star a (expanded b)) | _ ↦ form_with v f (more_terms (expanded a) (more_terms (expanded b) (expanded_each z))) ]) ≡ by_word w f (Pair a (Pair b z))
+  more_members : (w v : Abbreviation) (a b z : Object) → w ≡ v → (elim w [ COND ↦ cond_term (clause a) (cond_term (clause b) (clauses z)) | LET ↦ when (same_object z NIL) (map2 let_term (bindings a) (expanded b)) | LETSTAR ↦ when (same_object z NIL) (let_star a (expanded b)) | _ ↦ option_and_then (form v f) (map2 More (expanded a) (map2 More (expanded b) (expanded_each z))) ]) ≡ by_word w f (Pair a (Pair b z))
   more_members COND v a b z e = refl
   more_members LET v a b z e = refl
   more_members LETSTAR v a b z e = refl
-  more_members QUOTE v a b z e = ap (λ u. form_with u f (more_terms (expanded a) (more_terms (expanded b) (expanded_each z)))) (sym e) ∙ go (more_terms (expanded a) (more_terms (expanded b) (expanded_each z)))
+  more_members QUOTE v a b z e = ap (λ u. option_and_then (form u f) (map2 More (expanded a) (map2 More (expanded b) (expanded_each z)))) (sym e) ∙ go (map2 More (expanded a) (map2 More (expanded b) (expanded_each z)))
     where
-      go : (p : Option Terms) → form_with QUOTE f p ≡ None
+      go : (p : Option Terms) → option_and_then (form QUOTE f) p ≡ None
       go None = refl
       go (Some ts) = refl
-  more_members AND v a b z e = ap (λ u. form_with u f (more_terms (expanded a) (more_terms (expanded b) (expanded_each z)))) (sym e)
-  more_members OR v a b z e = ap (λ u. form_with u f (more_terms (expanded a) (more_terms (expanded b) (expanded_each z)))) (sym e)
-  more_members LIST v a b z e = ap (λ u. form_with u f (more_terms (expanded a) (more_terms (expanded b) (expanded_each z)))) (sym e)
-  more_members FIRST v a b z e = ap (λ u. form_with u f (more_terms (expanded a) (more_terms (expanded b) (expanded_each z)))) (sym e)
-  more_members SECOND v a b z e = ap (λ u. form_with u f (more_terms (expanded a) (more_terms (expanded b) (expanded_each z)))) (sym e)
-  more_members THIRD v a b z e = ap (λ u. form_with u f (more_terms (expanded a) (more_terms (expanded b) (expanded_each z)))) (sym e)
-  more_members FOURTH v a b z e = ap (λ u. form_with u f (more_terms (expanded a) (more_terms (expanded b) (expanded_each z)))) (sym e)
-  more_members FIFTH v a b z e = ap (λ u. form_with u f (more_terms (expanded a) (more_terms (expanded b) (expanded_each z)))) (sym e)
-  more_members Other v a b z e = ap (λ u. form_with u f (more_terms (expanded a) (more_terms (expanded b) (expanded_each z)))) (sym e)
+  more_members AND v a b z e = ap (λ u. option_and_then (form u f) (map2 More (expanded a) (map2 More (expanded b) (expanded_each z)))) (sym e)
+  more_members OR v a b z e = ap (λ u. option_and_then (form u f) (map2 More (expanded a) (map2 More (expanded b) (expanded_each z)))) (sym e)
+  more_members LIST v a b z e = ap (λ u. option_and_then (form u f) (map2 More (expanded a) (map2 More (expanded b) (expanded_each z)))) (sym e)
+  more_members FIRST v a b z e = ap (λ u. option_and_then (form u f) (map2 More (expanded a) (map2 More (expanded b) (expanded_each z)))) (sym e)
+  more_members SECOND v a b z e = ap (λ u. option_and_then (form u f) (map2 More (expanded a) (map2 More (expanded b) (expanded_each z)))) (sym e)
+  more_members THIRD v a b z e = ap (λ u. option_and_then (form u f) (map2 More (expanded a) (map2 More (expanded b) (expanded_each z)))) (sym e)
+  more_members FOURTH v a b z e = ap (λ u. option_and_then (form u f) (map2 More (expanded a) (map2 More (expanded b) (expanded_each z)))) (sym e)
+  more_members FIFTH v a b z e = ap (λ u. option_and_then (form u f) (map2 More (expanded a) (map2 More (expanded b) (expanded_each z)))) (sym e)
+  more_members Other v a b z e = ap (λ u. option_and_then (form u f) (map2 More (expanded a) (map2 More (expanded b) (expanded_each z)))) (sym e)
 
   number_end : (w : Abbreviation) (n : ℕ) → None ≡ by_word w f (Natural n)
   number_end COND n = refl
@@ -190,56 +190,56 @@ module _ (A : ArityTable) (f : Name) (r : Object) where
   pub and_part : of_term A (by_word AND f r) ≡ meaning A kind.And r
   and_part = ap (of_term A) (go (expanded_each r))
     where
-      go : (p : Option Terms) → form_with AND f p ≡ option_map and_term p
+      go : (p : Option Terms) → option_and_then (form AND f) p ≡ option_map and_term p
       go None = refl
       go (Some ts) = refl
 
   pub or_part : of_term A (by_word OR f r) ≡ meaning A kind.Or r
   or_part = ap (of_term A) (go (expanded_each r))
     where
-      go : (p : Option Terms) → form_with OR f p ≡ option_map or_term p
+      go : (p : Option Terms) → option_and_then (form OR f) p ≡ option_map or_term p
       go None = refl
       go (Some ts) = refl
 
   pub list_part : of_term A (by_word LIST f r) ≡ meaning A kind.List r
   list_part = ap (of_term A) (go (expanded_each r))
     where
-      go : (p : Option Terms) → form_with LIST f p ≡ option_map list_term p
+      go : (p : Option Terms) → option_and_then (form LIST f) p ≡ option_map list_term p
       go None = refl
       go (Some ts) = refl
 
   pub first_part : of_term A (by_word FIRST f r) ≡ of_term A (with_terms (place_of 0) (expanded_each r))
   first_part = ap (of_term A) (go (expanded_each r))
     where
-      go : (p : Option Terms) → form_with FIRST f p ≡ with_terms (place_of 0) p
+      go : (p : Option Terms) → option_and_then (form FIRST f) p ≡ with_terms (place_of 0) p
       go None = refl
       go (Some ts) = refl
 
   pub second_part : of_term A (by_word SECOND f r) ≡ of_term A (with_terms (place_of 1) (expanded_each r))
   second_part = ap (of_term A) (go (expanded_each r))
     where
-      go : (p : Option Terms) → form_with SECOND f p ≡ with_terms (place_of 1) p
+      go : (p : Option Terms) → option_and_then (form SECOND f) p ≡ with_terms (place_of 1) p
       go None = refl
       go (Some ts) = refl
 
   pub third_part : of_term A (by_word THIRD f r) ≡ of_term A (with_terms (place_of 2) (expanded_each r))
   third_part = ap (of_term A) (go (expanded_each r))
     where
-      go : (p : Option Terms) → form_with THIRD f p ≡ with_terms (place_of 2) p
+      go : (p : Option Terms) → option_and_then (form THIRD f) p ≡ with_terms (place_of 2) p
       go None = refl
       go (Some ts) = refl
 
   pub fourth_part : of_term A (by_word FOURTH f r) ≡ of_term A (with_terms (place_of 3) (expanded_each r))
   fourth_part = ap (of_term A) (go (expanded_each r))
     where
-      go : (p : Option Terms) → form_with FOURTH f p ≡ with_terms (place_of 3) p
+      go : (p : Option Terms) → option_and_then (form FOURTH f) p ≡ with_terms (place_of 3) p
       go None = refl
       go (Some ts) = refl
 
   pub fifth_part : of_term A (by_word FIFTH f r) ≡ of_term A (with_terms (place_of 4) (expanded_each r))
   fifth_part = ap (of_term A) (go (expanded_each r))
     where
-      go : (p : Option Terms) → form_with FIFTH f p ≡ with_terms (place_of 4) p
+      go : (p : Option Terms) → option_and_then (form FIFTH f) p ≡ with_terms (place_of 4) p
       go None = refl
       go (Some ts) = refl
 

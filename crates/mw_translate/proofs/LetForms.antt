@@ -3,8 +3,8 @@ use Rattle.std.proofs.Common.{◌≡◌, ℕ, arith, length, Bool, true, false, 
 use Rattle.std.proofs.lemmas.Bool.{and_parts, and_from}
 use Rattle.mw_model.specs.Terms.Object.{Name, Object, Natural, Symbol, Pair, same_name, nil_name, list2}
 use Rattle.mw_model.specs.Terms.Term.{Term, NoTerms, More, ArityTable, count, names_object, term_object, terms_object, are_formals, is_term, are_terms}
-use Rattle.mw_model.specs.Terms.Reading.{and_more, when}
-use Rattle.mw_model.specs.Events.Expansion.{expanded, binding, binding_of, bindings, bound_names, let_term, let_of, let_star, let_star_of}
+use Rattle.mw_model.specs.Terms.Reading.{and_more, when, map2}
+use Rattle.mw_model.specs.Events.Expansion.{expanded, binding, bindings, bound_names, let_term, let_star}
 use Rattle.mw_model.proofs.ReadBack.{some_one}
 use Rattle.mw_model.proofs.NewNames.{none_some}
 use Rattle.mw_heap.specs.Objects.{object_at, IsIn}
@@ -36,7 +36,7 @@ names-bound (Pair (Pair (Symbol x) (Pair e (Natural n))) r) ps h = cc
 names-bound (Pair (Pair (Symbol x) (Pair e (Pair a b))) r) ps h = cc
 names-bound (Pair (Pair (Symbol x) (Pair e (Symbol s))) r) ps h = go (same_name s nil_name) (expanded e) (bindings r) refl h (λ qs k. names-bound r qs k)
   where
-    go : (b : Bool) (o : Option Term) (p : Option (List (Name × Term))) → bindings r ≡ p → and_more (when b (binding_of x o)) p ≡ Some ps → ((qs : List (Name × Term)) → bindings r ≡ Some qs → binding_names r ≡ Some (bound_names qs)) → and_more (Some x) (binding_names r) ≡ Some (bound_names ps)
+    go : (b : Bool) (o : Option Term) (p : Option (List (Name × Term))) → bindings r ≡ p → and_more (when b (option_map (λ t. (x, t)) o)) p ≡ Some ps → ((qs : List (Name × Term)) → bindings r ≡ Some qs → binding_names r ≡ Some (bound_names qs)) → and_more (Some x) (binding_names r) ≡ Some (bound_names ps)
     go false o p k e rest = cc
     go true None p k e rest = cc
     go true (Some t) None k e rest = cc
@@ -61,7 +61,7 @@ module _ (A : ArityTable) where
   let-false ps b f t v p q r = let_term-term A ps b ∙ (ap₂ (λ x y. x && (y && are_terms A (values_of ps))) p q ∙ ap (λ z. f && (t && z)) r)
 
   -- there is no LET where a part is missing
-  no_let : (o : Option (List (Name × Term))) (p : Option Term) → (of_terms A (option_map values_of o) ≡ None) → of_term A (let_of o p) ≡ None
+  no_let : (o : Option (List (Name × Term))) (p : Option Term) → (of_terms A (option_map values_of o) ≡ None) → of_term A (map2 let_term o p) ≡ None
   no_let None p h = refl
   no_let (Some ps) None h = refl
   no_let (Some ps) (Some b) h = go (are_terms A (values_of ps)) refl h
@@ -75,7 +75,7 @@ module _ (A : ArityTable) where
       go true e k = cc
       go false e k = ap (λ t. cond t (Some (term_object (let_term ps b), 0)) None) (let-false ps b (are_formals (bound_names ps)) (is_term A b) false refl refl e ∙ both_false (are_formals (bound_names ps)) (is_term A b))
 
-  no_body : (o : Option (List (Name × Term))) (p : Option Term) → of_term A p ≡ None → of_term A (let_of o p) ≡ None
+  no_body : (o : Option (List (Name × Term))) (p : Option Term) → of_term A p ≡ None → of_term A (map2 let_term o p) ≡ None
   no_body None p h = refl
   no_body (Some ps) None h = refl
   no_body (Some ps) (Some b) h = go (is_term A b) refl h
@@ -96,7 +96,7 @@ module _ (A : ArityTable) where
       go (Some ps) e = absurd (none_some (names_object (bound_names ps), 0) (sym h ∙ ap (of_names A) (names-bound x ps e)))
 
   pub let-names : (bs b : Object) → of_names A (binding_names bs) ≡ None → of_term A (let_form (list2 bs b)) ≡ None
-  let-names bs b h = ap (λ o. of_term A (let_of o (expanded b))) (no_names bs h)
+  let-names bs b h = ap (λ o. of_term A (map2 let_term o (expanded b))) (no_names bs h)
 
   pub let-values : (bs b : Object) → of_terms A (option_map values_of (bindings bs)) ≡ None → of_term A (let_form (list2 bs b)) ≡ None
   let-values bs b h = no_let (bindings bs) (expanded b) h
@@ -107,11 +107,11 @@ module _ (A : ArityTable) where
   -- what was made of the call of a LET
   pub let-made : (os : List Object) (bs b : Object) (ps : List (Name × Term)) (t : Term) (o : Option ℕ) (s : Progress) → bindings bs ≡ Some ps → expanded b ≡ Some t → is_term A t ≡ true → are_terms A (values_of ps) ≡ true → IsLet os (bound_names ps) (values_of ps) t o → IsCall o s → IsMade os (of_term A (let_form (list2 bs b))) s
   let-made os bs b ps t None progress.Fails p q r v h k =
-      ap₂ (λ x y. of_term A (let_of x y)) p q ∙ ap (λ z. cond z (Some (term_object (let_term ps t), 0)) None) (let-false ps t false true true h r v)
+      ap₂ (λ x y. of_term A (map2 let_term x y)) p q ∙ ap (λ z. cond z (Some (term_object (let_term ps t), 0)) None) (let-false ps t false true true h r v)
   let-made os bs b ps t (Some n) (progress.Made m) p q r v h k =
       let e : object_at os m.object ≡ term_object (let_term ps t) = ap (object_at os) k.0 ∙ (h.2 ∙ ap term_object (sym (let_is ps t))) in (
         subst (IsIn os) (sym k.0) h.1,
-        ap₂ (λ x y. of_term A (let_of x y)) p q ∙ (ap (λ z. cond z (Some (term_object (let_term ps t), 0)) None) (let-false ps t true true true h.0 r v) ∙ ap₂ (λ z n. Some (z, n)) (sym e) (sym k.1)),
+        ap₂ (λ x y. of_term A (map2 let_term x y)) p q ∙ (ap (λ z. cond z (Some (term_object (let_term ps t), 0)) None) (let-false ps t true true true h.0 r v) ∙ ap₂ (λ z n. Some (z, n)) (sym e) (sym k.1)),
       )
   let-made os bs b ps t None (progress.Made m) p q r v h k = absurd k
   let-made os bs b ps t None (progress.Wants w) p q r v h k = absurd k
@@ -125,7 +125,7 @@ module _ (A : ArityTable) where
   let-shape (Pair bs (Natural n)) h = refl
   let-shape (Pair bs (Symbol s)) h = refl
   let-shape (Pair bs (Pair b (Natural n))) h = refl
-  let-shape (Pair bs (Pair b (Symbol s))) h = ap (λ t. of_term A (when t (let_of (bindings bs) (expanded b)))) h
+  let-shape (Pair bs (Pair b (Symbol s))) h = ap (λ t. of_term A (when t (map2 let_term (bindings bs) (expanded b)))) h
   let-shape (Pair bs (Pair b (Pair a z))) h = refl
 
   pub let_star-shape : (r : Object) → is_list2 r ≡ false → of_term A (let_star_form r) ≡ None
@@ -147,10 +147,10 @@ star-all A (Symbol s) ps t h = go (same_name s nil_name) h
     go false e = cc
 star-all A (Pair a r) ps t h = go (binding a) (bindings r) refl h (λ qs k. star-all A r qs t k)
   where
-    go : (o : Option (Name × Term)) (p : Option (List (Name × Term))) → bindings r ≡ p → and_more o p ≡ Some ps → ((qs : List (Name × Term)) → bindings r ≡ Some qs → let_star r (Some t) ≡ Some (let_stars qs t)) → let_star_of o (let_star r (Some t)) ≡ Some (let_stars ps t)
+    go : (o : Option (Name × Term)) (p : Option (List (Name × Term))) → bindings r ≡ p → and_more o p ≡ Some ps → ((qs : List (Name × Term)) → bindings r ≡ Some qs → let_star r (Some t) ≡ Some (let_stars qs t)) → map2 (λ p c. let_term (p ∷ []) c) o (let_star r (Some t)) ≡ Some (let_stars ps t)
     go None p k e rest = cc
     go (Some b) None k e rest = cc
-    go (Some b) (Some qs) k e rest = ap (let_star_of (Some b)) (rest qs k) ∙ ap (λ l. Some (let_stars l t)) (some_one e)
+    go (Some b) (Some qs) k e rest = ap (map2 (λ p c. let_term (p ∷ []) c) (Some b)) (rest qs k) ∙ ap (λ l. Some (let_stars l t)) (some_one e)
 
 star-none : (x : Object) → let_star x None ≡ None
 star-none (Natural n) = refl
@@ -161,7 +161,7 @@ star-none (Symbol s) = go (same_name s nil_name)
     go false = refl
 star-none (Pair a r) = go (binding a) (let_star r None) (star-none r)
   where
-    go : (o : Option (Name × Term)) (p : Option Term) → p ≡ None → let_star_of o p ≡ None
+    go : (o : Option (Name × Term)) (p : Option Term) → p ≡ None → map2 (λ p c. let_term (p ∷ []) c) o p ≡ None
     go None p h = refl
     go (Some b) None h = refl
     go (Some b) (Some t) h = cc
@@ -175,7 +175,7 @@ star-unbound (Symbol s) o h = go (same_name s nil_name) h
     go false e = refl
 star-unbound (Pair a r) o h = go (binding a) (bindings r) (let_star r o) h refl (star-unbound r o) refl
   where
-    go : (b : Option (Name × Term)) (p : Option (List (Name × Term))) (q : Option Term) → and_more b p ≡ None → bindings r ≡ p → (bindings r ≡ None → let_star r o ≡ None) → let_star r o ≡ q → let_star_of b q ≡ None
+    go : (b : Option (Name × Term)) (p : Option (List (Name × Term))) (q : Option Term) → and_more b p ≡ None → bindings r ≡ p → (bindings r ≡ None → let_star r o ≡ None) → let_star r o ≡ q → map2 (λ p c. let_term (p ∷ []) c) b q ≡ None
     go None p q e k rest l = refl
     go (Some b) p None e k rest l = refl
     go (Some b) None (Some t) e k rest l = let z : Some t ≡ None = sym l ∙ rest k in cc

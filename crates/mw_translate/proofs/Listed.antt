@@ -1,10 +1,10 @@
 -- Lists of terms, and of the names and values of bindings, by their first and the rest.
 use Rattle.std.proofs.Common.{◌≡◌, suc, ◌+◌, Bool, true, false, ◌&&◌, cond, List, [], Option, Some, None, option_map, refl, sym, ap, add-one}
 use Rattle.mw_model.specs.Terms.Object.{Name, Object, Natural, Symbol, Pair, same_object, NIL, list1}
-use Rattle.mw_model.specs.Terms.Term.{Term, Terms, NoTerms, ArityTable, count, term_object, terms_object, is_term, are_terms}
-use Rattle.mw_model.specs.Terms.Reading.{and_more, more_terms, when}
+use Rattle.mw_model.specs.Terms.Term.{Term, Terms, NoTerms, ArityTable, count, term_object, terms_object, is_term, are_terms, More}
+use Rattle.mw_model.specs.Terms.Reading.{and_more, when, map2}
 use Rattle.mw_model.specs.Values.Primitive.{is_symbol}
-use Rattle.mw_model.specs.Events.Expansion.{expanded, expanded_each, bindings, binding_of}
+use Rattle.mw_model.specs.Events.Expansion.{expanded, expanded_each, bindings}
 use Rattle.mw_translate.specs.Meaning.{Meaning, of_term, of_terms, of_names, binding_names, values_of, meaning}
 use Rattle.mw_translate.specs.Shapes.{is_list1, is_headed_by_symbol}
 use Rattle.mw_translate.specs.declared.part.Kind.TheVariants as kind
@@ -18,7 +18,7 @@ abbrev pub put_name : Object → Meaning → Option Meaning
 put_name x m = Some (Pair x m.0, 0)
 
 module _ (A : ArityTable) where
-  more-put : (o : Option Term) (p : Option Terms) → of_terms A (more_terms o p) ≡ combine2 put (of_term A o) (of_terms A p)
+  more-put : (o : Option Term) (p : Option Terms) → of_terms A (map2 More o p) ≡ combine2 put (of_term A o) (of_terms A p)
   more-put None p = refl
   more-put (Some t) None = go (is_term A t)
     where
@@ -45,7 +45,7 @@ module _ (A : ArityTable) where
   pub values-pair : (x : Name) (e r : Object) → meaning A kind.Values (Pair (Pair (Symbol x) (list1 e)) r) ≡ combine2 put (meaning A kind.Term e) (meaning A kind.Values r)
   values-pair x e r = given (expanded e) (bindings r)
     where
-      given : (o : Option Term) (p : Option (List (Name × Term))) → of_terms A (option_map values_of (and_more (binding_of x o) p)) ≡ combine2 put (of_term A o) (of_terms A (option_map values_of p))
+      given : (o : Option Term) (p : Option (List (Name × Term))) → of_terms A (option_map values_of (and_more (option_map (λ t. (x, t)) o) p)) ≡ combine2 put (of_term A o) (of_terms A (option_map values_of p))
       given None p = refl
       given (Some t) None = more-put (Some t) None
       given (Some t) (Some ps) = more-put (Some t) (Some (values_of ps))
@@ -69,7 +69,7 @@ module _ (A : ArityTable) where
   values-long x (Natural n) r h = refl
   values-long x (Symbol s) r h = refl
   values-long x (Pair e (Natural n)) r h = refl
-  values-long x (Pair e (Symbol s)) r h = ap (λ t. of_terms A (option_map values_of (and_more (when t (binding_of x (expanded e))) (bindings r)))) h
+  values-long x (Pair e (Symbol s)) r h = ap (λ t. of_terms A (option_map values_of (and_more (when t (option_map (λ t. (x, t)) (expanded e))) (bindings r)))) h
   values-long x (Pair e (Pair a b)) r h = refl
 
   -- a symbol that is not NIL ends no list

@@ -1,10 +1,10 @@
 //! Calls of functions and of lambdas.
-ghost use Rattle.std.specs.Prelude.{◌≡◌, ◌<◌, ◌+◌, ◌++◌, ◌&&◌, ◌||◌, not, eqb, true, false, cond, length, Some, None, option_map, IfOk};
+ghost use Rattle.std.specs.Prelude.{◌≡◌, ◌<◌, ◌+◌, ◌++◌, ◌&&◌, ◌||◌, not, eqb, true, false, cond, length, Some, None, option_map, IfOk, option_and_then};
 ghost use Rattle.mw_model.specs.Terms.Object.{Object, Pair, named, same_name, list3};
 ghost use Rattle.mw_model.specs.Terms.Term.{Term, ArityTable, is_closed};
 ghost use Rattle.mw_model.specs.Terms.Reading.{term_of};
 ghost use Rattle.mw_model.specs.Values.Primitive.{is_pair, is_symbol, name_of};
-ghost use Rattle.mw_model.specs.Events.Expansion.{Other, form_with, expanded, expanded_each};
+ghost use Rattle.mw_model.specs.Events.Expansion.{Other, expanded, expanded_each, form};
 ghost use Rattle.mw_heap.specs.Objects.{object_at, IsIn, Grows};
 ghost use Rattle.mw_term.specs.Parts.{names_at, AreSymbols};
 ghost use Rattle.mw_translate.specs.Checked.{takes as takes_count, call_made, head_made, IsMade};
@@ -70,7 +70,7 @@ pub(crate) fn step_call(
     requires no_quote { same_name (name_of (object_at heap.old.objects head)) (named "QUOTE") ≡ false }
     requires made { AreMade (newer.now ++ older.now) heap.old.objects memo.now.made.entries }
     ensures grows { Grows heap.old.objects heap.new.objects }
-    ensures step { IfOk result (IsStep (newer.now ++ older.now) heap.old.objects heap.new.objects memo.now.made.entries (of_term (newer.now ++ older.now) (form_with Other (name_of (object_at heap.old.objects head)) (expanded_each (object_at heap.old.objects rest)))) (rest + 1)) }
+    ensures step { IfOk result (IsStep (newer.now ++ older.now) heap.old.objects heap.new.objects memo.now.made.entries (of_term (newer.now ++ older.now) (option_and_then (form Other (name_of (object_at heap.old.objects head))) (expanded_each (object_at heap.old.objects rest)))) (rest + 1)) }
 {
     let terms = Part {
         kind: Kind::Terms,

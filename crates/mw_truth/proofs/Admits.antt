@@ -1,9 +1,10 @@
 -- A block of functions whose obligations are true keeps the definitions total, by descent along its measures.
-use Rattle.std.proofs.Common.{◌≡◌, Bool, true, false, ◌&&◌, List, [], ◌∷◌, refl}
+use Rattle.std.proofs.Common.{◌≡◌, Bool, true, false, ◌&&◌, List, [], ◌∷◌, refl, map}
 use Rattle.std.proofs.lemmas.Bool.{and_parts}
 use Rattle.mw_model.specs.Terms.Term.{ArityTable, IsTerm, is_term, is_closed, are_formals}
 use Rattle.mw_model.specs.Values.Primitive.{Profile}
-use Rattle.mw_model.specs.Values.Definition.{Function, Block, Functions, definitions, add_functions, arities, is_new, are_functions, function_axioms}
+use Rattle.mw_model.specs.Values.Definition.{Function, Block, Functions, definitions, add_functions, arities, is_new, are_functions}
+use Rattle.mw_model.specs.Values.Definition.{function_axiom}
 use Rattle.mw_model.specs.Values.Value.{block_calls, IsTotal}
 use Rattle.mw_model.specs.Values.Truth.{Each}
 use Rattle.mw_model.specs.Events.Obligation.{Measures, measure_of, calls_none}
@@ -63,5 +64,5 @@ module _ (P : Profile) (D : List Block) (B : List Function) (M : Measures) where
     block_total =
         total_from (definitions P (Functions B ∷ D)) (block_calls_have P (block_calls P D) (block_calls-det P D) (arities P D) (calls_from (definitions P D) i.total) ordinals B M (functions_new P B D i.made).0 block_formed (no_if P B D i.made) block_owed)
 
-    pub axioms_hold : Each (IsTrueFormula (with_block (definitions P D) (Functions B))) (function_axioms B)
+    pub axioms_hold : Each (IsTrueFormula (with_block (definitions P D) (Functions B))) (map function_axiom B)
     axioms_hold = block_axioms-good P (Functions B) D i.made block_total

@@ -1,14 +1,14 @@
 -- A block whose obligations are true keeps that each term has a value.
-use Rattle.std.proofs.Common.{◌≡◌, ◌≢◌, Bool, true, false, ◌||◌, cond, List, [], ◌∷◌, ◌++◌, map, length, Option, Some, None, refl, sym, ap, ◌∙◌, subst, inl, inr}
+use Rattle.std.proofs.Common.{◌≡◌, ◌≢◌, Bool, true, false, ◌||◌, cond, List, [], ◌∷◌, ◌++◌, map, length, Option, Some, None, refl, sym, ap, ◌∙◌, subst, inl, inr, is_some, zip}
 use Rattle.std.proofs.lemmas.Bool.{or_parts, or_from, true≢false, false≢true}
 use Rattle.mw_model.specs.Terms.Object.{Name, Object, named, same_name, NIL}
 use Rattle.mw_model.specs.Terms.Term.{Term, Terms, Variable, Constant, If, Call, Lambda, NoTerms, More, Formula, Equal, Not, Or, ArityTable, arity_of, is_closed, is_call_name, count}
 use Rattle.mw_model.specs.Terms.Substitution.{Substitution, substitute, substitute_each, image, actuals_for}
 use Rattle.mw_model.specs.Values.Primitive.{Profile, Primitive, primitive_named}
-use Rattle.mw_model.specs.Values.Definition.{Function, function_named, add_functions, is_present, are_new}
+use Rattle.mw_model.specs.Values.Definition.{Function, function_named, add_functions, are_new}
 use Rattle.mw_model.specs.Values.Value.{Environment, lookup, bind, Calls, OnCall, HasValue, HaveValues, OnFunction, CallAtSomeDepth}
 use Rattle.mw_model.specs.Values.Truth.{TrueAt, TrueFor, Each}
-use Rattle.mw_model.specs.Events.Obligation.{mentions, any_mentions, Test, IsNotNil, IsNil, RecursiveCall, under_test, Pending, pend, pending_terms, all_calls, call_or, collect, actuals_with, recursive_calls, Measures, measure_of, ordinal_formula, tested, test_formula, under_tests, falls, obligation, is_empty, calls_none}
+use Rattle.mw_model.specs.Events.Obligation.{mentions, any_mentions, Test, IsNotNil, IsNil, RecursiveCall, under_test, Pending, pending_terms, all_calls, call_or, collect, actuals_with, recursive_calls, Measures, measure_of, ordinal_formula, tested, test_formula, under_tests, falls, obligation, is_empty, calls_none}
 use Rattle.mw_model.proofs.Names.{same_name-eq}
 use Rattle.mw_model.proofs.Formed.{Formed, AreFormed}
 use Rattle.mw_model.proofs.Values.{Det, ev_det, Induces, ev_sub-back, evs_sub-back, ev_vars}
@@ -40,19 +40,19 @@ pub record Owed (P : Profile) (C : Calls) (B : List Function) (M : Measures) : T
 
 module _ (P : Profile) (C : Calls) (B : List Function) where
   -- the values of terms that do not mention the block
-  past : (o : Option Function) (f : Name) (ws : List Object) (v : Object) → is_present o ≡ false → OnFunction C (CallAtSomeDepth P C B) o f ws v → C f ws v
+  past : (o : Option Function) (f : Name) (ws : List Object) (v : Object) → is_some o ≡ false → OnFunction C (CallAtSomeDepth P C B) o f ws v → C f ws v
   past None f ws v n h = h
   past (Some g) f ws v n h = absurd (true≢false n)
 
-  other : (o : Option Function) (f : Name) (ws : List Object) (v : Object) → is_present o ≡ false → C f ws v → OnFunction C (CallAtSomeDepth P C B) o f ws v
+  other : (o : Option Function) (f : Name) (ws : List Object) (v : Object) → is_some o ≡ false → C f ws v → OnFunction C (CallAtSomeDepth P C B) o f ws v
   other None f ws v n h = h
   other (Some g) f ws v n h = absurd (true≢false n)
 
-  on_avoid : (o : Option Primitive) (f : Name) (ws : List Object) (v : Object) → is_present (function_named B f) ≡ false → OnCall (Now P C B) o f ws v → OnCall C o f ws v
+  on_avoid : (o : Option Primitive) (f : Name) (ws : List Object) (v : Object) → is_some (function_named B f) ≡ false → OnCall (Now P C B) o f ws v → OnCall C o f ws v
   on_avoid None f ws v n h = past (function_named B f) f ws v n h
   on_avoid (Some p) f ws v n h = h
 
-  pub on_keep : (o : Option Primitive) (f : Name) (ws : List Object) (v : Object) → is_present (function_named B f) ≡ false → OnCall C o f ws v → OnCall (Now P C B) o f ws v
+  pub on_keep : (o : Option Primitive) (f : Name) (ws : List Object) (v : Object) → is_some (function_named B f) ≡ false → OnCall C o f ws v → OnCall (Now P C B) o f ws v
   on_keep None f ws v n h = other (function_named B f) f ws v n h
   on_keep (Some p) f ws v n h = h
 
@@ -69,7 +69,7 @@ module _ (P : Profile) (C : Calls) (B : List Function) where
         let q = or_parts (mentions B b) (mentions B c) p.1 in
         inr (ev_avoid e a NIL p.0 h.0, ev_avoid e c v q.1 h.1)
     ev_avoid e (Call f ts) v n h =
-        let p = or_parts (is_present (function_named B f)) (any_mentions B ts) n in
+        let p = or_parts (is_some (function_named B f)) (any_mentions B ts) n in
         (h.0, evs_avoid e ts h.0 p.1 h.1, on_avoid (primitive_named P f) f h.0 v p.0 h.2)
     ev_avoid e (Lambda ys b ts) v n h =
         let p = or_parts (mentions B b) (any_mentions B ts) n in
@@ -94,7 +94,7 @@ module _ (P : Profile) (C : Calls) (B : List Function) where
         let q = or_parts (mentions B b) (mentions B c) p.1 in
         inr (ev_keep e a NIL p.0 h.0, ev_keep e c v q.1 h.1)
     ev_keep e (Call f ts) v n h =
-        let p = or_parts (is_present (function_named B f)) (any_mentions B ts) n in
+        let p = or_parts (is_some (function_named B f)) (any_mentions B ts) n in
         (h.0, evs_keep e ts h.0 p.1 h.1, on_keep (primitive_named P f) f h.0 v p.0 h.2)
     ev_keep e (Lambda ys b ts) v n h =
         let p = or_parts (mentions B b) (any_mentions B ts) n in
@@ -116,8 +116,8 @@ mutual
       let q = or_parts (mentions B (substitute s b)) (mentions B (substitute s c)) p.1 in
       or_from (mentions B a) (mentions B b || mentions B c) (sub_mentions B s a p.0) (or_from (mentions B b) (mentions B c) (sub_mentions B s b q.0) (sub_mentions B s c q.1))
   sub_mentions B s (Call f ts) n =
-      let p = or_parts (is_present (function_named B f)) (any_mentions B (substitute_each s ts)) n in
-      or_from (is_present (function_named B f)) (any_mentions B ts) p.0 (subs_mentions B s ts p.1)
+      let p = or_parts (is_some (function_named B f)) (any_mentions B (substitute_each s ts)) n in
+      or_from (is_some (function_named B f)) (any_mentions B ts) p.0 (subs_mentions B s ts p.1)
   sub_mentions B s (Lambda ys b ts) n =
       let p = or_parts (mentions B b) (any_mentions B (substitute_each s ts)) n in
       or_from (mentions B b) (any_mentions B ts) p.0 (subs_mentions B s ts p.1)
@@ -129,15 +129,15 @@ mutual
       or_from (mentions B t) (any_mentions B ts) (sub_mentions B s t p.0) (subs_mentions B s ts p.1)
 
 -- the arity of a name that is not in the block
-arity_past : (B : List Function) (A : ArityTable) (f : Name) → is_present (function_named B f) ≡ false → arity_of (add_functions B A) f ≡ arity_of A f
+arity_past : (B : List Function) (A : ArityTable) (f : Name) → is_some (function_named B f) ≡ false → arity_of (add_functions B A) f ≡ arity_of A f
 arity_past B A f n = add_keeps B A f (none (function_named B f) n)
   where
-    none : (o : Option Function) → is_present o ≡ false → o ≡ None
+    none : (o : Option Function) → is_some o ≡ false → o ≡ None
     none None i = refl
     none (Some k) i = absurd (true≢false i)
 
 mutual
-  pub term_without : (B : List Function) (A : ArityTable) → is_present (function_named B (named "IF")) ≡ false → (t : Term) → mentions B t ≡ false → Formed ((add_functions B A)) t → Formed A t
+  pub term_without : (B : List Function) (A : ArityTable) → is_some (function_named B (named "IF")) ≡ false → (t : Term) → mentions B t ≡ false → Formed ((add_functions B A)) t → Formed A t
   term_without B A d (Variable x) m h = h
   term_without B A d (Constant c) m h = h
   term_without B A d (If a b c) m h =
@@ -145,13 +145,13 @@ mutual
       let q = or_parts (mentions B b) (mentions B c) p.1 in
       (sym (arity_past B A (named "IF") d) ∙ h.0, term_without B A d a p.0 h.1, term_without B A d b q.0 h.2, term_without B A d c q.1 h.3)
   term_without B A d (Call f ts) m h =
-      let p = or_parts (is_present (function_named B f)) (any_mentions B ts) m in
+      let p = or_parts (is_some (function_named B f)) (any_mentions B ts) m in
       (h.0, sym (arity_past B A f p.0) ∙ h.1, terms_without B A d ts p.1 h.2)
   term_without B A d (Lambda ys b ts) m h =
       let p = or_parts (mentions B b) (any_mentions B ts) m in
       (h.0, h.1, h.2, h.3, term_without B A d b p.0 h.4, terms_without B A d ts p.1 h.5)
 
-  pub terms_without : (B : List Function) (A : ArityTable) → is_present (function_named B (named "IF")) ≡ false → (ts : Terms) → any_mentions B ts ≡ false → AreFormed ((add_functions B A)) ts → AreFormed A ts
+  pub terms_without : (B : List Function) (A : ArityTable) → is_some (function_named B (named "IF")) ≡ false → (ts : Terms) → any_mentions B ts ≡ false → AreFormed ((add_functions B A)) ts → AreFormed A ts
   terms_without B A d NoTerms m h = h
   terms_without B A d (More t ts) m h =
       let p = or_parts (mentions B t) (any_mentions B ts) m in
@@ -170,7 +170,7 @@ module _ (P : Profile) (C : Calls) (B : List Function) (e : Environment) (close 
   each_untested t [] off h = tt
   each_untested t (r ∷ rs) off h = (good_untested t r off h.0, each_untested t rs off h.1)
 
-module _ (P : Profile) (C : Calls) (det : Det C) (A : ArityTable) (some : CallsHave P C A) (B : List Function) (news : are_new A B ≡ true) (plain : (f : Name) (h : Function) → function_named B f ≡ Some h → primitive_named P f ≡ None) (no_if : is_present (function_named B (named "IF")) ≡ false) (e : Environment) (close : Function → Terms → Formula) where
+module _ (P : Profile) (C : Calls) (det : Det C) (A : ArityTable) (some : CallsHave P C A) (B : List Function) (news : are_new A B ≡ true) (plain : (f : Name) (h : Function) → function_named B f ≡ Some h → primitive_named P f ≡ None) (no_if : is_some (function_named B (named "IF")) ≡ false) (e : Environment) (close : Function → Terms → Formula) where
   abbrev Down : Type 0
   Down =
       (f : Name) (h : Function) → function_named B f ≡ Some h → (ts : Terms) → any_mentions B ts ≡ false → count ts ≡ length h.formals → TrueAt P C e (close h ts) → (ws : List Object) → HaveValues P C e ts ws → Has (CallAtSomeDepth P C B h ws)
@@ -185,12 +185,12 @@ module _ (P : Profile) (C : Calls) (det : Det C) (A : ArityTable) (some : CallsH
   ev_cond true t u v w h i = h
   ev_cond false t u v w h i = i
 
-  induces_pend : (s : List Pending) (e' : Environment) → Induces P Also e (pending_terms s) e' → (ys : List Name) (ts : Terms) (vs : List Object) → HaveValues P Also e' ts vs → Induces P Also e (pending_terms (pend ys (actuals_with B s ts))) (bind ys vs ++ e)
+  induces_pend : (s : List Pending) (e' : Environment) → Induces P Also e (pending_terms s) e' → (ys : List Name) (ts : Terms) (vs : List Object) → HaveValues P Also e' ts vs → Induces P Also e (pending_terms (zip ys (actuals_with B s ts))) (bind ys vs ++ e)
   induces_pend s e' ind [] ts vs h x = refl
   induces_pend s e' ind (y ∷ ys) NoTerms vs h x = subst (λ z. lookup (bind (y ∷ ys) z ++ e) x ≡ lookup e x) (sym h) refl
   induces_pend s e' ind (y ∷ ys) (More t ts) vs h x =
-      subst (λ z. HasValue P Also e (cond (same_name y x) (substitute (pending_terms s) t) (image (pending_terms (pend ys (actuals_with B s ts))) x)) (lookup (bind (y ∷ ys) z ++ e) x)) (sym h.2)
-      (ev_cond (same_name y x) (substitute (pending_terms s) t) (image (pending_terms (pend ys (actuals_with B s ts))) x) h.0 (lookup (bind ys h.1 ++ e) x) (ev_sub-back P Also e e' (pending_terms s) ind t h.0 h.3) (induces_pend s e' ind ys ts h.1 h.4 x))
+      subst (λ z. HasValue P Also e (cond (same_name y x) (substitute (pending_terms s) t) (image (pending_terms (zip ys (actuals_with B s ts))) x)) (lookup (bind (y ∷ ys) z ++ e) x)) (sym h.2)
+      (ev_cond (same_name y x) (substitute (pending_terms s) t) (image (pending_terms (zip ys (actuals_with B s ts))) x) h.0 (lookup (bind ys h.1 ++ e) x) (ev_sub-back P Also e e' (pending_terms s) ind t h.0 h.3) (induces_pend s e' ind ys ts h.1 h.4 x))
 
   isnot_false : (s : List Pending) (e' : Environment) → Induces P Also e (pending_terms s) e' → (a : Term) (w : Object) → HasValue P Also e' a w → w ≢ NIL → mentions B (substitute (pending_terms s) a) ≡ false → TrueAt P C e (Equal (substitute (pending_terms s) a) (Constant NIL)) → ⊥
   isnot_false s e' ind a w hw ne m t =
@@ -217,7 +217,7 @@ module _ (P : Profile) (C : Calls) (det : Det C) (A : ArityTable) (some : CallsH
           down f h q (substitute_each (pending_terms s) ts) nm (count_subs (pending_terms s) ts ∙ sym same_n) fine.0.1 ws (evs_avoid P C B e (substitute_each (pending_terms s) ts) ws nm h2) (λ v r.
           k v (ws, h1, subst (λ o. OnCall Also o f ws v) (sym (plain f h q)) (subst (λ o. OnFunction C (CallAtSomeDepth P C B) o f ws v) (sym q) r))))
       go None q fine =
-          let out : is_present (function_named B f) ≡ false = ap is_present q in
+          let out : is_some (function_named B f) ≡ false = ap is_some q in
           ih fine (λ ws hws. on_has P C A some (primitive_named P f) f (count ts) ws refl i.0 (sym (arity_past B A f out) ∙ i.1) (evs_length P Also e' ts ws hws) (λ v hv. k v (ws, hws, on_keep P C B (primitive_named P f) f ws v out hv)))
 
   mutual
@@ -231,8 +231,8 @@ module _ (P : Profile) (C : Calls) (det : Det C) (A : ArityTable) (some : CallsH
         (λ q. has_value down s e' ind c i.3 (each_untested P C B e close (IsNil (substitute (pending_terms s) a)) (collect B s c) (is_false s e' ind a w hw q) (each_right (IsGood P C B e close) (map (under_test (IsNotNil (substitute (pending_terms s) a))) (collect B s b)) _ fb)) (λ v hv. k v (inr (subst (λ z. HasValue P Also e' a z) q hw, hv)))))
     has_value down s e' ind (Call f ts) i fine k = call_has down s e' ind f ts i (have_values down s e' ind ts i.2) fine k
     has_value down s e' ind (Lambda ys b ts) i fine k =
-        have_values down s e' ind ts i.5 (each_left (IsGood P C B e close) (all_calls (actuals_with B s ts)) (collect B (pend ys (actuals_with B s ts)) b) fine) (λ vs hvs.
-        has_value down (pend ys (actuals_with B s ts)) (bind ys vs ++ e) (induces_pend s e' ind ys ts vs hvs) b i.4 (each_right (IsGood P C B e close) (all_calls (actuals_with B s ts)) (collect B (pend ys (actuals_with B s ts)) b) fine) (λ v hv.
+        have_values down s e' ind ts i.5 (each_left (IsGood P C B e close) (all_calls (actuals_with B s ts)) (collect B (zip ys (actuals_with B s ts)) b) fine) (λ vs hvs.
+        has_value down (zip ys (actuals_with B s ts)) (bind ys vs ++ e) (induces_pend s e' ind ys ts vs hvs) b i.4 (each_right (IsGood P C B e close) (all_calls (actuals_with B s ts)) (collect B (zip ys (actuals_with B s ts)) b) fine) (λ v hv.
         k v (vs, hvs, ev_vars P Also ys (bind ys vs ++ e) (bind ys vs) (bound_over ys vs e (i.3 ∙ sym (evs_length P Also e' ts vs hvs))) b v i.2 hv)))
 
     pub have_values : (down : Down) (s : List Pending) (e' : Environment) → Induces P Also e (pending_terms s) e' → (ts : Terms) → AreFormed ((add_functions B A)) ts → Fine (all_calls (actuals_with B s ts)) → Has (HaveValues P Also e' ts)
@@ -259,7 +259,7 @@ each_at Q (g ∷ B) x f h q = go (same_name g.name f) q (each_at Q B x.1 f h)
     go false q ih = ih q
 
 -- a block with its obligations true
-module _ (P : Profile) (C : Calls) (det : Det C) (A : ArityTable) (some : CallsHave P C A) (o : Orders C) (B : List Function) (M : Measures) (news : are_new A B ≡ true) (formed : Each (BlockFormed P A B M) B) (no_if : is_present (function_named B (named "IF")) ≡ false) where
+module _ (P : Profile) (C : Calls) (det : Det C) (A : ArityTable) (some : CallsHave P C A) (o : Orders C) (B : List Function) (M : Measures) (news : are_new A B ≡ true) (formed : Each (BlockFormed P A B M) B) (no_if : is_some (function_named B (named "IF")) ≡ false) where
   plain : (f : Name) (h : Function) → function_named B f ≡ Some h → primitive_named P f ≡ None
   plain f h q = subst (λ n. primitive_named P n ≡ None) (fn_name B f h q) (each_at (BlockFormed P A B M) B formed f h q).plain
 
@@ -324,7 +324,7 @@ module _ (P : Profile) (C : Calls) (det : Det C) (A : ArityTable) (some : CallsH
     where
       go : (o : Option Function) → function_named B f ≡ o → ⊥
       go (Some h) q = block_has owed f h q ws (λ v hv. k v (subst (λ o. OnFunction C (CallAtSomeDepth P C B) o f ws v) (sym q) hv))
-      go None q = some f n ws c (sym (arity_past B A f (ap is_present q)) ∙ a) p l (λ v hv. k v (subst (λ o. OnFunction C (CallAtSomeDepth P C B) o f ws v) (sym q) hv))
+      go None q = some f n ws c (sym (arity_past B A f (ap is_some q)) ∙ a) p l (λ v hv. k v (subst (λ o. OnFunction C (CallAtSomeDepth P C B) o f ws v) (sym q) hv))
 
   -- each term has a value
   pub block_some : Owed P C B M → (e : Environment) (t : Term) → Formed (add_functions B A) t → Has (HasValue P (Now P C B) e t)

@@ -1,10 +1,11 @@
 -- What the tests of DEFINE and DEFINE-ALL give: the functions make a block that is well made, with a measure for each.
-use Rattle.std.proofs.Common.{◌≡◌, Bool, true, false, ◌&&◌, not, cond, List, [], ◌∷◌, length, map, Option, Some, None, refl, sym, ap, ◌∙◌, subst}
+use Rattle.std.proofs.Common.{◌≡◌, Bool, true, false, ◌&&◌, not, cond, List, [], ◌∷◌, length, map, Option, Some, None, refl, sym, ap, ◌∙◌, subst, is_none}
 use Rattle.std.proofs.lemmas.Bool.{and_parts, and_from, or_parts, not-true, cond-true, cond-false, false≢true}
 use Rattle.mw_model.specs.Terms.Object.{Name, Object, Natural, Symbol, Pair, same_name}
 use Rattle.mw_model.specs.Terms.Term.{Term, ArityTable, is_among, are_formals, are_distinct, is_closed, is_term, IsTerm}
-use Rattle.mw_model.specs.Terms.Reading.{names_of, both, that}
-use Rattle.mw_model.specs.Values.Definition.{Function, function_named, add_functions, is_absent, is_new, are_new, are_functions, is_some_function}
+use Rattle.mw_model.specs.Terms.Reading.{names_of, that}
+use Rattle.std.specs.Option.{option_zip}
+use Rattle.mw_model.specs.Values.Definition.{Function, function_named, add_functions, is_new, are_new, are_functions, is_some_function}
 use Rattle.mw_model.specs.Values.Truth.{Each}
 use Rattle.mw_model.specs.Events.Obligation.{measure_of, is_empty}
 use Rattle.mw_model.specs.Events.Expansion.{expanded, expand}
@@ -19,7 +20,7 @@ that_back test (Some y) x h =
     let p = when_some (test y) (Some y) x h in
     (p.1, subst (λ z. test z ≡ true) (some_one p.1) p.0)
 
-pub both_back : {X Y : Type 0} (o : Option X) (p : Option Y) (z : X × Y) → both o p ≡ Some z → (o ≡ Some z.0) × (p ≡ Some z.1)
+pub both_back : {X Y : Type 0} (o : Option X) (p : Option Y) (z : X × Y) → option_zip o p ≡ Some z → (o ≡ Some z.0) × (p ≡ Some z.1)
 both_back None p z h = cc
 both_back (Some x) None z h = cc
 both_back (Some x) (Some y) z h = let e = some_one h in (ap (λ w. Some w.0) e, ap (λ w. Some w.1) e)
@@ -107,8 +108,8 @@ module _ (A N : ArityTable) where
   names_fit (f ∷ fs) (xs ∷ xss) (b ∷ bs) (m ∷ ms) h d =
       let p = and_parts (not (is_among f fs)) (are_distinct fs) d in
       let n = none_named f (functions fs xss bs) (others f fs xss bs (not-true (is_among f fs) p.0)) in
-      and_from (is_new A f) (is_absent (function_named (functions fs xss bs) f) && are_new A (functions fs xss bs)) h.0.0
-      (and_from (is_absent (function_named (functions fs xss bs) f)) (are_new A (functions fs xss bs)) (ap is_absent n) (names_fit fs xss bs ms h.1 p.1))
+      and_from (is_new A f) (is_none (function_named (functions fs xss bs) f) && are_new A (functions fs xss bs)) h.0.0
+      (and_from (is_none (function_named (functions fs xss bs) f)) (are_new A (functions fs xss bs)) (ap is_none n) (names_fit fs xss bs ms h.1 p.1))
   names_fit [] [] [] (m ∷ ms) h d = absurd h
   names_fit [] [] (b ∷ bs) ms h d = absurd h
   names_fit [] (xs ∷ xss) bs ms h d = absurd h

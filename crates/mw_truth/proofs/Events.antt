@@ -1,9 +1,10 @@
 -- Each event keeps a sound theory sound, and what it accepts is true, where what the checker says yes to is true.
-use Rattle.std.proofs.Common.{◌≡◌, ℕ, suc, Bool, true, false, ◌&&◌, ltb, not, cond, List, [], ◌∷◌, length, map, Option, Some, None, refl, sym, ap, subst}
+use Rattle.std.proofs.Common.{◌≡◌, ℕ, suc, Bool, true, false, ◌&&◌, ltb, not, cond, List, [], ◌∷◌, length, map, Option, Some, None, refl, sym, ap, subst, option_to_list}
 use Rattle.std.proofs.lemmas.Bool.{and_from, not-true}
 use Rattle.mw_model.specs.Terms.Object.{Name, Object, Natural, Symbol, Pair, car, cdr, second_of, third_of, fourth_of, fifth_of, sixth_of, same_object, has_members, is_member}
 use Rattle.mw_model.specs.Terms.Term.{Term, Formula, formula_object, is_formula, IsFormula, are_formals, are_distinct, is_closed, is_term}
-use Rattle.mw_model.specs.Terms.Reading.{formula_of, formula_under, both, when}
+use Rattle.mw_model.specs.Terms.Reading.{formula_of, formula_under, when}
+use Rattle.std.specs.Option.{option_zip, option_or}
 use Rattle.mw_model.specs.Values.Primitive.{Profile, One, Two, is_symbol}
 use Rattle.mw_model.specs.Values.Definition.{Block, Functions, Choice, arity_table, add_functions, is_new, are_new, are_functions, is_some_function, is_block, are_blocks, block_axioms}
 use Rattle.mw_model.specs.Values.Truth.{Each, IsTrueIn, AreTrueIn}
@@ -13,10 +14,10 @@ use Rattle.mw_model.specs.Events.Expansion.{expand}
 use Rattle.mw_model.specs.Texts.Printing.{text_of}
 use Rattle.mw_model.specs.Events.Theory.{Theory, initial, claim, IsSound}
 use Rattle.mw_model.specs.Events.Refusal.{Refusal, RANGE, FORMALS, EVENT, STEPS, OVERFLOW, WITNESS, LONG, CONCLUSION, Fate, Accepted, refuse, accept, need, must, unless}
-use Rattle.mw_model.specs.Events.Checking.{judged, judged_as, or_else, judged_each}
+use Rattle.mw_model.specs.Events.Checking.{judged, judged_as, judged_each}
 use Rattle.mw_model.specs.Events.Admission.{Draft, all_of, new_name, new_names, formals_of, add_names, functions, measures, are_closed_by, add_to_theory, define, draft_of, drafts_of, some_drafts, add_witness}
 use Rattle.mw_model.specs.Events.Fate.{EventWord, Verify, Define, Skolem, Switch, Eval, Print, DefineAll, SetProfile, checker_named, longest, show, show_outcome, begin_profile, event_word, is_out_of_range, happens_by, happens}
-use Rattle.mw_model.specs.Reports.Keeping.{one_or_none, formulas_of_word, formulas_by, EventKeeps}
+use Rattle.mw_model.specs.Reports.Keeping.{formulas_of_word, formulas_by, EventKeeps}
 use Rattle.mw_model.proofs.Names.{same_object-eq}
 use Rattle.mw_model.proofs.Formed.{formed}
 use Rattle.mw_model.proofs.NewNames.{each_found, no_if}
@@ -66,7 +67,7 @@ cond_none : {X : Type 0} (b : Bool) (o : Option X) (x : X) → cond b o (Some x)
 cond_none true o x h = (refl, h)
 cond_none false o x h = cc
 
-or_none : (o r : Option Refusal) → or_else o r ≡ None → (o ≡ None) × (r ≡ None)
+or_none : (o r : Option Refusal) → option_or o r ≡ None → (o ≡ None) × (r ≡ None)
 or_none None r h = (refl, h)
 or_none (Some q) r h = cc
 
@@ -89,7 +90,7 @@ each_true t (F ∷ Fs) h = (h.0.1, each_true t Fs h.1)
 record IsTested (t : Theory) (N : ℕ) (ds : List Draft) (proofs : Object) (fs : List Name) (xss : List (List Name)) (found : List Term × List Term) : Type 0 where
   pub names : new_names (arity_table t.definitions) (map (λ d. d.name) ds) ≡ Some fs
   pub formals : all_of formals_of (map (λ d. d.formals) ds) ≡ Some xss
-  pub terms : both (all_of (expand (add_names fs xss (arity_table t.definitions))) (map (λ d. d.body) ds)) (all_of (expand (arity_table t.definitions)) (map (λ d. d.measure) ds)) ≡ Some found
+  pub terms : (option_zip) (all_of (expand (add_names fs xss (arity_table t.definitions))) (map (λ d. d.body) ds)) (all_of (expand (arity_table t.definitions)) (map (λ d. d.measure) ds)) ≡ Some found
   pub closed : are_closed_by xss found.0 found.1 ≡ true
   pub flat : not (is_nested (functions fs xss found.0) (functions fs xss found.0)) ≡ true
   pub judged : judged_each t N (obligations (functions fs xss found.0) (measures fs found.1)) proofs ≡ None
@@ -110,7 +111,7 @@ module _ (t : Theory) (s : IsSound t) (e : Object) where
       let true_F = judged_as-true t N j F (fourth_of e) r.1 h in
       let u = record t { theorems = Pair (formula_object F) t.theorems } in
       accept_keeps e Verify u [] q (theorem_sound t s F (r.1, true_F))
-      (subst (λ o. AreTrueIn t.definitions (one_or_none o)) (sym r.0) (true_F, tt)))))
+      (subst (λ o. AreTrueIn t.definitions (option_to_list o)) (sym r.0) (true_F, tt)))))
 
   -- a definition that passes each test
   tested_sound : (N : ℕ) → JudgesTruly t N → (ds : List Draft) (proofs : Object) (fs : List Name) (xss : List (List Name)) (terms : List Term × List Term) → is_empty ds ≡ false → IsTested t N ds proofs fs xss terms → (are_blocks t.definitions.profile (Functions (functions fs xss terms.0) ∷ t.definitions.blocks) ≡ true) × IsSound (add_to_theory t (Functions (functions fs xss terms.0)))
@@ -148,7 +149,7 @@ module _ (t : Theory) (s : IsSound t) (e : Object) where
       let A = arity_table t.definitions in
       need_keeps e t _ (new_names A (map (λ d. d.name) ds)) _ s (λ fs h1.
       need_keeps e t _ (all_of formals_of (map (λ d. d.formals) ds)) _ s (λ xss h2.
-      need_keeps e t _ (both (all_of (expand (add_names fs xss A)) (map (λ d. d.body) ds)) (all_of (expand A) (map (λ d. d.measure) ds))) _ s (λ terms h3.
+      need_keeps e t _ (option_zip (all_of (expand (add_names fs xss A)) (map (λ d. d.body) ds)) (all_of (expand A) (map (λ d. d.measure) ds))) _ s (λ terms h3.
       let B = functions fs xss terms.0 in
       let owed = obligations B (measures fs terms.1) in
       must_keeps e t _ (are_closed_by xss terms.0 terms.1) _ s (λ h4.

@@ -4,7 +4,7 @@ use Rattle.std.proofs.lemmas.Bool.{and_parts, and_from, or_cases, cond-true, con
 use Rattle.mw_model.specs.Terms.Object.{Name, Object, same_name, NIL}
 use Rattle.mw_model.specs.Terms.Term.{Term, Terms, Call, Lambda, More, ArityTable, arity_of, is_variable, are_variables, are_distinct, are_formals, is_among, is_closed, count, is_term, IsTerm, IsFormula}
 use Rattle.mw_model.specs.Values.Primitive.{Profile, primitive_named}
-use Rattle.mw_model.specs.Values.Definition.{Function, Block, Functions, Choice, definitions, function_named, arities, is_new, are_functions, is_block, are_blocks, variable_terms, function_axiom, function_axioms, choice_axiom, block_axioms}
+use Rattle.mw_model.specs.Values.Definition.{Function, Block, Functions, Choice, definitions, function_named, arities, is_new, are_functions, is_block, are_blocks, variable_terms, function_axiom, choice_axiom, block_axioms}
 use Rattle.mw_model.specs.Values.Value.{Environment, lookup, bind, Calls, HasValue, HaveValues, OnFunction, pick, CallAtSomeDepth, Satisfies, IsWitness, extend_by, block_calls, IsTotal}
 use Rattle.mw_model.specs.Values.Truth.{IsTrueIn, Each}
 use Rattle.mw_model.proofs.CallDepth.{no_primitive, on_no_primitive}
@@ -78,7 +78,7 @@ module _ (P : Profile) (B : List Function) (D : List Block) (w : are_blocks P (F
       let b' = subst (λ vs. HasValue P After (bind h.formals vs) h.body u) (variables_only P After e h.formals hu.0 hu.1) b in
       k u hu (ev_vars P After h.formals (bind h.formals (map (lookup e) h.formals)) e (rebound e h.formals) h.body u shut b'))
 
-  functions_good : (hs : List Function) → Each (λ h. is_new (arities P D) h.name ≡ true) hs → Each (λ h. function_named B h.name ≡ Some h) hs → are_functions New hs ≡ true → Each (IsTrueFormula (definitions P (Functions B ∷ D))) (function_axioms hs)
+  functions_good : (hs : List Function) → Each (λ h. is_new (arities P D) h.name ≡ true) hs → Each (λ h. function_named B h.name ≡ Some h) hs → are_functions New hs ≡ true → Each (IsTrueFormula (definitions P (Functions B ∷ D))) (map function_axiom hs)
   functions_good [] n f a = tt
   functions_good (h ∷ hs) n f a =
       let p = function_parts New h hs a in
@@ -86,7 +86,7 @@ module _ (P : Profile) (B : List Function) (D : List Block) (w : are_blocks P (F
       let c = Call h.name (variable_terms h.formals) in
       ((and_from (is_term New c) (is_term New h.body) (is_term-from New c (call_formed h n.0 f.0 v)) p.1, function_true h n.0 f.0 v p.2), functions_good hs n.1 f.1 p.3)
 
-  pub functions_axioms : Each (IsTrueFormula (definitions P (Functions B ∷ D))) (function_axioms B)
+  pub functions_axioms : Each (IsTrueFormula (definitions P (Functions B ∷ D))) (map function_axiom B)
   functions_axioms =
       let p = functions_new P B D w in
       functions_good B (each_new (arities P D) B p.0) (each_found (arities P D) B p.0) p.1

@@ -1,13 +1,13 @@
 -- The obligations of a block are formulas under the older table.
-use Rattle.std.proofs.Common.{◌≡◌, Bool, true, false, not, cond, List, [], ◌∷◌, map, filter, Option, Some, None, refl, sym, ap, ◌∙◌}
+use Rattle.std.proofs.Common.{◌≡◌, Bool, true, false, not, cond, List, [], ◌∷◌, map, filter, Option, Some, None, refl, sym, ap, ◌∙◌, is_some, zip}
 use Rattle.std.proofs.lemmas.Bool.{or_parts, and_from}
 use Rattle.mw_model.specs.Terms.Object.{Name, Object, named, same_name, NIL, T}
 use Rattle.mw_model.specs.Terms.Term.{Term, Terms, Variable, Constant, If, Call, Lambda, NoTerms, More, Formula, Equal, Or, ArityTable, arity_of, is_variable, is_term, is_formula, IsFormula, firsts}
 use Rattle.mw_model.specs.Terms.Same.{same_formula}
 use Rattle.mw_model.specs.Terms.Substitution.{Substitution, substitute, substitute_each, image, actuals_for}
-use Rattle.mw_model.specs.Values.Definition.{Function, function_named, add_functions, is_present}
+use Rattle.mw_model.specs.Values.Definition.{Function, function_named, add_functions}
 use Rattle.mw_model.specs.Values.Truth.{Each}
-use Rattle.mw_model.specs.Events.Obligation.{mentions, any_mentions, Test, IsNotNil, IsNil, RecursiveCall, under_test, Actual, Pending, pend, pending_terms, pending_calls, all_calls, call_or, collect, actuals_with, recursive_calls, some_nested, is_nested, Measures, measure_of, ordinal_formula, tested, test_formula, under_tests, falls, obligation, owed, calls_none, obligations}
+use Rattle.mw_model.specs.Events.Obligation.{mentions, any_mentions, Test, IsNotNil, IsNil, RecursiveCall, under_test, Actual, Pending, pending_terms, pending_calls, all_calls, call_or, collect, actuals_with, recursive_calls, some_nested, is_nested, Measures, measure_of, ordinal_formula, tested, test_formula, under_tests, falls, obligation, owed, calls_none, obligations}
 use Rattle.mw_model.proofs.PremisesObject.{each_append}
 use Rattle.mw_model.proofs.Formed.{Formed, AreFormed, is_term-from}
 use Rattle.mw_truth.proofs.Having.{count_subs}
@@ -63,21 +63,21 @@ module _ (A : ArityTable) (B : List Function) where
   ActualFormed u = Formed A u.term × Each CallFormed u.calls
 
   abbrev PendingFormed : Pending → Type 0
-  PendingFormed p = Formed A p.term × Each CallFormed p.calls
+  PendingFormed p = Formed A p.1.term × Each CallFormed p.1.calls
 
   gives_pending : (s : List Pending) → Each PendingFormed s → Gives A (pending_terms s)
   gives_pending [] h x v = v
-  gives_pending (p ∷ s) h x v = cond_formed A (same_name p.formal x) p.term (image (pending_terms s) x) h.0.0 (gives_pending s h.1 x v)
+  gives_pending (p ∷ s) h x v = cond_formed A (same_name p.0 x) p.1.term (image (pending_terms s) x) h.0.0 (gives_pending s h.1 x v)
 
   pending_formed : (s : List Pending) → Each PendingFormed s → (x : Name) → Each CallFormed (pending_calls s x)
   pending_formed [] h x = tt
-  pending_formed (p ∷ s) h x = go (same_name p.formal x) (pending_formed s h.1 x)
+  pending_formed (p ∷ s) h x = go (same_name p.0 x) (pending_formed s h.1 x)
     where
-      go : (b : Bool) → Each CallFormed (pending_calls s x) → Each CallFormed (cond b p.calls (pending_calls s x))
+      go : (b : Bool) → Each CallFormed (pending_calls s x) → Each CallFormed (cond b p.1.calls (pending_calls s x))
       go true k = h.0.1
       go false k = k
 
-  pend_formed : (ys : List Name) (us : List Actual) → Each ActualFormed us → Each PendingFormed (pend ys us)
+  pend_formed : (ys : List Name) (us : List Actual) → Each ActualFormed us → Each PendingFormed (zip ys us)
   pend_formed [] us h = tt
   pend_formed (y ∷ ys) [] h = tt
   pend_formed (y ∷ ys) (u ∷ us) h = (h.0, pend_formed ys us h.1)
@@ -108,14 +108,14 @@ module _ (A : ArityTable) (B : List Function) where
         call_formed f (function_named B f) refl (substitute_each (pending_terms s) ts) (substitute_each_formed A (pending_terms s) (gives_pending s h) ts i.2) (all_calls (actuals_with B s ts)) (all_formed (actuals_with B s ts) (actuals_formed s h ts i.2))
     collect_formed s h (Lambda ys b ts) i =
         let us = actuals_formed s h ts i.5 in
-        each_append CallFormed (all_calls (actuals_with B s ts)) _ (all_formed (actuals_with B s ts) us) (collect_formed (pend ys (actuals_with B s ts)) (pend_formed ys (actuals_with B s ts) us) b i.4)
+        each_append CallFormed (all_calls (actuals_with B s ts)) _ (all_formed (actuals_with B s ts) us) (collect_formed (zip ys (actuals_with B s ts)) (pend_formed ys (actuals_with B s ts) us) b i.4)
 
     actuals_formed : (s : List Pending) → Each PendingFormed s → (ts : Terms) → AreFormed A ts → Each ActualFormed (actuals_with B s ts)
     actuals_formed s h NoTerms i = tt
     actuals_formed s h (More t ts) i = ((substitute_formed A (pending_terms s) (gives_pending s h) t i.0, collect_formed s h t i.0), actuals_formed s h ts i.1)
 
 -- under the older table: what mentions the block is left out
-module _ (A : ArityTable) (B : List Function) (M : Measures) (no_if : is_present (function_named B (named "IF")) ≡ false) (less : arity_of A (named "ORD<") ≡ Some 2) (ordp : arity_of A (named "ORDP") ≡ Some 1) (measured : (f : Name) (h : Function) → function_named B f ≡ Some h → Formed A (measure_of M h.name)) where
+module _ (A : ArityTable) (B : List Function) (M : Measures) (no_if : is_some (function_named B (named "IF")) ≡ false) (less : arity_of A (named "ORD<") ≡ Some 2) (ordp : arity_of A (named "ORDP") ≡ Some 1) (measured : (f : Name) (h : Function) → function_named B f ≡ Some h → Formed A (measure_of M h.name)) where
   abbrev New : ArityTable
   New = add_functions B A
 

@@ -1,10 +1,9 @@
 -- Terms of primitives alone: their one value is computed, whatever the calls of defined functions are.
-use Rattle.std.proofs.Common.{◌≡◌, ◌≢◌, Bool, true, false, ◌&&◌, List, [], ◌∷◌, Option, Some, None, refl, sym, ap, ap₂, ◌∙◌, subst, ◌⊎◌, inl, inr}
+use Rattle.std.proofs.Common.{◌≡◌, ◌≢◌, Bool, true, false, ◌&&◌, List, [], ◌∷◌, Option, Some, None, refl, sym, ap, ap₂, ◌∙◌, subst, ◌⊎◌, inl, inr, is_some}
 use Rattle.std.proofs.lemmas.Bool.{and_parts}
 use Rattle.mw_model.specs.Terms.Object.{Name, Object, same_object, NIL}
 use Rattle.mw_model.specs.Terms.Term.{Term, Terms, Variable, Constant, If, Call, Lambda, NoTerms, More, Formula, Equal, Not, Or}
 use Rattle.mw_model.specs.Values.Primitive.{Profile, Primitive, primitive_named, apply, choose}
-use Rattle.mw_model.specs.Values.Definition.{is_present}
 use Rattle.mw_model.specs.Values.Value.{Environment, lookup, bind, Calls, OnCall, HasValue, HaveValues}
 use Rattle.mw_model.specs.Values.Truth.{TrueAt, TrueFor, Each}
 use Rattle.mw_model.proofs.Names.{object_cases, same_object-from}
@@ -20,7 +19,7 @@ module _ (P : Profile) where
     calls_primitives (Variable x) = true
     calls_primitives (Constant c) = true
     calls_primitives (If a b c) = calls_primitives a && (calls_primitives b && calls_primitives c)
-    calls_primitives (Call f ts) = is_present (primitive_named P f) && call_primitives ts
+    calls_primitives (Call f ts) = is_some (primitive_named P f) && call_primitives ts
     calls_primitives (Lambda xs b ts) = calls_primitives b && call_primitives ts
 
     pub call_primitives : Terms → Bool
@@ -65,11 +64,11 @@ module _ (P : Profile) where
   choose_else e a b c v n h = let q = same_object-from (computed e a) NIL n in rw q h
 
   module _ (C : Calls) where
-    on_primitive : (o : Option Primitive) (f : Name) (vs : List Object) → is_present o ≡ true → OnCall C o f vs (value_of_call o vs)
+    on_primitive : (o : Option Primitive) (f : Name) (vs : List Object) → is_some o ≡ true → OnCall C o f vs (value_of_call o vs)
     on_primitive None f vs h = cc
     on_primitive (Some p) f vs h = refl
 
-    on_primitive-only : (o : Option Primitive) (f : Name) (vs : List Object) (v : Object) → is_present o ≡ true → OnCall C o f vs v → v ≡ value_of_call o vs
+    on_primitive-only : (o : Option Primitive) (f : Name) (vs : List Object) (v : Object) → is_some o ≡ true → OnCall C o f vs v → v ≡ value_of_call o vs
     on_primitive-only None f vs v h k = cc
     on_primitive-only (Some p) f vs v h k = k
 
@@ -86,7 +85,7 @@ module _ (P : Profile) where
           let q = and_parts (calls_primitives b) (calls_primitives c) p.1 in
           if_computed e a b c (object_cases (computed e a) NIL) (computed_value e a p.0) (computed_value e b q.0) (computed_value e c q.1)
       computed_value e (Call f ts) i =
-          let p = and_parts (is_present (primitive_named P f)) (call_primitives ts) i in
+          let p = and_parts (is_some (primitive_named P f)) (call_primitives ts) i in
           (computed_each e ts, computed_values e ts p.1, on_primitive (primitive_named P f) f (computed_each e ts) p.0)
       computed_value e (Lambda xs b ts) i =
           let p = and_parts (calls_primitives b) (call_primitives ts) i in
@@ -111,7 +110,7 @@ module _ (P : Profile) where
           let q = and_parts (calls_primitives b) (calls_primitives c) p.1 in
           choose_else e a b c v (sym (only_computed e a NIL p.0 h.0)) (only_computed e c v q.1 h.1)
       only_computed e (Call f ts) v i h =
-          let p = and_parts (is_present (primitive_named P f)) (call_primitives ts) i in
+          let p = and_parts (is_some (primitive_named P f)) (call_primitives ts) i in
           on_primitive-only (primitive_named P f) f h.0 v p.0 h.2 ∙ ap (value_of_call (primitive_named P f)) (only_computed_each e ts h.0 p.1 h.1)
       only_computed e (Lambda xs b ts) v i h =
           let p = and_parts (calls_primitives b) (call_primitives ts) i in

@@ -1,9 +1,9 @@
 //! Admission of a block keeps totality and truth.
 
-ghost use Rattle.std.specs.Prelude.{◌↔◌, List};
+ghost use Rattle.std.specs.Prelude.{◌↔◌, List, map};
 ghost use Rattle.mw_model.specs.Terms.Object.{Name, Object};
 ghost use Rattle.mw_model.specs.Terms.Term.{Term, Formula, IsTerm, IsFormula};
-ghost use Rattle.mw_model.specs.Values.Definition.{Function, Block, Functions, Choice, Definitions, arity_table, IsWellMade, function_axioms, choice_axiom};
+ghost use Rattle.mw_model.specs.Values.Definition.{Function, Block, Functions, Choice, Definitions, arity_table, IsWellMade, choice_axiom, function_axiom};
 ghost use Rattle.mw_model.specs.Values.Value.{Environment, IsValue, IsTotal};
 ghost use Rattle.mw_model.specs.Values.Truth.{Each, IsTrueIn};
 ghost use Rattle.mw_model.specs.Events.Obligation.{Measures};
@@ -17,7 +17,7 @@ ghost use Rattle.mw_truth.specs.Admitted.{with_block, IsAdmissible};
 pub fn admission()
     ensures passes { (D : Definitions) (B : List Function) (M : Measures) → IsAdmissible D B M → Passes (goal (OfBlock (with_block D (Functions B)) M)) }
     ensures total { (D : Definitions) (B : List Function) (M : Measures) → IsAdmissible D B M → IsTotal (with_block D (Functions B)) }
-    ensures axioms { (D : Definitions) (B : List Function) (M : Measures) → IsAdmissible D B M → Each (IsTrueFormula (with_block D (Functions B))) (function_axioms B) }
+    ensures axioms { (D : Definitions) (B : List Function) (M : Measures) → IsAdmissible D B M → Each (IsTrueFormula (with_block D (Functions B))) (map function_axiom B) }
 {}
 
 /// A witness owes nothing: total definitions stay total with it, and its axiom is a formula that is true in them.

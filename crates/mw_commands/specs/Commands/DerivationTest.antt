@@ -7,7 +7,7 @@ use Rattle.mw_model.specs.Terms.Reading.{formula_of, and_more, if_nil, when}
 use Rattle.mw_model.specs.Values.Primitive.{Profile}
 use Rattle.mw_model.specs.Values.Definition.{arity_table}
 use Rattle.mw_model.specs.Proofs.Proof.{three_terms}
-use Rattle.mw_model.specs.Proofs.Judgment.{methods, of_one, of_two, follows}
+use Rattle.mw_model.specs.Proofs.Judgment.{methods, follows}
 use Rattle.mw_model.specs.Events.Theory.{Theory}
 use Rattle.mw_model.specs.Events.Refusal.{Refusal, CONCLUSION, PROOF}
 use Rattle.mw_model.specs.Events.Checking.{no_unless, judged_by}
@@ -44,11 +44,12 @@ is_replaced _ Fs = false
 
 abbrev pub derives : Object → Object → ArityTable → Profile → Rule → Formula → List Formula → Object → Bool
 derives axioms theorems A P (By m) F Fs x = follows axioms theorems A P m F Fs x
-derives axioms theorems A P CommuteOr F Fs x = same_object x NIL && of_one (is_commuted F) Fs
-derives axioms theorems A P ModusPonens F Fs x = same_object x NIL && of_two (is_detached F) Fs
-derives axioms theorems A P Symmetry F Fs x = same_object x NIL && of_one (is_turned F) Fs
-derives axioms theorems A P Transitivity F Fs x = same_object x NIL && of_two (is_chained F) Fs
+derives axioms theorems A P CommuteOr F (G ∷ []) x = same_object x NIL && is_commuted F G
+derives axioms theorems A P ModusPonens F (G ∷ H ∷ []) x = same_object x NIL && is_detached F G H
+derives axioms theorems A P Symmetry F (G ∷ []) x = same_object x NIL && is_turned F G
+derives axioms theorems A P Transitivity F (G ∷ H ∷ []) x = same_object x NIL && is_chained F G H
 derives axioms theorems A P Replace F Fs x = same_object x NIL && is_replaced F Fs
+derives axioms theorems A P r F Fs x = false
 
 abbrev pub derive_step : Object → Object → ArityTable → Profile → Option Rule → Option Formula → Option (List Formula) → Option Object → Option Formula
 derive_step axioms theorems A P (Some r) (Some F) (Some Fs) (Some x) = when (is_formula A F && derives axioms theorems A P r F Fs x) (Some F)

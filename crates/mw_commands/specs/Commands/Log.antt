@@ -1,11 +1,11 @@
 -- Logs: books whose proofs are lists of single steps, each a datum, with numbers in place of subproofs.
-use Rattle.std.specs.Prelude.{ℕ, zero, suc, ◌+◌, Bool, true, false, ◌&&◌, not, List, [], ◌∷◌, ◌++◌, length, Option, Some, None, codes}
+use Rattle.std.specs.Prelude.{ℕ, zero, suc, ◌+◌, Bool, true, false, ◌&&◌, not, List, [], ◌∷◌, ◌++◌, length, Option, Some, None, codes, is_some}
 use Rattle.mw_model.specs.Terms.Object.{Object, Natural, Symbol, Pair, symbol, same_object, second_of, third_of, fourth_of, fifth_of, sixth_of, has_members}
 use Rattle.mw_model.specs.Terms.Term.{Formula, ArityTable}
 use Rattle.mw_model.specs.Terms.Same.{same_formula}
 use Rattle.mw_model.specs.Terms.Reading.{and_more, if_nil, when, formula_of}
 use Rattle.mw_model.specs.Values.Primitive.{Profile}
-use Rattle.mw_model.specs.Values.Definition.{arity_table, is_present}
+use Rattle.mw_model.specs.Values.Definition.{arity_table}
 use Rattle.mw_model.specs.Proofs.Judgment.{methods, method_among, judge_step}
 use Rattle.mw_model.specs.Events.Theory.{Theory}
 use Rattle.mw_model.specs.Events.Admission.{some_drafts}
@@ -89,7 +89,7 @@ one_number (Some n) = Some (n ∷ [])
 abbrev pub numbers_of : EventWord → Object → Option (List ℕ)
 numbers_of Verify e = one_number (natural_of (fourth_of e))
 numbers_of Define e = naturals_of (sixth_of e)
-numbers_of DefineAll e = when (is_present (some_drafts (second_of e))) (naturals_of (third_of e))
+numbers_of DefineAll e = when (is_some (some_drafts (second_of e))) (naturals_of (third_of e))
 numbers_of Skolem e = Some []
 numbers_of SetProfile e = Some []
 numbers_of Switch e = None

@@ -1,8 +1,9 @@
 -- Events that add definitions. The tests stand in the order in which they are made: the first that fails decides.
-use Rattle.std.specs.Prelude.{ℕ, Bool, true, ◌&&◌, not, List, [], ◌∷◌, length, map, Option, Some, None}
+use Rattle.std.specs.Prelude.{ℕ, Bool, true, ◌&&◌, not, List, [], ◌∷◌, length, map, Option, Some, None, zip}
 use Rattle.mw_model.specs.Terms.Object.{Name, Object, Natural, Symbol, Pair, same_object, NIL, car, second_of, third_of, fourth_of, fifth_of, sixth_of, has_members}
 use Rattle.mw_model.specs.Terms.Term.{Term, ArityTable, are_formals, are_distinct, is_closed}
-use Rattle.mw_model.specs.Terms.Reading.{names_of, and_more, both, when, that}
+use Rattle.mw_model.specs.Terms.Reading.{names_of, and_more, when, that}
+use Rattle.std.specs.Option.{option_zip}
 use Rattle.mw_model.specs.Values.Definition.{Function, Block, Functions, Choice, definitions, arity_table, is_new, block_axioms}
 use Rattle.mw_model.specs.Events.Obligation.{Measures, obligations, is_nested}
 use Rattle.mw_model.specs.Events.Expansion.{expand}
@@ -23,8 +24,7 @@ all_of f (x ∷ xs) = and_more (f x) (all_of f xs)
 
 abbrev pub new_name : ArityTable → Object → Option Name
 new_name A (Symbol f) = when (is_new A f) (Some f)
-new_name A (Natural n) = None
-new_name A (Pair a b) = None
+new_name A _ = None
 
 abbrev pub new_names : ArityTable → List Object → Option (List Name)
 new_names A xs = that are_distinct (all_of (new_name A) xs)
@@ -42,8 +42,7 @@ functions (f ∷ fs) (xs ∷ xss) (b ∷ bs) = record { name = f; formals = xs; 
 functions _ _ _ = []
 
 abbrev pub measures : List Name → List Term → Measures
-measures (f ∷ fs) (m ∷ ms) = (f, m) ∷ measures fs ms
-measures _ _ = []
+measures fs ms = zip fs ms
 
 -- the free variables of bodies and measures are formals
 abbrev pub are_closed_by : List (List Name) → List Term → List Term → Bool
@@ -59,7 +58,7 @@ define t N drafts proofs =
     let A = arity_table t.definitions in
     need t NAME (new_names A (map (λ d. d.name) drafts)) (λ fs.
     need t FORMALS (all_of formals_of (map (λ d. d.formals) drafts)) (λ xss.
-    need t TERM (both (all_of (expand (add_names fs xss A)) (map (λ d. d.body) drafts)) (all_of (expand A) (map (λ d. d.measure) drafts))) (λ terms.
+    need t TERM (option_zip (all_of (expand (add_names fs xss A)) (map (λ d. d.body) drafts)) (all_of (expand A) (map (λ d. d.measure) drafts))) (λ terms.
     let B = functions fs xss terms.0 in
     let owed = obligations B (measures fs terms.1) in
     must t VARIABLES (are_closed_by xss terms.0 terms.1)
@@ -83,8 +82,7 @@ drafts_of (Natural n) = None
 
 abbrev pub some_drafts : Object → Option (List Draft)
 some_drafts (Pair d r) = drafts_of (Pair d r)
-some_drafts (Symbol s) = None
-some_drafts (Natural n) = None
+some_drafts _ = None
 
 abbrev pub define_all : Theory → ℕ → Object → Fate × Theory
 define_all t N e = need t EVENT (some_drafts (second_of e)) (λ drafts. define t N drafts (third_of e))

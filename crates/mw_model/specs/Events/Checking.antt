@@ -1,5 +1,6 @@
 -- The verdict of a theory's checker on proofs.
 use Rattle.std.specs.Prelude.{ℕ, cond, List, [], ◌∷◌, Option, Some, None}
+use Rattle.std.specs.Option.{option_or}
 use Rattle.mw_model.specs.Terms.Object.{Name, Object, same_object, NIL, car, cdr, second_of}
 use Rattle.mw_model.specs.Terms.Term.{Call, Formula, formula_object, table_object}
 use Rattle.mw_model.specs.Values.Definition.{arity_table}
@@ -23,7 +24,8 @@ verdict Witness = Some WITNESS
 
 abbrev pub judged_by : Option Name → Theory → Object → ℕ → Option Refusal
 judged_by None t p N = no_unless PROOF (judge t.axioms t.theorems (arity_table t.definitions) t.definitions.profile p)
-judged_by (Some f) t p N = verdict (evaluate t.definitions N [] (Call f (constants (p ∷ t.axioms ∷ t.theorems ∷ table_object (arity_table t.definitions) ∷ []))))
+judged_by (Some f) t p N =
+    verdict (evaluate t.definitions N [] (Call f (constants (p ∷ t.axioms ∷ t.theorems ∷ table_object (arity_table t.definitions) ∷ []))))
 
 abbrev pub judged : Theory → Object → ℕ → Option Refusal
 judged t p N = judged_by t.checker t p N
@@ -32,11 +34,7 @@ judged t p N = judged_by t.checker t p N
 abbrev pub judged_as : Theory → ℕ → Formula → Object → Option Refusal
 judged_as t N F p = cond (same_object (second_of p) (formula_object F)) (judged t p N) (Some CONCLUSION)
 
-abbrev pub or_else : Option Refusal → Option Refusal → Option Refusal
-or_else None r = r
-or_else (Some q) r = Some q
-
 -- proof by proof, for the wanted formulas in order
 abbrev pub judged_each : Theory → ℕ → List Formula → Object → Option Refusal
 judged_each t N [] ps = None
-judged_each t N (F ∷ Fs) ps = or_else (judged_as t N F (car ps)) (judged_each t N Fs (cdr ps))
+judged_each t N (F ∷ Fs) ps = option_or (judged_as t N F (car ps)) (judged_each t N Fs (cdr ps))

@@ -2,14 +2,14 @@
 use Rattle.std.specs.Prelude.{ℕ, Bool, true, false, not, List, [], ◌∷◌, length, map, Option, Some, None}
 use Rattle.mw_model.specs.Terms.Object.{Object, Pair, NIL, car, cdr, second_of, third_of, fourth_of, fifth_of, sixth_of, has_members, list1, list3, list4}
 use Rattle.mw_model.specs.Terms.Term.{Formula, formula_object}
-use Rattle.mw_model.specs.Terms.Reading.{formula_under, both, when}
+use Rattle.mw_model.specs.Terms.Reading.{formula_under, when}
+use Rattle.std.specs.Option.{option_zip, option_or}
 use Rattle.mw_model.specs.Values.Primitive.{is_symbol}
 use Rattle.mw_model.specs.Values.Definition.{Functions, arity_table}
 use Rattle.mw_model.specs.Events.Obligation.{obligations, is_nested}
 use Rattle.mw_model.specs.Events.Expansion.{expand}
 use Rattle.mw_model.specs.Events.Theory.{Theory}
 use Rattle.mw_model.specs.Events.Refusal.{Refusal, RANGE, EVENT, NAME, FORMALS, TERM, FORMULA, VARIABLES, NESTED, COUNT, Fate, Accepted, Refused, refuse, accept, need, must, unless}
-use Rattle.mw_model.specs.Events.Checking.{or_else}
 use Rattle.mw_model.specs.Events.Admission.{Draft, all_of, new_names, formals_of, add_names, functions, measures, are_closed_by, add_to_theory, some_drafts, skolem}
 use Rattle.mw_model.specs.Events.Fate.{EventWord, Verify, Define, Skolem, Switch, Eval, Print, DefineAll, SetProfile, event_word, is_out_of_range, switch, eval, print, profile}
 
@@ -37,7 +37,7 @@ define_demand t drafts =
     let A = arity_table t.definitions in
     wants_some NAME (new_names A (map (λ d. d.name) drafts)) (λ fs.
     wants_some FORMALS (all_of formals_of (map (λ d. d.formals) drafts)) (λ xss.
-    wants_some TERM (both (all_of (expand (add_names fs xss A)) (map (λ d. d.body) drafts)) (all_of (expand A) (map (λ d. d.measure) drafts))) (λ terms.
+    wants_some TERM (option_zip (all_of (expand (add_names fs xss A)) (map (λ d. d.body) drafts)) (all_of (expand A) (map (λ d. d.measure) drafts))) (λ terms.
     let B = functions fs xss terms.0 in
     let owed = obligations B (measures fs terms.1) in
     wants_that VARIABLES (are_closed_by xss terms.0 terms.1) (wants_that NESTED (not (is_nested B B)) (Wants owed (add_to_theory t (Functions B)))))))
@@ -81,7 +81,7 @@ Judge = Theory → ℕ → Formula → Object → Option Refusal
 -- proof by proof, for the wanted formulas in order
 abbrev pub each_judged : Judge → Theory → ℕ → List Formula → Object → Option Refusal
 each_judged J t N [] ps = None
-each_judged J t N (F ∷ Fs) ps = or_else (J t N F (car ps)) (each_judged J t N Fs (cdr ps))
+each_judged J t N (F ∷ Fs) ps = option_or (J t N F (car ps)) (each_judged J t N Fs (cdr ps))
 
 abbrev pub settled : Judge → Theory → ℕ → Object → Demand → Fate × Theory
 settled J t N ps (Denied r) = refuse t r

@@ -1,8 +1,9 @@
 -- Expansion of raw terms: abbreviations, plain numbers, T and NIL.
-use Rattle.std.specs.Prelude.{◌&&◌, cond, List, [], ◌∷◌, ◌++◌, Option, Some, None}
+use Rattle.std.specs.Prelude.{◌&&◌, cond, List, [], ◌∷◌, ◌++◌, Option, Some, None, option_map, option_and_then, map}
 use Rattle.mw_model.specs.Terms.Object.{Name, Object, Natural, Symbol, Pair, named, symbol, same_name, same_object, nil_name, NIL, T}
 use Rattle.mw_model.specs.Terms.Term.{Term, Terms, Variable, Constant, If, Call, Lambda, NoTerms, More, ArityTable, variables, is_among, is_term}
-use Rattle.mw_model.specs.Terms.Reading.{names_of, and_more, both, more_terms, lambda_of, if_nil, when, that}
+use Rattle.mw_model.specs.Terms.Reading.{names_of, and_more, lambda_of, if_nil, when, that, map2}
+use Rattle.std.specs.Option.{option_zip}
 
 -- what a form begins with
 pub data Abbreviation : Type 0 where
@@ -10,7 +11,9 @@ pub data Abbreviation : Type 0 where
 
 abbrev pub abbreviations : List (Name × Abbreviation)
 abbreviations =
-    (named "AND", AND) ∷ (named "OR", OR) ∷ (named "COND", COND) ∷ (named "LIST", LIST) ∷ (named "LET", LET) ∷ (named "LET*", LETSTAR) ∷ (named "FIRST", FIRST) ∷ (named "SECOND", SECOND) ∷ (named "THIRD", THIRD) ∷ (named "FOURTH", FOURTH) ∷ (named "FIFTH", FIFTH) ∷ (named "QUOTE", QUOTE) ∷ []
+    (named "AND", AND) ∷ (named "OR", OR) ∷ (named "COND", COND) ∷ (named "LIST", LIST) ∷ (named "LET", LET) ∷
+    (named "LET*", LETSTAR) ∷ (named "FIRST", FIRST) ∷ (named "SECOND", SECOND) ∷ (named "THIRD", THIRD) ∷
+    (named "FOURTH", FOURTH) ∷ (named "FIFTH", FIFTH) ∷ (named "QUOTE", QUOTE) ∷ []
 
 abbrev pub abbreviation_among : List (Name × Abbreviation) → Name → Abbreviation
 abbreviation_among [] f = Other
@@ -67,27 +70,17 @@ form FIFTH f ts = of_single (λ a. car_term (cdr_term (cdr_term (cdr_term (cdr_t
 form Other f ts = Some (call_term f ts)
 form _ f ts = None
 
-abbrev pub form_with : Abbreviation → Name → Option Terms → Option Term
-form_with w f None = None
-form_with w f (Some ts) = form w f ts
-
 -- (cond) is 'nil, (cond (c e) ..) is (if c e (cond ..))
 abbrev pub cond_term : Option (Term × Term) → Option Term → Option Term
-cond_term (Some p) (Some t) = Some (If p.0 p.1 t)
-cond_term _ _ = None
+cond_term p t = map2 (λ p t. If p.0 p.1 t) p t
 
 -- (let ((x1 e1) ..) b) is a lambda call whose formals are the x's and the other free variables of b, for themselves
-abbrev pub binding_of : Name → Option Term → Option (Name × Term)
-binding_of x None = None
-binding_of x (Some t) = Some (x, t)
-
 abbrev pub without : List Name → List Name → List Name
 without [] xs = []
 without (y ∷ ys) xs = cond (is_among y xs) (without ys xs) (y ∷ without ys xs)
 
 abbrev pub bound_names : List (Name × Term) → List Name
-bound_names [] = []
-bound_names (p ∷ ps) = p.0 ∷ bound_names ps
+bound_names ps = map (λ p. p.0) ps
 
 abbrev pub let_actuals : List (Name × Term) → List Name → Terms
 let_actuals [] [] = NoTerms
@@ -99,62 +92,58 @@ let_term ps b =
     let ys = without (variables b) (bound_names ps) in
     Lambda (bound_names ps ++ ys) b (let_actuals ps ys)
 
-abbrev pub let_of : Option (List (Name × Term)) → Option Term → Option Term
-let_of (Some ps) (Some b) = Some (let_term ps b)
-let_of _ _ = None
-
--- (let* () b) is b, (let* ((x e) ..) b) is (let ((x e)) (let* (..) b))
-abbrev pub let_star_of : Option (Name × Term) → Option Term → Option Term
-let_star_of (Some p) (Some b) = Some (let_term (p ∷ []) b)
-let_star_of _ _ = None
-
 -- Expansion, whether or not the result is a term under an arity table.
 abbrev mutual
   pub expanded : Object → Option Term
   expanded (Natural n) = Some (Constant (Natural n))
   expanded (Symbol s) = Some (expand_symbol s)
-  expanded (Pair (Natural n) r) = None
-  expanded (Pair (Symbol f) (Natural n)) = None
-  expanded (Pair (Symbol f) (Symbol s)) = when (same_name s nil_name) (elim (abbreviation_of f) [ COND ↦ Some (Constant NIL) | _ ↦ form (abbreviation_of f) f NoTerms ])
-  expanded (Pair (Symbol f) (Pair a (Natural n))) = None
+  expanded (Pair (Symbol f) (Symbol s)) =
+      when (same_name s nil_name) (elim (abbreviation_of f) [ COND ↦ Some (Constant NIL) | _ ↦ form (abbreviation_of f) f NoTerms ])
   expanded (Pair (Symbol f) (Pair a (Symbol s))) =
-      when (same_name s nil_name) (elim (abbreviation_of f) [ QUOTE ↦ Some (Constant a) | COND ↦ cond_term (clause a) (Some (Constant NIL)) | _ ↦ form_with (abbreviation_of f) f (more_terms (expanded a) (Some NoTerms)) ])
+      when (same_name s nil_name) (elim (abbreviation_of f) [
+        | QUOTE ↦ Some (Constant a)
+        | COND ↦ cond_term (clause a) (Some (Constant NIL))
+        | _ ↦ option_and_then (form (abbreviation_of f) f) (map2 More (expanded a) (Some NoTerms))
+      ])
   expanded (Pair (Symbol f) (Pair a (Pair b z))) =
-      elim (abbreviation_of f) [ COND ↦ cond_term (clause a) (cond_term (clause b) (clauses z)) | LET ↦ when (same_object z NIL) (let_of (bindings a) (expanded b)) | LETSTAR ↦ when (same_object z NIL) (let_star a (expanded b)) | _ ↦ form_with (abbreviation_of f) f (more_terms (expanded a) (more_terms (expanded b) (expanded_each z))) ]
-  expanded (Pair (Pair l (Natural n)) r) = None
-  expanded (Pair (Pair l (Symbol s)) r) = None
-  expanded (Pair (Pair l (Pair xs (Natural n))) r) = None
-  expanded (Pair (Pair l (Pair xs (Symbol s))) r) = None
+      elim (abbreviation_of f) [
+        | COND ↦ cond_term (clause a) (cond_term (clause b) (clauses z))
+        | LET ↦ when (same_object z NIL) (map2 let_term (bindings a) (expanded b))
+        | LETSTAR ↦ when (same_object z NIL) (let_star a (expanded b))
+        | _ ↦ option_and_then (form (abbreviation_of f) f) (map2 More (expanded a) (map2 More (expanded b) (expanded_each z)))
+      ]
   expanded (Pair (Pair l (Pair xs (Pair b z))) r) =
       lambda_of (same_object l (symbol "LAMBDA") && same_object z NIL) (names_of xs) (expanded b) (expanded_each r)
+  expanded _ = None
 
   pub expanded_each : Object → Option Terms
-  expanded_each (Natural n) = None
   expanded_each (Symbol s) = if_nil s NoTerms
-  expanded_each (Pair a r) = more_terms (expanded a) (expanded_each r)
+  expanded_each (Pair a r) = map2 More (expanded a) (expanded_each r)
+  expanded_each _ = None
 
   pub clause : Object → Option (Term × Term)
-  clause (Pair c (Pair e (Symbol s))) = when (same_name s nil_name) (both (expanded c) (expanded e))
+  clause (Pair c (Pair e (Symbol s))) = when (same_name s nil_name) (option_zip (expanded c) (expanded e))
   clause _ = None
 
   pub clauses : Object → Option Term
-  clauses (Natural n) = None
   clauses (Symbol s) = if_nil s (Constant NIL)
   clauses (Pair a r) = cond_term (clause a) (clauses r)
+  clauses _ = None
 
   pub binding : Object → Option (Name × Term)
-  binding (Pair (Symbol x) (Pair e (Symbol s))) = when (same_name s nil_name) (binding_of x (expanded e))
+  binding (Pair (Symbol x) (Pair e (Symbol s))) = when (same_name s nil_name) (option_map (λ t. (x, t)) (expanded e))
   binding _ = None
 
   pub bindings : Object → Option (List (Name × Term))
-  bindings (Natural n) = None
   bindings (Symbol s) = if_nil s []
   bindings (Pair a r) = and_more (binding a) (bindings r)
+  bindings _ = None
 
+  -- (let* () b) is b, (let* ((x e) ..) b) is (let ((x e)) (let* (..) b))
   pub let_star : Object → Option Term → Option Term
-  let_star (Natural n) b = None
   let_star (Symbol s) b = when (same_name s nil_name) b
-  let_star (Pair a r) b = let_star_of (binding a) (let_star r b)
+  let_star (Pair a r) b = map2 (λ p c. let_term (p ∷ []) c) (binding a) (let_star r b)
+  let_star _ b = None
 
 -- the expansion of a raw term, where that is a term under the arity table
 abbrev pub expand : ArityTable → Object → Option Term

@@ -1,9 +1,9 @@
 -- The fate of an event, and the theory after it.
-use Rattle.std.specs.Prelude.{ℕ, suc, Bool, true, false, ◌&&◌, ◌||◌, not, cond, eqb, ltb, List, [], ◌∷◌, length, Option, Some, None}
+use Rattle.std.specs.Prelude.{ℕ, suc, Bool, true, false, ◌&&◌, not, cond, eqb, ltb, List, [], ◌∷◌, length, Option, Some, None, ◌||◌}
 use Rattle.mw_model.specs.Terms.Object.{Name, Object, Natural, Symbol, Pair, named, same_name, same_object, NIL, is_member, second_of, third_of, fourth_of, has_members}
 use Rattle.mw_model.specs.Terms.Term.{is_closed, formula_object}
 use Rattle.mw_model.specs.Terms.Same.{same_names, same_term}
-use Rattle.mw_model.specs.Terms.Reading.{formula_under, when}
+use Rattle.mw_model.specs.Terms.Reading.{formula_under, when, that}
 use Rattle.mw_model.specs.Values.Primitive.{Profile, One, Two, is_symbol}
 use Rattle.mw_model.specs.Values.Definition.{Function, Block, Functions, Choice, arity_table}
 use Rattle.mw_model.specs.Events.Evaluation.{Outcome, Value, Steps, Overflow, Witness, evaluate, code_of, range}
@@ -29,8 +29,7 @@ has_four_formals (Some h) = eqb (length h.formals) 4
 
 abbrev pub checker_named : Theory → Object → Option Name
 checker_named t (Symbol f) = when (has_four_formals (code_of t.definitions.blocks f)) (Some f)
-checker_named t (Natural n) = None
-checker_named t (Pair a b) = None
+checker_named t _ = None
 
 abbrev pub switch : Theory → Object → Fate × Theory
 switch t e =
@@ -89,7 +88,8 @@ is_built_in (Some f) = false
 abbrev pub is_initial : Theory → Bool
 is_initial t =
     let i = initial One in
-    is_one t.definitions.profile && (same_blocks t.definitions.blocks i.definitions.blocks && (same_object t.axioms i.axioms && (same_object t.theorems NIL && (is_built_in t.checker && eqb t.level 1))))
+    is_one t.definitions.profile && (same_blocks t.definitions.blocks i.definitions.blocks &&
+    (same_object t.axioms i.axioms && (same_object t.theorems NIL && (is_built_in t.checker && eqb t.level 1))))
 
 abbrev pub profile_of : Object → Option Profile
 profile_of x = cond (same_object x (Natural 1)) (Some One) (cond (same_object x (Natural 2)) (Some Two) None)
@@ -107,28 +107,22 @@ pub data EventWord : Type 0 where
 
 abbrev pub event_words : List (Name × EventWord)
 event_words =
-    (named "VERIFY", Verify) ∷ (named "DEFINE", Define) ∷ (named "SKOLEM", Skolem) ∷ (named "SWITCH", Switch) ∷ (named "EVAL", Eval) ∷ (named "PRINT", Print) ∷ (named "DEFINE-ALL", DefineAll) ∷ (named "PROFILE", SetProfile) ∷ []
+    (named "VERIFY", Verify) ∷ (named "DEFINE", Define) ∷ (named "SKOLEM", Skolem) ∷ (named "SWITCH", Switch) ∷
+    (named "EVAL", Eval) ∷ (named "PRINT", Print) ∷ (named "DEFINE-ALL", DefineAll) ∷ (named "PROFILE", SetProfile) ∷ []
 
 abbrev pub member_count : EventWord → ℕ
 member_count Verify = 4
 member_count Define = 6
 member_count Skolem = 5
-member_count Switch = 2
-member_count Eval = 2
-member_count Print = 2
 member_count DefineAll = 3
-member_count SetProfile = 2
+member_count _ = 2
 
 abbrev pub event_word_among : List (Name × EventWord) → Name → Option EventWord
 event_word_among [] f = None
 event_word_among (p ∷ ps) f = cond (same_name p.0 f) (Some p.1) (event_word_among ps f)
 
-abbrev pub with_members : Object → Option EventWord → Option EventWord
-with_members e None = None
-with_members e (Some w) = when (has_members (member_count w) e) (Some w)
-
 abbrev pub event_word : Object → Option EventWord
-event_word (Pair (Symbol s) r) = with_members (Pair (Symbol s) r) (event_word_among event_words s)
+event_word (Pair (Symbol s) r) = that (λ w. has_members (member_count w) (Pair (Symbol s) r)) (event_word_among event_words s)
 event_word _ = None
 
 abbrev pub happens_by : EventWord → Theory → ℕ → Object → Fate × Theory
@@ -144,8 +138,8 @@ happens_by SetProfile t N e = profile t e
 -- holds a natural past the range
 abbrev pub is_out_of_range : Object → Bool
 is_out_of_range (Natural n) = not (ltb n range)
-is_out_of_range (Symbol s) = false
 is_out_of_range (Pair a b) = is_out_of_range a || is_out_of_range b
+is_out_of_range _ = false
 
 abbrev pub happens : Theory → ℕ → Object → Fate × Theory
 happens t N e = need t RANGE (when (not (is_out_of_range e)) (Some e)) (λ x. need t EVENT (event_word x) (λ w. happens_by w t N x))

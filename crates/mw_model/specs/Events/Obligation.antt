@@ -1,22 +1,21 @@
 -- What a block of functions owes: its measures are ordinals, and fall at each call of the block.
-use Rattle.std.specs.Prelude.{Bool, true, false, ◌||◌, cond, List, [], ◌∷◌, ◌++◌, map, Option, Some, None}
+use Rattle.std.specs.Prelude.{Bool, true, false, cond, List, [], ◌∷◌, ◌++◌, map, Option, Some, None, ◌||◌, is_some, zip}
 use Rattle.mw_model.specs.Terms.Object.{Name, named, same_name, NIL, T}
 use Rattle.mw_model.specs.Terms.Term.{Term, Terms, Variable, Constant, If, Call, Lambda, NoTerms, More, Formula, Equal, Not, Or, firsts}
 use Rattle.mw_model.specs.Terms.Same.{same_formula}
 use Rattle.mw_model.specs.Terms.Substitution.{Substitution, substitute, substitute_each, actuals_for}
-use Rattle.mw_model.specs.Values.Definition.{Function, function_named, is_present}
+use Rattle.mw_model.specs.Values.Definition.{Function, function_named}
 
 abbrev pub is_in_block : List Function → Name → Bool
-is_in_block B f = is_present (function_named B f)
+is_in_block B f = is_some (function_named B f)
 
 -- a name of the block is a called function somewhere in the term, lambda bodies included
 abbrev mutual
   pub mentions : List Function → Term → Bool
-  mentions B (Variable x) = false
-  mentions B (Constant c) = false
   mentions B (If a b c) = mentions B a || (mentions B b || mentions B c)
   mentions B (Call f ts) = is_in_block B f || any_mentions B ts
   mentions B (Lambda xs b ts) = mentions B b || any_mentions B ts
+  mentions B _ = false
 
   pub any_mentions : List Function → Terms → Bool
   any_mentions B NoTerms = false
@@ -36,28 +35,21 @@ pub record RecursiveCall : Type 0 where
 abbrev pub under_test : Test → RecursiveCall → RecursiveCall
 under_test t r = record { function = r.function; tests = t ∷ r.tests; actuals = r.actuals }
 
--- An actual of a lambda call and the recursive calls in it; what is pending stands for a formal.
+-- an actual of a lambda call, and the recursive calls in it
 pub record Actual : Type 0 where
   pub term : Term
   pub calls : List RecursiveCall
 
-pub record Pending : Type 0 where
-  pub formal : Name
-  pub term : Term
-  pub calls : List RecursiveCall
-
-abbrev pub pend : List Name → List Actual → List Pending
-pend [] us = []
-pend (x ∷ xs) [] = []
-pend (x ∷ xs) (u ∷ us) = record { formal = x; term = u.term; calls = u.calls } ∷ pend xs us
+-- a formal, and the actual that stands for it
+abbrev pub Pending : Type 0
+Pending = Name × Actual
 
 abbrev pub pending_terms : List Pending → Substitution
-pending_terms [] = []
-pending_terms (p ∷ s) = (p.formal, p.term) ∷ pending_terms s
+pending_terms s = map (λ p. (p.0, p.1.term)) s
 
 abbrev pub pending_calls : List Pending → Name → List RecursiveCall
 pending_calls [] x = []
-pending_calls (p ∷ s) x = cond (same_name p.formal x) p.calls (pending_calls s x)
+pending_calls (p ∷ s) x = cond (same_name p.0 x) p.1.calls (pending_calls s x)
 
 abbrev pub all_calls : List Actual → List RecursiveCall
 all_calls [] = []
@@ -74,9 +66,10 @@ abbrev mutual
   collect B s (Variable x) = pending_calls s x
   collect B s (Constant c) = []
   collect B s (If a b c) =
-      collect B s a ++ (map (under_test (IsNotNil (substitute (pending_terms s) a))) (collect B s b) ++ map (under_test (IsNil (substitute (pending_terms s) a))) (collect B s c))
+      collect B s a ++ (map (under_test (IsNotNil (substitute (pending_terms s) a))) (collect B s b) ++
+      map (under_test (IsNil (substitute (pending_terms s) a))) (collect B s c))
   collect B s (Call f ts) = call_or (function_named B f) (substitute_each (pending_terms s) ts) (all_calls (actuals_with B s ts))
-  collect B s (Lambda xs b ts) = all_calls (actuals_with B s ts) ++ collect B (pend xs (actuals_with B s ts)) b
+  collect B s (Lambda xs b ts) = all_calls (actuals_with B s ts) ++ collect B (zip xs (actuals_with B s ts)) b
 
   pub actuals_with : List Function → List Pending → Terms → List Actual
   actuals_with B s NoTerms = []

@@ -5,27 +5,6 @@ use Rattle.mw_model.specs.Events.Theory.{Theory}
 pub data Refusal : Type 0 where
   RANGE EVENT NAME FORMALS TERM FORMULA VARIABLES NESTED COUNT CONCLUSION PROOF NILVALUE STEPS OVERFLOW WITNESS CLAIM CHECKER LONG PROFILE : Refusal
 
-abbrev pub number_of : Refusal → ℕ
-number_of RANGE = 1
-number_of EVENT = 2
-number_of NAME = 3
-number_of FORMALS = 4
-number_of TERM = 5
-number_of FORMULA = 6
-number_of VARIABLES = 7
-number_of NESTED = 8
-number_of COUNT = 9
-number_of CONCLUSION = 10
-number_of PROOF = 11
-number_of NILVALUE = 12
-number_of STEPS = 13
-number_of OVERFLOW = 14
-number_of WITNESS = 15
-number_of CLAIM = 16
-number_of CHECKER = 17
-number_of LONG = 18
-number_of PROFILE = 19
-
 -- the word of the report
 abbrev pub reason_of : Refusal → List ℕ
 reason_of RANGE = codes "RANGE"

@@ -30,7 +30,8 @@ axioms_of P [] = add_formulas (primitive_axioms P) NIL
 axioms_of P (B ∷ D) = add_formulas (block_axioms B) (axioms_of P D)
 
 abbrev pub initial : Profile → Theory
-initial P = record { axioms = axioms_of P (built_in P); theorems = NIL; definitions = definitions P (built_in P); checker = None; level = 1 }
+initial P =
+    record { axioms = axioms_of P (built_in P); theorems = NIL; definitions = definitions P (built_in P); checker = None; level = 1 }
 
 -- The claim of a checker f: (f x axioms thms atbl) = 'nil or not (logic.provablep (logic.conclusion x) axioms thms atbl) = 'nil.
 abbrev pub on_the_theory : Name → Term → Term
@@ -38,7 +39,8 @@ on_the_theory f x = Call f (terms (x ∷ var "AXIOMS" ∷ var "THMS" ∷ var "AT
 
 abbrev pub claim : Name → Formula
 claim f =
-    Or (Equal (on_the_theory f (var "X")) (Constant NIL)) (Not (Equal (on_the_theory (named "LOGIC.PROVABLEP") (call "LOGIC.CONCLUSION" (var "X" ∷ []))) (Constant NIL)))
+    Or (Equal (on_the_theory f (var "X")) (Constant NIL))
+    (Not (Equal (on_the_theory (named "LOGIC.PROVABLEP") (call "LOGIC.CONCLUSION" (var "X" ∷ []))) (Constant NIL)))
 
 -- newer blocks stand before these
 abbrev pub BeginsWith : List Block → List Block → Type 0

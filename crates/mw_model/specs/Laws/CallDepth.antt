@@ -1,11 +1,27 @@
 -- What a call's value is, by its depth: statements of laws.
-use Rattle.std.specs.Prelude.{◌≡◌, ◌↔◌, ℕ, suc, false, List, [], ◌∷◌, Some, None}
-use Rattle.mw_model.specs.Terms.Object.{Name, Object}
+use Rattle.std.specs.Prelude.{◌≡◌, ◌↔◌, ℕ, suc, Bool, false, List, [], ◌∷◌, Some, None, ◌||◌, is_some}
+use Rattle.mw_model.specs.Terms.Object.{Name, Object, same_name}
 use Rattle.mw_model.specs.Terms.Term.{Term, Terms, Call}
 use Rattle.mw_model.specs.Values.Primitive.{Profile, primitive_named}
-use Rattle.mw_model.specs.Values.Definition.{Function, Block, Functions, Choice, Definitions, definitions, function_named, is_defined}
-use Rattle.mw_model.specs.Values.Value.{Environment, bind, HaveValues, IsWitness, block_calls, block_calls_within, IsValueWithin}
+use Rattle.mw_model.specs.Values.Definition.{Function, Block, Functions, Choice, Definitions, definitions, function_named}
+use Rattle.mw_model.specs.Values.Value.{Environment, Calls, HasValue, HaveValues, CallWithin, IsWitness, bind, extend, extend_by, block_calls}
 use Rattle.mw_model.specs.Proofs.Proof.{constants}
+
+-- the name of a function or witness of these blocks
+abbrev pub is_defined : List Block → Name → Bool
+is_defined [] f = false
+is_defined (Functions B ∷ D) f = is_some (function_named B f) || is_defined D f
+is_defined (Choice g y xs b ∷ D) f = same_name g f || is_defined D f
+
+-- the calls of the blocks, with those of the last block at most k deep
+abbrev pub block_calls_within : Profile → List Block → ℕ → Calls
+block_calls_within P [] k = λ f vs v. ⊥
+block_calls_within P (Functions B ∷ D) k = extend (block_calls P D) B (CallWithin P (block_calls P D) B k)
+block_calls_within P (Choice g y xs b ∷ D) k = extend_by (block_calls P D) g (IsWitness P (block_calls P D) y xs b)
+
+-- v is a value of t with call depth at most k
+abbrev pub IsValueWithin : Definitions → ℕ → Environment → Term → Object → Type 0
+IsValueWithin D k e t v = HasValue D.profile (block_calls_within D.profile D.blocks k) e t v
 
 -- values of each of the terms with call depth at most k
 abbrev pub AreValuesWithin : Definitions → ℕ → Environment → Terms → List Object → Type 0

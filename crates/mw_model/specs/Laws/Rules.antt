@@ -1,17 +1,16 @@
 -- The rules of the table of methods as tests on objects, but for induction. On objects of formulas each holds exactly where its rule does.
-use Rattle.std.specs.Prelude.{Bool, false, ◌&&◌, cond, List, [], ◌∷◌, Option, Some, None}
+use Rattle.std.specs.Prelude.{Bool, false, ◌&&◌, cond, List, [], ◌∷◌, Option, Some, None, is_some}
 use Rattle.mw_model.specs.Terms.Object.{Name, Object, Natural, Symbol, Pair, named, symbol, same_name, same_object, nil_name, NIL, car, cdr, second_of, third_of, list2, list3}
-use Rattle.mw_model.specs.Terms.Term.{ArityTable, is_function_name, is_variable}
-use Rattle.mw_model.specs.Terms.Reading.{term_under, formula_under}
+use Rattle.mw_model.specs.Terms.Term.{ArityTable, is_function_name, is_variable, is_term}
+use Rattle.mw_model.specs.Terms.Reading.{term_of, that, formula_under}
 use Rattle.mw_model.specs.Values.Primitive.{Profile, Primitive, primitive_named, apply, choose, is_pair, first_value, second_value}
-use Rattle.mw_model.specs.Values.Definition.{is_present}
 
 -- the object of a term, of a formula, of a variable
 abbrev pub is_term_object : ArityTable → Object → Bool
-is_term_object A x = is_present (term_under A x)
+is_term_object A x = is_some (that (is_term A) (term_of x))
 
 abbrev pub is_formula_object : ArityTable → Object → Bool
-is_formula_object A x = is_present (formula_under A x)
+is_formula_object A x = is_some (formula_under A x)
 
 abbrev pub is_variable_object : Object → Bool
 is_variable_object (Natural n) = false

@@ -1,5 +1,6 @@
 -- The premises of an induction.
-use Rattle.std.specs.Prelude.{Bool, true, ◌&&◌, List, [], ◌∷◌, ◌++◌, map}
+use Rattle.std.specs.Prelude.{Bool, List, [], ◌∷◌, ◌++◌, map, flat_map}
+use Rattle.std.specs.List.{list_all}
 use Rattle.mw_model.specs.Terms.Object.{Object, Pair, NIL}
 use Rattle.mw_model.specs.Terms.Term.{Term, Formula, Not, Or, ArityTable, formula_object}
 use Rattle.mw_model.specs.Terms.Substitution.{Substitution, substitute, substitute_formula, substitution_object, is_substitution}
@@ -28,8 +29,7 @@ abbrev pub fall_premise : Term → Formula → Substitution → Formula
 fall_premise m q s = Or (Not q) (below_formula (substitute s m) m)
 
 abbrev pub fall_premises : Term → List Case → List Formula
-fall_premises m [] = []
-fall_premises m (c ∷ cs) = map (fall_premise m c.condition) c.substitutions ++ fall_premises m cs
+fall_premises m cs = flat_map (λ c. map (fall_premise m c.condition) c.substitutions) cs
 
 abbrev pub premises : Formula → Term → List Case → List Formula
 premises F m cs = base_premise F cs ∷ (map (step_premise F) cs ++ (ordinal_formula m ∷ fall_premises m cs))
@@ -48,9 +48,7 @@ cases_object [] = NIL
 cases_object (c ∷ cs) = Pair (substitutions_object c.substitutions) (cases_object cs)
 
 abbrev pub are_substitutions : ArityTable → List Substitution → Bool
-are_substitutions A [] = true
-are_substitutions A (s ∷ ss) = is_substitution A s && are_substitutions A ss
+are_substitutions A ss = list_all (is_substitution A) ss
 
 abbrev pub are_cases : ArityTable → List Case → Bool
-are_cases A [] = true
-are_cases A (c ∷ cs) = are_substitutions A c.substitutions && are_cases A cs
+are_cases A cs = list_all (λ c. are_substitutions A c.substitutions) cs

@@ -1,20 +1,21 @@
 -- Judging proofs by a test: the conclusion of what is a proof, and none for other objects.
-use Rattle.std.specs.Prelude.{Bool, false, ◌&&◌, eqb, cond, List, [], ◌∷◌, Option, Some, None}
+use Rattle.std.specs.Prelude.{Bool, false, ◌&&◌, eqb, List, [], ◌∷◌, Option, Some, None, find}
 use Rattle.mw_model.specs.Terms.Object.{Object, Natural, Symbol, Pair, same_name, same_object, nil_name, NIL, is_member}
 use Rattle.mw_model.specs.Terms.Term.{Term, Terms, Constant, If, Call, Lambda, NoTerms, More, Formula, Equal, Not, Or, ArityTable, is_function_name, count, formula_object, is_formula}
 use Rattle.mw_model.specs.Terms.Same.{same_term, same_formula, same_formulas}
-use Rattle.mw_model.specs.Terms.Reading.{term_of, formula_of, and_more, if_nil, when}
+use Rattle.mw_model.specs.Terms.Reading.{term_of, formula_of, and_more, if_nil, when, map2}
 use Rattle.mw_model.specs.Terms.Substitution.{Substitution, substitute, substitute_formula, actuals_for, substitution_of, is_substitution}
 use Rattle.mw_model.specs.Values.Primitive.{Profile, Primitive, primitive_named, apply, choose}
 use Rattle.mw_model.specs.Proofs.Induction.{Case, premises, are_cases}
 use Rattle.mw_model.specs.Proofs.Proof.{Method, Axiom, Theorem, PropositionalSchema, FunctionalEquality, BetaReduction, BaseEval, Expansion, Contraction, Associativity, Cut, Instantiation, Induction, method_name, unless_equal, three_terms}
 
 abbrev pub methods : List Method
-methods = Axiom ∷ Theorem ∷ PropositionalSchema ∷ FunctionalEquality ∷ BetaReduction ∷ BaseEval ∷ Expansion ∷ Contraction ∷ Associativity ∷ Cut ∷ Instantiation ∷ Induction ∷ []
+methods =
+    Axiom ∷ Theorem ∷ PropositionalSchema ∷ FunctionalEquality ∷ BetaReduction ∷ BaseEval ∷
+    Expansion ∷ Contraction ∷ Associativity ∷ Cut ∷ Instantiation ∷ Induction ∷ []
 
 abbrev pub method_among : List Method → Object → Option Method
-method_among [] x = None
-method_among (m ∷ ms) x = cond (same_object (Symbol (method_name m)) x) (Some m) (method_among ms x)
+method_among ms x = find (λ m. same_object (Symbol (method_name m)) x) ms
 
 -- the lists of substitutions and the cases that extras stand for
 abbrev pub substitutions_of : Object → Option (List Substitution)
@@ -22,12 +23,11 @@ substitutions_of (Pair s r) = and_more (substitution_of s) (substitutions_of r)
 substitutions_of (Symbol s) = if_nil s []
 substitutions_of (Natural n) = None
 
-abbrev pub case_of : Option Formula → Option (List Substitution) → Option Case
-case_of (Some q) (Some ss) = Some (record { condition = q; substitutions = ss })
-case_of _ _ = None
+abbrev pub case : Formula → List Substitution → Case
+case q ss = record { condition = q; substitutions = ss }
 
 abbrev pub cases_of : Object → Object → Option (List Case)
-cases_of (Pair q qs) (Pair s ss) = and_more (case_of (formula_of q) (substitutions_of s)) (cases_of qs ss)
+cases_of (Pair q qs) (Pair s ss) = and_more (map2 case (formula_of q) (substitutions_of s)) (cases_of qs ss)
 cases_of (Symbol s) (Symbol r) = when (same_name s nil_name && same_name r nil_name) (Some [])
 cases_of _ _ = None
 
@@ -92,33 +92,25 @@ abbrev pub is_induction : ArityTable → Formula → List Formula → Object →
 is_induction A F Fs (Pair m (Pair qs (Pair ss (Symbol s)))) = same_name s nil_name && is_induction_by A F Fs (term_of m) (cases_of qs ss)
 is_induction A F Fs _ = false
 
--- for no subproof, one, two
-abbrev pub of_none : Bool → List Formula → Bool
-of_none test [] = test
-of_none test (F ∷ Fs) = false
-
-abbrev pub of_one : (Formula → Bool) → List Formula → Bool
-of_one test (F ∷ []) = test F
-of_one test _ = false
-
-abbrev pub of_two : (Formula → Formula → Bool) → List Formula → Bool
-of_two test (F ∷ G ∷ []) = test F G
-of_two test _ = false
+-- the rows without extras
+abbrev pub follows_plainly : Object → Object → Profile → Method → Formula → List Formula → Bool
+follows_plainly axioms theorems P Axiom F [] = is_member (formula_object F) axioms
+follows_plainly axioms theorems P Theorem F [] = is_member (formula_object F) theorems
+follows_plainly axioms theorems P PropositionalSchema F [] = is_schema F
+follows_plainly axioms theorems P FunctionalEquality F [] = is_functional_equality F (last_disjunct F)
+follows_plainly axioms theorems P BetaReduction F [] = is_beta F
+follows_plainly axioms theorems P BaseEval F [] = is_base_eval P F
+follows_plainly axioms theorems P Expansion F (G ∷ []) = is_expansion F G
+follows_plainly axioms theorems P Contraction F (G ∷ []) = is_contraction F G
+follows_plainly axioms theorems P Associativity F (G ∷ []) = is_associativity F G
+follows_plainly axioms theorems P Cut F (G ∷ H ∷ []) = is_cut F G H
+follows_plainly axioms theorems P m F Fs = false
 
 -- the method, the conclusion, the subproofs' conclusions and the extras make a row
 abbrev pub follows : Object → Object → ArityTable → Profile → Method → Formula → List Formula → Object → Bool
-follows axioms theorems A P Axiom F Fs x = same_object x NIL && of_none (is_member (formula_object F) axioms) Fs
-follows axioms theorems A P Theorem F Fs x = same_object x NIL && of_none (is_member (formula_object F) theorems) Fs
-follows axioms theorems A P PropositionalSchema F Fs x = same_object x NIL && of_none (is_schema F) Fs
-follows axioms theorems A P FunctionalEquality F Fs x = same_object x NIL && of_none (is_functional_equality F (last_disjunct F)) Fs
-follows axioms theorems A P BetaReduction F Fs x = same_object x NIL && of_none (is_beta F) Fs
-follows axioms theorems A P BaseEval F Fs x = same_object x NIL && of_none (is_base_eval P F) Fs
-follows axioms theorems A P Expansion F Fs x = same_object x NIL && of_one (is_expansion F) Fs
-follows axioms theorems A P Contraction F Fs x = same_object x NIL && of_one (is_contraction F) Fs
-follows axioms theorems A P Associativity F Fs x = same_object x NIL && of_one (is_associativity F) Fs
-follows axioms theorems A P Cut F Fs x = same_object x NIL && of_two (is_cut F) Fs
-follows axioms theorems A P Instantiation F Fs x = of_one (λ G. is_instance A F G (substitution_of x)) Fs
+follows axioms theorems A P Instantiation F (G ∷ []) x = is_instance A F G (substitution_of x)
 follows axioms theorems A P Induction F Fs x = is_induction A F Fs x
+follows axioms theorems A P m F Fs x = same_object x NIL && follows_plainly axioms theorems P m F Fs
 
 abbrev pub judge_step : Object → Object → ArityTable → Profile → Option Method → Option Formula → Option (List Formula) → Object → Option Formula
 judge_step axioms theorems A P (Some m) (Some F) (Some Fs) x = when (is_formula A F && follows axioms theorems A P m F Fs x) (Some F)
@@ -129,15 +121,11 @@ abbrev mutual
   pub judge : Object → Object → ArityTable → Profile → Object → Option Formula
   judge axioms theorems A P (Pair m (Pair c (Pair ps (Pair x z)))) =
       when (same_object z NIL) (judge_step axioms theorems A P (method_among methods m) (formula_of c) (judge_each axioms theorems A P ps) x)
-  judge axioms theorems A P (Pair m (Pair c (Pair ps (Symbol s)))) =
-      when (same_name s nil_name) (judge_step axioms theorems A P (method_among methods m) (formula_of c) (judge_each axioms theorems A P ps) NIL)
-  judge axioms theorems A P (Pair m (Pair c (Pair ps (Natural n)))) = None
-  judge axioms theorems A P (Pair m (Pair c (Symbol s))) = when (same_name s nil_name) (judge_step axioms theorems A P (method_among methods m) (formula_of c) (Some []) NIL)
-  judge axioms theorems A P (Pair m (Pair c (Natural n))) = None
-  judge axioms theorems A P (Pair m (Natural n)) = None
-  judge axioms theorems A P (Pair m (Symbol s)) = None
-  judge axioms theorems A P (Natural n) = None
-  judge axioms theorems A P (Symbol s) = None
+  judge axioms theorems A P (Pair m (Pair c (Pair ps z))) =
+      when (same_object z NIL) (judge_step axioms theorems A P (method_among methods m) (formula_of c) (judge_each axioms theorems A P ps) NIL)
+  judge axioms theorems A P (Pair m (Pair c z)) =
+      when (same_object z NIL) (judge_step axioms theorems A P (method_among methods m) (formula_of c) (Some []) NIL)
+  judge axioms theorems A P _ = None
 
   pub judge_each : Object → Object → ArityTable → Profile → Object → Option (List Formula)
   judge_each axioms theorems A P (Pair p ps) = and_more (judge axioms theorems A P p) (judge_each axioms theorems A P ps)

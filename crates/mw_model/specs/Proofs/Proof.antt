@@ -31,9 +31,8 @@ method_name Induction = named "INDUCTION"
 
 -- not a1 = b1 or .. or not an = bn or F
 abbrev pub unless_equal : Terms → Terms → Formula → Formula
-unless_equal NoTerms us F = F
-unless_equal (More a ts) NoTerms F = F
 unless_equal (More a ts) (More b us) F = Or (Not (Equal a b)) (unless_equal ts us F)
+unless_equal _ _ F = F
 
 abbrev pub three_terms : Term → Term → Term → Terms
 three_terms a b c = More a (More b (More c NoTerms))

@@ -1,5 +1,5 @@
 -- What holds of each event of a book.
-use Rattle.std.specs.Prelude.{◌≡◌, ℕ, List, [], ◌∷◌, Option, Some, None}
+use Rattle.std.specs.Prelude.{◌≡◌, ℕ, List, [], ◌∷◌, Option, Some, option_to_list}
 use Rattle.mw_model.specs.Terms.Object.{Object, third_of}
 use Rattle.mw_model.specs.Terms.Term.{Formula}
 use Rattle.mw_model.specs.Terms.Reading.{formula_of}
@@ -14,12 +14,8 @@ abbrev pub newest_axioms : List Block → List Formula
 newest_axioms [] = []
 newest_axioms (B ∷ D) = block_axioms B
 
-abbrev pub one_or_none : Option Formula → List Formula
-one_or_none None = []
-one_or_none (Some F) = F ∷ []
-
 abbrev pub formulas_of_word : Option EventWord → Theory → Object → List Formula
-formulas_of_word (Some Verify) after e = one_or_none (formula_of (third_of e))
+formulas_of_word (Some Verify) after e = option_to_list (formula_of (third_of e))
 formulas_of_word (Some Define) after e = newest_axioms after.definitions.blocks
 formulas_of_word (Some DefineAll) after e = newest_axioms after.definitions.blocks
 formulas_of_word (Some Skolem) after e = newest_axioms after.definitions.blocks

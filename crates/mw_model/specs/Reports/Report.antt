@@ -1,10 +1,10 @@
 -- The report on a book.
 use Rattle.std.specs.Prelude.{ℕ, suc, ◌+◌, Bool, true, false, cond, eqb, ltb, List, [], ◌∷◌, ◌++◌, length, Option, Some, None, codes}
-use Rattle.mw_model.specs.Terms.Object.{Name, Object, Natural, Symbol, Pair, named}
+use Rattle.mw_model.specs.Terms.Object.{Name, Object, Symbol, Pair, named}
 use Rattle.mw_model.specs.Terms.Term.{is_among}
 use Rattle.mw_model.specs.Values.Primitive.{One}
-use Rattle.mw_model.specs.Texts.Lexemes.{SyntaxKind, END, CLOSE, DOT, TOKEN, BYTE, LABEL, LENGTH, Fault, Goes}
-use Rattle.mw_model.specs.Texts.Grammar.{Book, reading, trees}
+use Rattle.mw_model.specs.Texts.Lexemes.{SyntaxKind, END, CLOSE, DOT, TOKEN, BYTE, LABEL, LENGTH, Fault}
+use Rattle.mw_model.specs.Texts.Grammar.{Book, trees}
 use Rattle.mw_model.specs.Texts.Printing.{numeral, name_text}
 use Rattle.mw_model.specs.Events.Theory.{Theory, initial}
 use Rattle.mw_model.specs.Events.Refusal.{Fate, Accepted, Refused, reason_of}
@@ -13,6 +13,15 @@ use Rattle.mw_model.specs.Events.Fate.{fate, next, after, longest}
 -- joined by single spaces
 abbrev pub spaced : List ℕ → List ℕ → List ℕ
 spaced a b = a ++ 32 ∷ b
+
+abbrev pub joined : List (List ℕ) → List ℕ
+joined [] = []
+joined (w ∷ []) = w
+joined (w ∷ ws) = spaced w (joined ws)
+
+-- a line of words
+abbrev pub sentence : List (List ℕ) → List ℕ
+sentence ws = joined ws ++ 10 ∷ []
 
 abbrev pub dash : List ℕ
 dash = 45 ∷ []
@@ -23,14 +32,12 @@ short text = cond (ltb longest (length text)) dash text
 
 abbrev pub symbol_text : Object → List ℕ
 symbol_text (Symbol s) = short (name_text s)
-symbol_text (Natural n) = dash
-symbol_text (Pair a b) = dash
+symbol_text _ = dash
 
 -- the first member of the event, where that is a symbol
 abbrev pub word_text : Object → List ℕ
 word_text (Pair w r) = symbol_text w
-word_text (Natural n) = dash
-word_text (Symbol s) = dash
+word_text _ = dash
 
 -- the second member, where that is a symbol and the event begins with one of these words
 abbrev pub labelled_words : List Name
@@ -51,15 +58,11 @@ fate_text (Refused r) = spaced (codes "refused") (reason_of r)
 
 -- the line of event number k
 abbrev pub line : ℕ → Object → Fate → List ℕ
-line k e f = spaced (numeral k) (spaced (word_text e) (spaced (label_text e) (fate_text f))) ++ 10 ∷ []
+line k e f = sentence (numeral k ∷ word_text e ∷ label_text e ∷ fate_text f ∷ [])
 
 abbrev pub lines : ℕ → Theory → List Object → ℕ → List ℕ
 lines k t [] N = []
 lines k t (e ∷ es) N = line k e (fate t e N) ++ lines (suc k) (next t e N) es N
-
--- the lines due where more bytes may follow
-abbrev pub lines_so_far : List ℕ → ℕ → List ℕ
-lines_so_far bytes N = lines 1 (initial One) (reading Goes bytes).events N
 
 abbrev pub is_accepted : Fate → Bool
 is_accepted (Accepted value) = true
@@ -92,14 +95,15 @@ status_of (Some f) refused = Syntax f.kind f.offset
 status_of None refused = cond (eqb refused 0) Done SomeRefused
 
 abbrev pub last_line_of : Option Fault → List ℕ → List ℕ
-last_line_of (Some f) summary = spaced (codes "syntax") (spaced (kind_word f.kind) (spaced (codes "at") (numeral f.offset))) ++ 10 ∷ []
+last_line_of (Some f) summary = sentence (codes "syntax" ∷ kind_word f.kind ∷ codes "at" ∷ numeral f.offset ∷ [])
 last_line_of None summary = summary
 
 -- events E accepted A refused R level L
 abbrev pub summary : List Object → ℕ → List ℕ
 summary es N =
     let t = initial One in
-    spaced (codes "events") (spaced (numeral (length es)) (spaced (codes "accepted") (spaced (numeral (accepted_among t es N)) (spaced (codes "refused") (spaced (numeral (refused_among t es N)) (spaced (codes "level") (numeral (after t es N).level))))))) ++ 10 ∷ []
+    sentence (codes "events" ∷ numeral (length es) ∷ codes "accepted" ∷ numeral (accepted_among t es N) ∷
+    codes "refused" ∷ numeral (refused_among t es N) ∷ codes "level" ∷ numeral (after t es N).level ∷ [])
 
 abbrev pub last_line : Book → ℕ → List ℕ
 last_line b N = last_line_of b.fault (summary b.events N)

@@ -14,7 +14,9 @@ odd_line p = codes "(verify trial " ++ (p ++ (codes " (base-eval " ++ (p ++ code
 
 abbrev pub even_line : List ℕ → List ℕ → List ℕ
 even_line p n =
-    codes "(verify trial (por* " ++ (p ++ (codes " " ++ (n ++ (codes ") (cut (por* " ++ (p ++ (codes " " ++ (n ++ (codes ") ((expansion (por* " ++ (n ++ (codes " " ++ (p ++ (codes ") ((base-eval " ++ (p ++ (codes "))) (propositional-schema (por* (pnot* " ++ (n ++ (codes ") " ++ (n ++ codes ")))))")))))))))))))))))
+    codes "(verify trial (por* " ++ (p ++ (codes " " ++ (n ++ (codes ") (cut (por* " ++ (p ++ (codes " " ++ (n ++
+    (codes ") ((expansion (por* " ++ (n ++ (codes " " ++ (p ++ (codes ") ((base-eval " ++ (p ++
+    (codes "))) (propositional-schema (por* (pnot* " ++ (n ++ (codes ") " ++ (n ++ codes ")))))")))))))))))))))))
 
 -- line i, with a = i and b = i squared modulo 1000
 abbrev pub trial_line : ℕ → List ℕ

@@ -1,5 +1,5 @@
 -- Simultaneous substitution of terms for variables.
-use Rattle.std.specs.Prelude.{Bool, true, ◌&&◌, cond, List, [], ◌∷◌, Option, Some, None}
+use Rattle.std.specs.Prelude.{Bool, true, ◌&&◌, cond, List, [], ◌∷◌, Option, None, option_map}
 use Rattle.mw_model.specs.Terms.Object.{Name, Object, Symbol, Pair, same_name, NIL}
 use Rattle.mw_model.specs.Terms.Term.{Term, Terms, Variable, Constant, If, Call, Lambda, NoTerms, More, Formula, Equal, Not, Or, ArityTable, is_term, is_variable, term_object}
 use Rattle.mw_model.specs.Terms.Reading.{term_of, and_more, if_nil}
@@ -33,21 +33,16 @@ substitute_formula s (Or f g) = Or (substitute_formula s f) (substitute_formula 
 
 -- the actuals for the formals
 abbrev pub actuals_for : List Name → Terms → Substitution
-actuals_for [] ts = []
-actuals_for (x ∷ xs) NoTerms = []
 actuals_for (x ∷ xs) (More t ts) = (x, t) ∷ actuals_for xs ts
+actuals_for _ _ = []
 
 -- as an object: a proper list of pairs (variable . term)
 abbrev pub substitution_object : Substitution → Object
 substitution_object [] = NIL
 substitution_object (p ∷ s) = Pair (Pair (Symbol p.0) (term_object p.1)) (substitution_object s)
 
-abbrev pub pair_for : Name → Option Term → Option (Name × Term)
-pair_for x None = None
-pair_for x (Some t) = Some (x, t)
-
 abbrev pub substitution_of : Object → Option Substitution
-substitution_of (Pair (Pair (Symbol x) t) r) = and_more (pair_for x (term_of t)) (substitution_of r)
+substitution_of (Pair (Pair (Symbol x) t) r) = and_more (option_map (λ t. (x, t)) (term_of t)) (substitution_of r)
 substitution_of (Symbol s) = if_nil s []
 substitution_of _ = None
 

@@ -1,5 +1,5 @@
 -- Terms and formulas, and the objects that stand for them.
-use Rattle.std.specs.Prelude.{◌≡◌, ℕ, suc, Bool, true, false, ◌&&◌, ◌||◌, not, cond, eqb, List, [], ◌∷◌, ◌++◌, length, filter, Option, Some, None}
+use Rattle.std.specs.Prelude.{◌≡◌, ℕ, suc, Bool, true, false, ◌&&◌, not, cond, eqb, List, [], ◌∷◌, ◌++◌, length, filter, Option, Some, None, ◌||◌}
 use Rattle.mw_model.specs.Terms.Object.{Name, Object, Natural, Symbol, Pair, named, symbol, same_name, nil_name, NIL, list2, list3}
 
 mutual
@@ -54,7 +54,8 @@ is_among x (y ∷ ys) = same_name x y || is_among x ys
 -- Function names are all symbols but these and the abbreviation words.
 abbrev pub abbreviation_words : List Name
 abbreviation_words =
-    named "AND" ∷ named "OR" ∷ named "COND" ∷ named "LIST" ∷ named "LET" ∷ named "LET*" ∷ named "FIRST" ∷ named "SECOND" ∷ named "THIRD" ∷ named "FOURTH" ∷ named "FIFTH" ∷ []
+    named "AND" ∷ named "OR" ∷ named "COND" ∷ named "LIST" ∷ named "LET" ∷ named "LET*" ∷
+    named "FIRST" ∷ named "SECOND" ∷ named "THIRD" ∷ named "FOURTH" ∷ named "FIFTH" ∷ []
 
 abbrev pub other_words : List Name
 other_words = nil_name ∷ named "T" ∷ named "QUOTE" ∷ named "LAMBDA" ∷ named "PEQUAL*" ∷ named "PNOT*" ∷ named "POR*" ∷ []

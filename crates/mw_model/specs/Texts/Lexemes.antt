@@ -1,14 +1,11 @@
 -- Lexemes: what the bytes of a book are cut into, each with its offset.
-use Rattle.std.specs.Prelude.{ℕ, zero, suc, ◌+◌, ◌-◌, ◌*◌, Bool, true, false, ◌&&◌, ◌||◌, not, eqb, ltb, leb, List, [], ◌∷◌, ◌++◌, length, map, Option, Some, None, if◌then◌else◌}
+use Rattle.std.specs.Prelude.{ℕ, zero, suc, ◌+◌, ◌-◌, ◌*◌, Bool, false, ◌&&◌, not, eqb, ltb, leb, List, [], ◌∷◌, ◌++◌, length, map, Option, Some, None, if◌then◌else◌, ◌||◌}
+use Rattle.std.specs.List.{list_all, list_any}
 use Rattle.mw_model.specs.Terms.Object.{Object, Natural, Symbol, is_name_byte, name_of_bytes, same_bytes}
 
 -- classes of bytes
-abbrev pub one_of : List ℕ → ℕ → Bool
-one_of [] b = false
-one_of (c ∷ cs) b = eqb b c || one_of cs b
-
 abbrev pub is_white : ℕ → Bool
-is_white b = one_of (9 ∷ 10 ∷ 12 ∷ 13 ∷ 32 ∷ []) b
+is_white b = list_any (eqb b) (9 ∷ 10 ∷ 12 ∷ 13 ∷ 32 ∷ [])
 
 abbrev pub is_digit : ℕ → Bool
 is_digit b = leb 48 b && leb b 57
@@ -21,7 +18,7 @@ is_capital b = leb 65 b && leb b 90
 
 -- ! $ % & * + - . / < = > ? @ [ ] ^ _ { } ~
 abbrev pub is_mark : ℕ → Bool
-is_mark b = one_of (33 ∷ 36 ∷ 37 ∷ 38 ∷ 42 ∷ 43 ∷ 45 ∷ 46 ∷ 47 ∷ 60 ∷ 61 ∷ 62 ∷ 63 ∷ 64 ∷ 91 ∷ 93 ∷ 94 ∷ 95 ∷ 123 ∷ 125 ∷ 126 ∷ []) b
+is_mark b = list_any (eqb b) (33 ∷ 36 ∷ 37 ∷ 38 ∷ 42 ∷ 43 ∷ 45 ∷ 46 ∷ 47 ∷ 60 ∷ 61 ∷ 62 ∷ 63 ∷ 64 ∷ 91 ∷ 93 ∷ 94 ∷ 95 ∷ 123 ∷ 125 ∷ 126 ∷ [])
 
 abbrev pub is_constituent : ℕ → Bool
 is_constituent b = is_digit b || (is_capital b || (is_small b || is_mark b))
@@ -31,10 +28,6 @@ is_dot b = eqb b 46
 
 abbrev pub is_inside_comment : ℕ → Bool
 is_inside_comment b = not (eqb b 10)
-
-abbrev pub all_are : (ℕ → Bool) → List ℕ → Bool
-all_are p [] = true
-all_are p (b ∷ bs) = p b && all_are p bs
 
 -- the longest run of bytes of a class at the front, and what follows it
 abbrev pub run_of : (ℕ → Bool) → List ℕ → List ℕ
@@ -78,10 +71,10 @@ abbrev pub token_form_else : List ℕ → TokenForm
 token_form_else t =
     if like_number t then Bad else
     if same_bytes t (46 ∷ []) then Point else
-    if all_are is_dot t then Bad else Whole (Symbol (name_of_bytes (map raised t)))
+    if list_all is_dot t then Bad else Whole (Symbol (name_of_bytes (map raised t)))
 
 abbrev pub token_form : List ℕ → TokenForm
-token_form t = if all_are is_digit t then Whole (Natural (decimal_value t)) else token_form_else t
+token_form t = if list_all is_digit t then Whole (Natural (decimal_value t)) else token_form_else t
 
 pub data SyntaxKind : Type 0 where
   END CLOSE DOT TOKEN BYTE LABEL LENGTH : SyntaxKind
@@ -134,8 +127,7 @@ dot e o (b ∷ bs) = if glued b then Wrong o (Some (fault TOKEN (o + 1))) ∷ []
 
 abbrev pub refused : Ending → ℕ → List ℕ → List Lexeme
 refused Goes o [] = Wrong o None ∷ []
-refused Ends o [] = Wrong o (Some (fault TOKEN o)) ∷ []
-refused e o (b ∷ bs) = Wrong o (Some (fault TOKEN o)) ∷ []
+refused e o rest = Wrong o (Some (fault TOKEN o)) ∷ []
 
 -- a token t at o, and the bytes after it
 abbrev pub token : Ending → ℕ → List ℕ → TokenForm → List ℕ → List Lexeme
@@ -184,8 +176,6 @@ class b = if is_constituent b then Constituent else class_else b
 
 -- the piece that begins with byte b at o, with bs after it: its lexemes, and how many bytes of bs it takes
 abbrev pub piece : Class → Ending → ℕ → ℕ → List ℕ → List Lexeme
-piece White e o b bs = []
-piece Semicolon e o b bs = []
 piece Opening e o b bs = Open o ∷ []
 piece Closing e o b bs = Close o ∷ []
 piece Apostrophe e o b bs = Quote o ∷ []
@@ -193,17 +183,14 @@ piece Bar e o b bs = barred e o (run_of is_name_byte bs) (after_run is_name_byte
 piece Hash e o b bs = hashed e o (run_of is_digit bs) (after_run is_digit bs)
 piece Constituent e o b bs = let t = b ∷ run_of is_constituent bs in token e o t (token_form t) (after_run is_constituent bs)
 piece Other e o b bs = Stray (fault BYTE o) ∷ []
+piece _ e o b bs = []
 
 abbrev pub extent : Class → List ℕ → ℕ
-extent White bs = 0
 extent Semicolon bs = length (run_of is_inside_comment bs)
-extent Opening bs = 0
-extent Closing bs = 0
-extent Apostrophe bs = 0
 extent Bar bs = suc (length (run_of is_name_byte bs))
 extent Hash bs = suc (length (run_of is_digit bs))
 extent Constituent bs = length (run_of is_constituent bs)
-extent Other bs = 0
+extent _ bs = 0
 
 -- the lexemes of the bytes, which lie at o, but for those of the first n bytes, which are taken
 abbrev pub lexemes_from : Ending → ℕ → ℕ → List ℕ → List Lexeme

@@ -1,7 +1,8 @@
 -- The text of an object.
 use Rattle.std.specs.Prelude.{ℕ, zero, suc, ◌+◌, ◌/◌, ◌%◌, Bool, true, false, ◌&&◌, not, ltb, List, [], ◌∷◌, ◌++◌, if◌then◌else◌}
 use Rattle.mw_model.specs.Terms.Object.{Object, Natural, Symbol, Pair, Name, same_object, same_name, nil_name}
-use Rattle.mw_model.specs.Texts.Lexemes.{all_are, is_constituent, is_small, TokenForm, Whole, Point, Bad, token_form}
+use Rattle.mw_model.specs.Texts.Lexemes.{is_constituent, is_small, TokenForm, Whole, token_form}
+use Rattle.std.specs.List.{list_all}
 
 -- the decimal digits of n, at most k of them
 abbrev pub numeral_from : ℕ → ℕ → List ℕ
@@ -14,11 +15,10 @@ numeral n = numeral_from (suc n) n
 -- would a bare token of this form be read as x?
 abbrev pub is_read_as : Object → TokenForm → Bool
 is_read_as x (Whole y) = same_object y x
-is_read_as x Point = false
-is_read_as x Bad = false
+is_read_as x _ = false
 
 abbrev pub is_bare : Name → Bool
-is_bare s = all_are is_constituent s.bytes && (all_are (λ b. not (is_small b)) s.bytes && is_read_as (Symbol s) (token_form s.bytes))
+is_bare s = list_all is_constituent s.bytes && (list_all (λ b. not (is_small b)) s.bytes && is_read_as (Symbol s) (token_form s.bytes))
 
 abbrev pub name_text : Name → List ℕ
 name_text s = if is_bare s then s.bytes else 124 ∷ (s.bytes ++ 124 ∷ [])
@@ -38,8 +38,3 @@ abbrev mutual
   tail_text (Natural n) = end_text false (numeral n)
   tail_text (Symbol s) = end_text (same_name s nil_name) (name_text s)
   tail_text (Pair a d) = 32 ∷ (text_of a ++ tail_text d)
-
--- one object on each line
-abbrev pub text_lines : List Object → List ℕ
-text_lines [] = []
-text_lines (x ∷ xs) = text_of x ++ 10 ∷ text_lines xs

@@ -3,7 +3,8 @@ use Rattle.std.specs.Prelude.{◌≡◌, ℕ, zero, suc, ◌+◌, ◌^◌, ◌<�
 use Rattle.mw_model.specs.Terms.Object.{Object, Natural, Symbol, Pair, symbol, same_object}
 use Rattle.mw_model.specs.Terms.Term.{firsts}
 use Rattle.mw_model.specs.Values.Value.{pick}
-use Rattle.mw_model.specs.Texts.Lexemes.{Lexeme, Mark, Ends, all_are, lexemes}
+use Rattle.mw_model.specs.Texts.Lexemes.{Lexeme, Mark, Ends, lexemes}
+use Rattle.std.specs.List.{list_all}
 use Rattle.mw_model.specs.Texts.Grammar.{book, reading}
 use Rattle.mw_model.specs.Texts.Printing.{numeral, name_text, text_of}
 use Rattle.mw_model.specs.Events.Fate.{longest}
@@ -25,7 +26,7 @@ pub record IsLabelled (x : Object) (first : ℕ) (text : List ℕ) (next : ℕ) 
   pub reads : reading Ends text ≡ book (x ∷ []) None
   -- and leaves no comment open: what stands after it is read too
   pub reads_on : reading Ends (text ++ codes " a") ≡ book (x ∷ symbol "A" ∷ []) None
-  pub one_line : all_are (λ b. not (eqb b 10)) text ≡ true
+  pub one_line : list_all (λ b. not (eqb b 10)) text ≡ true
   pub labels : ℕ
   pub numbered : labels_begun (lexemes Ends text) ≡ upwards first labels
   pub unused : next ≡ first + labels
@@ -42,7 +43,7 @@ IsDatumLine x line = (text : List ℕ) × (next : ℕ) × IsWritten x 1 text nex
 pub data IsBookText : List Object → List ℕ → Type 0 where
   no_lines : IsBookText [] []
   datum_line : (x : Object) (xs : List Object) (line rest : List ℕ) → IsDatumLine x line → IsBookText xs rest → IsBookText (x ∷ xs) (line ++ rest)
-  comment_line : (xs : List Object) (text rest : List ℕ) → all_are (λ b. not (eqb b 10)) text ≡ true → IsBookText xs rest → IsBookText xs (59 ∷ (text ++ 10 ∷ rest))
+  comment_line : (xs : List Object) (text rest : List ℕ) → list_all (λ b. not (eqb b 10)) text ≡ true → IsBookText xs rest → IsBookText xs (59 ∷ (text ++ 10 ∷ rest))
 
 -- data one after another, a space before each, labels running on
 abbrev pub AreWritten : List Object → ℕ → List ℕ → Type 0

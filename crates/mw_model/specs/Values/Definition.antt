@@ -1,5 +1,5 @@
 -- Definitions: blocks of functions, and witnesses.
-use Rattle.std.specs.Prelude.{◌≡◌, Bool, true, false, ◌&&◌, ◌||◌, cond, List, [], ◌∷◌, length, Option, Some, None}
+use Rattle.std.specs.Prelude.{◌≡◌, Bool, true, false, ◌&&◌, List, [], ◌∷◌, length, Option, is_none, find, map}
 use Rattle.mw_model.specs.Terms.Object.{Name, NIL, same_name}
 use Rattle.mw_model.specs.Terms.Term.{Term, Terms, Variable, Constant, Call, Lambda, NoTerms, More, Formula, Equal, Not, Or, ArityTable, arity_of, is_function_name, are_formals, is_term, is_closed}
 use Rattle.mw_model.specs.Values.Primitive.{Profile, primitive_arities}
@@ -24,8 +24,7 @@ abbrev pub definitions : Profile → List Block → Definitions
 definitions P D = record { profile = P; blocks = D }
 
 abbrev pub function_named : List Function → Name → Option Function
-function_named [] f = None
-function_named (h ∷ B) f = cond (same_name h.name f) (Some h) (function_named B f)
+function_named B f = find (λ h. same_name h.name f) B
 
 -- The arity table: the functions and witnesses, newest first, and then the primitives.
 abbrev pub add_functions : List Function → ArityTable → ArityTable
@@ -44,20 +43,12 @@ abbrev pub arity_table : Definitions → ArityTable
 arity_table D = arities D.profile D.blocks
 
 -- Well made: new function names, distinct formals, and bodies that are terms with no other variables.
-abbrev pub is_absent : {X : Type 0} → Option X → Bool
-is_absent None = true
-is_absent (Some x) = false
-
-abbrev pub is_present : {X : Type 0} → Option X → Bool
-is_present None = false
-is_present (Some x) = true
-
 abbrev pub is_new : ArityTable → Name → Bool
-is_new A f = is_function_name f && is_absent (arity_of A f)
+is_new A f = is_function_name f && is_none (arity_of A f)
 
 abbrev pub are_new : ArityTable → List Function → Bool
 are_new A [] = true
-are_new A (h ∷ B) = is_new A h.name && (is_absent (function_named B h.name) && are_new A B)
+are_new A (h ∷ B) = is_new A h.name && (is_none (function_named B h.name) && are_new A B)
 
 abbrev pub are_functions : ArityTable → List Function → Bool
 are_functions A [] = true
@@ -78,12 +69,6 @@ are_blocks P (B ∷ D) = is_block (arities P D) B && are_blocks P D
 abbrev pub IsWellMade : Definitions → Type 0
 IsWellMade D = are_blocks D.profile D.blocks ≡ true
 
--- the name of a function or witness of these blocks
-abbrev pub is_defined : List Block → Name → Bool
-is_defined [] f = false
-is_defined (Functions B ∷ D) f = is_present (function_named B f) || is_defined D f
-is_defined (Choice g y xs b ∷ D) f = same_name g f || is_defined D f
-
 -- The axioms of a block, the first function's first: (f x1 .. xn) = body, and for a witness
 -- body = 'nil or not ((lambda (bound x1 .. xn) body) (f x1 .. xn) x1 .. xn) = 'nil.
 abbrev pub variable_terms : List Name → Terms
@@ -93,14 +78,10 @@ variable_terms (x ∷ xs) = More (Variable x) (variable_terms xs)
 abbrev pub function_axiom : Function → Formula
 function_axiom h = Equal (Call h.name (variable_terms h.formals)) h.body
 
-abbrev pub function_axioms : List Function → List Formula
-function_axioms [] = []
-function_axioms (h ∷ B) = function_axiom h ∷ function_axioms B
-
 abbrev pub choice_axiom : Name → Name → List Name → Term → Formula
 choice_axiom g y xs b =
     Or (Equal b (Constant NIL)) (Not (Equal (Lambda (y ∷ xs) b (More (Call g (variable_terms xs)) (variable_terms xs))) (Constant NIL)))
 
 abbrev pub block_axioms : Block → List Formula
-block_axioms (Functions B) = function_axioms B
+block_axioms (Functions B) = map function_axiom B
 block_axioms (Choice g y xs b) = choice_axiom g y xs b ∷ []

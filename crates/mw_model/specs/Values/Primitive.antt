@@ -1,5 +1,6 @@
 -- The primitive functions of a profile, and their values.
-use Rattle.std.specs.Prelude.{ℕ, ◌+◌, ◌-◌, ◌*◌, ltb, cond, List, [], ◌∷◌, Option, Some, None, Bool, true, false}
+use Rattle.std.specs.Prelude.{ℕ, ◌+◌, ◌-◌, ◌*◌, ltb, cond, List, [], ◌∷◌, Option, Some, None, Bool, true, false, find}
+use Rattle.std.specs.Option.{option_or}
 use Rattle.mw_model.specs.Terms.Object.{Name, Object, Natural, Symbol, Pair, named, same_name, same_object, is_before_bytes, nil_name, NIL, truth_of, car, cdr}
 use Rattle.mw_model.specs.Terms.Term.{ArityTable}
 
@@ -26,18 +27,12 @@ primitive_name Minus = named "-"
 primitive_name Times = named "*"
 
 abbrev pub primitive_arity : Primitive → ℕ
-primitive_arity Equality = 2
 primitive_arity IsPair = 1
-primitive_arity Cons = 2
 primitive_arity Car = 1
 primitive_arity Cdr = 1
 primitive_arity IsSymbol = 1
-primitive_arity SymbolLess = 2
 primitive_arity IsNatural = 1
-primitive_arity Less = 2
-primitive_arity Plus = 2
-primitive_arity Minus = 2
-primitive_arity Times = 2
+primitive_arity _ = 2
 
 -- those of both profiles, in the order in which they are added to the arity table after IF
 abbrev pub shared_primitives : List Primitive
@@ -49,12 +44,10 @@ product One = None
 product Two = Some Times
 
 abbrev pub primitive_among : List Primitive → Name → Option Primitive
-primitive_among [] f = None
-primitive_among (p ∷ ps) f = cond (same_name (primitive_name p) f) (Some p) (primitive_among ps f)
+primitive_among ps f = find (λ p. same_name (primitive_name p) f) ps
 
 abbrev pub or_product : Profile → Name → Option Primitive → Option Primitive
-or_product P f (Some p) = Some p
-or_product P f None = cond (same_name (primitive_name Times) f) (product P) None
+or_product P f p = option_or p (cond (same_name (primitive_name Times) f) (product P) None)
 
 -- the primitive of this name, where the profile has one
 abbrev pub primitive_named : Profile → Name → Option Primitive
@@ -72,30 +65,25 @@ abbrev pub primitive_arities : Profile → ArityTable
 primitive_arities P = add_product (product P) (add_primitives shared_primitives ((named "IF", 3) ∷ []))
 
 abbrev pub is_pair : Object → Bool
-is_pair (Natural n) = false
-is_pair (Symbol x) = false
 is_pair (Pair a b) = true
+is_pair _ = false
 
 abbrev pub is_symbol : Object → Bool
-is_symbol (Natural n) = false
 is_symbol (Symbol x) = true
-is_symbol (Pair a b) = false
+is_symbol _ = false
 
 abbrev pub is_natural : Object → Bool
 is_natural (Natural n) = true
-is_natural (Symbol x) = false
-is_natural (Pair a b) = false
+is_natural _ = false
 
 -- what is no natural counts as 0, what is no symbol as NIL
 abbrev pub number : Object → ℕ
 number (Natural n) = n
-number (Symbol x) = 0
-number (Pair a b) = 0
+number _ = 0
 
 abbrev pub name_of : Object → Name
-name_of (Natural n) = nil_name
 name_of (Symbol x) = x
-name_of (Pair a b) = nil_name
+name_of _ = nil_name
 
 abbrev pub apply_to : Primitive → Object → Object → Object
 apply_to Equality a b = truth_of (same_object a b)

@@ -1,5 +1,5 @@
 -- The values of terms: the standard model of the definitions.
-use Rattle.std.specs.Prelude.{◌≡◌, ◌≢◌, ℕ, zero, suc, Bool, true, false, cond, ◌⊎◌, List, [], ◌∷◌, Option, Some, None}
+use Rattle.std.specs.Prelude.{◌≡◌, ◌≢◌, ℕ, zero, suc, Bool, true, false, cond, ◌⊎◌, List, [], ◌∷◌, Option, Some, None, zip}
 use Rattle.mw_model.specs.Terms.Object.{Name, Object, same_name, is_before, NIL}
 use Rattle.mw_model.specs.Terms.Term.{Term, Terms, Variable, Constant, If, Call, Lambda, NoTerms, More, IsTerm}
 use Rattle.mw_model.specs.Values.Primitive.{Profile, Primitive, primitive_named, apply}
@@ -15,9 +15,7 @@ lookup (p ∷ e) x = cond (same_name p.0 x) p.1 (lookup e x)
 
 -- just the formals, bound to the values
 abbrev pub bind : List Name → List Object → Environment
-bind [] vs = []
-bind (x ∷ xs) [] = []
-bind (x ∷ xs) (v ∷ vs) = (x, v) ∷ bind xs vs
+bind xs vs = zip xs vs
 
 -- which calls have which values
 abbrev pub Calls : Type 1
@@ -39,10 +37,6 @@ abbrev mutual
   pub HaveValues : Profile → Calls → Environment → Terms → List Object → Type 0
   HaveValues P C e NoTerms vs = vs ≡ []
   HaveValues P C e (More t ts) vs = (u : Object) × (us : List Object) × (vs ≡ u ∷ us) × HasValue P C e t u × HaveValues P C e ts us
-
--- no calls
-abbrev pub no_calls : Calls
-no_calls f vs v = ⊥
 
 -- which calls of a block's functions have which values
 abbrev pub BlockCalls : Type 1
@@ -71,7 +65,8 @@ Satisfies P C y xs b vs x = (u : Object) × (u ≢ NIL) × HasValue P C ((y, x) 
 -- the first such object, or NIL where there is none
 abbrev pub IsWitness : Profile → Calls → Name → List Name → Term → List Object → Object → Type 0
 IsWitness P C y xs b vs v =
-    (Satisfies P C y xs b vs v × ((x : Object) → is_before x v ≡ true → Satisfies P C y xs b vs x → ⊥)) ⊎ ((v ≡ NIL) × ((x : Object) → Satisfies P C y xs b vs x → ⊥))
+    (Satisfies P C y xs b vs v × ((x : Object) → is_before x v ≡ true → Satisfies P C y xs b vs x → ⊥)) ⊎
+    ((v ≡ NIL) × ((x : Object) → Satisfies P C y xs b vs x → ⊥))
 
 abbrev pub pick : Bool → Type 0 → Type 0 → Type 0
 pick true Here There = Here
@@ -83,19 +78,9 @@ extend_by C g R f vs v = pick (same_name g f) (R vs v) (C f vs v)
 
 -- The calls of the blocks. Those of an earlier block have their values among the earlier blocks alone.
 abbrev pub block_calls : Profile → List Block → Calls
-block_calls P [] = no_calls
+block_calls P [] = λ f vs v. ⊥
 block_calls P (Functions B ∷ D) = extend (block_calls P D) B (CallAtSomeDepth P (block_calls P D) B)
 block_calls P (Choice g y xs b ∷ D) = extend_by (block_calls P D) g (IsWitness P (block_calls P D) y xs b)
-
--- the same, with calls of the last block at most k deep
-abbrev pub block_calls_within : Profile → List Block → ℕ → Calls
-block_calls_within P [] k = no_calls
-block_calls_within P (Functions B ∷ D) k = extend (block_calls P D) B (CallWithin P (block_calls P D) B k)
-block_calls_within P (Choice g y xs b ∷ D) k = extend_by (block_calls P D) g (IsWitness P (block_calls P D) y xs b)
-
--- v is a value of t with call depth at most k
-abbrev pub IsValueWithin : Definitions → ℕ → Environment → Term → Object → Type 0
-IsValueWithin D k e t v = HasValue D.profile (block_calls_within D.profile D.blocks k) e t v
 
 -- v is a value of t: at some depth, which is the same as calls at some depth each
 abbrev pub IsValue : Definitions → Environment → Term → Object → Type 0

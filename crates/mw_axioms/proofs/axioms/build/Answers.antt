@@ -5,7 +5,7 @@ use Rattle.mw_model.specs.Terms.Term.{formula_object}
 use Rattle.mw_model.specs.Proofs.Axioms.{primitive_axioms}
 use Rattle.mw_heap.specs.Objects.{Grows}
 use Rattle.mw_heap.specs.Variants.{profile_of}
-use Rattle.mw_heap.specs.declared.profile.Profile.{Profile}
+use Rattle.mw_heap.specs.declared.vocabulary.profile.Profile.{Profile}
 use Rattle.mw_heap.proofs.Objects.{Grows-trans}
 use Rattle.mw_axioms.specs.declared.table.TheConstants.{SHARED, OF_TIMES}
 use Rattle.mw_axioms.specs.Pieces.{run}

@@ -1,7 +1,7 @@
 -- All was read, and the last text written.
 use Rattle.std.proofs.Common.{subst}
 use Rattle.mw_model.specs.Reports.Report.{status_of}
-use Rattle.mw_book.specs.Due.{IsLastText, refused_for}
+use Rattle.mw_book.specs.LastTexts.{IsLastText, refused_for}
 use Rattle.mw_book.specs.Answering.{fault_of}
 use Rattle.mw_book.specs.Checks.{BookEnds}
 use Rattle.mw_book.proofs.Headlines.{ends_with, concludes_reads}

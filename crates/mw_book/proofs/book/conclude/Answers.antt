@@ -3,8 +3,8 @@ use Rattle.std.proofs.Common.{◌++◌, [], inl, ap, subst, ◌∙◌}
 use Rattle.mw_model.specs.Reports.Report.{status_of}
 use Rattle.mw_port.specs.Ports.{Takes}
 use Rattle.mw_book.specs.Answering.{fault_of}
-use Rattle.mw_book.specs.Books.{TakesSome}
-use Rattle.mw_book.specs.Due.{IsLastText, refused_for}
+use Rattle.mw_book.specs.Statuses.{TakesSome}
+use Rattle.mw_book.specs.LastTexts.{IsLastText, refused_for}
 use Rattle.mw_book.proofs.Rounds.{concludes_with_all, concludes_with_halt}
 use Rattle.mw_book.proofs.Written.{takes_none}
 use Rattle.mw_book.proofs.book.conclude.Goals as goal

@@ -19,7 +19,7 @@ loop-init g c = record {
 }
 
 pub returns-in_default-clause-ends : goal.returns-in_default-clause-ends
-returns-in_default-clause-ends g c = read_fails c.loop.invariant.between (g.S.Source.left c.read.new.self) c.in_default.ensures.kept (g.K.Sink.shortages c.args.sink.now) (g.K.Sink.shortages c.loop.sink)
+returns-in_default-clause-ends g c = read_fails c.loop.invariant.between c.answers_promised.ensures.begun (g.S.Source.left c.read.new.self) c.in_default.ensures.kept (g.K.Sink.shortages c.args.sink.now) (g.K.Sink.shortages c.loop.sink)
 
 pub returns-in_default-clause-stops : goal.returns-in_default-clause-stops
 returns-in_default-clause-stops g c = tt

@@ -1,6 +1,5 @@
 -- The place of the name is that of the function.
-use Rattle.std.proofs.Common.{sym, ap, ◌∙◌, true≢false}
-use Rattle.std.specs.Prelude.{is_some}
+use Rattle.std.proofs.Common.{sym, ap, ◌∙◌, true≢false, is_some}
 use Rattle.mw_term.proofs.Symbols.{is_among-symbols}
 use Rattle.mw_define.proofs.OwedCalls.{named-place}
 use Rattle.mw_define.proofs.owing.function_named.Goals as goal

@@ -1,7 +1,6 @@
 -- Each word by what stands where its proofs would.
-use Rattle.std.proofs.Common.{inl, inr, refl, sym, ap, ◌∙◌, subst}
+use Rattle.std.proofs.Common.{inl, inr, refl, sym, ap, ◌∙◌, subst, is_some}
 use Rattle.mw_model.specs.Terms.Reading.{when}
-use Rattle.mw_model.specs.Values.Definition.{is_present}
 use Rattle.mw_model.specs.Events.Fate as word
 use Rattle.mw_commands.specs.Commands.Log.{natural_of, naturals_of}
 use Rattle.mw_heap.specs.Objects.{object_at}
@@ -34,7 +33,7 @@ returns-then-branch c =
     let event = subst (IsEvent os c.args.x) m.is c.requires.event in
     let drafts = c.in_ok-are_drafts-in-DefineAll.ensures in
     c.are_naturals-then-branch.ensures
-    ∙ sym (entry-is (object_at os c.args.x) (event_object os e) word.DefineAll c.in_range.ensures event.0 refl ∙ ap (λ b. is_present (when b (naturals_of (object_at os m.proofs)))) (sym drafts ∙ c.if-branch.true))
+    ∙ sym (entry-is (object_at os c.args.x) (event_object os e) word.DefineAll c.in_range.ensures event.0 refl ∙ ap (λ b. is_some (when b (naturals_of (object_at os m.proofs)))) (sym drafts ∙ c.if-branch.true))
 
 pub returns-in-Skolem : goal.returns-in-Skolem
 returns-in-Skolem c =

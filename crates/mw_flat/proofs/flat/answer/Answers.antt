@@ -1,7 +1,7 @@
 -- After the tests the event comes to what the log answers.
-use Rattle.std.proofs.Common.{sym, ap, ◌∙◌}
+use Rattle.std.proofs.Common.{sym, ap, ◌∙◌, option_map}
 use Rattle.mw_heap.specs.Variants.{refusal_of}
-use Rattle.std.specs.Prelude.{Some, option_map}
+use Rattle.std.specs.Prelude.{Some}
 use Rattle.mw_commands.specs.Commands.Log.{entry_of}
 use Rattle.mw_heap.specs.Objects.{object_at}
 use Rattle.mw_theory.specs.Worlds.{theory_in}

@@ -1,6 +1,6 @@
 -- What each call says is what the event comes to.
-use Rattle.std.proofs.Common.{◌≡◌, sym, subst}
-use Rattle.std.specs.Prelude.{IfOk, OnOk, option_map}
+use Rattle.std.proofs.Common.{◌≡◌, sym, subst, option_map}
+use Rattle.std.specs.Prelude.{IfOk, OnOk}
 use Rattle.mw_model.specs.Events.Theory.{IsSound}
 use Rattle.mw_heap.specs.Variants.{refusal_of}
 use Rattle.mw_theory.specs.Settling.{fate_by}

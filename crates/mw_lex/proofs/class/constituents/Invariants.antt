@@ -1,7 +1,7 @@
 use Rattle.std.proofs.Common.{◌≡◌, true, take}
 use Rattle.mw_model.specs.Texts.Lexemes.{is_constituent}
-use Rattle.mw_model.specs.Texts.Lexemes.{all_are}
+use Rattle.std.specs.List.{list_all}
 use Rattle.mw_lex.proofs.class.constituents.Given as goal
 
 abbrev pub invariant-loop-i : goal.invariant-loop-i
-invariant-loop-i l = all_are is_constituent (take l.i l.bytes) ≡ true
+invariant-loop-i l = list_all is_constituent (take l.i l.bytes) ≡ true

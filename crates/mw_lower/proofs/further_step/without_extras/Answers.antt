@@ -1,7 +1,9 @@
 -- By how many proofs there are.
-use Rattle.std.proofs.Common.{None, sym, subst}
+use Rattle.std.proofs.Common.{None, sym, ◌∙◌, subst}
 use Rattle.mw_commands.specs.Commands.Derivation as logic
 use Rattle.mw_commands.specs.Commands.DerivationTest.{is_commuted, is_turned, is_detached, is_chained}
+use Rattle.mw_commands.proofs.RuleRows.{commute-row, detach-row, symmetry-row, chain-row}
+use Rattle.mw_model.specs.Terms.Object.{NIL}
 use Rattle.mw_heap.specs.Objects.{object_at}
 use Rattle.mw_heap.specs.Lists.{list_object}
 use Rattle.mw_lower.specs.Answers.{AnswersAll}
@@ -19,7 +21,7 @@ returns-in-Some-clause-answer c =
 pub returns-in-None-clause-answer : goal.returns-in-None-clause-answer
 returns-in-None-clause-answer c =
     let os = c.args.heap.now.objects in
-    subst (λ r. AnswersAll (rule_of r) (object_at os c.args.c) (list_object os c.args.proofs.now) os None) (sym c.in-CommuteOr.is) (λ b F Fs has i d hs. not_one os (is_commuted F) b c.args.proofs.now Fs c.in-None.ensures hs)
+    subst (λ r. AnswersAll (rule_of r) (object_at os c.args.c) (list_object os c.args.proofs.now) os None) (sym c.in-CommuteOr.is) (λ b F Fs has i d hs. commute-row b.axioms b.theorems b.table b.profile F Fs NIL ∙ not_one os (is_commuted F) b c.args.proofs.now Fs c.in-None.ensures hs)
 
 pub returns-in-Some-alone-clause-answer : goal.returns-in-Some-alone-clause-answer
 returns-in-Some-alone-clause-answer c =
@@ -30,7 +32,7 @@ returns-in-Some-alone-clause-answer c =
 pub returns-in-None-alone-clause-answer : goal.returns-in-None-alone-clause-answer
 returns-in-None-alone-clause-answer c =
     let os = c.args.heap.now.objects in
-    subst (λ r. AnswersAll (rule_of r) (object_at os c.args.c) (list_object os c.args.proofs.now) os None) (sym c.in-Symmetry.is) (λ b F Fs has i d hs. not_one os (is_turned F) b c.args.proofs.now Fs c.in-None-alone.ensures hs)
+    subst (λ r. AnswersAll (rule_of r) (object_at os c.args.c) (list_object os c.args.proofs.now) os None) (sym c.in-Symmetry.is) (λ b F Fs has i d hs. symmetry-row b.axioms b.theorems b.table b.profile F Fs NIL ∙ not_one os (is_turned F) b c.args.proofs.now Fs c.in-None-alone.ensures hs)
 
 pub returns-in-Some-both-clause-answer : goal.returns-in-Some-both-clause-answer
 returns-in-Some-both-clause-answer c =
@@ -41,7 +43,7 @@ returns-in-Some-both-clause-answer c =
 pub returns-in-None-both-clause-answer : goal.returns-in-None-both-clause-answer
 returns-in-None-both-clause-answer c =
     let os = c.args.heap.now.objects in
-    subst (λ r. AnswersAll (rule_of r) (object_at os c.args.c) (list_object os c.args.proofs.now) os None) (sym c.in-ModusPonens.is) (λ b F Fs has i d hs. not_two os (is_detached F) b c.args.proofs.now Fs c.in-None-both.ensures hs)
+    subst (λ r. AnswersAll (rule_of r) (object_at os c.args.c) (list_object os c.args.proofs.now) os None) (sym c.in-ModusPonens.is) (λ b F Fs has i d hs. detach-row b.axioms b.theorems b.table b.profile F Fs NIL ∙ not_two os (is_detached F) b c.args.proofs.now Fs c.in-None-both.ensures hs)
 
 pub returns-in-Some-both-2-clause-answer : goal.returns-in-Some-both-2-clause-answer
 returns-in-Some-both-2-clause-answer c =
@@ -52,4 +54,4 @@ returns-in-Some-both-2-clause-answer c =
 pub returns-in-None-both-2-clause-answer : goal.returns-in-None-both-2-clause-answer
 returns-in-None-both-2-clause-answer c =
     let os = c.args.heap.now.objects in
-    subst (λ r. AnswersAll (rule_of r) (object_at os c.args.c) (list_object os c.args.proofs.now) os None) (sym c.in-Transitivity.is) (λ b F Fs has i d hs. not_two os (is_chained F) b c.args.proofs.now Fs c.in-None-both-2.ensures hs)
+    subst (λ r. AnswersAll (rule_of r) (object_at os c.args.c) (list_object os c.args.proofs.now) os None) (sym c.in-Transitivity.is) (λ b F Fs has i d hs. chain-row b.axioms b.theorems b.table b.profile F Fs NIL ∙ not_two os (is_chained F) b c.args.proofs.now Fs c.in-None-both-2.ensures hs)

@@ -3,7 +3,7 @@ use Rattle.std.proofs.Common.{◌≡◌, List, [], sym, ap, subst, ◌∙◌}
 use Rattle.mw_model.specs.Terms.Object.{Object}
 use Rattle.mw_model.specs.Values.Definition.{definitions}
 use Rattle.mw_heap.specs.Variants.{profile_of}
-use Rattle.mw_heap.specs.declared.profile.Profile.{Profile}
+use Rattle.mw_heap.specs.declared.vocabulary.profile.Profile.{Profile}
 use Rattle.mw_code.specs.declared.table.Table.{Table}
 use Rattle.mw_code.specs.Tables.{StandsFor}
 use Rattle.mw_preamble.specs.Admitted.{definitions_of}

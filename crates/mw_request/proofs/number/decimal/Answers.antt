@@ -1,6 +1,7 @@
 use Rattle.std.proofs.Common.{◌≡◌, ◌∙◌, ◌+◌, ◌≤◌, ℕ, true, List, zero, suc, leb, leb-true, length, drop, drop-cons, add-one, get_or, refl, sym, arith}
 use Rattle.std.proofs.lemmas.Bool.{and_parts}
-use Rattle.mw_model.specs.Texts.Lexemes.{all_are, is_digit}
+use Rattle.mw_model.specs.Texts.Lexemes.{is_digit}
+use Rattle.std.specs.List.{list_all}
 use Rattle.mw_read.proofs.Digits.{decimal_next, power, power_more, power_small}
 use Rattle.mw_request.proofs.number.decimal.Goals as goal
 
@@ -16,7 +17,7 @@ digit_below : (d : ℕ) → is_digit d ≡ true → d ≤ 57
 digit_below d h = leb-true d 57 (and_parts (leb 48 d) (leb d 57) h).1
 
 -- past a digit, the rest has to be digits
-digits_past : (ds : List ℕ) (i : ℕ) → i + 1 ≤ length ds → is_digit (get_or ds i 0) ≡ true → all_are is_digit (drop i ds) ≡ all_are is_digit (drop (i + 1) ds)
+digits_past : (ds : List ℕ) (i : ℕ) → i + 1 ≤ length ds → is_digit (get_or ds i 0) ≡ true → list_all is_digit (drop i ds) ≡ list_all is_digit (drop (i + 1) ds)
 digits_past ds i h digit = rw (drop-cons ds i 0 (omega arith), digit, add-one) refl
 
 pub overflow_mul-number : goal.overflow_mul-number

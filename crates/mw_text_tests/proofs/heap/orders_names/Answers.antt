@@ -28,8 +28,8 @@ symbol_less-requires-2-clause-first_in c = IsIn-Grows _ _ c.in_ok-cdr.ensures.gr
 pub symbol_less-requires-2-clause-second_in : goal.symbol_less-requires-2-clause-second_in
 symbol_less-requires-2-clause-second_in c = IsIn-Grows _ _ c.in_ok-cdr.ensures.grows _ c.in_ok-car.ensures.made.0
 
-pub text_length-requires : goal.text_length-requires
-text_length-requires c = IsIn-Grows _ _ c.in_ok-cdr.ensures.grows _ c.in_ok-car.ensures.made.0
+pub lengths-requires : goal.lengths-requires
+lengths-requires c = IsIn-Grows _ _ c.in_ok-cdr.ensures.grows _ c.in_ok-car.ensures.made.0
 
 pub mark_after-requires-2 : goal.mark_after-requires-2
 mark_after-requires-2 c = IsIn-Grows _ _ c.in_ok-cdr.ensures.grows _ c.in_ok-car.ensures.made.0

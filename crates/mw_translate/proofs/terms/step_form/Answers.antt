@@ -1,8 +1,9 @@
 -- A form goes on by its word.
-use Rattle.std.proofs.Common.{◌≡◌, ◌++◌, ◌+◌, sym, ap, ap₂, ◌∙◌, refl, arith}
+use Rattle.std.proofs.Common.{◌≡◌, ◌++◌, ◌+◌, sym, ap, ap₂, ◌∙◌, refl, arith, option_and_then}
 use Rattle.mw_model.specs.Terms.Object.{Pair}
 use Rattle.mw_model.specs.Values.Primitive.{name_of}
-use Rattle.mw_model.specs.Events.Expansion.{abbreviation_of, AND, OR, COND, LIST, LET, LETSTAR, FIRST, SECOND, THIRD, FOURTH, FIFTH, QUOTE, Other, form_with, expanded_each}
+use Rattle.mw_model.specs.Events.Expansion.{abbreviation_of, AND, OR, COND, LIST, LET, LETSTAR, FIRST, SECOND, THIRD, FOURTH, FIFTH, QUOTE, Other, expanded_each}
+use Rattle.mw_model.specs.Events.Expansion.{form}
 use Rattle.mw_heap.specs.Objects.{object_at}
 use Rattle.mw_heap.proofs.Objects.{Grows-refl}
 use Rattle.mw_term.proofs.Symbols.{symbol_is}
@@ -193,4 +194,4 @@ returns-in-Other-clause-step c =
     let name = name_of f in
     let w : abbreviation_of name ≡ Other = sym c.abbreviation_named.ensures ∙ ap abbreviation c.in-Other.is in
     let e = form_meaning A (object_at os c.args.x) f r name (symbol_is f c.requires.symbol) c.requires.form Other w in
-    result_same A os c.step_call.new.heap.objects es (meaning A kind.Term (object_at os c.args.x)) (of_term A (form_with Other name (expanded_each r))) (c.args.rest + 1) c.args.x c.step_call.result e (omega (arith, c.requires.rest_before)) c.step_call.ensures.step
+    result_same A os c.step_call.new.heap.objects es (meaning A kind.Term (object_at os c.args.x)) (of_term A (option_and_then (form Other name) (expanded_each r))) (c.args.rest + 1) c.args.x c.step_call.result e (omega (arith, c.requires.rest_before)) c.step_call.ensures.step

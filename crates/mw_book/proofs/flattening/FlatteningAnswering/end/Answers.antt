@@ -3,7 +3,7 @@ use Rattle.std.proofs.Common.{◌≡◌, ℕ, List, ◌++◌, codes, sym, ap, �
 use Rattle.mw_read.specs.Kinds.{kind_of}
 use Rattle.mw_lines.specs.Lines.{fault_line, flat_line}
 use Rattle.mw_book.specs.Answering.{fault_of}
-use Rattle.mw_book.specs.Due.{IsLastText}
+use Rattle.mw_book.specs.LastTexts.{IsLastText}
 use Rattle.mw_book.specs.declared.flattening.Flattening.{Flattening}
 use Rattle.mw_book.proofs.LastLines.{flattened_fault, flattened_summary}
 use Rattle.mw_book.proofs.flattening.FlatteningAnswering.end.Goals.{in-Some+in_ok-write_fault-in-Some, in-None+in_ok-write_counts-in-None}

@@ -2,7 +2,7 @@
 use Rattle.std.proofs.Common.{◌≡◌, ℕ, List, ◌++◌, sym, subst}
 use Rattle.mw_lines.specs.Lines.{fault_line, summary_of}
 use Rattle.mw_book.specs.Answering.{fault_of}
-use Rattle.mw_book.specs.Due.{IsLastText}
+use Rattle.mw_book.specs.LastTexts.{IsLastText}
 use Rattle.mw_read.specs.Kinds.{kind_of}
 use Rattle.mw_book.specs.declared.judging.Judging.{Judging}
 use Rattle.mw_book.proofs.LastLines.{judged_fault, judged_summary}

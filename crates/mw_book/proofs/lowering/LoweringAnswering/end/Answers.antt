@@ -3,7 +3,7 @@ use Rattle.std.proofs.Common.{◌≡◌, ℕ, List, ◌++◌, codes, sym, ap, �
 use Rattle.mw_read.specs.Kinds.{kind_of}
 use Rattle.mw_lines.specs.Lines.{fault_line, summary_of}
 use Rattle.mw_book.specs.Answering.{fault_of}
-use Rattle.mw_book.specs.Due.{IsLastText}
+use Rattle.mw_book.specs.LastTexts.{IsLastText}
 use Rattle.mw_book.specs.declared.lowering.Lowering.{Lowering}
 use Rattle.mw_book.proofs.LastLines.{lowered_fault, lowered_summary}
 use Rattle.mw_book.proofs.LoweredOne.{lowered_few}

@@ -3,7 +3,7 @@ use Rattle.std.proofs.Common.{◌≡◌, ℕ, List, ◌-◌, ◌++◌, codes, sy
 use Rattle.mw_read.specs.Kinds.{kind_of}
 use Rattle.mw_lines.specs.Lines.{fault_line, formulas_line}
 use Rattle.mw_book.specs.Answering.{fault_of}
-use Rattle.mw_book.specs.Due.{IsLastText}
+use Rattle.mw_book.specs.LastTexts.{IsLastText}
 use Rattle.mw_book.specs.declared.proving.Proving.{Proving}
 use Rattle.mw_book.proofs.LastLines.{proved_fault, proved_summary}
 use Rattle.mw_book.proofs.proving.ProvingAnswering.end.Goals.{in-Some+in_ok-write_fault-in-Some, in-None+in_ok-write_formulas-in-None}

@@ -3,7 +3,7 @@ use Rattle.std.proofs.Common.{◌≡◌, ℕ, ◌+◌, nat_lt, List, ◌++◌, s
 use Rattle.mw_read.specs.Kinds.{kind_of}
 use Rattle.mw_lines.specs.Lines.{fault_line, answers_line}
 use Rattle.mw_book.specs.Answering.{fault_of}
-use Rattle.mw_book.specs.Due.{IsLastText}
+use Rattle.mw_book.specs.LastTexts.{IsLastText}
 use Rattle.mw_book.specs.declared.rechecking.Rechecking.{Rechecking}
 use Rattle.mw_book.proofs.LastLines.{rechecked_refused, rechecked_fault, rechecked_summary}
 use Rattle.mw_book.proofs.RecheckedOne.{rechecked_few}

@@ -1,8 +1,7 @@
 -- The events that are kept, or that there is no such theorem, or the fault.
-use Rattle.std.proofs.Common.{◌≡◌, ◌∙◌, ◌<◌, ℕ, List, ◌++◌, map, Option, Some, None, cond, nat_lt, codes, refl, sym, ap, subst}
+use Rattle.std.proofs.Common.{◌≡◌, ◌∙◌, ◌<◌, ℕ, List, ◌++◌, map, Option, Some, None, cond, nat_lt, codes, refl, sym, ap, subst, is_some}
 use Rattle.std.specs.Prelude.{All, length}
 use Rattle.mw_model.specs.Terms.Object.{name_of_bytes}
-use Rattle.mw_model.specs.Values.Definition.{is_present}
 use Rattle.mw_model.specs.Texts.Printing.{numeral}
 use Rattle.mw_model.specs.Reports.Report.{spaced}
 use Rattle.mw_model.specs.Texts.Written.{IsDatumLine}
@@ -11,7 +10,7 @@ use Rattle.mw_commands.specs.Commands.Slice.{event_at, target}
 use Rattle.mw_read.specs.declared.step.SyntaxKind.{SyntaxKind}
 use Rattle.mw_slice.specs.Slices.{events_of}
 use Rattle.mw_book.specs.Answering.{fault_of}
-use Rattle.mw_book.specs.Due.{IsLastText}
+use Rattle.mw_book.specs.LastTexts.{IsLastText}
 use Rattle.mw_book.proofs.SlicedPlaces.{places_within, sliced_absent, sliced_found, sliced_refused}
 use Rattle.mw_book.proofs.slicing.SlicingAnswering.end.Goals as goal
 
@@ -30,7 +29,7 @@ returns-in_ok-write_slice-in-Events-clause-refused c none q given h =
     let s = c.args.self.now in
     let p = c.in-Events.ensures in
     let t = ap (λ b. target (events_of s.slicer) (name_of_bytes b)) (sym c.as_bytes.ensures.bytes) ∙ p.1 in
-    ap (nat_lt 0) (sliced_refused s q given h 0 (sym (ap (λ goal. cond (is_present goal) 0 1) t)))
+    ap (nat_lt 0) (sliced_refused s q given h 0 (sym (ap (λ goal. cond (is_some goal) 0 1) t)))
 
 pub returns-in_ok-write_slice-in-Events-clause-last : goal.returns-in_ok-write_slice-in-Events-clause-last
 returns-in_ok-write_slice-in-Events-clause-last c q given h =
@@ -47,7 +46,7 @@ pub returns-in_ok-write_absent-in-Absent-clause-refused : goal.returns-in_ok-wri
 returns-in_ok-write_absent-in-Absent-clause-refused c none q given h =
     let s = c.args.self.now in
     let t = ap (λ b. target (events_of s.slicer) (name_of_bytes b)) (sym c.as_bytes.ensures.bytes) ∙ c.in-Absent.ensures in
-    ap (nat_lt 0) (sliced_refused s q given h 1 (sym (ap (λ goal. cond (is_present goal) 0 1) t)))
+    ap (nat_lt 0) (sliced_refused s q given h 1 (sym (ap (λ goal. cond (is_some goal) 0 1) t)))
 
 pub returns-in_ok-write_absent-in-Absent-clause-last : goal.returns-in_ok-write_absent-in-Absent-clause-last
 returns-in_ok-write_absent-in-Absent-clause-last c q given h =

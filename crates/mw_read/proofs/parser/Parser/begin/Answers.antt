@@ -7,6 +7,7 @@ use Rattle.mw_read.specs.declared.parser.Begun.{Begun}
 use Rattle.mw_read.specs.declared.parser.Begun.TheVariants as begun
 use Rattle.mw_read.specs.declared.parser.Parser.{Parser}
 use Rattle.mw_read.specs.declared.step.SyntaxKind.TheVariants as kinds
+use Rattle.mw_read.proofs.White.{begins_shows}
 use Rattle.mw_read.proofs.Holding.{holds_full}
 use Rattle.mw_read.proofs.Advancing.{fault_advances}
 use Rattle.mw_read.proofs.Beginning.{rest_is, begun_full, bars_begin, hash_begin, token_begin, bars_offset, hash_offset, token_offset, moves_past, moves_on, is_token, if_ok_more, if_ok_both}
@@ -74,7 +75,7 @@ returns-in_ok-outcome-in-Bars-clause-moves c =
     let a = c.args.self.now in
     let mid : Parser = record a { begun = c.args.begun; token = c.clear.new.self } in
     let o = bars_offset a mid c.requires.begun c.clear.ensures.items refl c.in-Bars.is in
-    moves_past c.in_ok-outcome-in-Bars.outcome a mid c.in_bars.new.self c.args.rest.now c.in_ok-outcome-in-Bars.n o
+    moves_past c.in_ok-outcome-in-Bars.outcome a mid c.in_bars.new.self c.args.rest.now c.in_ok-outcome-in-Bars.n o (begins_some c.args.begun c.args.rest.now c.requires.begins) (begins_shows c.args.begun c.args.rest.now c.requires.begins)
     (subst (λ u. Moves c.in_ok-outcome-in-Bars.outcome mid u c.in_ok-outcome-in-Bars.n c.in_bars.new.self) (rest_is 1 c.args.rest.now) c.in_ok-outcome-in-Bars.ensures.moves)
 
 pub returns-in_ok-outcome-in-Bars-clause-advances : goal.returns-in_ok-outcome-in-Bars-clause-advances
@@ -90,7 +91,7 @@ returns-in_ok-outcome-in-Hash-clause-moves c =
     let a = c.args.self.now in
     let mid : Parser = record a { begun = c.args.begun; token = c.clear.new.self } in
     let o = hash_offset a mid c.requires.begun c.clear.ensures.items refl c.in-Hash.is in
-    moves_past c.in_ok-outcome-in-Hash.outcome a mid c.in_hash.new.self c.args.rest.now c.in_ok-outcome-in-Hash.n o
+    moves_past c.in_ok-outcome-in-Hash.outcome a mid c.in_hash.new.self c.args.rest.now c.in_ok-outcome-in-Hash.n o (begins_some c.args.begun c.args.rest.now c.requires.begins) (begins_shows c.args.begun c.args.rest.now c.requires.begins)
     (subst (λ u. Moves c.in_ok-outcome-in-Hash.outcome mid u c.in_ok-outcome-in-Hash.n c.in_hash.new.self) (rest_is 1 c.args.rest.now) c.in_ok-outcome-in-Hash.ensures.moves)
 
 pub returns-in_ok-outcome-in-Hash-clause-advances : goal.returns-in_ok-outcome-in-Hash-clause-advances

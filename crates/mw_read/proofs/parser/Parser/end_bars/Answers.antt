@@ -1,17 +1,17 @@
 -- The name is what was kept and these bytes.
 use Rattle.std.proofs.Common.{◌≡◌, ℕ, ◌<◌, ◌∙◌, ◌&&◌, List, [], ◌∷◌, ◌++◌, length, ap, sym, subst, true, false, refl, arith, length-append}
-use Rattle.mw_model.specs.Terms.Object.{Symbol, name_of_bytes, is_name, is_name_byte, are_name_bytes}
-use Rattle.mw_model.specs.Texts.Lexemes.{all_are}
+use Rattle.mw_model.specs.Terms.Object.{Symbol, name_of_bytes, is_name, is_name_byte}
+use Rattle.std.specs.List.{list_all}
 use Rattle.mw_heap.proofs.Objects.{Grows-trans}
 use Rattle.mw_read.proofs.Holding.{stack_grows, ready_grows, atom_took, or_small, if_ok_all}
 use Rattle.mw_read.proofs.Bare.{kept_is}
 use Rattle.mw_read.proofs.parser.Parser.end_bars.Goals as goal
 
-are_same : (bs : List ℕ) → are_name_bytes bs ≡ all_are is_name_byte bs
+are_same : (bs : List ℕ) → list_all is_name_byte bs ≡ list_all is_name_byte bs
 are_same [] = refl
 are_same (b ∷ bs) = ap (λ u. is_name_byte b && u) (are_same bs)
 
-are_name : (bs : List ℕ) → all_are is_name_byte bs ≡ true → 0 < length bs → is_name bs ≡ true
+are_name : (bs : List ℕ) → list_all is_name_byte bs ≡ true → 0 < length bs → is_name bs ≡ true
 are_name [] a l = absurd (omega arith)
 are_name (b ∷ bs) a l = ap (λ u. is_name_byte b && u) (are_same bs) ∙ a
 

@@ -1,5 +1,6 @@
 use Rattle.std.proofs.Common.{◌≡◌, ◌+◌, ◌∙◌, ◌<◌, ◌≤◌, ◌++◌, length, sym, ap, subst, refl, arith, true, false, IfOk}
-use Rattle.mw_model.specs.Texts.Lexemes.{Mark, Ref, all_are, is_digit, decimal_value}
+use Rattle.mw_model.specs.Texts.Lexemes.{Mark, Ref, is_digit, is_white, decimal_value}
+use Rattle.std.specs.List.{list_all}
 use Rattle.mw_read.specs.Machine.{State, on, is_full}
 use Rattle.mw_read.specs.Held.{Holds, Took}
 use Rattle.mw_read.proofs.Bare.{kept_is, not_empty, empty_is}
@@ -31,7 +32,7 @@ returns-in-61-clause-ended c =
     let whole : c.whole_text-text.result.now ≡ d =
     kept_is a.token.items c.keep_after.new.kept.items c.deref.result.now c.args.bytes.now c.whole_text-text.result.now
     c.in_ok-keep_after.ensures.some c.in_ok-keep_after.ensures.none c.deref.ensures.value c.whole_text-text.ensures.kept c.whole_text-text.ensures.none in
-    hash_ended c.take.result (length d) a c.take.new.self c.take.ensures.begun (c.take.ensures.start ∙ (let e : a.start + (length c.whole_text-text.result.now + 2) ≡ a.start + 2 + length d = omega (arith, ap length whole) in e))
+    hash_ended c.take.result (length d) c.args.b a c.take.new.self c.take.ensures.begun (c.take.ensures.start ∙ (let e : a.start + (length c.whole_text-text.result.now + 2) ≡ a.start + 2 + length d = omega (arith, ap length whole) in e)) (ap is_white c.in-61.is)
 
 pub take-requires-in-35-clause-comes : goal.take-requires-in-35-clause-comes
 take-requires-in-35-clause-comes c = c.requires.parser.ready c.requires.inside
@@ -56,7 +57,7 @@ returns-in-35-clause-ended c =
     let whole : c.whole_text-text.result.now ≡ d =
     kept_is a.token.items c.keep_after.new.kept.items c.deref.result.now c.args.bytes.now c.whole_text-text.result.now
     c.in_ok-keep_after.ensures.some c.in_ok-keep_after.ensures.none c.deref.ensures.value c.whole_text-text.ensures.kept c.whole_text-text.ensures.none in
-    hash_ended c.take-in-35.result (length d) a c.take-in-35.new.self c.take-in-35.ensures.begun (c.take-in-35.ensures.start ∙ (let e : a.start + (length c.whole_text-text.result.now + 2) ≡ a.start + 2 + length d = omega (arith, ap length whole) in e))
+    hash_ended c.take-in-35.result (length d) c.args.b a c.take-in-35.new.self c.take-in-35.ensures.begun (c.take-in-35.ensures.start ∙ (let e : a.start + (length c.whole_text-text.result.now + 2) ≡ a.start + 2 + length d = omega (arith, ap length whole) in e)) (ap is_white c.in-35.is)
 
 pub few_digits-n-requires-clause-digits : goal.few_digits-n-requires-clause-digits
 few_digits-n-requires-clause-digits c =
@@ -65,7 +66,7 @@ few_digits-n-requires-clause-digits c =
     let whole : c.whole_text-text.result.now ≡ d =
     kept_is a.token.items c.keep_after.new.kept.items c.deref.result.now c.args.bytes.now c.whole_text-text.result.now
     c.in_ok-keep_after.ensures.some c.in_ok-keep_after.ensures.none c.deref.ensures.value c.whole_text-text.ensures.kept c.whole_text-text.ensures.none in
-    subst (λ u. all_are is_digit u ≡ true) (sym whole) c.requires.digits
+    subst (λ u. list_all is_digit u ≡ true) (sym whole) c.requires.digits
 
 pub few_digits-n-requires-clause-few : goal.few_digits-n-requires-clause-few
 few_digits-n-requires-clause-few c =

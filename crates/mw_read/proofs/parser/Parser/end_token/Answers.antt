@@ -1,5 +1,6 @@
 use Rattle.std.proofs.Common.{◌≡◌, ◌++◌, sym, subst, true, false, arith, length-append, IfOk}
-use Rattle.mw_model.specs.Texts.Lexemes.{all_are, is_constituent, token_form}
+use Rattle.mw_model.specs.Texts.Lexemes.{is_constituent, token_form}
+use Rattle.std.specs.List.{list_all}
 use Rattle.mw_read.specs.Machine.{State, on, is_full}
 use Rattle.mw_read.specs.Held.{Holds, Took}
 use Rattle.mw_read.specs.Lexing.{token_lexeme}
@@ -20,7 +21,7 @@ returns-in_err-keep_after-clause-start g c = omega (arith, length-append c.args.
 
 pub end_token-requires-clause-token : goal.end_token-requires-clause-token
 end_token-requires-clause-token g c =
-    subst (λ u. all_are is_constituent u ≡ true)
+    subst (λ u. list_all is_constituent u ≡ true)
     (sym (kept_is c.args.self.now.token.items c.keep_after.new.kept.items c.deref.result.now c.args.bytes.now c.whole_text-token.result.now
     c.in_ok-keep_after.ensures.some c.in_ok-keep_after.ensures.none c.deref.ensures.value c.whole_text-token.ensures.kept c.whole_text-token.ensures.none))
     c.requires.token

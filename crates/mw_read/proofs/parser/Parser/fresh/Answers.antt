@@ -1,21 +1,21 @@
-use Rattle.std.proofs.Common.{◌+◌, sym, refl}
+use Rattle.std.proofs.Common.{◌+◌, get_or, sym, refl}
 use Rattle.mw_model.specs.Texts.Lexemes.{Open, Close, Quote}
 use Rattle.mw_model.specs.Texts.Lexemes as lex
 use Rattle.mw_read.specs.declared.parser.Begun.TheVariants.{Comment}
 use Rattle.mw_read.specs.declared.parser.Parser.{Parser}
-use Rattle.mw_read.specs.declared.step.Outcome.TheVariants as outcomes
 use Rattle.mw_read.specs.declared.step.SyntaxKind.TheVariants as kinds
 use Rattle.mw_read.proofs.Holding.{sound_clamp}
 use Rattle.mw_read.proofs.Advancing.{fault_advances}
 use Rattle.mw_read.proofs.Beginning.{lexeme_advances, byte_faults, white_advances, comment_advances, first_is}
-use Rattle.mw_read.proofs.Moving.{byte_moves, comment_moved}
+use Rattle.mw_read.proofs.White.{class_shows}
+use Rattle.mw_read.proofs.Moving.{byte_moved, byte_moves, comment_moved}
 use Rattle.mw_read.proofs.parser.Parser.fresh.Goals as goal
 
 pub returns-in-White-clause-moves : goal.returns-in-White-clause-moves
 returns-in-White-clause-moves c =
     let a = c.args.self.now in
     let p : Parser = record a { start = a.start + 1 } in
-    byte_moves outcomes.Pending a p c.args.rest.now c.requires.begun c.requires.begun refl
+    byte_moved a p c.args.rest.now c.requires.begun c.requires.begun refl
 
 pub returns-in-White-clause-advances : goal.returns-in-White-clause-advances
 returns-in-White-clause-advances c t h =
@@ -45,7 +45,7 @@ pub begin-requires-in-Constituent-clause-begins : goal.begin-requires-in-Constit
 begin-requires-in-Constituent-clause-begins c = first_is lex.Constituent c.args.rest.now c.requires.some (sym c.in-Constituent.ensures)
 
 pub returns-in_ok-take-in-Opening-clause-moves : goal.returns-in_ok-take-in-Opening-clause-moves
-returns-in_ok-take-in-Opening-clause-moves c = byte_moves c.in_ok-take-in-Opening.field-0 c.args.self.now c.take.new.self c.args.rest.now c.requires.begun c.take.ensures.begun c.take.ensures.start
+returns-in_ok-take-in-Opening-clause-moves c = byte_moves c.in_ok-take-in-Opening.field-0 c.args.self.now c.take.new.self c.args.rest.now c.requires.begun c.take.ensures.begun c.take.ensures.start (class_shows (get_or c.args.rest.now 0 0) lex.Opening (sym c.in-Opening.ensures) (λ e. cc))
 
 pub returns-in_ok-take-in-Opening-clause-advances : goal.returns-in_ok-take-in-Opening-clause-advances
 returns-in_ok-take-in-Opening-clause-advances c t h =
@@ -54,7 +54,7 @@ returns-in_ok-take-in-Opening-clause-advances c t h =
     (c.in_ok-take-in-Opening.ensures.took t h)
 
 pub returns-in_ok-take-in-Closing-clause-moves : goal.returns-in_ok-take-in-Closing-clause-moves
-returns-in_ok-take-in-Closing-clause-moves c = byte_moves c.in_ok-take-in-Closing.field-0 c.args.self.now c.take-in-Closing.new.self c.args.rest.now c.requires.begun c.take-in-Closing.ensures.begun c.take-in-Closing.ensures.start
+returns-in_ok-take-in-Closing-clause-moves c = byte_moves c.in_ok-take-in-Closing.field-0 c.args.self.now c.take-in-Closing.new.self c.args.rest.now c.requires.begun c.take-in-Closing.ensures.begun c.take-in-Closing.ensures.start (class_shows (get_or c.args.rest.now 0 0) lex.Closing (sym c.in-Closing.ensures) (λ e. cc))
 
 pub returns-in_ok-take-in-Closing-clause-advances : goal.returns-in_ok-take-in-Closing-clause-advances
 returns-in_ok-take-in-Closing-clause-advances c t h =
@@ -63,7 +63,7 @@ returns-in_ok-take-in-Closing-clause-advances c t h =
     (c.in_ok-take-in-Closing.ensures.took t h)
 
 pub returns-in_ok-take-in-Apostrophe-clause-moves : goal.returns-in_ok-take-in-Apostrophe-clause-moves
-returns-in_ok-take-in-Apostrophe-clause-moves c = byte_moves c.in_ok-take-in-Apostrophe.field-0 c.args.self.now c.take-in-Apostrophe.new.self c.args.rest.now c.requires.begun c.take-in-Apostrophe.ensures.begun c.take-in-Apostrophe.ensures.start
+returns-in_ok-take-in-Apostrophe-clause-moves c = byte_moves c.in_ok-take-in-Apostrophe.field-0 c.args.self.now c.take-in-Apostrophe.new.self c.args.rest.now c.requires.begun c.take-in-Apostrophe.ensures.begun c.take-in-Apostrophe.ensures.start (class_shows (get_or c.args.rest.now 0 0) lex.Apostrophe (sym c.in-Apostrophe.ensures) (λ e. cc))
 
 pub returns-in_ok-take-in-Apostrophe-clause-advances : goal.returns-in_ok-take-in-Apostrophe-clause-advances
 returns-in_ok-take-in-Apostrophe-clause-advances c t h =

@@ -1,18 +1,19 @@
 use Rattle.std.proofs.Common.{◌≡◌, ◌∙◌, ◌<◌, ◌+◌, ◌++◌, ◌∷◌, [], Some, sym, ap, ap₂, subst, suc, length, take, drop, get_or, arith, true, refl}
 use Rattle.mw_model.specs.Terms.Object.{is_name_byte, Symbol, name_of_bytes}
-use Rattle.mw_model.specs.Texts.Lexemes.{all_are, lexemes_from, fault, BYTE}
+use Rattle.mw_model.specs.Texts.Lexemes.{is_white, lexemes_from, fault, BYTE}
+use Rattle.std.specs.List.{list_all}
 use Rattle.mw_model.specs.Texts.Grammar.{book}
 use Rattle.mw_read.specs.Resume.{resume}
 use Rattle.mw_read.specs.Parsing.{IsText, is_inside, ahead}
 use Rattle.mw_read.specs.Pausing.{GoesOn}
-use Rattle.mw_read.specs.declared.parser.Begun.TheVariants.{Barred}
+use Rattle.mw_read.specs.declared.parser.Begun.TheVariants.{Barred, AfterBar}
 use Rattle.mw_read.specs.declared.parser.Parser.{Parser}
 use Rattle.mw_read.specs.declared.step.SyntaxKind.TheVariants as kinds
 use Rattle.mw_read.proofs.Holding.{holds_full, sound_clamp}
 use Rattle.mw_read.proofs.Bare.{split_at, all_append, go_on, go_on_past, both_length, empty_list, not_eqb}
 use Rattle.mw_read.proofs.Parsing.{bars_whole, bars_faults, bars_empty}
 use Rattle.mw_read.proofs.Pausing.{whole_taken}
-use Rattle.mw_read.proofs.Moving.{moves_all, barred_moved, barred_advances, bars_moved}
+use Rattle.mw_read.proofs.Moving.{moves_all, ends_with, barred_moved, barred_advances, bars_moved}
 use Rattle.mw_read.proofs.Advancing.{bars_advance, fault_advances}
 use Rattle.mw_read.proofs.parser.Parser.in_bars.Goals as goal
 
@@ -24,7 +25,7 @@ returns-then-rest-n-ne124-clause-advances c t h =
     let run = c.name_bytes-n.ensures in
     let lt : n < length rest = omega (arith, run.within, c.if-n-rest.false) in
     let full = sym (holds_full c.args.heap.now.objects a.stack t h) ∙ c.requires.parser.ready (ap is_inside c.requires.begun) in
-    let text : all_are is_name_byte a.token.items ≡ true = subst (λ m. IsText m a.token.items) c.requires.begun c.requires.parser.text in
+    let text : list_all is_name_byte a.token.items ≡ true = subst (λ m. IsText m a.token.items) c.requires.begun c.requires.parser.text in
     let whole = a.token.items ++ take n rest in
     let l = both_length a.token.items rest n run.within in
     let o : a.start + 1 + length whole ≡ a.start + 1 + (c.len.result + n) = omega (arith, l, c.len.ensures, a.token.ok.0) in
@@ -57,8 +58,8 @@ pub pause-requires : goal.pause-requires
 pause-requires c =
     let a = c.args.self.now in
     let rest = c.args.rest.now in
-    let text : all_are is_name_byte a.token.items ≡ true = subst (λ m. IsText m a.token.items) c.requires.begun c.requires.parser.text in
-    let run = subst (λ u. all_are is_name_byte u ≡ true) (whole_taken rest c.name_bytes-n.result c.if-n-rest.true) c.name_bytes-n.ensures.all in
+    let text : list_all is_name_byte a.token.items ≡ true = subst (λ m. IsText m a.token.items) c.requires.begun c.requires.parser.text in
+    let run = subst (λ u. list_all is_name_byte u ≡ true) (whole_taken rest c.name_bytes-n.result c.if-n-rest.true) c.name_bytes-n.ensures.all in
     subst (λ m. GoesOn m (a.token.items ++ rest)) (sym c.requires.begun) (all_append is_name_byte a.token.items rest text run)
 
 pub returns-then-n-rest-2-clause-moves : goal.returns-then-n-rest-2-clause-moves
@@ -68,7 +69,7 @@ returns-then-n-rest-2-clause-moves c =
     let n = c.name_bytes-n.result in
     let p : Parser = record a { begun = Barred; token = c.extend_from_slice.new.self } in
     let lt : n < length rest = omega (arith, c.name_bytes-n.ensures.within, c.if-n-rest.false) in
-    barred_moved a p rest n c.requires.begun refl refl c.in_ok-extend_from_slice.ensures.items lt
+    barred_moved a p rest n c.requires.begun refl refl c.in_ok-extend_from_slice.ensures.items lt (omega (arith, c.if-n-rest-2.true))
 
 pub returns-then-n-rest-2-clause-advances : goal.returns-then-n-rest-2-clause-advances
 returns-then-n-rest-2-clause-advances c t h =
@@ -79,7 +80,7 @@ returns-then-n-rest-2-clause-advances c t h =
     let run = c.name_bytes-n.ensures in
     let p : Parser = record a { begun = Barred; token = c.extend_from_slice.new.self } in
     let lt : n < length rest = omega (arith, run.within, c.if-n-rest.false) in
-    let text : all_are is_name_byte a.token.items ≡ true = subst (λ m. IsText m a.token.items) c.requires.begun c.requires.parser.text in
+    let text : list_all is_name_byte a.token.items ≡ true = subst (λ m. IsText m a.token.items) c.requires.begun c.requires.parser.text in
     let l = both_length a.token.items rest n run.within in
     let some : 0 < length (a.token.items ++ take n rest) = omega (arith, l, c.len.ensures, a.token.ok.0, c.if-length-eq0.false) in
     barred_advances a p rest n c.requires.begun refl refl c.in_ok-extend_from_slice.ensures.items lt os t c.requires.parser refl h c.if-rest-n-ne124.false (all_append is_name_byte a.token.items (take n rest) text run.all) some
@@ -87,7 +88,7 @@ returns-then-n-rest-2-clause-advances c t h =
 pub end_bars-requires-clause-name : goal.end_bars-requires-clause-name
 end_bars-requires-clause-name c =
     let a = c.args.self.now in
-    let text : all_are is_name_byte a.token.items ≡ true = subst (λ m. IsText m a.token.items) c.requires.begun c.requires.parser.text in
+    let text : list_all is_name_byte a.token.items ≡ true = subst (λ m. IsText m a.token.items) c.requires.begun c.requires.parser.text in
     all_append is_name_byte a.token.items (take c.name_bytes-n.result c.args.rest.now) text c.name_bytes-n.ensures.all
 
 pub end_bars-requires-clause-some : goal.end_bars-requires-clause-some
@@ -103,6 +104,7 @@ returns-clause-moves c =
     let n = c.name_bytes-n.result in
     let lt : n + 1 < length rest = omega (arith, c.name_bytes-n.ensures.within, c.if-n-rest.false, c.if-n-rest-2.false) in
     moves_all c.in_ok-outcome.outcome a rest (n + 1) c.end_bars.new.self (bars_moved a c.end_bars.new.self rest n c.requires.begun c.end_bars.ensures.begun c.end_bars.ensures.start lt)
+    (ends_with c.end_bars.new.self.begun AfterBar rest n c.end_bars.ensures.begun tt (ap is_white c.if-rest-n-ne124.false))
 
 pub returns-clause-advances : goal.returns-clause-advances
 returns-clause-advances c t h =
@@ -112,7 +114,7 @@ returns-clause-advances c t h =
     let run = c.name_bytes-n.ensures in
     let lt : n < length rest = omega (arith, run.within, c.if-n-rest.false) in
     let lt2 : n + 1 < length rest = omega (arith, run.within, c.if-n-rest.false, c.if-n-rest-2.false) in
-    let text : all_are is_name_byte a.token.items ≡ true = subst (λ m. IsText m a.token.items) c.requires.begun c.requires.parser.text in
+    let text : list_all is_name_byte a.token.items ≡ true = subst (λ m. IsText m a.token.items) c.requires.begun c.requires.parser.text in
     let whole = a.token.items ++ take n rest in
     let l = both_length a.token.items rest n run.within in
     let some : 0 < length whole = omega (arith, l, c.len.ensures, a.token.ok.0, c.if-length-eq0.false) in

@@ -1,5 +1,6 @@
 use Rattle.std.proofs.Common.{◌∙◌, ◌<◌, ◌≤◌, ◌+◌, ◌++◌, ◌∷◌, sym, ap, subst, length, take, drop, get_or, arith, [], ◌≡◌, true, length-append}
-use Rattle.mw_model.specs.Texts.Lexemes.{all_are, is_digit, lexemes_from}
+use Rattle.mw_model.specs.Texts.Lexemes.{is_digit, lexemes_from}
+use Rattle.std.specs.List.{list_all}
 use Rattle.mw_read.specs.Resume.{resume}
 use Rattle.mw_read.specs.Parsing.{IsText, is_inside, ahead}
 use Rattle.mw_read.specs.Pausing.{GoesOn}
@@ -35,7 +36,7 @@ pause-requires c =
     let rest = c.args.rest.now in
     let n = c.digits-n.result in
     let text = subst (λ m. IsText m a.token.items) c.requires.begun c.requires.parser.text in
-    let run = subst (λ u. all_are is_digit u ≡ true) (whole_taken rest n c.if-n-rest.true) c.digits-n.ensures.all in
+    let run = subst (λ u. list_all is_digit u ≡ true) (whole_taken rest n c.if-n-rest.true) c.digits-n.ensures.all in
     let few : length (a.token.items ++ rest) ≤ 9 = omega (arith, length-append a.token.items rest, c.if-n-rest.true, c.len.ensures, a.token.ok.0, c.if-len-n-gt9.false) in
     subst (λ m. GoesOn m (a.token.items ++ rest)) (sym c.requires.begun) (all_append is_digit a.token.items rest text.0 run, few)
 

@@ -1,10 +1,12 @@
 use Rattle.std.proofs.Common.{◌≡◌, ◌∙◌, ◌<◌, ◌++◌, sym, ap, subst, suc, length, take, drop, get_or, arith, true}
-use Rattle.mw_model.specs.Texts.Lexemes.{all_are, is_constituent}
-use Rattle.mw_read.specs.Parsing.{IsText, is_inside}
+use Rattle.mw_model.specs.Texts.Lexemes.{is_constituent}
+use Rattle.mw_read.specs.Parsing.{IsText, IsBetween, is_inside}
+use Rattle.std.specs.List.{list_all}
 use Rattle.mw_read.specs.Pausing.{GoesOn}
 use Rattle.mw_read.proofs.Holding.{holds_full, sound_clamp}
 use Rattle.mw_read.proofs.Bare.{split_at, all_append, some_length}
 use Rattle.mw_read.proofs.Beginning.{if_ok_more}
+use Rattle.mw_read.proofs.White.{token_shows}
 use Rattle.mw_read.proofs.Pausing.{whole_taken, starts_some, some_taken, some_begun}
 use Rattle.mw_read.proofs.Moving.{moves_all, token_moved}
 use Rattle.mw_read.proofs.Advancing.{token_advances}
@@ -14,8 +16,8 @@ pub pause-requires : goal.pause-requires
 pause-requires g c =
     let a = c.args.self.now in
     let rest = c.args.rest.now in
-    let text : all_are is_constituent a.token.items ≡ true = subst (λ m. IsText m a.token.items) c.requires.begun c.requires.parser.text in
-    let run = subst (λ u. all_are is_constituent u ≡ true) (whole_taken rest c.constituents-n.result c.if-n-rest.true) c.constituents-n.ensures.all in
+    let text : list_all is_constituent a.token.items ≡ true = subst (λ m. IsText m a.token.items) c.requires.begun c.requires.parser.text in
+    let run = subst (λ u. list_all is_constituent u ≡ true) (whole_taken rest c.constituents-n.result c.if-n-rest.true) c.constituents-n.ensures.all in
     subst (λ m. GoesOn m (a.token.items ++ rest)) (sym c.requires.begun) (all_append is_constituent a.token.items rest text run, some_begun is_constituent a.token.items rest c.requires.some)
 
 pub returns-then-n-rest-clause-taken : goal.returns-then-n-rest-clause-taken
@@ -33,7 +35,7 @@ returns-clause-starts g c h =
 pub end_token-requires-clause-token : goal.end_token-requires-clause-token
 end_token-requires-clause-token g c =
     let a = c.args.self.now in
-    let text : all_are is_constituent a.token.items ≡ true = subst (λ m. IsText m a.token.items) c.requires.begun c.requires.parser.text in
+    let text : list_all is_constituent a.token.items ≡ true = subst (λ m. IsText m a.token.items) c.requires.begun c.requires.parser.text in
     all_append is_constituent a.token.items (take c.constituents-n.result c.args.rest.now) text c.constituents-n.ensures.all
 
 pub returns-clause-moves : goal.returns-clause-moves
@@ -42,7 +44,9 @@ returns-clause-moves g c =
     let rest = c.args.rest.now in
     let n = c.constituents-n.result in
     let lt : n < length rest = omega (arith, c.constituents-n.ensures.within, c.if-n-rest.false) in
+    let run = c.constituents-n.ensures.all in
     moves_all c.in_ok-outcome.outcome a rest n c.end_token.new.self (token_moved a c.end_token.new.self rest n c.requires.begun c.end_token.ensures.begun c.end_token.ensures.start lt (c.constituents-n.ensures.ends lt))
+    (record { between = subst IsBetween (sym c.end_token.ensures.begun) tt; last = λ k e. token_shows rest k (subst (λ m. list_all is_constituent (take m rest) ≡ true) e run) })
 
 pub returns-clause-advances : goal.returns-clause-advances
 returns-clause-advances g c t h =
@@ -52,7 +56,7 @@ returns-clause-advances g c t h =
     let run = c.constituents-n.ensures in
     let lt : n < length rest = omega (arith, run.within, c.if-n-rest.false) in
     let full = sym (holds_full c.args.heap.now.objects a.stack t h) ∙ c.requires.parser.ready (ap is_inside c.requires.begun) in
-    let text : all_are is_constituent a.token.items ≡ true = subst (λ m. IsText m a.token.items) c.requires.begun c.requires.parser.text in
+    let text : list_all is_constituent a.token.items ≡ true = subst (λ m. IsText m a.token.items) c.requires.begun c.requires.parser.text in
     token_advances c.end_token.new.heap.objects t a c.end_token.new.self rest n (get_or rest n 0) c.glued_to_token.result (drop (suc n) rest)
     c.requires.begun full (sound_clamp c.args.heap.now.objects a.stack t h.means) (some_length is_constituent a.token.items rest n c.requires.some run.ends lt)
     (all_append is_constituent a.token.items (take n rest) text run.all)

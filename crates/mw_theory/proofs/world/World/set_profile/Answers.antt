@@ -1,6 +1,6 @@
 -- Refused, or the theory of a profile.
 use Rattle.std.proofs.Common.{Some, sym, ap, ◌∙◌}
-use Rattle.mw_heap.specs.declared.profile.Profile.TheVariants.{One, Two}
+use Rattle.mw_heap.specs.declared.vocabulary.profile.Profile.TheVariants.{One, Two}
 use Rattle.mw_theory.proofs.Profiles.{later-refused, none-refused, profile-begun}
 use Rattle.mw_theory.proofs.world.World.set_profile.Goals as goal
 

@@ -1,0 +1,4 @@
+pub mod TermParts
+pub mod FormulaParts
+pub mod BadStep
+pub mod Condition
