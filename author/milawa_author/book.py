@@ -18,19 +18,24 @@ from .logic.kernel import Proof
 from .logic.measures import distinct_steps, tree_steps
 from .logic.notation import as_formula, expand, term
 from .logic.objects import Object, Pair, items, make_list
-from .logic.terms import is_equation, left, literals, variables
+from .logic.terms import is_equation, left, literals, quote, variables
 from .logic.text import read
 from .logic.theory import Definition, Test, Theory
-from .program import Report, run_program
+from .program import Report, explain_refusals, run_program
 from .prover.evaluation import evaluate
-from .prover.induction import induct_on_list, induct_on_natural
-from .prover.ranks import solve_obligation
+from .prover.induction import induct_on_call, induct_on_list, induct_on_natural
+from .prover.linear import linear
+from .prover.decreases import solve_obligation
+from .prover.rewriting import prove_by_rewriting
 from .prover.search import prove
 from .rules.equality import LEMMAS
 from .rules.instances import definition_instance, instance, primitive_axiom
 from .rules.lowering import lower_methods
 from .rules.tautology import tautology
-from .sharing import share
+from .sharing import pack, share
+
+CHANGING = ("VERIFY", "DEFINE", "DEFINE-ALL", "SKOLEM", "SWITCH")       # the events that change a theory
+
 
 class Book:
     """A book in the making.  Each call that adds an event checks first what the program would check: it raises
@@ -86,6 +91,18 @@ class Book:
         """VERIFY of a formula by induction on a natural number, a variable, with the options of `prove`."""
         return self.verify(name, induct_on_natural(self, goal, variable, **options))
 
+    def prove_by_call(self, name: str, goal: str | Pair, call: str, **options) -> Proof:
+        """VERIFY of a formula by induction as a function of the book recurs: `call` is a call of it on variables."""
+        return self.verify(name, induct_on_call(self, goal, term(call), **options))
+
+    def prove_linear(self, name: str, goal: str | Pair, use: Iterable[Proof] = ()) -> Proof:
+        """VERIFY of a formula that follows by adding up inequalities (`prover.linear`)."""
+        return self.verify(name, linear(self, goal, use))
+
+    def prove_by_rewriting(self, name: str, goal: str | Pair, rules: Iterable[str], **options) -> Proof:
+        """VERIFY of a formula whose terms are rewritten by named theorems of the book (`prover.rewriting`)."""
+        return self.verify(name, prove_by_rewriting(self.theory, goal, map(self._lemma, rules), **options))
+
     def evaluate(self, name: str, text: str) -> Proof:
         """VERIFY of `t = 'v` for a ground term t and its value v."""
         return self.verify(name, evaluate(self.theory, term(text)))
@@ -94,10 +111,11 @@ class Book:
         """VERIFY of a formula that holds by NOT and OR alone."""
         return self.verify(name, tautology(self.theory, as_formula(goal)))
 
-    def equality_lemmas(self) -> None:
-        """Verifies the four theorems on equality that shorten all later proofs, those that are not there yet."""
+    def equality_lemmas(self, is_again: bool = False) -> None:
+        """Verifies the four theorems on equality that shorten all later proofs, those that are not there yet; or all of
+        them again, so that a checker that looks theorems up from the newest one finds them soon."""
         for name, (formula, lemma) in LEMMAS.items():
-            if formula not in self.theory.theorems:
+            if is_again or formula not in self.theory.theorems:
                 self.verify(name, lemma(self.theory))
 
     # ---- instances, for `use` and `rules` ------------------------------------------------------------------
@@ -108,7 +126,7 @@ class Book:
         return self._instance(self._lemma(name), terms)
 
     def axiom_at(self, number: int, /, **terms: str) -> Proof:
-        """An instance of an axiom of the primitives, by its number in docs/AXIOMS.md, 1 to 53; terms as for `at`."""
+        """An instance of an axiom of the primitives, by its number in docs/AXIOMS.md; terms as for `at`."""
         return self._instance(primitive_axiom(self.theory, number), terms)
 
     def definition_at(self, name: str, *actuals: str) -> Proof:
@@ -156,6 +174,8 @@ class Book:
     def define_block(self, block: Sequence[Function], proofs: Optional[Iterable[Proof]] = None) -> list[Definition]:
         """The same from terms."""
         owed = admit_block(self.theory, block)
+        if owed and proofs is None and any(f.measure is quote("NIL") for f in block):
+            raise RuleError("DEFINE", "the function calls itself: give its measure, as `(rank x)`, which has to fall")
         for function in block:
             self._check_range(make_list(function.body, function.measure))
         proofs = [solve_obligation(self, o) for o in owed] if proofs is None else list(proofs)
@@ -164,13 +184,14 @@ class Book:
         for proof, o in zip(proofs, owed):
             if proof.conclusion is not o or proof.theory is not self.theory:
                 raise EventError("CONCLUSION", "a proof shows something else than its obligation", o)
+        proofs = [pack(p) for p in proofs]
         members = [[f.name, make_list(*f.formals), f.body, f.measure] for f in block]
         given = make_list(*[p.object for p in proofs])
         if len(block) == 1:
             self._add(make_list("DEFINE", *members[0], given), proofs)
         else:
             self._add(make_list("DEFINE-ALL", make_list(*[make_list(*m) for m in members]), given), proofs)
-        definitions = [Definition(f.name, f.formals, f.body) for f in block]
+        definitions = [Definition(f.name, f.formals, f.body, measure=f.measure) for f in block]
         for definition in definitions:
             self.theory.add_definition(definition)
         return definitions
@@ -193,6 +214,16 @@ class Book:
         self._check_range(t)
         self._add(make_list("SKOLEM", name, bound, make_list(*free), t))
         self.theory.add_definition(Definition(name, free, t, bound=bound))
+
+    def profile(self, number: int) -> None:
+        """PROFILE: in profile 2 multiplication is a primitive, `*`.  Raises EventError, PROFILE, where it is neither 1
+        nor 2, or the theory is no longer the one at the start of the first profile."""
+        if number not in (1, 2) or self.theory.profile != 1 or any(e.form.first in CHANGING for e in self.events):
+            raise EventError("PROFILE", "a book may choose profile 1 or 2 at its beginning")
+        self._add(make_list("PROFILE", number))
+        if number == 2:
+            methods, self.theory = self.theory.methods, Theory(2)
+            self.theory.set_methods(methods)
 
     # ---- other events ------------------------------------------------------------------------------------
 
@@ -243,10 +274,16 @@ class Book:
                      sum(len(distinct_steps(e.proofs)) for e in events), sum(tree_steps(e.proofs) for e in events))
 
     def check(self, path: Optional[str] = None, steps: Optional[int] = None) -> Report:
-        """What `milawa check` says of the book.  Raises Refused, with the Python line of each refused event, where it
-        does not accept them all, and ProgramMissing where there is no program."""
-        report = run_program("check", *(["--steps", str(steps)] if steps else []), text=self.text(), path=path)
+        """What `milawa check` says of the book.  Raises Refused, with the Python line of each refused event and what
+        `milawa explain` says of it (where the program has that command), if it does not accept them all, and
+        ProgramMissing where there is no program."""
+        text, options = self.text(), ["--steps", str(steps)] if steps else []
+        report = run_program("check", *options, text=text, path=path)
         if report.status != 0:
-            places = [f"{line}\n    {self.events[int(line.split()[0]) - 1]}" for line in report.refused]
+            why = explain_refusals(*options, text=text, path=path)
+            places = []
+            for line in report.refused:
+                number = int(line.split()[0])
+                places += [line, f"    {self.events[number - 1]}", *([f"    {why[number]}"] if number in why else [])]
             raise Refused("\n".join([*places, report.summary, f"status {report.status}"]))
         return report

@@ -1,4 +1,5 @@
 """Events of a book, and how large books are."""
+import functools
 import sys
 from collections.abc import Sequence
 from pathlib import Path
@@ -12,10 +13,15 @@ PACKAGE = str(Path(__file__).resolve().parent)
 
 
 class Event:
-    """One event: its object `form`, the proofs in it, its `text`, and the line of Python that asked for it."""
+    """One event: its object `form`, the proofs in it, and the line of Python that asked for it, `place`."""
 
     def __init__(self, form: Pair, proofs: Sequence[Proof], place: str):
-        self.form, self.proofs, self.place, self.text = form, list(proofs), place, write(form)
+        self.form, self.proofs, self.place = form, list(proofs), place
+
+    @functools.cached_property
+    def text(self) -> str:
+        """The event as it stands in a book, in one line."""
+        return write(self.form)
 
     def __str__(self):
         name = items(self.form)[1]

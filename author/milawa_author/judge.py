@@ -1,15 +1,14 @@
 """A judge of books in Python: the report that `milawa check` writes, by the kernel of this package and, after a SWITCH,
 by running the book's checker.
 
-It serves tests of the package, and authors without the program; what counts is what the program says.  Of the
-program's events it lacks the second profile.
+It serves tests of the package, and authors without the program; what counts is what the program says.
 """
 from collections.abc import Iterator, Sequence
 from typing import Optional
 
 from . import limits
 from .admission import Function, admit_block, admit_checker, admit_witness
-from .errors import AuthorError, EventError, FormError, RuleError
+from .errors import EventError, FormError, RuleError
 from .logic.machine import Machine
 from .logic.notation import expand
 from .logic.objects import Object, Pair, cons, items, member
@@ -28,16 +27,19 @@ class Judge:
     `total_units` those for all proofs that it was run on."""
 
     def __init__(self, steps: int = limits.STEPS):
-        self.theory, self.steps = Theory(), steps
+        self.steps, self.checker = steps, None
+        self.units, self.total_units, self._is_skipping = 0, 0, False
+        self._start(1)
+
+    def _start(self, profile: int) -> None:
+        self.theory = Theory(profile)
         self.machine = Machine(self.theory)
-        self.checker: Optional[str] = None
-        self.units, self.total_units = 0, 0
         self.axioms, self.theorems, self.arities = "NIL", "NIL", "NIL"      # as a checker is handed them, newest first
         for formula in self.theory.axioms:
             self.axioms = cons(formula, self.axioms)
         for name, arity in self.theory.arities.items():
             self.arities = cons(cons(name, arity), self.arities)
-        self._first_arities, self._is_skipping = self.arities, False
+        self._first_arities = self.arities
 
     def event(self, form: Object) -> str:
         """The fate of an event, as its line ends: "accepted", with what is shown, or "refused" and the reason."""
@@ -154,10 +156,11 @@ class Judge:
         return _shown(x)
 
     def _profile(self, number: Object) -> None:
+        if number not in (1, 2) or self.theory.profile != 1 or self.theory.theorems or self.theory.level > 1 \
+                or self.arities is not self._first_arities:
+            raise EventError("PROFILE", "the profile is neither 1 nor 2, or the theory has changed since the start")
         if number == 2:
-            raise AuthorError("the judge in Python knows the first profile alone")
-        if number != 1 or self.theory.theorems or self.arities is not self._first_arities:
-            raise EventError("PROFILE", "the theory has changed since the start")
+            self._start(2)
 
 
 def _expanded(raw: Object) -> Object:

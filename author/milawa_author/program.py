@@ -41,3 +41,13 @@ def run_program(*words: str, text: str, path: Optional[str] = None) -> Report:
     program, start = find_program(path), time.perf_counter()
     done = subprocess.run([program, *words], input=text.encode("ascii"), stdout=subprocess.PIPE, check=False)
     return Report(done.stdout.decode("ascii"), done.returncode, time.perf_counter() - start)
+
+
+def explain_refusals(*words: str, text: str, path: Optional[str] = None) -> dict[int, str]:
+    """Why `milawa explain` says that events are refused, by their numbers; empty for a program without that command.
+
+    Takes the text of the book and the options of the command line.  Raises ProgramMissing."""
+    if not any(line.startswith("milawa explain") for line in run_program("--help", text="", path=path).lines):
+        return {}
+    lines = run_program("explain", *words, text=text, path=path).lines
+    return {int(line.split()[1]): line for line in lines if line.startswith("(WHY ")}

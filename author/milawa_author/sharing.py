@@ -6,9 +6,10 @@ What a step costs is reckoned by the size of the formula that must be looked at 
 """
 from typing import TYPE_CHECKING
 
-from .logic.kernel import Proof, with_subproofs
-from .logic.measures import distinct_steps
+from .logic.kernel import Proof, packed, with_subproofs
+from .logic.measures import distinct_steps, tree_steps
 from .logic.objects import Object, Pair
+from .prover.traces import rewritten
 
 if TYPE_CHECKING:
     from .book import Book
@@ -47,7 +48,10 @@ def weight(proof: Proof) -> int:
 
 
 def share(book: "Book", name: str, proof: Proof) -> Proof:
-    """The proof with its shared parts verified as theorems NAME.1, NAME.2, .."""
+    """The proof with its shared parts verified as theorems NAME.1, NAME.2, ..; where the running checker takes a list
+    of steps, as such a list."""
+    if "SHARED" in book.theory.methods:
+        return pack(proof)
     order, uses = distinct_steps([proof]), {}
     for step in order:
         for part in step.subproofs:
@@ -62,3 +66,11 @@ def share(book: "Book", name: str, proof: Proof) -> Proof:
             rebuilt, total = book.verify_as_it_stands(f"{name}.{count}", rebuilt), appeal
         made[step], cost[step] = rebuilt, total
     return made[proof]
+
+
+def pack(proof: Proof) -> Proof:
+    """The proof by steps REWRITE where the running checker takes them, and as a list of steps, where it takes one and
+    some part would be judged twice."""
+    proof = rewritten(proof)
+    has_method = "SHARED" in proof.theory.methods and proof.method != "SHARED"
+    return packed(proof) if has_method and tree_steps([proof]) > len(distinct_steps([proof])) + 1 else proof

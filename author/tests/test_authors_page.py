@@ -37,7 +37,7 @@ class Page(unittest.TestCase):
         self.addCleanup(SCHEMES.pop, "BY-CASES", None)
         names, output, alone = {"__name__": "page"}, io.StringIO(), ""
         for language, details, text in BLOCKS:
-            with contextlib.redirect_stdout(output):
+            with contextlib.redirect_stdout(output), contextlib.redirect_stderr(output):
                 if language == "python":
                     exec(compile(text, f"AUTHORS.md,{details or ' python'}", "exec"), names)
             if language == "book" and "after python" in details:

@@ -1,71 +1,29 @@
-"""The library and the ladder: accepted by the program, and judged alike by the judge in Python, mutants too."""
-import random
+"""The library and the ladder: accepted by the program and by the judge in Python, with the same number of units."""
+import tempfile
 import unittest
+from pathlib import Path
 
 import support
 from milawa_author import Book, EventError, ProgramMissing, Refused
 from milawa_author.judge import Judge
 from milawa_author.ladder.levels import make_ladder
-from milawa_author.logic.objects import Pair, cons, items, make_list
+from milawa_author.logic.kernel import axiom
 from milawa_author.logic.text import write
 from milawa_author.program import find_program, run_program
 
-MUTANTS = 100
+
+# A program that refuses the first event of every book, and says why.
+STAND_IN = """#!/bin/sh
+case "$1" in
+--help) echo "milawa explain [--steps N]";;
+check) echo "1 EVAL - refused STEPS"; echo "events 1 accepted 0 refused 1 level 1"; exit 1;;
+explain) echo "; 1 EVAL - refused STEPS"; echo "(WHY 1 STEPS)"; exit 1;;
+esac
+"""
 
 
 def text_of(forms):
     return "".join(write(form) + "\n" for form in forms)
-
-
-def parts_of(form):
-    """All distinct parts of an object."""
-    seen, work = {}, [form]
-    while work:
-        x = work.pop()
-        if x not in seen:
-            seen[x] = None
-            if isinstance(x, Pair):
-                work += [x.rest, x.first]
-    return list(seen)
-
-
-def replaced(rng, x, parts):
-    """The object with one place, chosen by going down at random, changed."""
-    path = []
-    while isinstance(x, Pair) and rng.random() < 0.93:
-        goes_first = rng.random() < 0.5
-        path.append((x, goes_first))
-        x = x.first if goes_first else x.rest
-    kind = rng.randrange(4)
-    if kind == 0 and isinstance(x, Pair) and isinstance(x.rest, Pair):
-        x = cons(x.rest.first, cons(x.first, x.rest.rest))          # two members change places
-    elif kind == 1 and isinstance(x, Pair):
-        x = x.rest                                                  # a member is left out
-    elif kind == 2 and isinstance(x, int):
-        x += 1
-    else:
-        x = rng.choice(parts)                                       # another part of the event stands there
-    for pair, goes_first in reversed(path):
-        x = cons(x, pair.rest) if goes_first else cons(pair.first, x)
-    return x
-
-
-def mutant(rng, form, number):
-    """An event with one place changed.  A definition gets a name of its own, so that the book can go on."""
-    changed = replaced(rng, form, parts_of(form))
-    members = items(changed)
-    if form.first in ("DEFINE", "SKOLEM") and members and len(members) > 2:
-        changed = make_list(members[0], f"MUTANT-{number}", *members[2:])
-    return changed
-
-
-def with_mutants(forms, seed):
-    """The events, and before some of them a mutant; what is refused leaves the theory as it was."""
-    rng, chosen = random.Random(seed), {}
-    for number in range(MUTANTS):
-        at = rng.randrange(len(forms))
-        chosen.setdefault(at, []).append(mutant(rng, forms[at], number))
-    return [x for at, form in enumerate(forms) for x in [*chosen.get(at, []), form]]
 
 
 class Books(unittest.TestCase):
@@ -74,30 +32,51 @@ class Books(unittest.TestCase):
         self.assertIn("refused 0", support.library().check().summary)
 
     @support.needs_program
+    def test_library_is_flat_and_rechecked(self):
+        book = support.library()
+        flat = run_program("flat", text=book.text())
+        judged = run_program("recheck", text="\n".join(flat.lines) + "\n")
+        count = len(book.events)
+        self.assertEqual(judged.summary, f"events {count} yes {count} no 0 left 0")
+
+    def test_library_has_150_theorems(self):
+        names = {e.form.rest.first for e in support.library().events if e.form.first == "VERIFY"}
+        self.assertGreaterEqual(len(names), 150)
+
+    def test_library_under_the_last_level_takes_a_twentieth_of_the_steps(self):
+        book, start = support.library_above()
+        self.assertLess(20 * book.sizes(start).steps, support.library().sizes().steps)
+        if support.PROGRAM:
+            self.assertIn(" refused 0 ", book.check().summary)
+
+    @support.needs_program
     def test_library_by_way_of_lower(self):
         import library
-        lowered = run_program("lower", text=library.make(for_lower=True).text())
+        lowered = run_program("lower", text=library.make(for_lower=True, last="lists").text())
         self.assertIn(" refused 0 ", lowered.summary)
         checked = run_program("check", text="\n".join(lowered.lines))
         self.assertIn(" refused 0 ", checked.summary)
 
     @support.needs_program
     def test_ladder_is_accepted_at_the_default_limit(self):
-        self.assertTrue(support.ladder().check().summary.endswith("refused 0 level 6"))
+        self.assertTrue(support.ladder().check().summary.endswith("refused 0 level 9"))
 
     @support.needs_program
     def test_what_a_level_takes_the_level_before_refuses(self):
-        events = support.ladder().events
-        for level, end in support.ends_of_levels().items():
-            with self.subTest(level):
-                self.assertEqual(events[end - 2].form.first, "SWITCH")
-                forms = [e.form for e in events[:end - 2]] + [events[end - 1].form]
-                report = run_program("check", text=text_of(forms))
-                self.assertTrue(report.lines[-2].endswith("refused PROOF" if level == 2 else "refused NIL"))
-                self.assertIn("refused 1 ", report.summary)
+        forms, events = [], support.ladder_events()
+        for k, event in enumerate(events):
+            if event.form.first == "SWITCH":
+                forms.append(events[k + 1].form)        # what the level is used for, before the switch to it
+            forms.append(event.form)
+        report = run_program("check", text=text_of(forms))
+        ends = support.ends_of_levels()
+        self.assertEqual([line.split()[-1] for line in report.refused], ["PROOF"] + ["NIL"] * (len(ends) - 1))
+        names = [events[end - 1].form.rest.first for end in ends.values()]
+        self.assertEqual([line.split()[2] for line in report.refused], names)
+        self.assertTrue(report.summary.endswith(f"refused {len(ends)} level {max(ends)}"))
 
     def test_each_level_takes_what_the_one_before_refuses(self):
-        judge, events, done = Judge(), support.ladder().events, 0
+        judge, events, done = Judge(), support.ladder_events(), 0
         for level, end in support.ends_of_levels().items():
             for event in events[done:end - 2]:
                 judge.skip(event.form)
@@ -108,34 +87,15 @@ class Books(unittest.TestCase):
             self.assertEqual(judge.theory.level, level)
 
     def test_other_levels_are_told(self):
-        for level in (1, 7):
+        for level in (1, 10):
             with self.assertRaises(EventError):
                 make_ladder(level)
 
 
-class Mutants(unittest.TestCase):
-    """A hundred mutants of a book, one judge beside the other."""
-
-    def judged_alike(self, forms, seed):
-        text = text_of(with_mutants(forms, seed))
-        report = run_program("check", text=text)
-        ours = list(Judge().report(text))
-        self.assertEqual(ours, report.lines)
-        refused = len(report.refused)
-        self.assertGreater(refused, MUTANTS // 2, "most mutants are wrong")
-        self.assertLessEqual(refused, MUTANTS, "no event but mutants is refused")
-
-    @support.needs_program
-    def test_of_the_library(self):
-        self.judged_alike([e.form for e in support.library().events], 1)
-
-    @support.needs_program
-    def test_of_the_ladder_to_level_3(self):
-        self.judged_alike([e.form for e in support.ladder().events[:support.ends_of_levels()[3]]], 2)
-
+class Units(unittest.TestCase):
     @support.needs_program
     def test_units_are_those_of_the_program(self):
-        forms = [e.form for e in support.ladder().events[:support.ends_of_levels()[2] + 30]]
+        forms = [e.form for e in support.ladder_events()[:support.ends_of_levels()[2] + 30]]
         judge, most, place = Judge(), 0, 0
         for k, form in enumerate(forms):
             judge.units = 0
@@ -164,6 +124,18 @@ class Programs(unittest.TestCase):
         self.assertIn("1 EVAL - refused WITNESS", str(caught.exception))
         self.assertIn("test_books.py:", str(caught.exception))
 
+    def test_a_refusal_says_why_where_the_program_does(self):
+        book = Book()
+        book.eval("(+ '1 '1)")
+        with tempfile.TemporaryDirectory() as folder:
+            stand_in = Path(folder, "milawa")
+            stand_in.write_text(STAND_IN)
+            stand_in.chmod(0o755)
+            with self.assertRaises(Refused) as caught:
+                book.check(path=str(stand_in))
+        self.assertIn("1 EVAL - refused STEPS\n", str(caught.exception))
+        self.assertIn("(WHY 1 STEPS)", str(caught.exception))
+
     @support.needs_program
     def test_events_of_each_kind(self):
         book = Book()
@@ -175,6 +147,35 @@ class Programs(unittest.TestCase):
         book.print("(1 . (2 . 3))")
         book.prove_tautology("either", "(or (= a b) (!= a b))")
         self.assertEqual(list(Judge().report(book.text())), book.check().lines)
+
+    def test_the_second_profile(self):
+        book = Book()
+        book.print("x")
+        book.profile(1)
+        book.profile(2)
+        book.equality_lemmas()
+        for number in range(1, 61):
+            book.verify(f"axiom-{number}", book.axiom_at(number))
+        for definition in list(book.theory.definitions.values()):
+            book.verify(definition.name, axiom(book.theory, definition.axiom()))
+        for k, text in enumerate(("(* 6 7)", "(logic.apply '* '(6 7))", "(logic.primitivep '*)")):
+            book.evaluate(f"value-{k}", text)
+        book.define("(square (n) (* n n))")
+        book.prove("natp-of-square", "(= (natp (square n)) 't)", unfold=["square"],
+                   use=[book.axiom_at(54, a="n", b="n")])
+        book.eval("(* 6 (* 7 'a))")
+        for refused in (book, Book()):
+            with self.assertRaises(EventError) as caught:
+                refused.profile(2 if refused is book else 3)
+            self.assertEqual(caught.exception.word, "PROFILE")
+        texts = [book.text(), "(profile 2) (profile 1) (profile 2) (eval (* 3 4))"
+                 f"(eval (* {2 ** 128 - 1} 2)) (define * (a) a nil nil)",
+                 "(define * (a) (cons a a) nil nil) (eval (* 3))"]
+        for text in texts:
+            lines = list(Judge().report(text))
+            if support.PROGRAM:
+                self.assertEqual(run_program("check", text=text).lines, lines)
+        self.assertIn(" refused 0 ", list(Judge().report(texts[0]))[-1])
 
 
 if __name__ == "__main__":

@@ -5,12 +5,17 @@ from unittest import mock
 import support  # noqa: F401
 from milawa_author import (Book, EventError, FormError, RuleError, TextError, Theory, TooDeep, Unproved, formula,
                            limits, prove, term)
+from milawa_author.judge import Judge
 from milawa_author.logic.machine import Machine
 from milawa_author.logic.objects import make_list
 from milawa_author.logic.terms import equation, quote
 from milawa_author.logic.text import write
+from milawa_author.prover.decreases import lexicographic
 from milawa_author.prover.evaluation import evaluate
 from milawa_author.prover.induction import induct_on_list
+from milawa_author.prover.linear import AtMost, certificate, linear
+from milawa_author.rules.equality import commute_pequal
+from milawa_author.prover.rewriting import Rewriter, as_rule
 from milawa_author.prover.obligations import block_obligations, obligations
 
 
@@ -46,9 +51,20 @@ class Prover(unittest.TestCase):
         goal = "(= (twice x) (cons x x))"
         for options in ({"unfold": "twice"}, {"unfold": ["thrice"]}, {"unfold": {"twice": "often"}},
                         {"unfold": {"twice": "decided"}}, {"unfold": ["logic.provable-witness"]},
-                        {"rules": [("X", book.axiom_at(1))]}):
+                        {"rules": [("X", book.axiom_at(1))]}, {"rules": ["symmetry"]}, {"use": ["symmetry"]},
+                        {"use": book.axiom_at(1)}):
             with self.assertRaises(RuleError, msg=options):
                 prove(book.theory, goal, **options)
+        with self.assertRaises(RuleError) as caught:
+            prove(book.theory, "(and (= x x) (= y y))")
+        self.assertIn("makes a formula", str(caught.exception))
+        for wrong in (lambda: book.prove_by_list("t", goal, "y"), lambda: book.prove_by_list("t", goal, "(cdr x)"),
+                      lambda: book.define("(grow (x) (grow (cons x x)))")):
+            with self.assertRaises(RuleError):
+                wrong()
+        for wrong in (lambda: book.at("twice", x=5), lambda: book.prove("t", None)):
+            with self.assertRaises((RuleError, TypeError)):
+                wrong()
         self.assertIs(prove(book.theory, goal, unfold=["twice"]).conclusion, formula(goal))
         for text in ("(= (nothing x) x)", "(= (twice x y) x)"):
             with self.assertRaises(RuleError, msg=text):
@@ -170,6 +186,110 @@ class Induction(unittest.TestCase):
                      lambda: book.definition_at("nothing", "x"), lambda: book.definition_at("rank", "x", "y")):
             with self.assertRaises(RuleError):
                 call()
+
+
+class Linear(unittest.TestCase):
+    @classmethod
+    def setUpClass(cls):
+        cls.book = Book()
+        cls.book.equality_lemmas()
+
+    def test_what_follows_by_adding_up(self):
+        for text in ("(implies (< a b) (= (< c b) 'nil) (< (+ a '1) (+ '1 c)))", "(= (< (+ a b) a) 'nil)",
+                     "(implies (< (+ a a) (+ b b)) (< a b))", "(< a (+ b (+ a '3)))",
+                     "(implies (= (+ a b) (+ a c)) (natp b) (natp c) (= b c))",
+                     "(implies (natp a) (= (< a b) 'nil) (= (+ b (- a b)) a))"):
+            self.assertIs(linear(self.book, text).conclusion, formula(text))
+
+    def test_lemmas_are_among_the_inequalities(self):
+        self.book.prove_linear("one-more", "(implies (< a b) (< a (+ b '1)))")
+        wanted = "(implies (< (car x) y) (< (car x) (+ y '2)))"
+        fact = self.book.at("one-more", a="(car x)", b="(+ y '1)")
+        self.assertIs(linear(self.book, wanted, [fact]).conclusion, formula(wanted))
+
+    def test_what_does_not_follow(self):
+        for text in ("(< a b)", "(implies (< a b) (< b a))", "(implies (natp a) (= a b))", "(consp x)",
+                     "(implies (< a '50) (< a '49))"):
+            with self.assertRaises(RuleError, msg=text):
+                linear(self.book, text)
+
+    def test_certificates(self):
+        rows = [AtMost(term("(+ a '1)"), term("b")), AtMost(term("b"), term("a"))]
+        self.assertEqual(certificate(rows), {0: 1, 1: 1})
+        self.assertIsNone(certificate(rows[:1]))
+
+
+class Rewriting(unittest.TestCase):
+    @classmethod
+    def setUpClass(cls):
+        cls.book = Book()
+        cls.book.equality_lemmas()
+        cls.book.define("(app (x y) (if (consp x) (cons (car x) (app (cdr x) y)) y))", "(rank x)")
+        cls.book.prove_by_list("app-associative", "(= (app (app x y) z) (app x (app y z)))", "x", unfold=["app"])
+        cls.book.prove_by_list("app-of-nil", "(implies (logic.listp x) (= (app x 'nil) x))", "x",
+                               unfold=["app", "logic.listp"], use=[cls.book.axiom_at(14)])
+        cls.book.prove_by_list("listp-of-app", "(= (logic.listp (app x y)) (logic.listp y))", "x",
+                               unfold=["app", "logic.listp"])
+        cls.book.verify("sum-commutes", cls.book.axiom_at(28))
+        cls.names = ["app-associative", "app-of-nil", "listp-of-app", "sum-commutes"]
+
+    def test_conditions_are_rewritten(self):
+        rules = [self.book.lemmas[name.upper()] for name in self.names]
+        rewriter = Rewriter(self.book.theory, rules, [formula("(= (logic.listp y) 'nil)")])
+        self.assertEqual(rewriter.term(term("(app (app x y) 'nil)")), term("(app x y)"))
+        self.assertEqual([use.after for use in rewriter.trace][-1], term("y"))
+        self.assertEqual(Rewriter(self.book.theory, rules).term(term("(app x 'nil)")), term("(app x 'nil)"))
+        self.assertEqual(Rewriter(self.book.theory, rules).term(term("(+ b a)")), term("(+ a b)"))
+        whole = term("(if (consp (cons a b)) (car (cons a b)) c)")
+        self.assertEqual(Rewriter(self.book.theory, rules).term(whole), "A")
+
+    def test_goals(self):
+        for k, text in enumerate(("(implies (logic.listp y) (= (app (app x y) 'nil) (app x y)))",
+                                  "(= (app (app (app a b) c) d) (app a (app b (app c d))))",
+                                  "(implies (= a (app x y)) (= (app (app (app x y) z) w) (app a (app z w))))",
+                                  "(= (cons (+ b a) (logic.listp (app x (app y z)))) (cons (+ a b) (logic.listp z)))")):
+            self.book.prove_by_rewriting(f"rewritten-{k}", text, self.names)
+        self.assertIn(" refused 0 ", list(Judge().report(self.book.text()))[-1])
+        with self.assertRaises(Unproved):
+            self.book.prove_by_rewriting("no", "(= (app x 'nil) x)", self.names)
+
+    def test_what_is_no_rule(self):
+        theory = self.book.theory
+        for proof in (self.book.axiom_at(3), self.book.axiom_at(1), self.book.axiom_at(2)):
+            with self.assertRaises(RuleError):
+                as_rule(proof)
+        back = commute_pequal(self.book.axiom_at(29))
+        with self.assertRaises(RuleError):
+            Rewriter(theory, [self.book.axiom_at(29), back]).term(term("(+ (+ a b) c)"))
+
+
+class Measures(unittest.TestCase):
+    def test_sums_and_lexicographic_pairs(self):
+        book = Book()
+        book.equality_lemmas()
+        book.define("(merge (x y) (if (consp x) (if (consp y) (if (< (car y) (car x)) (cons (car y) (merge x (cdr y)))"
+                    " (cons (car x) (merge (cdr x) y))) x) y))", "(+ (rank x) (rank y))")
+        book.define("(gcd (a b) (if (< 0 a) (if (< 0 b) (if (< a b) (gcd a (- b a)) (gcd (- a b) b)) a) b))", "(+ a b)")
+        book.define("(down (n m) (if (< 0 n) (if (< 0 m) (down n (- m 1)) (down (- n 1) n)) 0))",
+                    lexicographic("n", "m"))
+        book.define("(walk (x y) (if (consp x) (if (consp y) (walk x (cdr y)) (walk (car x) x)) y))",
+                    lexicographic("(rank x)", "(rank y)"))
+        self.assertIn(" refused 0 ", list(Judge().report(book.text()))[-1])
+        with self.assertRaises(RuleError):
+            book.define("(up (a b) (if (< a b) (up (+ a 1) b) a))", "(+ a b)")
+        with self.assertRaises(RuleError):
+            book.define("(round (x y) (if (consp x) (round y x) y))", lexicographic("(rank x)", "(rank y)"))
+
+    def test_induction_as_a_function_recurs(self):
+        book = Book()
+        book.equality_lemmas()
+        book.define("(shuffle (x y) (if (consp x) (cons (car x) (shuffle y (cdr x))) y))", "(+ (rank x) (rank y))")
+        goal = "(= (rank (shuffle x 'nil)) (rank (shuffle x 'nil)))"
+        book.prove_by_call("shuffled", "(implies (= (consp y) 'nil) (consp x) (consp (shuffle x y)))", "(shuffle x y)")
+        for call in ("(shuffle x x)", "(shuffle x (cdr y))", "(cons x y)", "x", "(logic.len x)"):
+            with self.assertRaises(RuleError, msg=call):
+                book.prove_by_call("none", goal, call)
+        self.assertIn(" refused 0 ", list(Judge().report(book.text()))[-1])
 
 
 if __name__ == "__main__":

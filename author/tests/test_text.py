@@ -5,7 +5,7 @@ import unittest
 import support  # noqa: F401
 from milawa_author.errors import TextError
 from milawa_author.logic.objects import Pair, cons, items, make_list
-from milawa_author.logic.text import printed, read, read_all, write
+from milawa_author.logic.text import LONGEST_SHOWN, printed, read, read_all, write
 
 ATOMS = [0, 7, 12345678901234567890, "A", "NIL", "T", "x y", "QUOTE", "1A", "..", "+1", "lower", "#", "(", "'"]
 
@@ -31,6 +31,14 @@ class Text(unittest.TestCase):
         self.assertEqual(read("|a b|"), "a b")
         self.assertEqual([write(d) for d in read_all("a ; comment\n (b . c) 'd")], ["a", "(b . c)", "'d"])
         self.assertEqual(printed(read("('a |b| c . 007)")), "((QUOTE A) |b| C . 7)")
+
+    def test_messages_have_no_labels_and_end(self):
+        self.assertEqual(str(read("(f . #1=(y #2='(a) #2# z))")), "(f y '(a) '(a) z)")
+        x = "X"
+        for _ in range(100):
+            x = make_list("CONS", x, x)
+        self.assertTrue(str(x).endswith(" .."))
+        self.assertLess(len(str(x)), LONGEST_SHOWN + 10)
 
     def test_faults(self):
         for text in ("(", ")", "(a . b c)", "12a", "#1#", "(a .)", "\"a\"", "(. a)", "a|b|", "a#1=b", "|a|b", "||",

@@ -1,1 +1,1 @@
-"""Checkers in a book, proved sound, to which the book switches: levels 2 to 6."""
+"""Checkers in a book, proved sound, to which the book switches: levels 2 to 9."""

@@ -21,7 +21,7 @@ from ..logic.terms import equation
 from ..logic.theory import Test, Theory
 from ..rules import disjunctions, equality  # noqa: F401  (what is in SCHEMES)
 from ..rules.schemes import SCHEMES, Scheme
-from .arities import names_constant
+from .arities import NAMES, names_constant
 from .patterns import all_letters, dotted_letters, encode, letters, places
 from .texts import (ENV, all_provable, core, formula_rules, is_formula, is_term, list_of, list_rules,
                     provable, prove_along)
@@ -39,10 +39,11 @@ class Checker:
 
     `step` is the name of its step function so far, `methods` are those that it takes, each with its test on formulas,
     and `proved` the rules that have a theorem PROVABLE-rule.  `assumption` is a test on the axioms that the rules added
-    from then on presuppose, as text, and `rules` are further rules for the prover."""
+    from then on presuppose, as text, `rules` are further rules for the prover, and `names` those of the functions
+    that its arity table has in front."""
 
-    def __init__(self, book: Book, name: str, below: Optional["Checker"] = None):
-        self.book, self.name = book, name
+    def __init__(self, book: Book, name: str, below: Optional["Checker"] = None, names: tuple[str, ...] = NAMES):
+        self.book, self.name, self.names = book, name, names_constant(names)
         self.assumption: Optional[str] = None
         self.rules: list = []
         self.proved: dict[str, Scheme] = dict(below.proved if below else BASE)
@@ -165,11 +166,11 @@ class Checker:
         book.define(f"({goal} (flag x {ENV}) (if (equal flag 'proof) {provable('(second x)')}"
                     f" {all_provable('(logic.conclusions x)')}))")
         self.prove_walk(walk, goal)
-        checker, table = f"{name}.proofp", f"(ladder.cached {names_constant()} atbl)"
+        checker, table = f"{name}.proofp", f"(ladder.cached {self.names} atbl)"
         book.define(f"({checker} (x {ENV}) ({walk} 'proof x axioms thms {table}))")
         book.prove(f"claim-of-{name}", claim(checker.upper()), unfold=[checker, goal, "logic.conclusion"],
                    use=[book.at(f"SOUND-{walk}", flag="'proof", atbl=table),
-                        book.at("PROVABLE-OF-CACHED", names=names_constant(), x="(second x)")])
+                        book.at("PROVABLE-OF-CACHED", names=self.names, x="(second x)")])
         if is_switched:
             book.switch(checker, self.methods)
 

@@ -119,7 +119,7 @@ def base_eval(theory: Theory, t: Pair) -> Proof:
     """`(f 'c1 ..) = 'v` for a primitive f with that value."""
     theory.check_term(t, "BASE-EVAL")
     members = items(t) or (None,)
-    _want(members[0] in tables.PRIMITIVES, "BASE-EVAL", "not a call of a primitive", t)
+    _want(members[0] in theory.primitives, "BASE-EVAL", "not a call of a primitive", t)
     _want(all(map(is_constant, members[1:])), "BASE-EVAL", "an actual is not a constant", t)
     value = tables.apply_primitive(members[0], [u.rest.first for u in members[1:]])
     return _make(theory, "BASE-EVAL", equation(t, quote(value)))
@@ -213,6 +213,28 @@ def further(theory: Theory, method: str, conclusion: Pair, subproofs: Iterable[P
     reason = test(conclusion, [p.conclusion for p in subproofs], extras)
     _want(reason is None, method, str(reason), conclusion)
     return _make(theory, method, conclusion, subproofs, extras)
+
+
+def packed(proof: Proof) -> Proof:
+    """The proof as one step SHARED: its steps in a list, each once, with numbers for its premises.  Its one subproof is
+    the proof itself; in a book the list stands in its place.  Raises RuleError where the running checker lacks SHARED.
+    """
+    _want("SHARED" in proof.theory.methods, "SHARED", "the running checker has no such method")
+    places: dict[Proof, int] = {}
+    steps, work = [], [proof]
+    while work:
+        step = work[-1]
+        missing = [p for p in step.subproofs if p not in places]
+        if step in places or missing:
+            work.pop() if step in places else work.extend(reversed(missing))
+            continue
+        numbers = make_list(*[len(steps) - 1 - places[p] for p in step.subproofs])
+        parts = [step.method, step.conclusion] + [numbers] * bool(step.subproofs or step.extras != "NIL")
+        steps.append(make_list(*parts, *[step.extras] * (step.extras != "NIL")))
+        places[step] = len(places)
+        work.pop()
+    form = make_list("SHARED", proof.conclusion, "NIL", make_list(*steps))
+    return Proof(_TOKEN, proof.theory, "SHARED", proof.conclusion, [proof], form.rest.rest.rest.first, form)
 
 
 def with_subproofs(proof: Proof, subproofs: Sequence[Proof]) -> Proof:

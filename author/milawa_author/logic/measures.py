@@ -19,8 +19,11 @@ def distinct_steps(proofs: Iterable[Proof]) -> list[Proof]:
 
 
 def tree_steps(proofs: Iterable[Proof]) -> int:
-    """The number of steps of the proofs, written out as trees."""
+    """The number of steps of the proofs, written out as trees; of a step SHARED those of its list."""
     proofs, size = list(proofs), {}
     for proof in distinct_steps(proofs):
-        size[proof] = 1 + sum(size[p] for p in proof.subproofs)
+        if proof.method == "SHARED":
+            size[proof] = len(distinct_steps([proof]))
+        else:
+            size[proof] = 1 + sum(size[p] for p in proof.subproofs)
     return sum(size[p] for p in proofs)

@@ -182,7 +182,9 @@ def _expand_formula(raw: Object) -> Generator:
 
 
 def term(text: str) -> Object:
-    """The term of a text.  Raises TextError or FormError."""
+    """The term of a text.  Raises TextError or FormError, and TypeError unless it is given a text."""
+    if not isinstance(text, str):
+        raise TypeError(f"a term is given as a text, not as {text!r}")
     return expand(read(text))
 
 
@@ -192,5 +194,7 @@ def formula(text: str) -> Pair:
 
 
 def as_formula(goal: str | Pair) -> Pair:
-    """A formula from its text, or as it is."""
+    """A formula from its text, or as it is.  Raises TextError or FormError, and TypeError for anything else."""
+    if not isinstance(goal, (str, Pair)):
+        raise TypeError(f"a goal is a text or a formula, not {goal!r}")
     return goal if isinstance(goal, Pair) else formula(goal)

@@ -19,21 +19,28 @@ class Pair:
         from .text import write
         return write(self)
 
+    def __str__(self):
+        from .text import shown
+        return shown(self)
+
 
 Object = Union[int, str, Pair]
 
 _pairs: dict[tuple, Pair] = {}
-_symbols: set[str] = set()                      # those that were checked
+_symbols: dict[str, str] = {}                   # those that were checked; equal symbols are one object too
 
 
-def _check(x: object) -> None:
-    if isinstance(x, Pair) or x in _symbols:
-        return
-    if isinstance(x, str) and _SYMBOL.match(x):
-        _symbols.add(x)
-        return
-    if not isinstance(x, int) or isinstance(x, bool) or x < 0:
-        raise TypeError(f"{x!r} is not an object: it must be a natural (int), the name of a symbol (str) or a Pair")
+def _atom(x: object) -> Object:
+    """A natural, or the one object of a symbol.  Raises TypeError for what is neither."""
+    if isinstance(x, str):
+        symbol = _symbols.get(x)
+        if symbol is None and _SYMBOL.match(x):
+            symbol = _symbols[x] = intern(x)
+        if symbol is not None:
+            return symbol
+    elif isinstance(x, int) and not isinstance(x, bool) and x >= 0:
+        return x
+    raise TypeError(f"{x!r} is not an object: it must be a natural (int), the name of a symbol (str) or a Pair")
 
 
 def cons(first: Object, rest: Object) -> Pair:
@@ -41,11 +48,9 @@ def cons(first: Object, rest: Object) -> Pair:
     key = (first, rest)
     pair = _pairs.get(key)
     if pair is None:
-        _check(first)
-        _check(rest)
         pair = Pair()
-        pair.first = intern(first) if isinstance(first, str) else first    # equal symbols are one object too
-        pair.rest = intern(rest) if isinstance(rest, str) else rest
+        pair.first = first if type(first) is Pair else _atom(first)
+        pair.rest = rest if type(rest) is Pair else _atom(rest)
         pair._items = None
         _pairs[key] = pair
     return pair
@@ -55,7 +60,8 @@ def make_list(*members: Object) -> Object:
     """The proper list of the members."""
     result: Object = "NIL"
     for member in reversed(members):
-        result = cons(member, result)
+        pair = _pairs.get((member, result))
+        result = cons(member, result) if pair is None else pair
     return result
 
 

@@ -13,6 +13,7 @@ _WORD = r"A-Za-z0-9!$%&*+\-./<=>?@\[\]^_{}~"
 _TOKEN = re.compile(r"[ \t\n\f\r]+|;[^\n]*|(?P<label>#[0-9]{1,9}[=#])|(?P<bars>\|[ -\[\]-{}~]+\|(?![#|" + _WORD + r"]))"
                     r"|(?P<mark>[()'])|(?P<bare>[" + _WORD + r"]++)(?![#|])")
 _BARE = re.compile(r"[A-Z0-9!$%&*+\-./<=>?@\[\]^_{}~]+\Z")
+LONGEST_SHOWN = 2_000           # characters of an object in a message
 _NOT_A_SYMBOL = re.compile(r"[+-]?[0-9].*|\.+\Z")
 
 
@@ -102,7 +103,8 @@ def read_all(text: str) -> list[Object]:
         elif match.group("bare"):
             reader.bare(token)
     if reader.open:
-        raise TextError("the text ends inside a datum")
+        lists = sum(place[0] == "list" for place in reader.open)
+        raise TextError(f"the text ends inside a datum: {lists} closing parentheses are missing")
     return reader.done
 
 
@@ -188,6 +190,20 @@ def _write_pair(y: Pair, shared: set[Pair], out: list, work: list) -> None:
         pieces += [(" . ",), z]
     pieces.append((")",))
     work.extend(reversed(pieces))
+
+
+def shown(x: Object, most: int = LONGEST_SHOWN) -> str:
+    """The text of an object for a message: without labels, and cut off after `most` characters."""
+    out, length, work = [], 0, [x]
+    while work and length <= most:
+        y = work.pop()
+        if isinstance(y, Pair):
+            _write_pair(y, set(), out, work)
+            length += 1
+        else:
+            out.append(y[0] if isinstance(y, tuple) else atom_text(y))
+            length += len(out[-1])
+    return "".join(out) + (" .." if work else "")
 
 
 def printed(x: Object) -> str:

@@ -13,10 +13,13 @@ Test = Callable[[Pair, list[Pair], Object], Optional[str]]
 
 
 class Definition:
-    """A function's definition, or a witness; then `bound` is its bound variable."""
+    """A function's definition, or a witness; then `bound` is its bound variable.  `measure` is that of a function of
+    the book, by which `prover.induction.induct_on_call` goes."""
 
-    def __init__(self, name: str, formals: Iterable[str], body: Object, bound: Optional[str] = None):
+    def __init__(self, name: str, formals: Iterable[str], body: Object, bound: Optional[str] = None,
+                 measure: Optional[Object] = None):
         self.name, self.formals, self.body, self.bound = name, tuple(formals), body, bound
+        self.measure = measure
 
     def axiom(self) -> Pair:
         """The axiom that admission adds."""
@@ -31,13 +34,16 @@ class Definition:
 class Theory:
     """What a book has at some place.  It only grows, so a proof made over it stays one.
 
-    `arities`, `axioms`, `theorems` (each formula with its first name), `definitions` and `methods` (of the
-    running checker beyond the twelve, each with its test) are to be read; `Book` is what adds to them.
+    `profile`, `primitives`, `arities`, `axioms`, `theorems` (each formula with its first name), `definitions` and
+    `methods` (of the running checker beyond the twelve, each with its test) are to be read; `Book` adds to them.
     """
 
-    def __init__(self):
-        self.arities = dict(tables.PRIMITIVES)
-        self.primitive_axioms = tables.axioms()
+    def __init__(self, profile: int = 1):
+        if profile not in tables.PROFILES:
+            raise RuleError("PROFILE", f"there are profiles 1 and 2, no profile {profile}")
+        self.profile, self.primitives = profile, tables.primitives(profile)
+        self.arities = dict(self.primitives)
+        self.primitive_axioms = tables.axioms(profile)
         self.axioms = dict.fromkeys(self.primitive_axioms)
         self.theorems: dict[Pair, str] = {}
         self.definitions: dict[str, Definition] = {}
@@ -46,7 +52,7 @@ class Theory:
         self.is_hypothetical = False
         self._good: dict[bool, set[Pair]] = {False: set(), True: set()}         # checked terms, and checked formulas
         self._proofs: dict[Pair, object] = {}   # each proof by its form, made once
-        for entry in tables.definitions():
+        for entry in tables.definitions(profile):
             self.add_definition(Definition(*entry))
 
     # ---- growing ----------------------------------------------------------------------------------------
@@ -121,7 +127,7 @@ class Theory:
         else:
             wanted, parts = new.get(head, self.arities.get(head)), []
             if wanted is None:
-                raise RuleError(rule, f"{head} is not a known function; names are in upper case", t)
+                raise RuleError(rule, f"{head} is not a known function{_hint(head)}", t)
         if len(actuals) != wanted:
             raise RuleError(rule, f"{wanted} actuals are wanted, {len(actuals)} given", t)
         return parts + [(u, False) for u in actuals]
@@ -136,3 +142,10 @@ class Theory:
         if formals is None or not all(map(is_variable, formals)) or len(set(formals)) != len(formals):
             raise RuleError(rule, "the formals are not a list of distinct variables", t)
         return formals, function[2]
+
+
+def _hint(head: Object) -> str:
+    """What may be wrong with the name of an unknown function."""
+    if head in ("=", "!=", "NOT", "IMPLIES", "PEQUAL*", "PNOT*", "POR*"):
+        return ": it makes a formula, and here a term is wanted; tests in terms are made with EQUAL, IF, AND, OR"
+    return "; names are in upper case" if isinstance(head, str) and head != head.upper() else ""

@@ -3,12 +3,11 @@ from collections.abc import Iterable, Mapping
 from typing import Optional, Union
 
 from ..errors import RuleError, quotation
-from ..logic import tables
 from ..logic.kernel import Proof, base_eval
 from ..logic.objects import Object, Pair, items
 from ..logic.substitution import substitute
 from ..logic.terms import (NIL, Substitution, call, equation, is_call, is_constant, is_lambda_call, is_negation,
-                           lambda_parts, left)
+                           lambda_parts, left, right)
 from ..logic.theory import Theory
 from ..rules.instances import definition_instance, instance
 from .elimination import Eliminate
@@ -39,8 +38,10 @@ class Options:
                 raise RuleError("PROVER", f"`decided` is for a body that begins with IF, which that of {name} does not")
             self.unfold[name.upper()] = policy
         self.rules, self.depth = list(rules), depth
-        for pattern, _ in self.rules:
-            if not is_call(pattern):
+        for rule in self.rules:
+            if not isinstance(rule, tuple) or len(rule) != 2 or not isinstance(rule[1], Proof):
+                raise RuleError("PROVER", f"`rules` takes pairs as `book.rule` makes them, not {rule!r}")
+            if not is_call(pattern := rule[0]):
                 raise RuleError("PROVER", "the pattern of a rule is not a call of a function", pattern)
 
 
@@ -116,18 +117,19 @@ class Branch(Knowledge):
         """Calls of primitives whose actuals are known constants."""
         changed = False
         for t in list(self.parent):
-            if t in self.evaluated or not is_call(t) or t.first not in tables.PRIMITIVES or t.first == "IF":
+            if t in self.evaluated or not is_call(t) or t.first not in self.theory.primitives or t.first == "IF":
                 continue
             constants = [self.constant.get(self.find(u)) for u in items(t)[1:]]
             if None in constants:
                 continue
             self.evaluated.add(t)
-            if self.find(t) in self.constant and all(c is u for c, u in zip(constants, items(t)[1:])):
-                continue
             u = call(t.first, *constants)
+            value = base_eval(self.theory, u)
+            if self.constant.get(self.find(t)) is right(value.conclusion):
+                continue                        # nothing new; another value would contradict what is known
             self.evaluated.add(u)
             self.add_term(u, self.generation[t])
-            self.add_fact(plain(base_eval(self.theory, u)), self.generation[t])
+            self.add_fact(plain(value), self.generation[t])
             changed = True
             if self.conflict:
                 return True
@@ -195,7 +197,7 @@ class Branch(Knowledge):
         classes = [self.find(u) for u in parts]
         if test.first == "CONSP" and any(is_call(m, "CONS") for m in self.members[classes[0]]):
             return True
-        if test.first in tables.PRIMITIVES and all(c in self.constant for c in classes):
+        if test.first in self.theory.primitives and all(c in self.constant for c in classes):
             return True
         same = self.table.get((test.first, *classes))
         return same is not None and self.value(equation(same, NIL)) is not None

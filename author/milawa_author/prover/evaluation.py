@@ -3,10 +3,10 @@ from typing import Optional
 
 from ..errors import RuleError
 from ..limits import within_depth
-from ..logic.kernel import Proof, base_eval, beta_reduction
+from ..logic.kernel import Proof, base_eval, beta_reduction, further
+from ..logic.moves import extras_of
 from ..logic.objects import Object, Pair, items
-from ..logic.tables import PRIMITIVES
-from ..logic.terms import NIL, call, is_constant, is_lambda_call, right, variables
+from ..logic.terms import NIL, call, equation, is_constant, is_lambda_call, right, variables
 from ..logic.theory import Theory
 from ..rules.equality import reflexivity, replace, transitivity_of_pequal, unequal_constants
 from ..rules.instances import definition_instance, primitive_axiom
@@ -24,6 +24,10 @@ def evaluate(theory: Theory, t: Object) -> Proof:
     theory.check_term(t, "EVALUATE")
     if variables(t):
         raise RuleError("EVALUATE", f"a term with the variables {', '.join(variables(t))}", t)
+    if "COMPUTE" in theory.methods and not is_constant(t):
+        computed = extras_of(theory, t)
+        if computed is not None:
+            return further(theory, "COMPUTE", equation(t, computed[0]), [], computed[1])
     found = _value(theory, t, {})
     return reflexivity(theory, t) if found is None else found
 
@@ -72,7 +76,7 @@ def _call(theory: Theory, t: Pair, memo: Known) -> Optional[Proof]:
     if any(p is not None for p in proofs):
         first = replace(theory, function, [p or reflexivity(theory, u) for p, u in zip(proofs, actuals)])
     ready = call(function, *[_result(p, u) for p, u in zip(proofs, actuals)])
-    if function in PRIMITIVES:
+    if function in theory.primitives:
         return _then(first, base_eval(theory, ready))
     if ready in memo:
         return _then(first, memo[ready])

@@ -76,7 +76,7 @@ def verify_decrease(book: "Book") -> None:
                     ax(40, a="'0", b="(- n '1)", c="n"), book.lemmas["LESS-BY-ONE"]])
 
 
-def solve_obligation(book: "Book", owed: Pair) -> Proof:
+def solve_simple(book: "Book", owed: Pair) -> Proof:
     """A proof of an obligation of a simple recursion.  Raises RuleError where it is none."""
     last = literals(owed)[-1]
     t = left(last)
@@ -91,7 +91,7 @@ def solve_obligation(book: "Book", owed: Pair) -> Proof:
             if is_call(t, "ORDP"):
                 return instance(book.lemmas["ORDP-OF-SUM"], {"A": quote(0), "B": n})
             return subset(instance(book.lemmas["ORD<-OF-DECREASE"], {"N": n}), owed)
-    raise RuleError("DEFINE", "not a simple recursion; give proofs of the obligations by `proofs`", owed)
+    raise RuleError("DEFINE", "not a simple recursion", owed)
 
 
 def _rank_proof(book: "Book", owed: Pair, t: Pair) -> Proof:

@@ -24,7 +24,12 @@ class _Search:
     """A search for a proof of a goal, with the splits that are left to it."""
 
     def __init__(self, theory: Theory, goal: Pair, use: Iterable[Proof], options: Options, splits: int):
+        if isinstance(use, (str, Proof)):
+            raise RuleError("PROVER", "`use` is a list of proofs, not one alone")
         self.theory, self.goal, self.use, self.options, self.splits = theory, goal, list(use), options, splits
+        for proof in self.use:
+            if not isinstance(proof, Proof):
+                raise RuleError("PROVER", f"`use` takes proofs, as `book.at` and `book.axiom_at` make them, not {proof!r}")
 
     def start(self, contexts: list[Pair], assumptions: list[Fact]) -> Branch:
         """A case: the goal's literals are false, and the assumptions hold."""

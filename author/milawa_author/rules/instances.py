@@ -22,7 +22,8 @@ def instance(proof: Proof, substitution: Substitution) -> Proof:
 
 
 def primitive_axiom(theory: Theory, number: int, **substitution) -> Proof:
-    """An instance of an axiom of the primitives, by its number from 1 to 53; `x=t` puts t for X.
+    """An instance of an axiom of the primitives, by its number from 1 to 53, or to 60 in the second profile; `x=t`
+    puts t for X.
 
     Raises RuleError where there is no such number, or the axiom has no such variable."""
     if not 1 <= number <= len(theory.primitive_axioms):
