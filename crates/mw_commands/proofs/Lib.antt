@@ -5,6 +5,7 @@ pub mod SlicePlaces
 pub mod WrittenData
 pub mod TurnsTest
 pub mod TextWritten
+pub mod OwedText
 pub mod FlatData
 pub mod Tautologies
 pub mod Logs
@@ -26,6 +27,9 @@ pub mod FlatteningsAgain
 pub mod FromNothing
 pub mod OneLine
 pub mod Theorems
+pub mod TokenTexts
+pub mod TrialLines
+pub mod TrialAccepted
 pub mod Comments
 pub mod TautologiesAgain
 pub mod FirstAxioms

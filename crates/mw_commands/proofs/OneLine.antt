@@ -69,7 +69,7 @@ mutual
 
 -- what is written for an object, with labels too
 pub written_line : (x : Object) (first next : ℕ) (t : List ℕ) → IsWritten x first t next → no_newline t ≡ true
-written_line x first next t h = go (ltb longest (length (text_of x))) h
+written_line x first next t h = go (ltb longest (length (text_of x))) h.0
   where
     go : (b : Bool) → pick b (IsLabelled x first t next) ((t ≡ text_of x) × (next ≡ first)) → no_newline t ≡ true
     go true l = l.one_line

@@ -10,7 +10,7 @@ use Rattle.mw_commands.specs.Commands.Tautology.{value_by, IsTautology, all_equa
 -- ---- what holds of each member of a list
 
 module _ {X : Type 0} (P : X → Type 0) where
-  each_left : (xs ys : List X) → Each P (xs ++ ys) → Each P xs
+  pub each_left : (xs ys : List X) → Each P (xs ++ ys) → Each P xs
   each_left [] ys h = tt
   each_left (x ∷ xs) ys h = (h.0, each_left xs ys h.1)
 

@@ -1,4 +1,4 @@
--- The text of an object may be written for it, however long: it is read as this object, and begins no label.
+-- The text of an object may be written for it where that is compact: it is read as this object, and begins no label.
 use Rattle.std.proofs.Common.{◌≡◌, ℕ, zero, suc, ◌+◌, ◌≤◌, Bool, true, false, ltb, List, [], ◌∷◌, ◌++◌, length, Some, None, codes, refl, sym, ap, ◌∙◌, arith, append-nil, length-append}
 use Rattle.mw_model.specs.Terms.Object.{Object, symbol}
 use Rattle.mw_model.specs.Values.Value.{pick}
@@ -6,7 +6,7 @@ use Rattle.mw_model.specs.Events.Fate.{longest}
 use Rattle.mw_model.specs.Texts.Lexemes.{Lexeme, Atom, End, fault, END, Ends, lexemes}
 use Rattle.mw_model.specs.Texts.Grammar.{book, enough, and_events, data_of, reading}
 use Rattle.mw_model.specs.Texts.Printing.{text_of}
-use Rattle.mw_model.specs.Texts.Written.{labels_begun, IsLabelled, IsWritten}
+use Rattle.mw_model.specs.Texts.Written.{labels_begun, IsLabelled, IsWritten, IsCompact}
 use Rattle.mw_model.proofs.TextReadBack.{prints, plain_both, data_of-datum, reading-text_of}
 use Rattle.mw_commands.proofs.WrittenRead.{enough_is}
 use Rattle.mw_commands.proofs.OneLine.{text_line}
@@ -36,8 +36,8 @@ module _ (x : Object) where
   text_labelled : (first : ℕ) → IsLabelled x first (text_of x) first
   text_labelled first = record { reads = reading-text_of x; reads_on = text_reads_on; one_line = text_line x; labels = 0; numbered = no_labels; unused = omega arith }
 
-  pub text_is_written : (first : ℕ) → IsWritten x first (text_of x) first
-  text_is_written first = go (ltb longest (length (text_of x)))
+  pub text_is_written : (first : ℕ) → IsCompact x first (text_of x) → IsWritten x first (text_of x) first
+  text_is_written first compact = (go (ltb longest (length (text_of x))), compact)
     where
       go : (b : Bool) → pick b (IsLabelled x first (text_of x) first) ((text_of x ≡ text_of x) × (first ≡ first))
       go true = text_labelled first

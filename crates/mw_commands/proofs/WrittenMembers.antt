@@ -128,7 +128,7 @@ module _ (d : ℕ) (ends : Delimits Ends (d ∷ [])) (rest : List ℕ) where
       (subst (λ z. Placed x z (d ∷ rest) o ls first) (sym e) (record { lexed = p.lexed; cut = p.cut; begins = plain_begins p.lexed p.begins; after = ls; reads = λ k r n. p.reads k ls r n; below = b }))
 
   pub place : (x : Object) (first next : ℕ) (t : List ℕ) (o : ℕ) (ls : Labels) → IsWritten x first t next → Below first ls → Placed x t (d ∷ rest) o ls next
-  place x first next t o ls w b = go (ltb longest (length (text_of x))) w
+  place x first next t o ls w b = go (ltb longest (length (text_of x))) w.0
     where
       go : (v : Bool) → pick v (IsLabelled x first t next) ((t ≡ text_of x) × (next ≡ first)) → Placed x t (d ∷ rest) o ls next
       go true w = place_labelled x first next t o ls w b

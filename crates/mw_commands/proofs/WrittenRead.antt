@@ -226,7 +226,7 @@ line_read x xs t rest h more o =
 
 -- what is written for a datum is read as just this
 pub written_is_read : (x : Object) (first next : ℕ) (t : List ℕ) → IsWritten x first t next → reading Ends t ≡ book (x ∷ []) None
-written_is_read x first next t h = go (ltb longest (length (text_of x))) h
+written_is_read x first next t h = go (ltb longest (length (text_of x))) h.0
   where
     go : (b : Bool) → pick b (IsLabelled x first t next) ((t ≡ text_of x) × (next ≡ first)) → reading Ends t ≡ book (x ∷ []) None
     go true l = l.reads

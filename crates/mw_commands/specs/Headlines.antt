@@ -11,7 +11,7 @@ use Rattle.mw_model.specs.Events.Fate.{event_word, after}
 use Rattle.mw_model.specs.Reports.Report.{Status, Done, report, accepted_among}
 use Rattle.mw_model.specs.Reports.Keeping.{formulas_of_word}
 use Rattle.mw_model.specs.Reports.Headline.{Headline, TrialHeadline}
-use Rattle.mw_model.specs.Reports.Request.{Request, Check, Trial, Taut, Lower, Slice, Flat, Recheck}
+use Rattle.mw_model.specs.Reports.Request.{Request, Check, Trial, Taut, Lower, Slice, Flat, Recheck, Explain}
 use Rattle.mw_model.specs.Texts.Pieces.{how_many}
 use Rattle.mw_commands.specs.Commands.Transition.{last_theory, last_theory_from, is_acceptance}
 use Rattle.mw_commands.specs.Commands.TautologyBook.{TautologiesWritten, tautology_status, is_proved}
@@ -20,6 +20,7 @@ use Rattle.mw_commands.specs.Commands.Slice.{target, event_at}
 use Rattle.mw_commands.specs.Commands.Slicing.{accepted_events, AreKept, SliceWritten, slicing_status}
 use Rattle.mw_commands.specs.Commands.Log.{Objection, Answer, Yes, No}
 use Rattle.mw_commands.specs.Commands.LogReport.{Entered, log_of, denied, last_logged, log_report}
+use Rattle.mw_commands.specs.Commands.ExplanationBook.{ExplanationHeadline}
 use Rattle.mw_commands.specs.Commands.Flattening.{plain_course, flat_events, flat_event, before_switch, FlatWritten, flattening_status}
 
 -- read as a book, the text has so many events, and each is accepted
@@ -94,6 +95,7 @@ Promised (Lower N) bytes written status = LoweringHeadline bytes N written statu
 Promised (Slice name N) bytes written status = SliceHeadline bytes N name written status
 Promised (Flat N) bytes written status = FlatHeadline bytes N written status
 Promised Recheck bytes written status = LogHeadline bytes written status
+Promised (Explain N) bytes written status = ExplanationHeadline bytes N written status
 Promised _ bytes written status = ⊥
 
 -- Of a request that judges a book: a prefix of a text that it allows. That is what was written where the program was stopped.

@@ -8,3 +8,4 @@ pub mod proving;
 pub mod rechecking;
 pub mod slicing;
 pub mod texts;
+pub mod trial;

@@ -1,11 +1,12 @@
 -- Tautologies: what is owed for books of formulas.
-use Rattle.std.proofs.Common.{◌≡◌, ℕ, List, [], ◌∷◌, ◌++◌, refl, codes}
+use Rattle.std.proofs.Common.{◌≡◌, ℕ, ◌<◌, false, ltb, List, [], ◌∷◌, ◌++◌, refl, sym, ◌∙◌, codes, lt-ltb, true≢false}
 use Prim.Native.String.{String}
 use Rattle.mw_model.specs.Terms.Object.{Object, NIL}
 use Rattle.mw_model.specs.Terms.Term.{Formula, Equal, Not, Or}
 use Rattle.mw_model.specs.Values.Primitive.{One}
 use Rattle.mw_model.specs.Laws.BuiltInText.{joined}
 use Rattle.mw_model.specs.Events.Writing.{var}
+use Rattle.mw_model.specs.Events.Fate.{longest}
 use Rattle.mw_model.specs.Texts.Grammar.{trees}
 use Rattle.mw_model.specs.Texts.Lexemes.{CLOSE}
 use Rattle.mw_model.specs.Reports.Report.{Status, Done, SomeRefused, Syntax}
@@ -15,6 +16,10 @@ use Rattle.mw_commands.specs.Commands.TautologyBook.{TautologiesWritten, tautolo
 -- what may be written for the book, and the status
 abbrev pub taut : String → List String → Status → Type 0
 taut book text status = TautologiesWritten (trees (codes book)) (joined text) × (tautology_status (trees (codes book)) ≡ status)
+
+-- a text that is seen to be short is not long
+none_long : (n : ℕ) → longest < n → ltb longest n ≡ false → ⊥
+none_long n long short = true≢false (sym (lt-ltb longest n long) ∙ short)
 
 first_datum : List Object → Object
 first_datum [] = NIL
@@ -51,13 +56,13 @@ unfolding middle_proof middle_excluded first_datum middle_text equation
 tautology_is_a_theorem =
     let text = codes "(VERIFY EM (POR* (PEQUAL* X Y) (PNOT* (PEQUAL* X Y))) (CUT (POR* (PEQUAL* X Y) (PNOT* (PEQUAL* X Y))) ((PROPOSITIONAL-SCHEMA (POR* (PNOT* (PEQUAL* X Y)) (PEQUAL* X Y))) (PROPOSITIONAL-SCHEMA (POR* (PNOT* (PNOT* (PEQUAL* X Y))) (PNOT* (PEQUAL* X Y)))))))" in
     let line = text ++ 10 ∷ [] in
-    ((line, (line, [], refl, (middle_proof, middle_proved, (text, 1, (refl, refl), refl)), refl), refl), refl)
+    ((line, (line, [], refl, (middle_proof, middle_proved, (text, 1, ((refl, refl), λ long few. absurd (none_long _ long refl)), refl)), refl), refl), refl)
 
 first_choice_is_shown : taut "(no (por* (pequal* x y) (pequal* y x)))" ("; 1 NO FALSE (((PEQUAL* X Y)) ((PEQUAL* Y X)))" ∷ "; formulas 1 proved 0" ∷ []) SomeRefused
 first_choice_is_shown =
     let text = codes "(((PEQUAL* X Y)) ((PEQUAL* Y X)))" in
     let line = codes "; 1 NO FALSE " ++ (text ++ 10 ∷ []) in
-    ((line, (line, [], refl, (text, 1, (refl, refl), refl), refl), refl), refl)
+    ((line, (line, [], refl, (text, 1, ((refl, refl), λ long few. absurd (none_long _ long refl)), refl), refl), refl), refl)
 
 -- ---- what the books above do not show
 
@@ -66,7 +71,7 @@ last_equation_changes_first : taut "(a (por* (pequal* x y) (pnot* (pequal* y x))
 last_equation_changes_first =
     let text = codes "(((PEQUAL* X Y)) ((PEQUAL* Y X) . T))" in
     let line = codes "; 1 A FALSE " ++ (text ++ 10 ∷ []) in
-    ((line, (line, [], refl, (text, 1, (refl, refl), refl), refl), refl), refl)
+    ((line, (line, [], refl, (text, 1, ((refl, refl), λ long few. absurd (none_long _ long refl)), refl), refl), refl), refl)
 
 thirteen_equations_are_too_many : taut "(m (por* (pequal* x1 y) (por* (pequal* x2 y) (por* (pequal* x3 y) (por* (pequal* x4 y) (por* (pequal* x5 y) (por* (pequal* x6 y) (por* (pequal* x7 y) (por* (pequal* x8 y) (por* (pequal* x9 y) (por* (pequal* x10 y) (por* (pequal* x11 y) (por* (pequal* x12 y) (pequal* x13 y))))))))))))))" ("; 1 M MANY" ∷ "; formulas 1 proved 0" ∷ []) SomeRefused
 thirteen_equations_are_too_many = let line = codes "; 1 M MANY" ++ 10 ∷ [] in ((line, (line, [], refl, refl, refl), refl), refl)
@@ -76,7 +81,7 @@ twelve_equations_are_decided : taut "(t (por* (pequal* x1 y) (por* (pequal* x1 y
 twelve_equations_are_decided =
     let text = codes "(((PEQUAL* X1 Y)) ((PEQUAL* X2 Y)) ((PEQUAL* X3 Y)) ((PEQUAL* X4 Y)) ((PEQUAL* X5 Y)) ((PEQUAL* X6 Y)) ((PEQUAL* X7 Y)) ((PEQUAL* X8 Y)) ((PEQUAL* X9 Y)) ((PEQUAL* X10 Y)) ((PEQUAL* X11 Y)) ((PEQUAL* X12 Y)))" in
     let line = codes "; 1 T FALSE " ++ (text ++ 10 ∷ []) in
-    ((line, (line, [], refl, (text, 1, (refl, refl), refl), refl), refl), refl)
+    ((line, (line, [], refl, (text, 1, ((refl, refl), λ long few. absurd (none_long _ long refl)), refl), refl), refl), refl)
 
 -- no pair, a dotted pair, a number for the name, a function that is not known, a natural past the range, three members, no formula
 shapes : taut "q (b . x) (12 (pequal* x x)) (f (pequal* (foo x) x)) (d (pequal* x '340282366920938463463374607431768211456)) (e (pequal* x x) x) (g (pequal* t x))" ("; 1 - SHAPE" ∷ "; 2 B SHAPE" ∷ "; 3 - SHAPE" ∷ "; 4 F SHAPE" ∷ "; 5 D SHAPE" ∷ "; 6 E SHAPE" ∷ "; 7 G SHAPE" ∷ "; formulas 7 proved 0" ∷ []) SomeRefused
@@ -96,7 +101,7 @@ fault_of_a_book_of_formulas : taut "(no (pequal* x y)) )" ("; 1 NO FALSE (((PEQU
 fault_of_a_book_of_formulas =
     let text = codes "(((PEQUAL* X Y)))" in
     let line = codes "; 1 NO FALSE " ++ (text ++ 10 ∷ []) in
-    ((line, (line, [], refl, (text, 1, (refl, refl), refl), refl), refl), refl)
+    ((line, (line, [], refl, (text, 1, ((refl, refl), λ long few. absurd (none_long _ long refl)), refl), refl), refl), refl)
 
 empty_book_of_formulas : taut "" ("; formulas 0 proved 0" ∷ []) Done
 empty_book_of_formulas = (([], refl, refl), refl)

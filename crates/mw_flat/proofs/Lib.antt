@@ -4,6 +4,7 @@ pub mod Sizes
 pub mod Walking
 pub mod Places
 pub mod Writing
+pub mod NumbersWritten
 pub mod Formulas
 pub mod Conclusions
 pub mod OneMore

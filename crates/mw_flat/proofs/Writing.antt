@@ -3,6 +3,7 @@ use Rattle.std.proofs.Common.{◌≡◌, ℕ, suc, ◌+◌, ◌<◌, List, [], �
 use Rattle.std.proofs.lemmas.List.{map-append, length-map, take_more, length-take-le}
 use Rattle.mw_model.specs.Terms.Object.{Object}
 use Rattle.mw_model.specs.Texts.Printing.{text_of}
+use Rattle.mw_model.specs.Texts.Written.{IsCompact}
 use Rattle.mw_model.specs.Texts.Pieces.{InOrder, numbered}
 use Rattle.mw_commands.proofs.TextWritten.{text_is_written}
 use Rattle.mw_flat.specs.Members.{WritesMember, WritesMembers}
@@ -13,9 +14,9 @@ writes_none first old = ([], sym (append-nil old), refl)
 pub writes_more : (x : Object) (xs : List Object) (first next : ℕ) (a b c : List ℕ) → WritesMember x first a b next → WritesMembers xs next b c → WritesMembers (x ∷ xs) first a c
 writes_more x xs first next a b c m r = (32 ∷ (m.0 ++ r.0), r.1 ∙ (ap (λ t. t ++ r.0) m.1 ∙ append_assoc a (32 ∷ m.0) r.0), (m.0, r.0, next, refl, m.2, r.2))
 
--- a text may stand for its object, however long
-pub writes_text : (x : Object) (first : ℕ) (old new : List ℕ) → new ≡ old ++ 32 ∷ text_of x → WritesMember x first old new first
-writes_text x first old new e = (text_of x, e, text_is_written x first)
+-- a compact text may stand for its object, however long
+pub writes_text : (x : Object) (first : ℕ) (old new : List ℕ) → IsCompact x first (text_of x) → new ≡ old ++ 32 ∷ text_of x → WritesMember x first old new first
+writes_text x first old new compact e = (text_of x, e, text_is_written x first compact)
 
 -- one more step
 numbered_push : {X : Type 0} (P : ℕ × X → List ℕ → Type 0) (k : ℕ) (xs : List X) (x : X) (text line : List ℕ) → InOrder P (numbered k xs) text → P (k + length xs, x) line → InOrder P (numbered k (xs ++ x ∷ [])) (text ++ line)

@@ -16,7 +16,7 @@ use crate::numbered::listed;
 use mw_heap::{Heap, Memory, Ref, View};
 use mw_rules::{Method, follows};
 use mw_term::{Marks, is_formula};
-use mw_theory::{Theory, five_members};
+use mw_theory::Theory;
 
 /// The members of a step after its word.
 #[derive(Clone, Copy)]
@@ -36,7 +36,7 @@ fn members_of(heap: &Heap, x: Ref) -> Option<Members>
     let View::Pair(_, rest) = heap.view(x) else {
         return None;
     };
-    let (number, method, conclusion, subproofs, extras) = five_members(heap, rest)?;
+    let (number, method, conclusion, subproofs, extras) = heap.five_members(rest)?;
     Some(Members {
         number,
         method,

@@ -44,7 +44,7 @@ fn write_all(heap: &Heap, proofs: &[Ref], out: &mut Vec<u8>) -> Result<Vec<u64>,
 /// Writes one step for each distinct proof that these proofs are made of, after what `out` has, in the order in which they are complete,
 /// subproofs first, and answers the number of each of these proofs. Whatever the objects are, they are taken as proofs by CAR and CDR.
 /// Each distinct proof and each distinct cell of a list of proofs is entered once, and each step costs what is written for it. The error
-/// is memory that is refused, or that the steps would name more than 2^24 subproofs and 64 more for each distinct proof, or take more
+/// is out of memory, or that the steps would name more than 2^24 subproofs and 64 more for each distinct proof, or take more
 /// than 2^26 bytes and 2^10 more for each, since many of them may share one long list or conclusion: then `out` keeps its bytes.
 pub fn flatten(heap: &Heap, proofs: &[Ref], out: &mut Vec<u8>) -> Result<Vec<u64>, Memory>
     requires { All (IsIn heap.now.objects) proofs.now }

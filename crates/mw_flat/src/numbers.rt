@@ -69,7 +69,7 @@ fn write_list(
 }
 
 /// Writes the list of the numbers of a list of proofs, after a space. Each takes one of those that are left: the error is that none is
-/// left, or memory that is refused.
+/// left, or out of memory.
 pub(crate) fn write_numbers(
     heap: &Heap,
     complete: &IndexSet<Ref>,

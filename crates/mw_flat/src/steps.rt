@@ -32,7 +32,7 @@ fn put_line(line: &[u8], left: &mut usize, out: &mut Vec<u8>) -> Result<(), Memo
 
 /// Writes the step of each of these proofs, in order, after what `out` has. Many steps may share one long list of subproofs, or one long
 /// conclusion, which each writes. So the numbers in all lists are counted, and the bytes: past 2^24 numbers, and 64 more for each proof, or
-/// 2^26 bytes, and 2^10 more for each proof, the error is the same as where memory is refused.
+/// 2^26 bytes, and 2^10 more for each proof, the error is out of memory too.
 pub(crate) fn write_steps(
     heap: &Heap,
     complete: &IndexSet<Ref>,

@@ -17,9 +17,11 @@ pub written_long : (os : List Object) (x : Object) (refs : List ℕ) (first : �
 written_long os x refs first text next old new long repeats e f g = (
   text,
   g,
-  subst (λ (b : Bool). pick b (IsLabelled x first text next) ((text ≡ text_of x) × (next ≡ first))) (sym (lt-ltb longest (length (text_of x)) long))
-      (subst (λ t. IsLabelled x first t next) (sym e) (subst (λ n. IsLabelled x first (labelled_text (is_one_of os refs) x first) n) (sym f) (labelled_text_is (is_one_of os refs) x first))),
-  subst (IsCompact x first) (sym e) (labelled_texts_are_compact (is_one_of os refs) x first few),
+  (
+    subst (λ (b : Bool). pick b (IsLabelled x first text next) ((text ≡ text_of x) × (next ≡ first))) (sym (lt-ltb longest (length (text_of x)) long))
+        (subst (λ t. IsLabelled x first t next) (sym e) (subst (λ n. IsLabelled x first (labelled_text (is_one_of os refs) x first) n) (sym f) (labelled_text_is (is_one_of os refs) x first))),
+    subst (IsCompact x first) (sym e) (labelled_texts_are_compact (is_one_of os refs) x first few),
+  ),
 )
   where
     few : (p : Object) → is_pair p ≡ true → is_one_of os refs p ≡ false → stands p x ≤ 1

@@ -17,6 +17,8 @@ pub data Request : Type 0 where
   Flat : (steps : ℕ) → Request
   -- judge the log
   Recheck : Request
+  -- judge the book and say why events are refused, with this step limit
+  Explain : (steps : ℕ) → Request
   -- show how the program is used
   Help : Request
   -- the words ask for nothing that the program does

@@ -31,25 +31,6 @@ pub record IsLabelled (x : Object) (first : ℕ) (text : List ℕ) (next : ℕ) 
   pub numbered : labels_begun (lexemes Ends text) ≡ upwards first labels
   pub unused : next ≡ first + labels
 
--- what is owed for x, where the labels before the first one are in use
-abbrev pub IsWritten : Object → ℕ → List ℕ → ℕ → Type 0
-IsWritten x first text next = pick (ltb longest (length (text_of x))) (IsLabelled x first text next) ((text ≡ text_of x) × (next ≡ first))
-
--- the datum x on a line of its own
-abbrev pub IsDatumLine : Object → List ℕ → Type 0
-IsDatumLine x line = (text : List ℕ) × (next : ℕ) × IsWritten x 1 text next × (line ≡ text ++ 10 ∷ [])
-
--- a text of lines, each with a datum or a comment: a book of these data
-pub data IsBookText : List Object → List ℕ → Type 0 where
-  no_lines : IsBookText [] []
-  datum_line : (x : Object) (xs : List Object) (line rest : List ℕ) → IsDatumLine x line → IsBookText xs rest → IsBookText (x ∷ xs) (line ++ rest)
-  comment_line : (xs : List Object) (text rest : List ℕ) → list_all (λ b. not (eqb b 10)) text ≡ true → IsBookText xs rest → IsBookText xs (59 ∷ (text ++ 10 ∷ rest))
-
--- data one after another, a space before each, labels running on
-abbrev pub AreWritten : List Object → ℕ → List ℕ → Type 0
-AreWritten [] first text = text ≡ []
-AreWritten (x ∷ xs) first text = (one rest : List ℕ) × (next : ℕ) × (text ≡ 32 ∷ (one ++ rest)) × IsWritten x first one next × AreWritten xs next rest
-
 -- ---- how long a text with labels may be
 
 -- the pairs in x, as often as they occur
@@ -79,3 +60,24 @@ room x = atom_length x + sum_by pair_room (distinct_pairs x)
 -- labels have at most nine digits; where they suffice for all distinct pairs, a text with labels is no longer than this
 abbrev pub IsCompact : Object → ℕ → List ℕ → Type 0
 IsCompact x first text = longest < length (text_of x) → first + length (distinct_pairs x) < 10 ^ 9 → length text ≤ room x
+
+-- ---- what is written
+
+-- what is owed for x, where the labels before the first one are in use
+abbrev pub IsWritten : Object → ℕ → List ℕ → ℕ → Type 0
+IsWritten x first text next = pick (ltb longest (length (text_of x))) (IsLabelled x first text next) ((text ≡ text_of x) × (next ≡ first)) × IsCompact x first text
+
+-- the datum x on a line of its own
+abbrev pub IsDatumLine : Object → List ℕ → Type 0
+IsDatumLine x line = (text : List ℕ) × (next : ℕ) × IsWritten x 1 text next × (line ≡ text ++ 10 ∷ [])
+
+-- a text of lines, each with a datum or a comment: a book of these data
+pub data IsBookText : List Object → List ℕ → Type 0 where
+  no_lines : IsBookText [] []
+  datum_line : (x : Object) (xs : List Object) (line rest : List ℕ) → IsDatumLine x line → IsBookText xs rest → IsBookText (x ∷ xs) (line ++ rest)
+  comment_line : (xs : List Object) (text rest : List ℕ) → list_all (λ b. not (eqb b 10)) text ≡ true → IsBookText xs rest → IsBookText xs (59 ∷ (text ++ 10 ∷ rest))
+
+-- data one after another, a space before each, labels running on
+abbrev pub AreWritten : List Object → ℕ → List ℕ → Type 0
+AreWritten [] first text = text ≡ []
+AreWritten (x ∷ xs) first text = (one rest : List ℕ) × (next : ℕ) × (text ≡ 32 ∷ (one ++ rest)) × IsWritten x first one next × AreWritten xs next rest

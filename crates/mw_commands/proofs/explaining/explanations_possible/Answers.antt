@@ -1,4 +1,4 @@
--- One that has no labels.
+-- With labels where a datum is long.
 use Rattle.mw_commands.proofs.ExplainData.{explained_text, why_owed}
 use Rattle.mw_commands.proofs.explaining.explanations_possible.Goals as goal
 

@@ -1,4 +1,4 @@
--- Each datum may be written as its text.
+-- With labels where a datum is long.
 use Rattle.mw_commands.proofs.FlatData.{flat_text, flat_written}
 use Rattle.mw_commands.proofs.flattening.flattenings_possible.Goals as goal
 
