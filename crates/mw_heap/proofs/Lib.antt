@@ -9,6 +9,7 @@ pub mod NameSet
 pub mod Shown
 pub mod NameOrder
 pub mod NoPair
+pub mod ListMembers
 pub mod PrimitivesNamed
 pub mod BareNames
 pub mod Measures

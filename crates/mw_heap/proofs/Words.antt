@@ -1,5 +1,9 @@
 -- Where the words stand.
-use Rattle.std.proofs.Common.{◌≡◌, ℕ, ◌+◌, ◌<◌, ◌≤◌, Bool, true, eqb, List, take, length, get_or, refl, sym, ap, ◌∙◌, arith, ◌⊎◌, inl, inr}
+use Rattle.std.proofs.Common.{◌≡◌, ℕ, ◌+◌, ◌<◌, ◌≤◌, Bool, true, false, eqb, Option, Some, None, MatchOption, List, take, length, get_or, refl, sym, ap, ◌∙◌, arith, ◌⊎◌, inl, inr, map, subst}
+use Rattle.std.specs.List.{range_with_len}
+use Rattle.std.proofs.lemmas.Bool.{ne_eqb}
+use Rattle.std.proofs.lemmas.List.{get_or-map}
+use Rattle.std.proofs.lemmas.List.FromFn.{get_or-range_with_len}
 use Rattle.std.proofs.Math.Nat.{eq-or-lt_of_le}
 use Rattle.mw_model.specs.Terms.Object.{Object, same_object, NIL}
 use Rattle.mw_heap.specs.Objects.{object_at, IsIn, Grows}
@@ -113,6 +117,38 @@ word_in_place d word.Replace = refl
 word_in_place d word.Car = refl
 word_in_place d word.Cdr = refl
 word_in_place d word.Cons = refl
+
+-- and the place of each is its index there
+pub place_in_list : (i : ℕ) (d : Word) → i < word_count → place_of (get_or WORDS i d) ≡ i
+place_in_list i d within =
+    let at : place_of (get_or WORDS i d) ≡ 0 + i = sym (get_or-map place_of WORDS i d 0 within) ∙ (ap (λ l. get_or l i 0) places ∙ get_or-range_with_len 0 word_count i 0 within) in
+    omega (arith, at)
+  where
+    places : map place_of WORDS ≡ range_with_len 0 word_count
+    places = refl
+
+-- each fact about the words in the list is one about all words
+pub all_words : (P : Word → Type 0) (d : Word) → ((i : ℕ) → i < word_count → P (get_or WORDS i d)) → (w : Word) → P w
+all_words P d each w = subst P (word_in_place d w) (each (place_of w) (place_of-below w))
+
+-- a fact about each number below n and about n
+pub one_below_more : (P : ℕ → Type 0) (n : ℕ) → ((i : ℕ) → i < n → P i) → P n → (i : ℕ) → i < n + 1 → P i
+one_below_more P n before here i below = go (eq-or-lt_of_le (omega (arith, below)))
+  where
+    go : (i ≡ n) ⊎ (i < n) → P i
+    go (inl e) = subst P (sym e) here
+    go (inr l) = before i l
+
+-- where the words stand in their places, and equal objects in one, the place of an object tells its word
+pub word_told : (os : List Object) (x : ℕ) → ((w : Word) → IsIn os (place_of w) × (object_at os (place_of w) ≡ word_object w)) → ((y : ℕ) → IsIn os y → eqb x y ≡ same_object (object_at os x) (object_at os y)) → (r : Option Word) → MatchOption r (word_count ≤ x) (λ w. place_of w ≡ x) → MatchOption r ((w : Word) → same_object (object_at os x) (word_object w) ≡ false) (λ w. object_at os x ≡ word_object w)
+word_told os x keeps same (Some w) at = ap (object_at os) (sym at) ∙ (keeps w).1
+word_told os x keeps same None after = differs
+  where
+    differs : (w : Word) → same_object (object_at os x) (word_object w) ≡ false
+    differs w =
+        let h = keeps w in
+        let apart : x ≡ place_of w → ⊥ = λ e. omega (arith, e, after, place_of-below w) in
+        ap (same_object (object_at os x)) (sym h.1) ∙ (sym (same (place_of w) h.0) ∙ ne_eqb x (place_of w) apart)
 
 -- NIL stands first
 pub nil_is_first : (w : Word) → eqb (place_of w) 0 ≡ same_object NIL (word_object w)

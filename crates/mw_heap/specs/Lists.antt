@@ -7,3 +7,8 @@ use Rattle.mw_heap.specs.Objects.{object_at}
 abbrev pub list_object : List Object → List ℕ → Object
 list_object os [] = NIL
 list_object os (x ∷ xs) = Pair (object_at os x) (list_object os xs)
+
+-- the members up to the end of a list, whatever ends it
+abbrev pub proper_list : Object → Object
+proper_list (Pair x rest) = Pair x (proper_list rest)
+proper_list _ = NIL

@@ -1,6 +1,5 @@
 //! The data of an induction: conditions, and for each a list of substitutions.
-ghost use Rattle.std.specs.Prelude.{◌≡◌, ◌<◌, ◌&&◌, eqb, false, length, IfSome, MatchOption};
-ghost use Rattle.mw_model.specs.Terms.Object.{has_members, list3};
+ghost use Rattle.std.specs.Prelude.{◌≡◌, ◌<◌, ◌&&◌, eqb, length};
 ghost use Rattle.mw_model.specs.Terms.Term.{ArityTable};
 ghost use Rattle.mw_model.specs.Laws.RulesInduction.{is_list_object, length_object, are_substitution_objects, are_case_objects};
 ghost use Rattle.mw_heap.specs.Objects.{object_at, IsIn};
@@ -8,28 +7,6 @@ ghost use Rattle.mw_term.specs.Marking.{AreMarks};
 
 use mw_heap::{Heap, Ref, View};
 use mw_term::{Marks, is_substitution};
-
-// The members of a list of three.
-pub(crate) fn three_members(heap: &Heap, x: Ref) -> Option<(Ref, Ref, Ref)>
-    requires { IsIn heap.now.objects x }
-    ensures within { IfSome result (λ p. (p.0 < x) × (p.1 < x) × (p.2 < x)) }
-    ensures members { MatchOption result (has_members 3 (object_at heap.now.objects x) ≡ false) (λ p. object_at heap.now.objects x ≡ list3 (object_at heap.now.objects p.0) (object_at heap.now.objects p.1) (object_at heap.now.objects p.2)) }
-{
-    let View::Pair(first, rest) = heap.view(x) else {
-        return None;
-    };
-    let View::Pair(second, rest) = heap.view(rest) else {
-        return None;
-    };
-    let View::Pair(third, end) = heap.view(rest) else {
-        return None;
-    };
-    if heap.is_nil(Some(end)) {
-        Some((first, second, third))
-    } else {
-        None
-    }
-}
 
 // Whether the conditions are a proper list, and the cases one of as many lists of substitutions.
 pub(crate) fn are_cases(heap: &Heap, marks: &Marks, conditions: Ref, cases: Ref) -> bool

@@ -9,7 +9,7 @@ ghost use Rattle.mw_term.specs.Marking.{AreMarks};
 ghost use Rattle.mw_induct.specs.Conclusions.{conclusions_object};
 ghost use Rattle.mw_induct.specs.Pairs.{are_cases_of_pairs, IsLikeFormula};
 
-use crate::cases::{are_cases, three_members};
+use crate::cases::are_cases;
 use crate::falls::are_all_falls;
 use crate::looks::take_looks_at_cases;
 use crate::shapes::{is_disjunction, is_disjunction_from, is_ordinal_premise};
@@ -40,7 +40,7 @@ pub fn premises_hold(
     if conclusions.len() < 2 || !is_disjunction_from(heap, conclusions[0], f) {
         return Ok(false);
     }
-    let Some((measure, conditions, cases)) = three_members(heap, extras) else {
+    let Some((measure, conditions, cases)) = heap.three_members(extras) else {
         return Ok(false);
     };
     take_looks_at_cases(heap, cases)?;

@@ -1,6 +1,6 @@
 //! What is found of a datum that may give a formula.
-ghost use Rattle.std.specs.Prelude.{◌≡◌, true, false, None, IfOk, OnOk, MatchOption};
-ghost use Rattle.mw_model.specs.Terms.Object.{Object, has_members, list1, list2, list4, symbol};
+ghost use Rattle.std.specs.Prelude.{◌≡◌, true, None, IfOk, OnOk, MatchOption};
+ghost use Rattle.mw_model.specs.Terms.Object.{Object, list4, symbol};
 ghost use Rattle.mw_model.specs.Laws.Rules.{is_formula_object};
 ghost use Rattle.mw_commands.specs.Commands.TautologyBook.{formula_given, initial_arities};
 ghost use Rattle.mw_heap.specs.Objects.{object_at, IsIn, Grows};
@@ -34,31 +34,6 @@ impl Verdict {
     }
 }
 
-// The member of a list of one.
-fn one_member(heap: &Heap, x: Ref) -> Option<Ref>
-    requires { IsIn heap.now.objects x }
-    ensures { MatchOption result (has_members 1 (object_at heap.now.objects x) ≡ false) (λ m. IsIn heap.now.objects m × (object_at heap.now.objects x ≡ list1 (object_at heap.now.objects m))) }
-{
-    match heap.view(x) {
-        View::Pair(first, rest) if heap.is_nil(Some(rest)) => Some(first),
-        _ => None,
-    }
-}
-
-// The members of a list of two.
-fn two_members(heap: &Heap, x: Ref) -> Option<(Ref, Ref)>
-    requires { IsIn heap.now.objects x }
-    ensures { MatchOption result (has_members 2 (object_at heap.now.objects x) ≡ false) (λ m. IsIn heap.now.objects m.0 × IsIn heap.now.objects m.1 × (object_at heap.now.objects x ≡ list2 (object_at heap.now.objects m.0) (object_at heap.now.objects m.1))) }
-{
-    let View::Pair(first, rest) = heap.view(x) else {
-        return None;
-    };
-    match one_member(heap, rest) {
-        Some(second) => Some((first, second)),
-        None => None,
-    }
-}
-
 // The name and the formula, where it is a list of two whose first member is a symbol. That the heap holds no natural past the range is
 // seen at the view.
 fn members_of(heap: &Heap, x: Ref) -> Option<(Ref, Ref)>
@@ -66,7 +41,7 @@ fn members_of(heap: &Heap, x: Ref) -> Option<(Ref, Ref)>
     ensures { MatchOption result (formula_given (object_at heap.now.objects x) ≡ None) (λ m. IsNamed heap.now.objects (object_at heap.now.objects x) m.0 m.1) }
 {
     heap.in_range(x);
-    let Some((name, formula)) = two_members(heap, x) else {
+    let Some((name, formula)) = heap.two_members(x) else {
         return None;
     };
     match heap.view(name) {

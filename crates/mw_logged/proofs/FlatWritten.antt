@@ -1,8 +1,7 @@
 -- What is written for an event with numbers in place of its proofs: a list of proofs counts up to its end, and the event stands after the steps.
-use Rattle.std.proofs.Common.{◌≡◌, ℕ, zero, suc, ◌-◌, ◌<◌, ◌≤◌, false, List, [], ◌∷◌, ◌++◌, length, map, drop, get_or, refl, sym, ap, ap₂, ◌∙◌, subst, arith}
+use Rattle.std.proofs.Common.{◌≡◌, ℕ, zero, suc, ◌-◌, ◌<◌, ◌≤◌, List, [], ◌∷◌, ◌++◌, length, map, drop, get_or, refl, sym, ap, ap₂, ◌∙◌, subst, arith}
 use Rattle.std.proofs.lemmas.List.{drop_all}
 use Rattle.mw_model.specs.Terms.Object.{Object, Natural, Symbol, Pair, NIL, list1, same_object}
-use Rattle.mw_model.specs.Values.Primitive.{is_pair}
 use Rattle.mw_model.specs.Terms.Term.{firsts}
 use Rattle.mw_model.specs.Texts.Written.{IsWritten}
 use Rattle.mw_model.specs.Texts.Pieces.{InOrder, numbered}
@@ -10,8 +9,8 @@ use Rattle.mw_commands.specs.Commands.Subproofs.{proofs_within, each_within, dis
 use Rattle.mw_commands.specs.Commands.Flattening.{number_among, numbers_among, IsStepLine, StepsWritten}
 use Rattle.mw_heap.specs.Objects.{object_at, IsIn, Grows}
 use Rattle.mw_heap.proofs.Objects.{object_at-Grows}
-use Rattle.mw_heap.specs.Lists.{list_object}
-use Rattle.mw_logged.specs.FlatEvents.{proper_list, numbers_object, put_before, WritesFlat}
+use Rattle.mw_heap.specs.Lists.{list_object, proper_list}
+use Rattle.mw_logged.specs.FlatEvents.{numbers_object, put_before, WritesFlat}
 
 -- ---- lists up to their ends
 
@@ -28,31 +27,7 @@ numbers_among-proper qs (Natural n) = refl
 numbers_among-proper qs (Symbol s) = refl
 numbers_among-proper qs (Pair p ps) = ap (Pair (Natural (number_among qs p))) (numbers_among-proper qs ps)
 
-pub no_members : (x : Object) → is_pair x ≡ false → proper_list x ≡ NIL
-no_members (Natural n) h = refl
-no_members (Symbol s) h = refl
-no_members (Pair a b) h = cc
-
 module _ (os : List Object) where
-  pub put_before-push : (xs : List ℕ) (x : ℕ) (rest : Object) → put_before os (xs ++ x ∷ []) rest ≡ put_before os xs (Pair (object_at os x) rest)
-  put_before-push [] x rest = refl
-  put_before-push (y ∷ xs) x rest = ap (Pair (object_at os y)) (put_before-push xs x rest)
-
-  pub put_before-NIL : (xs : List ℕ) → put_before os xs NIL ≡ list_object os xs
-  put_before-NIL [] = refl
-  put_before-NIL (x ∷ xs) = ap (Pair (object_at os x)) (put_before-NIL xs)
-
-  -- one member more, and the last one
-  pub members-next : (list : Object) (xs new : List ℕ) (rest first more : ℕ) → put_before os xs (proper_list (object_at os rest)) ≡ list → object_at os rest ≡ Pair (object_at os first) (object_at os more) → new ≡ xs ++ first ∷ [] → put_before os new (proper_list (object_at os more)) ≡ list
-  members-next list xs new rest first more same is pushed =
-      ap (λ ys. put_before os ys (proper_list (object_at os more))) pushed
-      ∙ put_before-push xs first (proper_list (object_at os more))
-      ∙ ap (λ o. put_before os xs (proper_list o)) (sym is)
-      ∙ same
-
-  pub members-end : (list : Object) (xs : List ℕ) (rest : ℕ) → put_before os xs (proper_list (object_at os rest)) ≡ list → is_pair (object_at os rest) ≡ false → list_object os xs ≡ list
-  members-end list xs rest same end = sym (put_before-NIL xs) ∙ ap (put_before os xs) (sym (no_members (object_at os rest) end)) ∙ same
-
   -- ---- the members of an event, made in another heap
 
   -- the last one alone

@@ -5,11 +5,6 @@ use Rattle.mw_model.specs.Texts.Written.{IsDatumLine}
 use Rattle.mw_commands.specs.Commands.Flattening.{StepsWritten}
 use Rattle.mw_heap.specs.Objects.{object_at}
 
--- the members up to the end of a list, whatever ends it
-abbrev pub proper_list : Object → Object
-proper_list (Pair x rest) = Pair x (proper_list rest)
-proper_list _ = NIL
-
 -- the list of these numbers
 abbrev pub numbers_object : List ℕ → Object
 numbers_object [] = NIL

@@ -7,13 +7,12 @@ ghost use Rattle.mw_model.specs.Texts.Written.{IsDatumLine};
 ghost use Rattle.mw_commands.specs.Commands.Subproofs.{distinct_proofs};
 ghost use Rattle.mw_commands.specs.Commands.Flattening.{numbers_among, is_logged_word, OwesFlat};
 ghost use Rattle.mw_heap.specs.Objects.{object_at, IsIn};
-ghost use Rattle.mw_heap.specs.Lists.{list_object};
 ghost use Rattle.mw_heap.specs.Words.{word_object};
 ghost use Rattle.mw_theory.specs.Words.{verify_event, IsEvent};
-ghost use Rattle.mw_logged.specs.FlatEvents.{proper_list, numbers_object, put_before, WritesFlat};
+ghost use Rattle.mw_logged.specs.FlatEvents.{numbers_object, put_before, WritesFlat};
 
 use mw_flat::flatten;
-use mw_heap::{Heap, Memory, Ref, View, Word};
+use mw_heap::{Heap, Memory, Ref, Word};
 use mw_lines::{write_line, write_number};
 use mw_print::{Printed, print, text_len};
 use mw_slice::{Copies, copy};
@@ -22,21 +21,6 @@ use std::alloc::Global;
 
 // The most bytes of a text without labels: the heap measures no longer one.
 const LONGEST: u64 = 65_536;
-
-// The members of a list up to its end, whatever ends it.
-fn members_of(heap: &Heap, list: Ref) -> Result<Vec<Ref>, Memory>
-    requires { IsIn heap.now.objects list }
-    ensures within { IfOk result (λ members. All (IsIn heap.now.objects) members.items) }
-    ensures members { IfOk result (λ members. list_object heap.now.objects members.items ≡ proper_list (object_at heap.now.objects list)) }
-{
-    let mut members = Vec::new(heap.alloc());
-    let mut rest = list;
-    while let View::Pair(first, more) = heap.view(rest) {
-        members.push(first)?;
-        rest = more;
-    }
-    Ok(members)
-}
 
 // The list of these numbers.
 fn list_of_numbers(heap: &mut Heap, numbers: &[u64]) -> Result<Ref, Memory>
@@ -94,7 +78,7 @@ fn write_with_list(
     requires empty { piece.old.items ≡ [] }
     ensures { OnOk result (WritesFlat (object_at heap.now.objects proofs) (Pair (word_object word) (put_before heap.now.objects members.now (list1 (numbers_among (distinct_proofs (object_at heap.now.objects proofs)) (object_at heap.now.objects proofs))))) piece.new.items) }
 {
-    let listed = members_of(heap, proofs)?;
+    let listed = heap.list_members(proofs)?;
     let numbers = flatten(heap, &listed, piece)?;
     let list = list_of_numbers(to, &numbers)?;
     let event = event_with(heap, word, members, list, to, copies)?;

@@ -1,7 +1,5 @@
 //! Methods of proof.
-ghost use Rattle.std.specs.Prelude.{◌≡◌, map, option_map};
-ghost use Rattle.mw_model.specs.Terms.Object.{Symbol};
-ghost use Rattle.mw_model.specs.Proofs.Proof.{method_name};
+ghost use Rattle.std.specs.Prelude.{◌≡◌, option_map};
 ghost use Rattle.mw_model.specs.Proofs.Judgment.{methods, method_among};
 ghost use Rattle.mw_heap.specs.Objects.{object_at, IsIn};
 ghost use Rattle.mw_heap.specs.Words.{word_object};
@@ -27,39 +25,25 @@ pub enum Method {
     Induction,
 }
 
-const METHODS: [Method; 12] = [
-    Method::Axiom,
-    Method::Theorem,
-    Method::PropositionalSchema,
-    Method::FunctionalEquality,
-    Method::BetaReduction,
-    Method::BaseEval,
-    Method::Expansion,
-    Method::Contraction,
-    Method::Associativity,
-    Method::Cut,
-    Method::Instantiation,
-    Method::Induction,
-];
-
 impl Method {
-    // The word by which proofs call it.
-    fn word(self) -> Word
-        ensures { word_object result ≡ Symbol (method_name (method_of_logic self)) }
+    // The method that proofs call by this word.
+    fn of_word(word: Word) -> Option<Method>
+        ensures { option_map method_of_logic result ≡ method_among methods (word_object word) }
     {
-        match self {
-            Method::Axiom => Word::Axiom,
-            Method::Theorem => Word::Theorem,
-            Method::PropositionalSchema => Word::PropositionalSchema,
-            Method::FunctionalEquality => Word::FunctionalEquality,
-            Method::BetaReduction => Word::BetaReduction,
-            Method::BaseEval => Word::BaseEval,
-            Method::Expansion => Word::Expansion,
-            Method::Contraction => Word::Contraction,
-            Method::Associativity => Word::Associativity,
-            Method::Cut => Word::Cut,
-            Method::Instantiation => Word::Instantiation,
-            Method::Induction => Word::Induction,
+        match word {
+            Word::Axiom => Some(Method::Axiom),
+            Word::Theorem => Some(Method::Theorem),
+            Word::PropositionalSchema => Some(Method::PropositionalSchema),
+            Word::FunctionalEquality => Some(Method::FunctionalEquality),
+            Word::BetaReduction => Some(Method::BetaReduction),
+            Word::BaseEval => Some(Method::BaseEval),
+            Word::Expansion => Some(Method::Expansion),
+            Word::Contraction => Some(Method::Contraction),
+            Word::Associativity => Some(Method::Associativity),
+            Word::Cut => Some(Method::Cut),
+            Word::Instantiation => Some(Method::Instantiation),
+            Word::Induction => Some(Method::Induction),
+            _ => None,
         }
     }
 
@@ -83,19 +67,9 @@ impl Method {
         requires { IsIn heap.now.objects x }
         ensures { option_map method_of_logic result ≡ method_among methods (object_at heap.now.objects x) }
     {
-        first_named(&METHODS, heap, x)
-    }
-}
-
-// The first of the methods that a symbol names.
-fn first_named(methods: &[Method], heap: &Heap, x: Ref) -> Option<Method>
-    requires { IsIn heap.now.objects x }
-    ensures { option_map method_of_logic result ≡ method_among (map method_of_logic methods.now) (object_at heap.now.objects x) }
-{
-    for method in methods {
-        if heap.is_word(Some(x), method.word()) {
-            return Some(*method);
+        match heap.word_at(x) {
+            Some(word) => Method::of_word(word),
+            None => None,
         }
     }
-    None
 }

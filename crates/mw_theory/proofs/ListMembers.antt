@@ -1,17 +1,12 @@
--- A walk over a list: its members so far, and the rest of it.
-use Rattle.std.proofs.Common.{◌≡◌, ℕ, true, false, List, [], ◌∷◌, ◌++◌, refl, sym, ap, ◌∙◌, subst}
-use Rattle.std.specs.List.{All}
+-- Lists whose first members are those of references.
+use Rattle.std.proofs.Common.{◌≡◌, ℕ, true, false, List, [], ◌∷◌, ◌++◌, refl, sym, ap}
 use Rattle.mw_model.specs.Terms.Object.{Object, Natural, Symbol, Pair, NIL}
 use Rattle.mw_model.specs.Values.Primitive.{is_pair}
 use Rattle.mw_model.specs.Laws.RulesInduction.{is_list_object}
 use Rattle.mw_model.proofs.Names.{same_object-eq}
-use Rattle.mw_heap.specs.Objects.{object_at, IsIn}
+use Rattle.mw_heap.specs.Objects.{object_at}
 use Rattle.mw_heap.specs.Lists.{list_object}
-use Rattle.mw_axioms.proofs.OnStack.{AreIn-push}
-
-abbrev pub put_before : List Object → List ℕ → Object → Object
-put_before os [] rest = rest
-put_before os (x ∷ xs) rest = Pair (object_at os x) (put_before os xs rest)
+pub use Rattle.mw_heap.proofs.ListMembers.{put_before}
 
 pub put_before-push : (os : List Object) (xs : List ℕ) (x : ℕ) (rest : Object) → put_before os (xs ++ x ∷ []) rest ≡ put_before os xs (Pair (object_at os x) rest)
 put_before-push os [] x rest = refl
@@ -25,22 +20,3 @@ pub list_end : (x : Object) → is_pair x ≡ false → is_list_object x ≡ tru
 list_end (Natural n) h k = cc
 list_end (Symbol s) h k = sym (same_object-eq (Symbol s) NIL k)
 list_end (Pair a b) h k = cc
-
-pub record AreMembers (os : List Object) (list : ℕ) (members : List ℕ) (rest : ℕ) : Type 0 where
-  pub rest_in : IsIn os rest
-  pub within : All (IsIn os) members
-  pub proper : is_list_object (object_at os list) ≡ is_list_object (object_at os rest)
-  pub listed : put_before os members (object_at os rest) ≡ object_at os list
-
-pub AreMembers-next : (os : List Object) (list : ℕ) (members : List ℕ) (rest first more : ℕ) (new : List ℕ) → AreMembers os list members rest → IsIn os first → IsIn os more → object_at os rest ≡ Pair (object_at os first) (object_at os more) → new ≡ members ++ first ∷ [] → AreMembers os list new more
-AreMembers-next os list members rest first more new m first_in more_in is pushed =
-    subst (λ xs. AreMembers os list xs more) (sym pushed) (record {
-      rest_in = more_in;
-      within = AreIn-push os members first m.within first_in;
-      proper = m.proper ∙ ap is_list_object is;
-      listed = put_before-push os members first (object_at os more) ∙ (ap (put_before os members) (sym is) ∙ m.listed);
-    })
-
-pub all_members : (os : List Object) (list : ℕ) (members : List ℕ) (rest : ℕ) → AreMembers os list members rest → is_pair (object_at os rest) ≡ false → is_list_object (object_at os list) ≡ true → list_object os members ≡ object_at os list
-all_members os list members rest m end proper =
-    list_object-before os members ∙ (ap (put_before os members) (list_end (object_at os rest) end (sym m.proper ∙ proper)) ∙ m.listed)

@@ -1,8 +1,8 @@
 -- The tests of a VERIFY, one after another, and what its fate and the next theory are by them.
-use Rattle.std.proofs.Common.{◌≡◌, Bool, true, false, Option, Some, None, option_map, is_some, refl}
+use Rattle.std.proofs.Common.{◌≡◌, Bool, true, false, [], Option, Some, None, IfSome, option_map, is_some, refl}
 use Rattle.mw_model.specs.Terms.Object.{Object}
 use Rattle.mw_model.specs.Events.Theory.{Theory}
-use Rattle.mw_model.specs.Events.Refusal.{Refusal, NAME, FORMULA}
+use Rattle.mw_model.specs.Events.Refusal.{Refusal, NAME, FORMULA, Accepted}
 use Rattle.mw_heap.specs.declared.vocabulary.refusal.Refusal.{Refusal as Reason}
 use Rattle.mw_heap.specs.Variants.{refusal_of}
 use Rattle.mw_theory.specs.Settling.{refusal_by, by_refusal, fate_by}
@@ -29,3 +29,13 @@ fate_refused t x (Some q) h = (refl, refl)
 pub none_of : (r : Option Reason) → is_some r ≡ false → option_map refusal_of r ≡ None
 none_of None h = refl
 none_of (Some q) h = cc
+
+-- what is accepted has no reason
+pub accepted_none : (P : Type 0) (r : Option Reason) → fate_by (option_map refusal_of r) ≡ Accepted [] → IfSome r (λ q. P)
+accepted_none P None h = tt
+accepted_none P (Some q) h = cc
+
+-- what holds whether or not there is a reason
+pub where_some : (P : Type 0) (r : Option Reason) → P → IfSome r (λ q. P)
+where_some P None h = tt
+where_some P (Some q) h = h

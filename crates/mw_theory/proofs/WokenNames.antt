@@ -8,7 +8,7 @@ use Rattle.mw_model.proofs.Names.{same_name-eq}
 use Rattle.mw_heap.specs.Objects.{object_at, IsIn, AreDistinct}
 use Rattle.mw_term.specs.Marking.{ObjectMark}
 use Rattle.mw_term.specs.Watching.{Extends, IsOneOf}
-use Rattle.mw_term.specs.Settling.{Waits, IsNotedWith, IsAwake, WakesNoted}
+use Rattle.mw_term.specs.Settling.{IsNotedWith, IsAwake, WakesNoted}
 use Rattle.mw_term.specs.declared.watch.Watch.{Watch}
 use Rattle.mw_term.proofs.CallerLemmas.{awake-names}
 use Rattle.mw_preamble.specs.declared.definition.Definition.{Definition}

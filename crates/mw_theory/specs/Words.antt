@@ -2,8 +2,8 @@
 use Rattle.std.specs.Prelude.{◌≡◌, ℕ, ◌<◌, List}
 use Rattle.mw_model.specs.Terms.Object.{Object, Pair, symbol, list2, list3, list4}
 use Rattle.mw_heap.specs.Objects.{object_at}
-use Rattle.mw_theory.specs.EventWords.{word_symbol}
-use Rattle.mw_theory.specs.declared.word.Word.{Word}
+use Rattle.mw_heap.specs.Words.{word_object}
+use Rattle.mw_heap.specs.declared.vocabulary.word.Word.{Word}
 use Rattle.mw_theory.specs.declared.event.Event.{Event}
 use Rattle.mw_theory.specs.declared.event.Event.TheVariants.{Verify, Define, Skolem, Switch, Eval, Print, DefineAll, Profile}
 
@@ -58,4 +58,4 @@ IsEvent os x e = (object_at os x ≡ event_object os e) × StandsBefore x e
 
 -- the event has this word and the members of the list at x
 abbrev pub IsEventOf : List Object → Word → ℕ → Event → Type 0
-IsEventOf os w x e = (event_object os e ≡ Pair (word_symbol w) (object_at os x)) × StandsBefore x e
+IsEventOf os w x e = (event_object os e ≡ Pair (word_object w) (object_at os x)) × StandsBefore x e

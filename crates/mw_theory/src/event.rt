@@ -1,14 +1,11 @@
 //! The events, by their members.
 ghost use Rattle.std.specs.Prelude.{◌≡◌, false, MatchOption, None};
-ghost use Rattle.mw_model.specs.Terms.Object.{has_members};
 ghost use Rattle.mw_model.specs.Events.Fate.{event_word, is_out_of_range};
 ghost use Rattle.mw_heap.specs.Objects.{object_at, IsIn};
-ghost use Rattle.mw_theory.specs.EventWords.{members_after};
+ghost use Rattle.mw_theory.specs.EventWords.{are_members_of};
 ghost use Rattle.mw_theory.specs.Words.{IsEvent, IsEventOf};
 
-use crate::members::{five_members, four_members, one_member, three_members, two_members};
-use crate::word::{Word, word_of};
-use mw_heap::{Heap, Ref, View};
+use mw_heap::{Heap, Ref, View, Word};
 
 /// An event, by its members after its word, in order.
 #[derive(Clone, Copy)]
@@ -49,14 +46,14 @@ pub enum Event {
     Profile(Ref),
 }
 
-// The event of this word with these members, where they are as many as it has.
+// The event of this word with these members, where it is the word of an event and they are as many as it has.
 fn event_with(heap: &Heap, word: Word, members: Ref) -> Option<Event>
     requires { IsIn heap.now.objects members }
-    ensures { MatchOption result (has_members (members_after word) (object_at heap.now.objects members) ≡ false) (IsEventOf heap.now.objects word members) }
+    ensures { MatchOption result (are_members_of word (object_at heap.now.objects members) ≡ false) (IsEventOf heap.now.objects word members) }
 {
     match word {
         Word::Verify => {
-            let m = three_members(heap, members)?;
+            let m = heap.three_members(members)?;
             Some(Event::Verify {
                 name: m.0,
                 formula: m.1,
@@ -64,7 +61,7 @@ fn event_with(heap: &Heap, word: Word, members: Ref) -> Option<Event>
             })
         }
         Word::Define => {
-            let m = five_members(heap, members)?;
+            let m = heap.five_members(members)?;
             Some(Event::Define {
                 name: m.0,
                 formals: m.1,
@@ -74,7 +71,7 @@ fn event_with(heap: &Heap, word: Word, members: Ref) -> Option<Event>
             })
         }
         Word::Skolem => {
-            let m = four_members(heap, members)?;
+            let m = heap.four_members(members)?;
             Some(Event::Skolem {
                 name: m.0,
                 bound: m.1,
@@ -83,16 +80,17 @@ fn event_with(heap: &Heap, word: Word, members: Ref) -> Option<Event>
             })
         }
         Word::DefineAll => {
-            let m = two_members(heap, members)?;
+            let m = heap.two_members(members)?;
             Some(Event::DefineAll {
                 definitions: m.0,
                 proofs: m.1,
             })
         }
-        Word::Switch => Some(Event::Switch(one_member(heap, members)?)),
-        Word::Eval => Some(Event::Eval(one_member(heap, members)?)),
-        Word::Print => Some(Event::Print(one_member(heap, members)?)),
-        Word::Profile => Some(Event::Profile(one_member(heap, members)?)),
+        Word::Switch => Some(Event::Switch(heap.one_member(members)?)),
+        Word::Eval => Some(Event::Eval(heap.one_member(members)?)),
+        Word::Print => Some(Event::Print(heap.one_member(members)?)),
+        Word::Profile => Some(Event::Profile(heap.one_member(members)?)),
+        _ => None,
     }
 }
 
@@ -105,6 +103,8 @@ pub fn event_of(heap: &Heap, x: Ref) -> Option<Event>
     let View::Pair(first, members) = heap.view(x) else {
         return None;
     };
-    let word = word_of(heap, first)?;
-    event_with(heap, word, members)
+    match heap.word_at(first) {
+        Some(word) => event_with(heap, word, members),
+        None => None,
+    }
 }

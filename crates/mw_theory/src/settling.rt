@@ -3,7 +3,7 @@ ghost use Rattle.std.specs.Prelude.{◌≡◌, None, IfOk, IfSome, OnOk, OnErr, 
 ghost use Rattle.mw_model.specs.Terms.Object.{Object, NIL};
 ghost use Rattle.mw_model.specs.Events.Theory.{IsSound};
 ghost use Rattle.mw_model.specs.Events.Fate.{profile};
-ghost use Rattle.mw_heap.specs.Objects.{object_at, IsIn};
+ghost use Rattle.mw_heap.specs.Objects.{object_at, IsIn, Grows};
 ghost use Rattle.mw_heap.specs.Variants.{refusal_of};
 ghost use Rattle.mw_theory.specs.Proofs.{Judge as Judges};
 ghost use Rattle.mw_theory.specs.Worlds.{theory_in, IsWorld};
@@ -41,6 +41,7 @@ impl World {
         ensures theory { OnOk result (theory_in self.new ≡ (verified (J.judges judge.old self.old.heap.objects) (theory_in self.old) (object_at self.old.heap.objects name) (object_at self.old.heap.objects formula) (object_at self.old.heap.objects proof)).1) }
         ensures err { OnErr result (theory_in self.new ≡ theory_in self.old) }
         ensures kept { IfOk result (λ r. IfSome r (λ q. self.new.needed ≡ self.old.needed)) }
+        ensures grows { IfOk result (λ r. IfSome r (λ q. Grows self.old.heap.objects self.new.heap.objects)) }
         ensures same { J.judges judge.new ≡ J.judges judge.old }
         ensures limit { J.limit judge.new ≡ J.limit judge.old }
     {
@@ -78,6 +79,7 @@ impl World {
         ensures theory { OnOk result (theory_in self.new ≡ (defined (J.judges judge.old self.old.heap.objects) (theory_in self.old) (drafts_given self.old.heap.objects drafts) (object_at self.old.heap.objects proofs)).1) }
         ensures err { OnErr result (theory_in self.new ≡ theory_in self.old) }
         ensures kept { IfOk result (λ r. IfSome r (λ q. self.new.needed ≡ self.old.needed)) }
+        ensures grows { IfOk result (λ r. IfSome r (λ q. Grows self.old.heap.objects self.new.heap.objects)) }
         ensures same { J.judges judge.new ≡ J.judges judge.old }
         ensures limit { J.limit judge.new ≡ J.limit judge.old }
     {
@@ -109,6 +111,7 @@ impl World {
         ensures theory { (J : Judges) → OnOk result (theory_in self.new ≡ (defined J (theory_in self.old) (drafts_given self.old.heap.objects drafts) NIL).1) }
         ensures err { OnErr result (theory_in self.new ≡ theory_in self.old) }
         ensures kept { IfOk result (λ r. IfSome r (λ q. self.new.needed ≡ self.old.needed)) }
+        ensures grows { IfOk result (λ r. IfSome r (λ q. Grows self.old.heap.objects self.new.heap.objects)) }
     {
         let owed = match admit_within(&mut self.heap, drafts, &self.theory.arity, 0) {
             Admitted::Obligations(owed) => owed,
@@ -143,6 +146,7 @@ impl World {
         ensures theory { (J : Judges) (proofs : Object) → IsAccepted J (theory_in self.old) (drafts_given self.old.heap.objects drafts) proofs → OnOk result (theory_in self.new ≡ (defined J (theory_in self.old) (drafts_given self.old.heap.objects drafts) proofs).1) }
         ensures err { OnErr result (theory_in self.new ≡ theory_in self.old) }
         ensures kept { IfOk result (λ r. IfSome r (λ q. self.new.needed ≡ self.old.needed)) }
+        ensures grows { IfOk result (λ r. IfSome r (λ q. Grows self.old.heap.objects self.new.heap.objects)) }
     {
         let owed = match admit(&mut self.heap, drafts, &self.theory.arity) {
             Admitted::Obligations(owed) => owed,
@@ -173,6 +177,7 @@ impl World {
         ensures theory { OnOk result (theory_in self.new ≡ (skolem_at self.old.heap.objects (theory_in self.old) name bound free body).1) }
         ensures err { OnErr result (theory_in self.new ≡ theory_in self.old) }
         ensures kept { IfOk result (λ r. IfSome r (λ q. self.new.needed ≡ self.old.needed)) }
+        ensures grows { IfOk result (λ r. IfSome r (λ q. Grows self.old.heap.objects self.new.heap.objects)) }
     {
         let owed = match admit_witness(
             &mut self.heap,
@@ -200,6 +205,7 @@ impl World {
         ensures theory { OnOk result (theory_in self.new ≡ (profile (theory_in self.old) (profile_event (object_at self.old.heap.objects number))).1) }
         ensures err { OnErr result (theory_in self.new ≡ theory_in self.old) }
         ensures kept { IfOk result (λ r. IfSome r (λ q. self.new.needed ≡ self.old.needed)) }
+        ensures grows { IfOk result (λ r. IfSome r (λ q. Grows self.old.heap.objects self.new.heap.objects)) }
     {
         if !self.theory.is_initial {
             return Ok(Some(Refusal::Profile));

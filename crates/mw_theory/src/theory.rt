@@ -9,7 +9,6 @@ ghost use Rattle.mw_theory.specs.Defining.{IsNewBlock, HasOtherCode};
 
 use crate::adding::{Lists, add_block};
 use crate::front::with_front;
-use crate::members::list_members;
 use mw_code::Table;
 use mw_heap::{Heap, Memory, Profile, Ref};
 use mw_preamble::{Definition, Entries};
@@ -75,7 +74,7 @@ impl Theory {
         ensures watch { OnOk result (self.new.watch ≡ self.old.watch) }
         ensures err { OnErr result (HasOtherCode self.old self.new) }
     {
-        let members = list_members(heap, axioms)?;
+        let members = heap.list_members(axioms)?;
         let lists = add_block(
             heap,
             block,

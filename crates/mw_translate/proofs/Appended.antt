@@ -1,11 +1,12 @@
 -- Lists in the heap from references, as the heap grows and as one list comes after another.
-use Rattle.std.proofs.Common.{◌≡◌, ℕ, Bool, true, false, cond, map, Option, Some, None, List, [], ◌∷◌, ◌++◌, refl, sym, ap, ap₂, ◌∙◌}
-use Rattle.mw_model.specs.Terms.Object.{Name, Object, Symbol, Pair, NIL, symbol, list3}
+use Rattle.std.proofs.Common.{◌≡◌, ℕ, suc, arith, All, Bool, true, false, cond, map, Option, Some, None, List, [], ◌∷◌, ◌++◌, refl, sym, ap, ap₂, ◌∙◌}
+use Rattle.mw_model.specs.Terms.Object.{Name, Object, Natural, Symbol, Pair, NIL, symbol, list3}
 use Rattle.mw_model.specs.Terms.Term.{Term, Terms, NoTerms, More, is_among, variables, are_formals, names_object, terms_object, term_object}
 use Rattle.mw_model.specs.Values.Primitive.{name_of}
 use Rattle.mw_model.specs.Values.Definition.{variable_terms}
 use Rattle.mw_model.specs.Events.Expansion.{without}
 use Rattle.mw_heap.specs.Objects.{object_at, IsIn, Grows}
+use Rattle.mw_heap.specs.Lists.{list_object, proper_list}
 use Rattle.mw_heap.proofs.Objects.{object_at-Grows, IsIn-Grows}
 use Rattle.mw_term.specs.Parts.{names_at, AreSymbols}
 use Rattle.mw_term.proofs.Symbols.{symbol_is}
@@ -22,6 +23,10 @@ pub all_in-push : (os : List Object) (rs : List ℕ) (r : ℕ) → AreAllIn os r
 all_in-push os [] r h i = (i, tt)
 all_in-push os (q ∷ rs) r h i = (h.0, all_in-push os rs r h.1 i)
 
+pub all_in-from : (os : List Object) (rs : List ℕ) → All (IsIn os) rs → AreAllIn os rs
+all_in-from os [] h = tt
+all_in-from os (r ∷ rs) h = (h 0 r (omega arith), all_in-from os rs (λ k d within. h (suc k) d (omega (arith, within))))
+
 pub all_in-front : (os : List Object) (rs : List ℕ) (r : ℕ) → AreAllIn os (rs ++ r ∷ []) → AreAllIn os rs × IsIn os r
 all_in-front os [] r h = (tt, h.0)
 all_in-front os (q ∷ rs) r h = let k = all_in-front os rs r h.1 in ((h.0, k.0), k.1)
@@ -33,6 +38,19 @@ all_in-Grows old new (r ∷ rs) g h = (IsIn-Grows old new g r h.0, all_in-Grows 
 pub prepend-Grows : (old new : List Object) (rs : List ℕ) (y : Object) → Grows old new → AreAllIn old rs → prepend new rs y ≡ prepend old rs y
 prepend-Grows old new [] y g h = refl
 prepend-Grows old new (r ∷ rs) y g h = ap₂ Pair (object_at-Grows old new g r h.0) (prepend-Grows old new rs y g h.1)
+
+append-proper : (x y : Object) → append_object x y ≡ append_object (proper_list x) y
+append-proper (Natural n) y = refl
+append-proper (Symbol s) y = refl
+append-proper (Pair a r) y = ap (Pair a) (append-proper r y)
+
+append-listed : (os : List Object) (rs : List ℕ) (y : Object) → append_object (list_object os rs) y ≡ prepend os rs y
+append-listed os [] y = refl
+append-listed os (r ∷ rs) y = ap (Pair (object_at os r)) (append-listed os rs y)
+
+-- the members of a list before another one
+pub members_before : (os : List Object) (rs : List ℕ) (x y : Object) → list_object os rs ≡ proper_list x → append_object x y ≡ prepend os rs y
+members_before os rs x y listed = append-proper x y ∙ (ap (λ l. append_object l y) (sym listed) ∙ append-listed os rs y)
 
 pub symbols-in : (os : List Object) (rs : List ℕ) → AreSymbols os rs → AreAllIn os rs
 symbols-in os [] h = tt

@@ -1,6 +1,6 @@
 -- Calls of functions, places in lists, and calls of lambdas, by their parts.
 use Rattle.std.proofs.Common.{◌≡◌, ℕ, zero, suc, Bool, true, false, ◌&&◌, ◌||◌, not, eqb, cond, List, length, Option, Some, None, refl, sym, ap, ap₂, ◌∙◌, subst, eqb-true, arith, option_and_then}
-use Rattle.mw_model.specs.Terms.Object.{Name, Object, Natural, Symbol, Pair, named, symbol, same_name, same_object, nil_name, NIL, list1, list2, list3}
+use Rattle.mw_model.specs.Terms.Object.{Name, Object, Natural, Symbol, Pair, named, symbol, same_name, same_object, nil_name, NIL, list1, list2, list3, has_members}
 use Rattle.mw_model.specs.Terms.Term.{Term, Terms, NoTerms, More, If, Call, ArityTable, count, names_object, term_object, terms_object, is_term, are_terms, are_formals, is_closed}
 use Rattle.mw_model.specs.Terms.Reading.{names_of, lambda_of, when, map2}
 use Rattle.mw_model.specs.Values.Primitive.{is_pair}
@@ -11,7 +11,6 @@ use Rattle.mw_model.proofs.ReadBack.{names_back}
 use Rattle.mw_translate.specs.Meaning.{Meaning, of_term, of_terms, of_head, head_meaning, meaning}
 use Rattle.mw_translate.specs.Checked.{given, takes, call_made, cdrs, place_made, head_of, head_made}
 use Rattle.mw_translate.specs.Forms.{with_terms, cdr_terms, place_of}
-use Rattle.mw_translate.specs.Shapes.{is_list1, is_list2}
 use Rattle.mw_translate.specs.declared.part.Kind.TheVariants as kind
 use Rattle.mw_translate.proofs.Combine.{combine1, combine2, combine2-none, combine1-cond, combine2-cond}
 
@@ -133,7 +132,7 @@ module _ (A : ArityTable) where
   place-one n a = of_place n (expanded a)
 
   -- where there is not one member there is no place
-  pub place-shape : (n : ℕ) (r : Object) → is_list1 r ≡ false → of_term A (with_terms (place_of n) (expanded_each r)) ≡ None
+  pub place-shape : (n : ℕ) (r : Object) → has_members 1 r ≡ false → of_term A (with_terms (place_of n) (expanded_each r)) ≡ None
   place-shape n (Natural m) h = refl
   place-shape n (Symbol s) h = go (same_name s nil_name)
     where
@@ -191,7 +190,7 @@ module _ (A : ArityTable) where
   lambda-call (Pair l (Pair xs (Pair b z))) r e = of_lambda (same_object l (symbol "LAMBDA") && same_object z NIL) (names_of xs) (expanded b) (expanded_each r)
 
   -- a head of another shape
-  pub head-shape : (l m : Object) → is_list2 m ≡ false → head_meaning A (Pair l m) ≡ None
+  pub head-shape : (l m : Object) → has_members 2 m ≡ false → head_meaning A (Pair l m) ≡ None
   head-shape l (Natural n) h = refl
   head-shape l (Symbol s) h = refl
   head-shape l (Pair xs (Natural n)) h = refl

@@ -1,6 +1,6 @@
 -- Members of AND, OR, LIST and COND by their first and the rest.
 use Rattle.std.proofs.Common.{◌≡◌, Bool, true, false, ◌&&◌, cond, Option, Some, None, option_map, refl, sym, ap, ◌∙◌}
-use Rattle.mw_model.specs.Terms.Object.{Object, Natural, Symbol, Pair, named, symbol, same_object, NIL, list2, list3}
+use Rattle.mw_model.specs.Terms.Object.{Object, Natural, Symbol, Pair, named, symbol, same_object, NIL, list2, list3, has_members}
 use Rattle.mw_model.specs.Terms.Term.{Term, Terms, NoTerms, More, If, Constant, ArityTable, term_object, is_term}
 use Rattle.mw_model.specs.Terms.Reading.{when, map2}
 use Rattle.std.specs.Option.{option_zip}
@@ -8,7 +8,6 @@ use Rattle.mw_model.specs.Values.Primitive.{is_pair}
 use Rattle.mw_model.specs.Events.Expansion.{expanded, expanded_each, and_term, or_term, list_term, cond_term, clauses}
 use Rattle.mw_translate.specs.Meaning.{Meaning, of_term, meaning}
 use Rattle.mw_translate.specs.Checked.{if_made, cons_made, given, takes}
-use Rattle.mw_translate.specs.Shapes.{is_list2}
 use Rattle.mw_translate.specs.declared.part.Kind.TheVariants as kind
 use Rattle.mw_translate.proofs.Combine.{combine2, combine3, combine2-none}
 
@@ -144,7 +143,7 @@ module _ (A : ArityTable) where
       go (Some t) = refl
 
   -- a clause of another shape
-  pub cond-shape : (b r : Object) → is_list2 b ≡ false → meaning A kind.Cond (Pair b r) ≡ None
+  pub cond-shape : (b r : Object) → has_members 2 b ≡ false → meaning A kind.Cond (Pair b r) ≡ None
   cond-shape (Natural n) r h = refl
   cond-shape (Symbol s) r h = refl
   cond-shape (Pair c (Natural n)) r h = refl

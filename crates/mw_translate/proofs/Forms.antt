@@ -1,6 +1,6 @@
 -- A form by its word and what follows it.
 use Rattle.std.proofs.Common.{◌≡◌, ℕ, Bool, true, false, ◌&&◌, ◌||◌, not, cond, List, Option, Some, None, option_map, refl, sym, ap, ap₂, ◌∙◌, subst, option_and_then}
-use Rattle.mw_model.specs.Terms.Object.{Name, Object, Natural, Symbol, Pair, named, symbol, same_name, same_object, nil_name, NIL, T, list2}
+use Rattle.mw_model.specs.Terms.Object.{Name, Object, Natural, Symbol, Pair, named, symbol, same_name, same_object, nil_name, NIL, T, list2, has_members}
 use Rattle.mw_model.specs.Terms.Term.{Term, Terms, Constant, Variable, NoTerms, ArityTable, More}
 use Rattle.mw_model.specs.Terms.Reading.{constant_of, when, map2}
 use Rattle.mw_model.specs.Events.Expansion.{Abbreviation, AND, OR, COND, LIST, LET, LETSTAR, FIRST, SECOND, THIRD, FOURTH, FIFTH, QUOTE, Other, abbreviation_of, expanded, expanded_each, form, clause, clauses, cond_term, bindings, let_star, and_term, or_term, list_term, let_term}
@@ -12,7 +12,6 @@ use Rattle.mw_translate.specs.Memo.{Entries, IsStep}
 use Rattle.mw_translate.specs.Terms.{IsAtom, IsQuoted}
 use Rattle.mw_translate.specs.declared.progress.Progress.{Progress}
 use Rattle.mw_translate.specs.declared.progress.Progress.TheVariants as progress
-use Rattle.mw_translate.specs.Shapes.{is_list1}
 use Rattle.mw_translate.specs.declared.part.Kind.TheVariants as kind
 
 -- what a form expands to, by its word
@@ -253,7 +252,7 @@ no_quote f h = go (same_name f (named "QUOTE")) refl
 
 -- a constant that is quoted
 module _ (A : ArityTable) (f : Name) (is_quote : f ≡ named "QUOTE") where
-  pub quoted : (r : Object) → is_list1 r ≡ true → of_term A (by_word QUOTE f r) ≡ Some (Pair (Symbol f) r, 0)
+  pub quoted : (r : Object) → has_members 1 r ≡ true → of_term A (by_word QUOTE f r) ≡ Some (Pair (Symbol f) r, 0)
   quoted (Natural n) h = cc
   quoted (Symbol s) h = cc
   quoted (Pair a (Natural n)) h = cc
@@ -262,7 +261,7 @@ module _ (A : ArityTable) (f : Name) (is_quote : f ≡ named "QUOTE") where
       ∙ ap₂ (λ g t. Some (Pair (Symbol g) (Pair a (Symbol t)), 0)) (sym is_quote) (sym (same_name-eq s nil_name h))
   quoted (Pair a (Pair b z)) h = cc
 
-pub unquoted : (A : ArityTable) (f : Name) (r : Object) → is_list1 r ≡ false → of_term A (by_word QUOTE f r) ≡ None
+pub unquoted : (A : ArityTable) (f : Name) (r : Object) → has_members 1 r ≡ false → of_term A (by_word QUOTE f r) ≡ None
 unquoted A f (Natural n) h = refl
 unquoted A f (Symbol s) h = refl
 unquoted A f (Pair a (Natural n)) h = refl

@@ -1,7 +1,7 @@
 -- LET and LET* from what was made of their bindings and their body.
 use Rattle.std.proofs.Common.{◌≡◌, ℕ, arith, length, Bool, true, false, ◌&&◌, cond, List, [], ◌∷◌, ◌++◌, Option, Some, None, option_map, refl, sym, ap, ap₂, ◌∙◌, subst}
 use Rattle.std.proofs.lemmas.Bool.{and_parts, and_from}
-use Rattle.mw_model.specs.Terms.Object.{Name, Object, Natural, Symbol, Pair, same_name, nil_name, list2}
+use Rattle.mw_model.specs.Terms.Object.{Name, Object, Natural, Symbol, Pair, same_name, nil_name, list2, has_members}
 use Rattle.mw_model.specs.Terms.Term.{Term, NoTerms, More, ArityTable, count, names_object, term_object, terms_object, are_formals, is_term, are_terms}
 use Rattle.mw_model.specs.Terms.Reading.{and_more, when, map2}
 use Rattle.mw_model.specs.Events.Expansion.{expanded, binding, bindings, bound_names, let_term, let_star}
@@ -15,7 +15,6 @@ use Rattle.mw_translate.specs.Checked.{IsMade}
 use Rattle.mw_translate.specs.Forms.{let_form, let_star_form}
 use Rattle.mw_translate.specs.Lets.{let_stars, AreBindings, ArePairsIn, IsCall, IsLet, IsLetStar}
 use Rattle.mw_translate.specs.Meaning.{Meaning, of_term, of_terms, of_names, binding_names, values_of}
-use Rattle.mw_translate.specs.Shapes.{is_list2}
 use Rattle.mw_translate.proofs.Letting.{let_is, let_term-term}
 
 -- the names of bindings that were read
@@ -119,7 +118,7 @@ module _ (A : ArityTable) where
   let-made os bs b ps t (Some n) progress.Fails p q r v h k = absurd k
 
   -- a form of another shape
-  pub let-shape : (r : Object) → is_list2 r ≡ false → of_term A (let_form r) ≡ None
+  pub let-shape : (r : Object) → has_members 2 r ≡ false → of_term A (let_form r) ≡ None
   let-shape (Natural n) h = refl
   let-shape (Symbol s) h = refl
   let-shape (Pair bs (Natural n)) h = refl
@@ -128,7 +127,7 @@ module _ (A : ArityTable) where
   let-shape (Pair bs (Pair b (Symbol s))) h = ap (λ t. of_term A (when t (map2 let_term (bindings bs) (expanded b)))) h
   let-shape (Pair bs (Pair b (Pair a z))) h = refl
 
-  pub let_star-shape : (r : Object) → is_list2 r ≡ false → of_term A (let_star_form r) ≡ None
+  pub let_star-shape : (r : Object) → has_members 2 r ≡ false → of_term A (let_star_form r) ≡ None
   let_star-shape (Natural n) h = refl
   let_star-shape (Symbol s) h = refl
   let_star-shape (Pair bs (Natural n)) h = refl

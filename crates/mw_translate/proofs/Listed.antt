@@ -1,12 +1,12 @@
 -- Lists of terms, and of the names and values of bindings, by their first and the rest.
 use Rattle.std.proofs.Common.{◌≡◌, suc, ◌+◌, Bool, true, false, ◌&&◌, cond, List, [], Option, Some, None, option_map, refl, sym, ap, add-one}
-use Rattle.mw_model.specs.Terms.Object.{Name, Object, Natural, Symbol, Pair, same_object, NIL, list1}
+use Rattle.mw_model.specs.Terms.Object.{Name, Object, Natural, Symbol, Pair, same_object, NIL, list1, has_members}
 use Rattle.mw_model.specs.Terms.Term.{Term, Terms, NoTerms, ArityTable, count, term_object, terms_object, is_term, are_terms, More}
 use Rattle.mw_model.specs.Terms.Reading.{and_more, when, map2}
 use Rattle.mw_model.specs.Values.Primitive.{is_symbol}
 use Rattle.mw_model.specs.Events.Expansion.{expanded, expanded_each, bindings}
 use Rattle.mw_translate.specs.Meaning.{Meaning, of_term, of_terms, of_names, binding_names, values_of, meaning}
-use Rattle.mw_translate.specs.Shapes.{is_list1, is_headed_by_symbol}
+use Rattle.mw_translate.specs.Shapes.{is_headed_by_symbol}
 use Rattle.mw_translate.specs.declared.part.Kind.TheVariants as kind
 use Rattle.mw_translate.proofs.Combine.{combine1, combine2}
 
@@ -65,7 +65,7 @@ module _ (A : ArityTable) where
   names-unnamed (Pair (Symbol s) z) r h = cc
   names-unnamed (Pair (Pair a b) z) r h = refl
 
-  pub values-long : (x : Name) (z r : Object) → is_list1 z ≡ false → meaning A kind.Values (Pair (Pair (Symbol x) z) r) ≡ None
+  pub values-long : (x : Name) (z r : Object) → has_members 1 z ≡ false → meaning A kind.Values (Pair (Pair (Symbol x) z) r) ≡ None
   values-long x (Natural n) r h = refl
   values-long x (Symbol s) r h = refl
   values-long x (Pair e (Natural n)) r h = refl

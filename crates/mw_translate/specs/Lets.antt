@@ -59,10 +59,6 @@ abbrev pub AreAllIn : List Object → List ℕ → Type 0
 AreAllIn os [] = Unit {0}
 AreAllIn os (r ∷ rs) = IsIn os r × AreAllIn os rs
 
--- the members of a list
-abbrev pub AreMembers : List Object → Object → List ℕ → Type 0
-AreMembers os x rs = (y : Object) → append_object x y ≡ prepend os rs y
-
 -- x was added where it is not among the names
 pub record AddsOther (os : List Object) (xs : List Name) (old new : List ℕ) (x : ℕ) : Type 0 where
   pub symbols : AreSymbols os new

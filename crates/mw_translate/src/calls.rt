@@ -17,7 +17,6 @@ use crate::made::Made;
 use crate::memo::Memo;
 use crate::part::{Kind, Part};
 use crate::progress::Progress;
-use crate::shape::two_members;
 use crate::table::takes;
 use mw_heap::{Heap, Memory, Ref, View, Word};
 use mw_term::{Arity, Formals, take_searches};
@@ -185,7 +184,7 @@ pub(crate) fn step_head(heap: &mut Heap, memo: &Memo, x: Ref) -> Result<Progress
     let View::Pair(lambda, members) = heap.view(x) else {
         return Ok(Progress::Fails);
     };
-    let Some(two) = two_members(heap, members) else {
+    let Some(two) = heap.two_members(members) else {
         return Ok(Progress::Fails);
     };
     if !heap.is_word(Some(lambda), Word::Lambda) {
@@ -193,10 +192,10 @@ pub(crate) fn step_head(heap: &mut Heap, memo: &Memo, x: Ref) -> Result<Progress
     }
     let term = Part {
         kind: Kind::Term,
-        cell: two.second,
+        cell: two.1,
     };
     match memo.find(&term) {
-        Some(made) => closed_head(heap, lambda, two.first, made.object),
+        Some(made) => closed_head(heap, lambda, two.0, made.object),
         None => Ok(Progress::Wants(term)),
     }
 }

@@ -7,10 +7,10 @@ ghost use Rattle.mw_model.specs.Terms.Reading.{term_of};
 ghost use Rattle.mw_model.specs.Events.Expansion.{without};
 ghost use Rattle.mw_heap.specs.Objects.{object_at, IsIn, Grows};
 ghost use Rattle.mw_term.specs.Parts.{names_at, AreSymbols};
-ghost use Rattle.mw_translate.specs.Lets.{append_object, prepend, extended_object, AreAllIn, AreMembers, AddsOther, IsLet};
+ghost use Rattle.mw_translate.specs.Lets.{append_object, prepend, extended_object, AreAllIn, AddsOther, IsLet};
 
 use crate::build::{call_of_two, list_of_one};
-use mw_heap::{Heap, Memory, Ref, View, Word};
+use mw_heap::{Heap, Memory, Ref, Word};
 use mw_term::{Formals, take_searches, vars_counted};
 
 // Adds the variable x where it is no formal.
@@ -48,21 +48,6 @@ fn other_variables(
     Ok(others)
 }
 
-// The members of a list.
-fn members_of(heap: &Heap, list: Ref) -> Result<Vec<Ref>, Memory>
-    requires { IsIn heap.now.objects list }
-    ensures within { IfOk result (λ v. AreAllIn heap.now.objects v.items) }
-    ensures members { IfOk result (λ v. AreMembers heap.now.objects (object_at heap.now.objects list) v.items) }
-{
-    let mut members = Vec::new(heap.alloc());
-    let mut rest = list;
-    while let View::Pair(first, more) = heap.view(rest) {
-        members.push(first)?;
-        rest = more;
-    }
-    Ok(members)
-}
-
 /// Makes the list that begins with these, in order, and goes on as another. The one error is that memory is refused.
 pub fn put_before(heap: &mut Heap, front: Vec<Ref>, back: Ref) -> Result<Ref, Memory>
     requires front_in { AreAllIn heap.old.objects front.items }
@@ -85,7 +70,7 @@ fn append(heap: &mut Heap, front: Ref, back: Ref) -> Result<Ref, Memory>
     ensures grows { Grows heap.old.objects heap.new.objects }
     ensures made { IfOk result (λ r. IsIn heap.new.objects r × (object_at heap.new.objects r ≡ append_object (object_at heap.old.objects front) (object_at heap.old.objects back))) }
 {
-    let members = members_of(heap, front)?;
+    let members = heap.list_members(front)?;
     put_before(heap, members, back)
 }
 

@@ -1,5 +1,5 @@
 //! The heap.
-ghost use Rattle.std.specs.Prelude.{◌≡◌, ℕ, ◌+◌, ◌<◌, ◌≤◌, ◌^◌, List, [], true, false, length, take, IfOk, IfSome, IsOk, OnOk, OnErr, IsTrue};
+ghost use Rattle.std.specs.Prelude.{◌≡◌, ℕ, ◌+◌, ◌<◌, ◌≤◌, ◌^◌, List, [], true, false, length, take, IfOk, IfSome, IsOk, OnOk, OnErr, IsTrue, MatchOption};
 ghost use Rattle.mw_model.specs.Terms.Object.{Symbol, Natural, Pair, T, NIL, name_of_bytes, is_name, same_object, is_before_bytes};
 ghost use Rattle.mw_model.specs.Values.Primitive.{is_symbol, name_of};
 ghost use Rattle.mw_model.specs.Events.Fate.{is_out_of_range};
@@ -15,7 +15,7 @@ use crate::store::sets::{
     Naturals, can_number, cell_at, counts_from, find_place, insert_measured, insert_name,
     insert_natural, note_place,
 };
-use crate::vocabulary::word::{WORDS, are_kept};
+use crate::vocabulary::word::{WORDS, are_kept, word_in};
 use crate::{Mark, Memory, Notes, Ref, View, Word};
 use indexmap::IndexSet;
 use std::alloc::Global;
@@ -226,6 +226,23 @@ impl Heap {
             Some(x) => x == word.place(),
             None => word.place().index() == 0,
         }
+    }
+
+    /// The word whose symbol an object is; nothing of what is none of them. Where the words are kept its place tells, and else their names are
+    /// compared.
+    pub fn word_at(&self, x: Ref) -> Option<Word>
+        requires { IsIn self.now.objects x }
+        ensures { MatchOption result ((w : Word) → same_object (object_at self.now.objects x) (word_object w) ≡ false) (λ w. object_at self.now.objects x ≡ word_object w) }
+    {
+        if self.has_words {
+            return word_in(x);
+        }
+        for word in &WORDS {
+            if self.is_named(Some(x), word.name()) {
+                return Some(*word);
+            }
+        }
+        None
     }
 
     // The symbol of this name, where its cell stands in its noted place.

@@ -1,5 +1,5 @@
 //! The words of the logic.
-ghost use Rattle.std.specs.Prelude.{◌≡◌, ◌≤◌, true};
+ghost use Rattle.std.specs.Prelude.{◌≡◌, ◌≤◌, true, MatchOption};
 ghost use Rattle.mw_heap.specs.Words.{word_bytes, place_of, word_count};
 
 use crate::Ref;
@@ -230,6 +230,17 @@ impl Word {
         ensures { result ≡ place_of self }
     {
         Ref::new(self as u32)
+    }
+}
+
+// The word that stands in this place of a heap that keeps the words; nothing after them.
+pub(crate) fn word_in(place: Ref) -> Option<Word>
+    ensures { MatchOption result (word_count ≤ place) (λ w. place_of w ≡ place) }
+{
+    if place.index() < WORDS.len() {
+        Some(WORDS[place.index()])
+    } else {
+        None
     }
 }
 

@@ -32,7 +32,7 @@ returns-then-not-are_cases-clause-answer c = λ A k.
     let parts = c.in-Some.measure-1-given.0.0 in
     let tested = subst (λ os. (A : ArityTable) → AreMarks A os c.args.marks.now →
     c.are_cases.result ≡ (is_list_object (object_at os parts.1) && (eqb (length_object (object_at os parts.1)) (length_object (object_at os parts.2)) && are_case_objects A (object_at os parts.2)))) e c.are_cases.ensures in
-    no_induction-data A (object_at os c.args.f) (conclusions_object os c.args.conclusions.now) (object_at os c.args.extras) _ _ _ c.in-Some.ensures.members (sym (tested A k) ∙ c.if-not-are_cases.true)
+    no_induction-data A (object_at os c.args.f) (conclusions_object os c.args.conclusions.now) (object_at os c.args.extras) _ _ _ c.in-Some.ensures.0 (sym (tested A k) ∙ c.if-not-are_cases.true)
 
 -- the tests of the data under the table of the marks
 pub are_premises-requires-clause-as_many : goal.are_premises-requires-clause-as_many
@@ -64,7 +64,7 @@ returns-clause-answer c =
     (premises_object (object_at os c.args.f) (object_at os parts.0) (object_at os parts.1) (object_at os parts.2)))) e c.are_premises.ensures.premises in
     IfOk-weaker c.are_premises.result _ _
     (λ b h. λ A marks.
-    h ∙ object_is_induction-from A (object_at os c.args.f) (conclusions_object os c.args.conclusions.now) (object_at os c.args.extras) _ _ _ c.in-Some.ensures.members (sym (tested A marks) ∙ c.if-not-are_cases.false))
+    h ∙ object_is_induction-from A (object_at os c.args.f) (conclusions_object os c.args.conclusions.now) (object_at os c.args.extras) _ _ _ c.in-Some.ensures.0 (sym (tested A marks) ∙ c.if-not-are_cases.false))
     made
 
 pub are_premises-requires-clause-within : goal.are_premises-requires-clause-within

@@ -1,5 +1,5 @@
 -- One name more.
-use Rattle.std.proofs.Common.{ap, ◌∙◌, subst, arith}
+use Rattle.std.proofs.Common.{ap, subst, arith}
 use Rattle.std.proofs.lemmas.List.{take_all}
 use Rattle.mw_theory.specs.Waking.{WakesNames}
 use Rattle.mw_theory.proofs.WokenNames.{woken-none, woken-more}

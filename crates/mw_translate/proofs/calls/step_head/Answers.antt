@@ -13,20 +13,20 @@ use Rattle.mw_translate.proofs.Called.{head-none, head-body, body_of}
 use Rattle.mw_translate.proofs.calls.step_head.Goals as goal
 
 pub closed_head-requires-clause-body_in : goal.closed_head-requires-clause-body_in
-closed_head-requires-clause-body_in c = (made_found c.requires.made.0 c.args.heap.now.objects c.args.memo.now.made.entries (at kind.Term c.in-Some.two.second) c.in-Some-find.made c.requires.made.1 (sym c.find.ensures ∙ c.in-Some-find.is)).object_in
+closed_head-requires-clause-body_in c = (made_found c.requires.made.0 c.args.heap.now.objects c.args.memo.now.made.entries (at kind.Term c.in-Some.two.1) c.in-Some-find.made c.requires.made.1 (sym c.find.ensures ∙ c.in-Some-find.is)).object_in
 
 pub returns-in-Some-find-clause-step : goal.returns-in-Some-find-clause-step
 returns-in-Some-find-clause-step c = λ A made.
     let os = c.args.heap.now.objects in
     let l = object_at os c.in-Pair.lambda in
-    let xs = object_at os c.in-Some.two.first in
-    let b = object_at os c.in-Some.two.second in
+    let xs = object_at os c.in-Some.two.0 in
+    let b = object_at os c.in-Some.two.1 in
     let m = object_at os c.in-Some-find.made.object in
-    let found = made_found A os c.args.memo.now.made.entries (at kind.Term c.in-Some.two.second) c.in-Some-find.made made (sym c.find.ensures ∙ c.in-Some-find.is) in
+    let found = made_found A os c.args.memo.now.made.entries (at kind.Term c.in-Some.two.1) c.in-Some-find.made made (sym c.find.ensures ∙ c.in-Some-find.is) in
     let t = body_of A (expanded b) (m, c.in-Some-find.made.count) found.is in
     let read : term_of m ≡ Some t.0 = ap term_of (sym t.3) ∙ term_read A t.0 (formed A t.0 t.2) in
     let e =
-    ap (meaning A kind.Head) (c.in-Pair.ensures.shows.2 ∙ ap (Pair l) c.in-Some.ensures.4)
+    ap (meaning A kind.Head) (c.in-Pair.ensures.shows.2 ∙ ap (Pair l) c.in-Some.ensures.0)
     ∙ head-body A l xs b m t.0 (sym c.is_word.ensures ∙ c.if-not-is_word.false) t.1 t.2 t.3 in
     result_made A os c.closed_head.new.heap.objects c.args.memo.now.made.entries (meaning A kind.Head (object_at os c.args.x)) _ c.args.x c.closed_head.result e (c.closed_head.ensures.head t.0 read)
 
@@ -34,9 +34,9 @@ pub returns-in-None-clause-step : goal.returns-in-None-clause-step
 returns-in-None-clause-step c = λ A made.
     let os = c.args.heap.now.objects in
     let l = object_at os c.in-Pair.lambda in
-    let xs = object_at os c.in-Some.two.first in
-    let b = object_at os c.in-Some.two.second in (
-      omega (arith, c.in-Some.ensures.3, c.in-Pair.ensures.below.1),
+    let xs = object_at os c.in-Some.two.0 in
+    let b = object_at os c.in-Some.two.1 in (
+      omega (arith, c.in-Some.ensures.2, c.in-Pair.ensures.below.1),
       sym c.find.ensures ∙ c.in-None.is,
-      λ n. ap (meaning A kind.Head) (c.in-Pair.ensures.shows.2 ∙ ap (Pair l) c.in-Some.ensures.4) ∙ head-none A l xs b n,
+      λ n. ap (meaning A kind.Head) (c.in-Pair.ensures.shows.2 ∙ ap (Pair l) c.in-Some.ensures.0) ∙ head-none A l xs b n,
     )

@@ -29,7 +29,7 @@ returns-in_ok-put_first-in-Ok-clause-step c = λ A made.
     let os = c.args.heap.now.objects in
     let x = name_of (object_at os c.in-Some.named.first) in
     let e =
-    ap (meaning A kind.Values) (c.in-Pair.ensures.shows.2 ∙ ap₂ Pair (c.in-Some.ensures.5 ∙ ap₂ Pair (symbol_is (object_at os c.in-Some.named.first) c.in-Some.ensures.4) c.in-Some-one_member.ensures.2) refl)
+    ap (meaning A kind.Values) (c.in-Pair.ensures.shows.2 ∙ ap₂ Pair (c.in-Some.ensures.5 ∙ ap₂ Pair (symbol_is (object_at os c.in-Some.named.first) c.in-Some.ensures.4) c.in-Some-one_member.ensures.0) refl)
     ∙ values-pair A x (object_at os c.in-Some-one_member.value) (object_at os c.in-Pair.rest) in
     let is = c.in_ok-put_first-in-Ok.ensures.made in (
       is.within,
@@ -42,7 +42,7 @@ returns-in-Err-clause-step c = λ A made.
     let os = c.args.heap.now.objects in
     let x = name_of (object_at os c.in-Some.named.first) in
     let e =
-    ap (meaning A kind.Values) (c.in-Pair.ensures.shows.2 ∙ ap₂ Pair (c.in-Some.ensures.5 ∙ ap₂ Pair (symbol_is (object_at os c.in-Some.named.first) c.in-Some.ensures.4) c.in-Some-one_member.ensures.2) refl)
+    ap (meaning A kind.Values) (c.in-Pair.ensures.shows.2 ∙ ap₂ Pair (c.in-Some.ensures.5 ∙ ap₂ Pair (symbol_is (object_at os c.in-Some.named.first) c.in-Some.ensures.4) c.in-Some-one_member.ensures.0) refl)
     ∙ values-pair A x (object_at os c.in-Some-one_member.value) (object_at os c.in-Pair.rest) in
     both-wanted A os c.args.memo.now.made.entries (meaning A kind.Values (object_at os c.args.x)) c.args.x put (at kind.Term c.in-Some-one_member.value) (at kind.Values c.in-Pair.rest) c.in-Err.wanted e
     (omega (arith, c.in-Some-one_member.ensures.1, c.in-Some.ensures.3, c.in-Pair.ensures.below.0)) c.in-Pair.ensures.below.1 c.in-Err.ensures.wanted

@@ -18,7 +18,7 @@ returns-in-Some-find-clause-step c =
     let A = c.args.newer.now ++ c.args.older.now in
     let n = c.args.steps in
     let goal = of_term A (with_terms (place_of n) (expanded_each (object_at os c.args.rest))) in
-    let e = ap (λ r. of_term A (with_terms (place_of n) (expanded_each r))) c.in-Some.ensures.2 ∙ place-one A n (object_at os c.in-Some.member) in
+    let e = ap (λ r. of_term A (with_terms (place_of n) (expanded_each r))) c.in-Some.ensures.0 ∙ place-one A n (object_at os c.in-Some.member) in
     result_made A os c.checked_place.new.heap.objects c.args.memo.now.made.entries goal _ (c.args.rest + 1) c.checked_place.result
     (one-made A os c.args.memo.now.made.entries goal (c.args.rest + 1) c.requires.made (place_one A n) (at kind.Term c.in-Some.member) c.in-Some-find.made e (sym c.find.ensures ∙ c.in-Some-find.is))
     c.checked_place.ensures.made
@@ -28,7 +28,7 @@ returns-in-None-clause-step c =
     let os = c.args.heap.now.objects in
     let A = c.args.newer.now ++ c.args.older.now in
     let n = c.args.steps in
-    let e = ap (λ r. of_term A (with_terms (place_of n) (expanded_each r))) c.in-Some.ensures.2 ∙ place-one A n (object_at os c.in-Some.member) in
+    let e = ap (λ r. of_term A (with_terms (place_of n) (expanded_each r))) c.in-Some.ensures.0 ∙ place-one A n (object_at os c.in-Some.member) in
     one-wanted A os c.args.memo.now.made.entries (of_term A (with_terms (place_of n) (expanded_each (object_at os c.args.rest)))) (c.args.rest + 1) (place_one A n) (at kind.Term c.in-Some.member) e
     (omega (arith, c.in-Some.ensures.1)) (sym c.find.ensures ∙ c.in-None.is)
 

@@ -2,6 +2,7 @@
 use Rattle.std.proofs.Common.{◌≡◌, ◌++◌, reverse, map, false, refl, sym, ap, ap₂, ◌∙◌, subst}
 use Rattle.std.specs.Box.{with_value}
 use Rattle.mw_heap.specs.Objects.{object_at}
+use Rattle.mw_heap.proofs.ListMembers.{proper_list-is}
 use Rattle.mw_code.specs.Tables.{StandsFor}
 use Rattle.mw_theory.specs.Adding.{MayBeAdded}
 use Rattle.mw_theory.specs.Defining.{HasOtherCode}
@@ -43,7 +44,7 @@ returns-clause-held c =
     let put = subst (λ xs. object_at c.add_block.new.heap.objects l.axioms ≡ put_all (map (object_at os) xs) (object_at os t.axioms)) c.as_slice.ensures.value e.axiom_list.1 in
     let listed = e.arity_list D B may h.arities in
     defined os t h B ds n.means c.add_block.new.heap.objects _
-    (is-added os t h B ds c.args.axioms n c.in_ok-members.members.items c.in_ok-members.ensures.within c.in_ok-members.ensures.members c.add_block.new.heap.objects c.add_block.ensures.grows l.axioms put _ refl refl e.axiom_list.0 refl listed.0 listed.1 (e.arity D B may h.arities) (e.known ∙ ap (λ xs. reverse xs ++ t.known_axioms) c.as_slice.ensures.value) refl e.entries (e.table D B may) refl refl refl)
+    (is-added os t h B ds c.args.axioms n c.in_ok-members.members.items c.in_ok-members.ensures.within (λ proper. c.in_ok-members.ensures.members ∙ proper_list-is _ proper) c.add_block.new.heap.objects c.add_block.ensures.grows l.axioms put _ refl refl e.axiom_list.0 refl listed.0 listed.1 (e.arity D B may h.arities) (e.known ∙ ap (λ xs. reverse xs ++ t.known_axioms) c.as_slice.ensures.value) refl e.entries (e.table D B may) refl refl refl)
 
 pub returns-clause-theory : goal.returns-clause-theory
 returns-clause-theory c = λ B n.
@@ -59,4 +60,4 @@ returns-clause-theory c = λ B n.
     let listed = e.arity_list D B may h.arities in
     let after = record t { known_axioms = c.add_block.new.known; arity = c.add_block.new.arity; axioms = l.axioms; arity_list = l.arity_list; entries = c.add_block.new.entries; table = with_value t.table c.add_block.new.table; is_initial = false } in
     defined_theory os t h B ds n.means c.add_block.new.heap.objects after
-    (is-added os t h B ds c.args.axioms n c.in_ok-members.members.items c.in_ok-members.ensures.within c.in_ok-members.ensures.members c.add_block.new.heap.objects c.add_block.ensures.grows l.axioms put after refl refl e.axiom_list.0 refl listed.0 listed.1 (e.arity D B may h.arities) (e.known ∙ ap (λ xs. reverse xs ++ t.known_axioms) c.as_slice.ensures.value) refl e.entries (e.table D B may) refl refl refl)
+    (is-added os t h B ds c.args.axioms n c.in_ok-members.members.items c.in_ok-members.ensures.within (λ proper. c.in_ok-members.ensures.members ∙ proper_list-is _ proper) c.add_block.new.heap.objects c.add_block.ensures.grows l.axioms put after refl refl e.axiom_list.0 refl listed.0 listed.1 (e.arity D B may h.arities) (e.known ∙ ap (λ xs. reverse xs ++ t.known_axioms) c.as_slice.ensures.value) refl e.entries (e.table D B may) refl refl refl)

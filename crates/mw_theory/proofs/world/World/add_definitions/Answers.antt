@@ -1,13 +1,10 @@
 -- All parts have the block, or none has it.
 use Rattle.std.proofs.Common.{◌≡◌, sym, ap, ◌∙◌, subst}
-use Rattle.mw_model.specs.Values.Definition.{add_block, is_block, are_blocks, arity_table}
+use Rattle.mw_model.specs.Values.Definition.{add_block, is_block, arity_table}
 use Rattle.mw_model.specs.Events.Admission.{add_to_theory}
-use Rattle.mw_heap.specs.Variants.{profile_of}
 use Rattle.mw_term.specs.Settling.{IsWatch}
 use Rattle.mw_term.proofs.CallerLemmas.{AreMarks-grows, IsWatch-grows}
-use Rattle.mw_preamble.specs.Entries.{IsBlock}
-use Rattle.mw_theory.specs.Knowledge.{parts_of, definitions_of, meant, IsKernel}
-use Rattle.mw_theory.specs.Waking.{IsNamed}
+use Rattle.mw_theory.specs.Knowledge.{parts_of, meant, IsKernel}
 use Rattle.mw_theory.proofs.Held.{held, watched, held-watched, needs-all, grown-other, grown_theory}
 use Rattle.mw_preamble.proofs.CallerLemmas.{block-grows}
 use Rattle.mw_theory.proofs.Defining.{may_be_added}

@@ -54,3 +54,6 @@ returns-clause-theory c = λ M proofs a.
     let block = functions-block _ _ _ _ c.requires.world new g c.args.drafts owed tested M proofs a c.as_slice-2.result.now (c.as_slice-2.ensures.value ∙ (c.in_ok-block.ensures ∙ ap (map function_of_entry) c.as_slice.ensures.value)) in
     c.in_ok-add_definitions.ensures.theory _ block
     ∙ block-leads _ _ _ _ c.requires.world new g c.args.drafts owed tested M proofs (functions-pass _ _ _ _ c.requires.world new g c.args.drafts owed tested M proofs a)
+
+pub returns-in-Refused-clause-grows : goal.returns-in-Refused-clause-grows
+returns-in-Refused-clause-grows c = c.admit.ensures.grows

@@ -11,7 +11,7 @@ use Rattle.mw_theory.specs.Settling.{fate_by, defined, IsDefined}
 use Rattle.mw_theory.specs.Admitting.{drafts_given}
 use Rattle.mw_theory.proofs.Held.{held, grown-marked}
 use Rattle.mw_theory.proofs.Results.{IfOk-map, OnOk-map, OnErr-from, OnErr-map}
-use Rattle.mw_theory.proofs.Refusing.{none_of}
+use Rattle.mw_theory.proofs.Refusing.{none_of, accepted_none, where_some}
 use Rattle.mw_theory.proofs.Defined.{theory-same, defined-refused, kept-theory, kept-defined, kept-accepted}
 use Rattle.mw_theory.proofs.Drafting.{within-grows}
 use Rattle.mw_theory.proofs.world.World.define.Goals as goal
@@ -102,3 +102,19 @@ returns-clause-err g c =
 
 pub refusal_of_definitions-requires-clause-ready : goal.refusal_of_definitions-requires-clause-ready
 refusal_of_definitions-requires-clause-ready g c = let os = c.args.self.now.heap.objects in (os, Grows-refl os, c.requires.ready)
+
+-- what is accepted is not refused
+pub returns-clause-grows : goal.returns-clause-grows
+returns-clause-grows g c =
+    let old = c.args.self.now in
+    let J = g.J.Judge.judges c.args.judge.now old.heap.objects in
+    let P = object_at old.heap.objects c.args.proofs in
+    let told = subst (IsDefined J (theory_in old) (drafts_given old.heap.objects c.args.drafts) P) (none_of c.in_ok-refused.refused (sym c.is_some.ensures ∙ c.if-is_some.false)) (c.in_ok-refused.ensures.defined old.heap.objects (Grows-refl old.heap.objects) c.requires.ready) in
+    let accepted = kept-accepted _ _ _ _ c.requires.world c.refusal_of_definitions.new.heap.objects c.refusal_of_definitions.ensures.grows c.args.drafts c.cut_after.new.self c.cut_after.ensures.theory c.cut_after.ensures.drafts.1 c.requires.drafts J P told c.requires.sound in
+    IfOk-map c.add_functions.result _ _ (λ r h. accepted_none _ r (h ∙ ap (λ o. o.0) accepted.1)) (c.add_functions.ensures.fate J P accepted)
+
+pub returns-then-is_nil-clause-grows : goal.returns-then-is_nil-clause-grows
+returns-then-is_nil-clause-grows g c = c.define_alone.ensures.grows
+
+pub returns-then-is_some-clause-grows : goal.returns-then-is_some-clause-grows
+returns-then-is_some-clause-grows g c = where_some _ c.in_ok-refused.refused c.refusal_of_definitions.ensures.grows

@@ -1,6 +1,7 @@
 -- Refused, or the theory of a profile.
 use Rattle.std.proofs.Common.{Some, sym, ap, ◌∙◌}
 use Rattle.mw_heap.specs.declared.vocabulary.profile.Profile.TheVariants.{One, Two}
+use Rattle.mw_heap.proofs.Objects.{Grows-refl}
 use Rattle.mw_theory.proofs.Profiles.{later-refused, none-refused, profile-begun}
 use Rattle.mw_theory.proofs.world.World.set_profile.Goals as goal
 
@@ -32,3 +33,9 @@ pub returns-in_ok-begin_second-in-Some-Two-clause-theory : goal.returns-in_ok-be
 returns-in_ok-begin_second-in-Some-Two-clause-theory c =
     c.in_ok-begin_second-in-Some-Two.ensures.theory
     ∙ sym (ap (λ r. r.1) (profile-begun c.args.self.now c.requires.world c.args.number c.if-not-self.false _ Two (c.in-Some-Two.is ∙ ap Some c.in-Some-Two.field-0-is) c.profile_numbered.ensures))
+
+pub returns-then-not-self-clause-grows : goal.returns-then-not-self-clause-grows
+returns-then-not-self-clause-grows c = Grows-refl c.args.self.now.heap.objects
+
+pub returns-in-None-clause-grows : goal.returns-in-None-clause-grows
+returns-in-None-clause-grows c = Grows-refl c.args.self.now.heap.objects

@@ -54,3 +54,6 @@ returns-clause-theory c =
     let w_is = subst (λ es. IfSome (slice_get es 0) (λ e. c.witness_of-witness.result ≡ Witness c.args.name c.args.bound c.args.free e.body)) (c.as_slice.ensures.value ∙ p.entries) c.witness_of-witness.ensures in
     let block = witness-block _ _ _ _ c.requires.world c.admit_witness.new.heap.objects c.admit_witness.ensures.grows c.args.name c.args.bound c.args.free c.args.body c.requires.name c.requires.bound c.requires.free owed p c.witness_of-witness.result w_is c.requires.sound in
     c.in_ok-add_definitions.ensures.theory B block ∙ (ap (λ t. add_to_theory t B) (theory-same _ _ _ _ c.requires.world c.admit_witness.new.heap.objects c.admit_witness.ensures.grows) ∙ sym (ap (λ r. r.1) (skolem-passes _ _ _ _ c.requires.world c.admit_witness.new.heap.objects c.admit_witness.ensures.grows c.args.name c.args.bound c.args.free c.args.body owed p)))
+
+pub returns-in-Refused-clause-grows : goal.returns-in-Refused-clause-grows
+returns-in-Refused-clause-grows c = c.admit_witness.ensures.grows

@@ -9,7 +9,7 @@ use Rattle.mw_theory.specs.Settling.{by_refusal}
 use Rattle.mw_theory.proofs.Held.{held, grown-marked}
 use Rattle.mw_theory.proofs.Results.{OnErr-from}
 use Rattle.mw_theory.proofs.Defined.{theory-same}
-use Rattle.mw_theory.proofs.Refusing.{fate_refused, none_of}
+use Rattle.mw_theory.proofs.Refusing.{fate_refused, none_of, where_some}
 use Rattle.mw_theory.proofs.world.World.verify.Goals as goal
 
 pub refusal-requires-clause-held : goal.refusal-requires-clause-held
@@ -77,3 +77,6 @@ returns-in_err-add_theorem-clause-world g c = c.in_err-add_theorem.ensures.world
 
 pub returns-clause-world : goal.returns-clause-world
 returns-clause-world g c = c.in_ok-add_theorem.ensures.world
+
+pub returns-then-is_some-clause-grows : goal.returns-then-is_some-clause-grows
+returns-then-is_some-clause-grows g c = where_some _ c.in_ok-refused.refused c.refusal.ensures.grows
