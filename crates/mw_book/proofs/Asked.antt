@@ -1,6 +1,6 @@
 -- Whatever the words ask for, nothing is a part of what is due.
 use Rattle.std.proofs.Common.{List, ℕ, Option, refl}
-use Rattle.mw_model.specs.Reports.Request.{Request, Check, Trial, Taut, Lower, Slice, Flat, Recheck, Help, Usage}
+use Rattle.mw_model.specs.Reports.Request.{Request, Check, Trial, Taut, Lower, Slice, Flat, Recheck, Explain, Help, Usage}
 use Rattle.mw_request.specs.Commands.{asked, help_text}
 use Rattle.mw_model.specs.Reports.Trial.{trial_book}
 use Rattle.mw_model.specs.Texts.Grammar.{trees}
@@ -17,6 +17,7 @@ none_of begins (Lower N) input sink = part_none begins (Lower N) refl input sink
 none_of begins (Slice name N) input sink = part_none begins (Slice name N) refl input sink
 none_of begins (Flat N) input sink = part_none begins (Flat N) refl input sink
 none_of begins Recheck input sink = part_none begins Recheck refl input sink
+none_of begins (Explain N) input sink = part_none begins (Explain N) refl input sink
 none_of begins Help input sink = nothing_taken help_text sink
 none_of begins Usage input sink = nothing_taken help_text sink
 
@@ -31,6 +32,7 @@ no_answers (Lower N) input sink = first_none (Lower N) refl input sink
 no_answers (Slice name N) input sink = first_none (Slice name N) refl input sink
 no_answers (Flat N) input sink = first_none (Flat N) refl input sink
 no_answers Recheck input sink = first_none Recheck refl input sink
+no_answers (Explain N) input sink = first_none (Explain N) refl input sink
 no_answers Help input sink = takes_none sink
 no_answers Usage input sink = takes_none sink
 

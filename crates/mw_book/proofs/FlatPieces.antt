@@ -1,11 +1,10 @@
--- The events of a log go on from the first ones, and each has a piece.
-use Rattle.std.proofs.Common.{◌≡◌, ℕ, ◌≤◌, Bool, true, false, ◌&&◌, ◌||◌, cond, List, [], ◌∷◌, ◌++◌, length, refl, ap, arith}
+-- The events of a log go on from the first ones.
+use Rattle.std.proofs.Common.{◌≡◌, ◌≤◌, Bool, true, false, ◌&&◌, ◌||◌, cond, List, [], ◌∷◌, ◌++◌, length, refl, ap, arith}
 use Rattle.mw_model.specs.Terms.Object.{Object}
 use Rattle.mw_model.specs.Events.Fate.{event_word}
-use Rattle.mw_model.specs.Texts.Pieces.{InOrder}
 use Rattle.mw_commands.specs.Commands.Transition.{Transition, is_acceptance}
 use Rattle.mw_commands.specs.Commands.Slice.{some_passes}
-use Rattle.mw_commands.specs.Commands.Flattening.{OwesFlat, flat_events, is_logged_word, is_switch}
+use Rattle.mw_commands.specs.Commands.Flattening.{flat_events, is_logged_word, is_switch}
 
 abbrev pub is_flat : Transition → Bool
 is_flat s = is_acceptance s && is_logged_word (event_word s.event)
@@ -64,10 +63,3 @@ few_flat (r ∷ ss) = go (is_switch r) (is_flat r) refl refl (few_flat ss)
     go true c e f h = rw e (omega arith)
     go false true e f h = rw (e, f) (omega (arith, h))
     go false false e f h = rw (e, f) (omega (arith, h))
-
-pub all_flat : ((e : Object) → (piece : List ℕ) × OwesFlat e piece) → (es : List Object) → (text : List ℕ) × InOrder OwesFlat es text
-all_flat may [] = ([], refl)
-all_flat may (e ∷ es) =
-    let p = may e in
-    let r = all_flat may es in
-    (p.0 ++ r.0, (p.0, r.0, refl, p.1, r.1))

@@ -1,7 +1,7 @@
 -- The last lines, and how many of the data were refused.
 use Rattle.std.proofs.Common.{◌≡◌, ℕ, ◌+◌, ◌-◌, ◌||◌, nat_lt, List, ◌++◌, Some, None, codes, refl, ap, ap₂}
 use Rattle.mw_model.specs.Terms.Object.{Object}
-use Rattle.mw_model.specs.Reports.Request.{Request, Check, Taut, Lower, Flat, Recheck}
+use Rattle.mw_model.specs.Reports.Request.{Request, Check, Taut, Lower, Flat, Recheck, Explain}
 use Rattle.mw_kernel.specs.Knowledge.{theory_of}
 use Rattle.mw_read.specs.Kinds.{kind_of}
 use Rattle.mw_read.specs.declared.step.SyntaxKind.{SyntaxKind}
@@ -13,6 +13,8 @@ use Rattle.mw_book.specs.Knowing.{Judged, JudgedFor}
 use Rattle.mw_book.specs.Flattened.{Flattened, FlattenedFor}
 use Rattle.mw_book.specs.Lowered.{Lowered, LoweredFor}
 use Rattle.mw_book.specs.Rechecked.{Rechecked, RecheckedFor}
+use Rattle.mw_book.specs.Explained.{Explained, ExplainedFor}
+use Rattle.mw_book.specs.declared.explaining.Explaining.{Explaining}
 use Rattle.mw_book.specs.declared.flattening.Flattening.{Flattening}
 use Rattle.mw_book.specs.declared.judging.Judging.{Judging}
 use Rattle.mw_book.specs.declared.lowering.Lowering.{Lowering}
@@ -21,6 +23,7 @@ use Rattle.mw_book.specs.declared.rechecking.Rechecking.{Rechecking}
 use Rattle.mw_book.proofs.AnsweredBy.{last_by, refused_by, some_refused_by}
 use Rattle.mw_book.proofs.Counted.{summary_is as formulas_are}
 use Rattle.mw_book.proofs.Ended.{summary_is}
+use Rattle.mw_book.proofs.ExplainedOne.{explained_summary_is}
 use Rattle.mw_book.proofs.FlattenedOne.{flat_summary_is}
 use Rattle.mw_book.proofs.LoweredOne.{summary_is as course_is}
 use Rattle.mw_book.proofs.RecheckedOne.{log_summary_is}
@@ -88,3 +91,15 @@ rechecked_fault r kind offset q given h = last_by (λ u. Recheck) (AreRechecked 
 
 pub rechecked_summary : (r : Rechecking) (q : Request) (given : List Object) → RecheckedFor r q given → IsLastText q given None (answers_line r.events r.denied r.flat.count)
 rechecked_summary r q given h = last_by (λ u. Recheck) (AreRechecked r) q given h None (answers_line r.events r.denied r.flat.count) (λ u k. log_summary_is r given k)
+
+-- ---- an explained book
+
+pub explained_refused : (x : Explaining) (q : Request) (given : List Object) → ExplainedFor x q given → x.refused ≡ refused_for q given
+explained_refused x q given h = refused_by Explain (Explained x) q given h x.refused (λ N k. k.refused_counted)
+
+pub explained_fault : (x : Explaining) (kind : SyntaxKind) (offset : ℕ) (q : Request) (given : List Object) → ExplainedFor x q given → IsLastText q given (fault_of (Some (kind, offset))) (codes "; " ++ fault_line (kind_of kind) offset)
+explained_fault x kind offset q given h = last_by Explain (Explained x) q given h (fault_of (Some (kind, offset))) (codes "; " ++ fault_line (kind_of kind) offset) (λ N k. refl)
+
+pub explained_summary : (x : Explaining) (level : ℕ) → level ≡ (theory_of x.kernel).level → (q : Request) (given : List Object) → ExplainedFor x q given → IsLastText q given None (codes "; " ++ summary_of x.events x.refused level)
+explained_summary x level e q given h =
+    last_by Explain (Explained x) q given h None (codes "; " ++ summary_of x.events x.refused level) (λ N k. ap (λ u. codes "; " ++ u) (explained_summary_is x N given level k e))

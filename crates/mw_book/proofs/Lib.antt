@@ -20,11 +20,13 @@ pub mod Fulfilled
 pub mod Appending
 pub mod Showing
 pub mod OneMore
+pub mod OneEvent
 pub mod LoweredOne
 pub mod SlicedOne
 pub mod FlattenedOne
 pub mod Logs
 pub mod RecheckedOne
+pub mod ExplainedOne
 pub mod SlicedPlaces
 pub mod LastLines
 pub mod Sinks

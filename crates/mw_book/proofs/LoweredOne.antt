@@ -1,34 +1,31 @@
 -- What reading more, and judging one event more with derivations as good as proofs, makes of where the lowering stands.
-use Rattle.std.proofs.Common.{◌≡◌, ℕ, suc, ◌+◌, ◌-◌, ◌≤◌, Bool, true, false, not, cond, List, [], ◌∷◌, ◌++◌, length, Some, codes, refl, sym, ap, ◌∙◌, subst, arith, append_assoc, append-nil}
+use Rattle.std.proofs.Common.{◌≡◌, ℕ, ◌+◌, ◌≤◌, true, false, not, cond, List, [], ◌∷◌, ◌++◌, Some, codes, refl, sym, ap, ◌∙◌, subst, arith, append_assoc}
 use Rattle.std.proofs.lemmas.List.{length_push}
 use Rattle.mw_model.specs.Terms.Object.{Object, Member}
 use Rattle.mw_model.specs.Terms.Term.{formula_object}
 use Rattle.mw_model.specs.Proofs.Axioms.{axiom_1, axiom_2}
 use Rattle.mw_model.specs.Reports.Request.{Lower}
-use Rattle.mw_model.specs.Events.Theory.{Theory, initial}
-use Rattle.mw_model.specs.Values.Primitive.{One}
-use Rattle.mw_model.specs.Events.Refusal.{Refusal, RANGE, EVENT, Fate, Accepted, Refused, refuse, need}
+use Rattle.mw_model.specs.Events.Theory.{Theory}
+use Rattle.mw_model.specs.Events.Refusal.{RANGE, EVENT, Fate, Accepted, Refused, refuse, need}
 use Rattle.mw_model.specs.Events.Fate.{is_out_of_range, happens, event_word}
 use Rattle.mw_model.specs.Events.Demand.{happens_under, happens_by_under}
 use Rattle.mw_model.specs.Laws.Rewriting.{IsRewritten}
 use Rattle.mw_model.specs.Terms.Reading.{when}
-use Rattle.mw_model.specs.Reports.Report.{fate_text, line, is_accepted}
+use Rattle.mw_model.specs.Reports.Report.{fate_text, is_accepted}
 use Rattle.mw_model.specs.Texts.Written.{IsDatumLine}
-use Rattle.mw_model.specs.Texts.Pieces.{InOrder, how_many}
+use Rattle.mw_model.specs.Texts.Pieces.{InOrder}
 use Rattle.mw_commands.specs.Commands.DerivationTest.{derived_as}
 use Rattle.mw_commands.specs.Commands.Derivation.{Turns}
-use Rattle.mw_commands.specs.Commands.Transition.{Transition, Effect, last_theory, is_acceptance}
-use Rattle.mw_commands.specs.Commands.Lowering.{IsLoweredBy, OwesByFate, OwesLowered, derived_course, refused_in, course_summary}
+use Rattle.mw_commands.specs.Commands.Transition.{Transition, Effect, last_theory}
+use Rattle.mw_commands.specs.Commands.Lowering.{IsLoweredBy, OwesByFate, OwesLowered, derived_course, course_summary}
 use Rattle.mw_kernel.specs.Knowledge.{Knowledge, theory_of}
 use Rattle.mw_lines.specs.Lines.{line_begun, summary_of}
 use Rattle.mw_book.specs.Answering.{Answers, HasAnswered}
 use Rattle.mw_book.specs.Lowered.{Lowered, LoweredFor}
 use Rattle.mw_book.specs.declared.lowering.Lowering.{Lowering}
 use Rattle.mw_book.proofs.AnsweredBy.{answers_by}
-use Rattle.mw_book.proofs.Courses.{event_after, course_more as one_more, last-append, length-course}
-use Rattle.mw_book.proofs.Ended.{same_text}
-use Rattle.mw_book.proofs.OneMore.{line-parts}
-use Rattle.mw_book.proofs.Pieces.{in_order_both, how_many-append}
+use Rattle.mw_book.proofs.Courses.{event_after}
+use Rattle.mw_book.proofs.OneEvent.{course_summary_is, pieces_more, refused_few, refused_more, refused_text, theory_more}
 
 abbrev pub lines_of : Lowering → List ℕ
 lines_of l = l.lines.items
@@ -47,9 +44,6 @@ lowered_read l k t s given =
 abbrev pub transition : ℕ → List Object → Object → Transition
 transition N given y = event_after (derived N) given y
 
-pub course_more : (N : ℕ) (given : List Object) (y : Object) → derived_course (given ++ y ∷ []) N ≡ derived_course given N ++ transition N given y ∷ []
-course_more N given y = one_more (derived N) given y
-
 -- One event more: its fate and the theory after it are those of the course, and its piece is owed.
 pub lowered_one : (old new : Lowering) (y : Object) (f : Fate) (piece : List ℕ) →
     ((N : ℕ) (given : List Object) → Lowered old N given → (f ≡ (transition N given y).fate) × (theory_of new.kernel ≡ (transition N given y).next) × OwesByFate f (transition N given y) piece) →
@@ -61,43 +55,22 @@ pub lowered_one : (old new : Lowering) (y : Object) (f : Fate) (piece : List ℕ
 lowered_one old new y f piece comes steps counted refused lines given =
     answers_by Lower lines_of Lowered old new given (given ++ y ∷ [])
     (λ N h.
-    let ss = derived_course given N in
-    let s = transition N given y in
     let p = comes N given h in
     record {
-      theory = p.1 ∙ sym (last-append (initial One) ss s) ∙ ap last_theory (sym (course_more N given y));
+      theory = theory_more (derived N) given y (theory_of new.kernel) p.1;
       steps = steps ∙ h.steps;
       counted = counted ∙ ap (λ k. k + 1) h.counted ∙ sym (length_push given y);
-      refused_counted =
-          refused
-          ∙ ap (λ n. n + cond (is_accepted f) 0 1) h.refused_counted
-          ∙ ap (λ g. refused_in ss + cond (is_accepted g) 0 1) p.0
-          ∙ ap (λ n. refused_in ss + n) (turned (is_acceptance s))
-          ∙ sym (how_many-append (λ r. not (is_acceptance r)) ss s)
-          ∙ ap refused_in (sym (course_more N given y));
+      refused_counted = refused_more (derived N) given y f old.refused new.refused p.0 h.refused_counted refused;
     })
     (λ N h written due.
-    let s = transition N given y in
     let p = comes N given h in
-    let owed = subst (λ g. OwesByFate g s piece) p.0 p.2 in
-    let all = in_order_both OwesLowered (derived_course given N) (s ∷ []) (written ++ old.lines.items) piece due (piece, [], sym (append-nil piece), owed, refl) in
+    let owed = subst (λ g. OwesByFate g (transition N given y) piece) p.0 p.2 in
     subst (λ u. InOrder OwesLowered (derived_course (given ++ y ∷ []) N) u) (append_assoc written old.lines.items piece ∙ ap (λ u. written ++ u) (sym lines))
-    (subst (λ l. InOrder OwesLowered l ((written ++ old.lines.items) ++ piece)) (sym (course_more N given y)) all))
-  where
-    turned : (b : Bool) → ◌≡◌ {A = ℕ} (cond b 0 1) (cond (not b) 1 0)
-    turned true = refl
-    turned false = refl
+    (pieces_more (derived N) given y OwesLowered (written ++ old.lines.items) piece due owed))
 
 -- the text that an event with this fate brings
 abbrev pub piece_for : Fate → (datum remark : List ℕ) → List ℕ
 piece_for f datum remark = cond (is_accepted f) datum (remark ++ (fate_text f ++ 10 ∷ []))
-
--- the comment on an event that is refused
-pub refused_text : (r : Refusal) (s : Transition) (remark : List ℕ) → remark ≡ codes "; " ++ line_begun s.number s.event → remark ++ (fate_text (Refused r) ++ 10 ∷ []) ≡ codes "; " ++ line s.number s.event (Refused r)
-refused_text r s remark begun =
-    ap (λ u. u ++ (fate_text (Refused r) ++ 10 ∷ [])) begun
-    ∙ append_assoc (codes "; ") (line_begun s.number s.event) (fate_text (Refused r) ++ 10 ∷ [])
-    ∙ ap (λ u. codes "; " ++ u) (line-parts s.number s.event (Refused r))
 
 pub piece_owed : (f : Fate) (s : Transition) (datum remark : List ℕ) (lowered : Object) →
     (is_accepted f ≡ true → IsLoweredBy s.before.checker (event_word s.event) s.before s.event lowered) →
@@ -156,25 +129,9 @@ large_comes l y datum remark large begun N given h =
 
 -- ---- the last line
 
-pub course_counts : (ss : List Transition) → how_many is_acceptance ss + refused_in ss ≡ length ss
-course_counts [] = refl
-course_counts (s ∷ ss) = go (is_acceptance s) (course_counts ss)
-  where
-    go : (b : Bool) → how_many is_acceptance ss + refused_in ss ≡ length ss → (cond b 1 0 + how_many is_acceptance ss) + (cond (not b) 1 0 + refused_in ss) ≡ suc (length ss)
-    go true h = omega (arith, h)
-    go false h = omega (arith, h)
-
 pub summary_is : (l : Lowering) (N : ℕ) (given : List Object) (level : ℕ) → Lowered l N given → level ≡ (theory_of l.kernel).level → summary_of l.events l.refused level ≡ course_summary (derived_course given N) ++ 10 ∷ []
-summary_is l N given level h e =
-    let ss = derived_course given N in
-    let many : l.events ≡ length ss = h.counted ∙ sym (length-course (derived N) 1 (initial One) given) in
-    same_text l.events (l.events - l.refused) l.refused level (length ss) (how_many is_acceptance ss) (refused_in ss) (last_theory ss).level many
-    (let a : l.events - l.refused ≡ how_many is_acceptance ss = omega (arith, many, h.refused_counted, course_counts ss) in a)
-    h.refused_counted (e ∙ ap (λ t. t.level) h.theory)
+summary_is l N given level h e = course_summary_is (derived N) given l.events l.refused h.counted h.refused_counted level (e ∙ ap (λ t. t.level) h.theory)
 
 -- no more are refused than were judged
 pub lowered_few : (l : Lowering) → HasAnswered LoweredFor l → l.refused ≤ l.events
-lowered_few l h =
-    let p = h.2 in
-    let ss = derived_course h.1 p.0 in
-    omega (arith, course_counts ss, p.2.counted, p.2.refused_counted, length-course (derived p.0) 1 (initial One) h.1)
+lowered_few l h = let p = h.2 in refused_few (derived p.0) h.1 l.events l.refused p.2.counted p.2.refused_counted

@@ -6,10 +6,10 @@ use Rattle.mw_model.specs.Terms.Reading.{formula_of, formula_under, when, that}
 use Rattle.mw_model.specs.Values.Primitive.{One, is_symbol}
 use Rattle.mw_model.specs.Events.Fate.{is_out_of_range}
 use Rattle.mw_model.specs.Terms.Object.{has_members}
-use Rattle.mw_model.specs.Reports.Request.{Request, Check, Trial, Taut, Lower, Slice, Flat, Recheck, Help, Usage}
-use Rattle.mw_model.specs.Texts.Grammar.{Book, limit, trees}
+use Rattle.mw_model.specs.Reports.Request.{Request, Check, Trial, Taut, Lower, Slice, Flat, Recheck, Explain, Help, Usage}
+use Rattle.mw_model.specs.Texts.Grammar.{Book, book, limit, trees}
 use Rattle.mw_model.specs.Events.Theory.{initial}
-use Rattle.mw_model.specs.Reports.Report.{spaced, lines, last_line, report, status_of}
+use Rattle.mw_model.specs.Reports.Report.{spaced, lines, last_line, report, report_of, status_of}
 use Rattle.mw_model.specs.Reports.Headline.{Headline}
 use Rattle.mw_model.specs.Texts.Pieces.{InOrder, numbered, how_many, comment_ending, ending}
 use Rattle.mw_model.specs.Values.Truth.{Each}
@@ -27,15 +27,16 @@ use Rattle.mw_commands.specs.Commands.Slicing.{accepted_events, SliceWritten}
 use Rattle.mw_commands.specs.Commands.Flattening.{OwesFlat, FlatWritten, before_switch, flat_event, flat_events, flat_summary, plain_course}
 use Rattle.mw_commands.specs.Commands.LogReport.{log_lines, log_of, log_summary}
 use Rattle.mw_commands.specs.Commands.DerivationTest.{derived_as}
-use Rattle.mw_commands.specs.Commands.Transition.{course_from, last_theory, last_theory_from, is_acceptance}
+use Rattle.mw_commands.specs.Commands.Transition.{Transition, course_from, last_theory, last_theory_from, is_acceptance}
 use Rattle.mw_commands.specs.Commands.Lowering.{OwesLowered, LoweredWritten, course_summary, derived_course}
+use Rattle.mw_commands.specs.Commands.ExplanationBook.{ExplanationWritten, OwesExplained, explanation_status, reasons}
 use Rattle.mw_commands.specs.Headlines.{AcceptsAll, EntryKeeps, LogAccepted, SliceHeadline, Promised, IsBegun}
 use Rattle.mw_book.proofs.Headlines.{AreKept}
 use Rattle.mw_book.proofs.Courses.{course-append, judged}
-use Rattle.mw_book.proofs.FlatPieces.{all_flat, flat_goes_on}
+use Rattle.mw_book.proofs.FlatPieces.{flat_goes_on}
 use Rattle.mw_book.proofs.Logs.{log_goes_on, log_lines-append}
 use Rattle.mw_book.proofs.LoweredPieces.{HasLowered, each_later, all_lowered}
-use Rattle.mw_book.proofs.Pieces.{LabelledTexts, in_order_both, numbered-append, may_be_written}
+use Rattle.mw_book.proofs.Pieces.{LabelledTexts, all_in_order, in_order_both, numbered-append, may_be_written}
 use Rattle.mw_book.proofs.Rounds.{Begins}
 use Rattle.mw_book.proofs.SlicedTexts.{HasSlices, SlicesAgain, sliced_status, some_slice}
 
@@ -97,6 +98,9 @@ module _
         (flattened_again : (b : Book) (N : ℕ) (text : List ℕ) → FlatWritten b N text → length text ≤ limit → LogAccepted (map flat_event (flat_events (plain_course b.events N))) (last_theory_from (initial One) (before_switch (plain_course b.events N))) text)
         (same_theory : (b : Book) (N : ℕ) (text : List ℕ) → LoweredWritten b N text → length text ≤ limit → after (initial One) (trees text).events N ≡ last_theory (derived_course b.events N))
         (true_logs : (xs : List Object) → Each EntryKeeps (log_of xs).entered)
+        (may_be_explained : (N : ℕ) (s : Transition) → (piece : List ℕ) × OwesExplained N s piece)
+        (explained_again : (b : Book) (N : ℕ) (text : List ℕ) → ExplanationWritten b N text → length text ≤ limit → trees text ≡ book (reasons N (plain_course b.events N)) None)
+        (as_check : (b : Book) (N : ℕ) → explanation_status b N ≡ (report_of b N).status)
       where
         reported : (bytes : List ℕ) (N : ℕ) (text : List ℕ) → text ≡ (report bytes N).text → Headline bytes N text (report bytes N).status
         reported bytes N text e = record { exact = e; ends = refl; events_keep = true_events (trees bytes).events N }
@@ -124,6 +128,10 @@ module _
             let all : FlatWritten b N (text ++ last) = (text, h, ap (λ u. text ++ u) l) in
             record { exact = all; ends = refl; again = flattened_again b N (text ++ last) all }
         whole Recheck bytes text last h l = record { exact = ap₂ (λ u v. u ++ v) h l; ends = refl; events_keep = true_logs (trees bytes).events }
+        whole (Explain N) bytes text last h l =
+            let b = trees bytes in
+            let all : ExplanationWritten b N (text ++ last) = (text, h, ap (λ u. text ++ u) l) in
+            record { exact = all; ends = refl; as_check = as_check b N; again = explained_again b N (text ++ last) all; events_keep = true_events b.events N }
         whole Help bytes text last h l = absurd h
         whole Usage bytes text last h l = absurd h
 
@@ -160,7 +168,7 @@ module _
             let rest = course_from effect (1 + length given) (last_theory ss) more in
             let whole_course = ap (λ es. plain_course es N) e ∙ course-append effect 1 (initial One) given more in
             let m = flat_goes_on ss rest in
-            let r = all_flat may_be_flat m.0 in
+            let r = all_in_order OwesFlat may_be_flat m.0 in
             goes_on (Flat N) bytes text r.0 (comment_ending (trees bytes).fault (flat_summary (plain_course (trees bytes).events N)))
             (subst (λ es. InOrder OwesFlat es (text ++ r.0)) (sym (ap flat_events whole_course ∙ m.1)) (in_order_both OwesFlat (flat_events ss) m.0 text r.0 h r.1)) refl
         begun Recheck bytes text given more e h =
@@ -168,5 +176,13 @@ module _
             let r = log_goes_on given more in
             goes_on Recheck bytes text (log_lines r.0) (ending b.fault (log_summary (log_of b.events)))
             (ap (λ u. u ++ log_lines r.0) h ∙ sym (log_lines-append (log_of given).entered r.0) ∙ ap log_lines (sym r.1) ∙ ap (λ xs. log_lines (log_of xs).entered) (sym e)) refl
+        begun (Explain N) bytes text given more e h =
+            let effect = judged N in
+            let ss = plain_course given N in
+            let rest = course_from effect (1 + length given) (last_theory ss) more in
+            let whole_course = ap (λ es. plain_course es N) e ∙ course-append effect 1 (initial One) given more in
+            let r = all_in_order (OwesExplained N) (may_be_explained N) rest in
+            goes_on (Explain N) bytes text r.0 (comment_ending (trees bytes).fault (course_summary (plain_course (trees bytes).events N)))
+            (subst (λ l. InOrder (OwesExplained N) l (text ++ r.0)) (sym whole_course) (in_order_both (OwesExplained N) ss rest text r.0 h r.1)) refl
         begun Help bytes text given more e h = absurd h
         begun Usage bytes text given more e h = absurd h

@@ -3,7 +3,7 @@ use Rattle.std.proofs.Common.{◌≡◌, ℕ, ◌+◌, ◌*◌, ◌<◌, ◌≤�
 use Rattle.std.proofs.lemmas.List.{drop_all, take_all}
 use Rattle.std.specs.Option.{is_some}
 use Rattle.mw_model.specs.Terms.Object.{Object}
-use Rattle.mw_model.specs.Reports.Request.{Request, Check, Trial, Taut, Lower, Slice, Flat, Recheck, Help, Usage}
+use Rattle.mw_model.specs.Reports.Request.{Request, Check, Trial, Taut, Lower, Slice, Flat, Recheck, Explain, Help, Usage}
 use Rattle.mw_model.specs.Texts.Lexemes.{Goes}
 use Rattle.mw_model.specs.Texts.Grammar.{Book, book, reading, trees}
 use Rattle.mw_model.specs.Reports.Report.{Status}
@@ -45,6 +45,7 @@ begun_is_part (Lower N) given text a input old new b = b
 begun_is_part (Slice s N) given text a input old new b = b
 begun_is_part (Flat N) given text a input old new b = b
 begun_is_part Recheck given text a input old new b = b
+begun_is_part (Explain N) given text a input old new b = b
 begun_is_part Help given text a input old new b = absurd a
 begun_is_part Usage given text a input old new b = absurd a
 
@@ -59,6 +60,7 @@ first_written (Lower N) given text a input old new b = b
 first_written (Slice s N) given text a input old new b = b
 first_written (Flat N) given text a input old new b = b
 first_written Recheck given text a input old new b = b
+first_written (Explain N) given text a input old new b = b
 first_written Help given text a input old new b = absurd a
 first_written Usage given text a input old new b = absurd a
 

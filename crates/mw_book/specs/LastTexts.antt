@@ -6,7 +6,7 @@ use Rattle.mw_model.specs.Texts.Lexemes.{Fault}
 use Rattle.mw_model.specs.Texts.Grammar.{book}
 use Rattle.mw_model.specs.Events.Theory.{initial}
 use Rattle.mw_model.specs.Reports.Report.{last_line, refused_among}
-use Rattle.mw_model.specs.Reports.Request.{Request, Check, Taut, Lower, Slice, Flat, Recheck}
+use Rattle.mw_model.specs.Reports.Request.{Request, Check, Taut, Lower, Slice, Flat, Recheck, Explain}
 use Rattle.mw_model.specs.Texts.Pieces.{how_many, comment_ending, ending}
 use Rattle.mw_commands.specs.Commands.TautologyBook.{is_proved, tautology_summary}
 use Rattle.mw_commands.specs.Commands.Lowering.{course_summary, derived_course, refused_in}
@@ -24,6 +24,7 @@ IsLastText (Lower N) given fault text = text ≡ comment_ending fault (course_su
 IsLastText (Slice name N) given fault text = let accepted = accepted_events given N in SliceOwed fault (target accepted name) given accepted text
 IsLastText (Flat N) given fault text = text ≡ comment_ending fault (flat_summary (plain_course given N))
 IsLastText Recheck given fault text = text ≡ ending fault (log_summary (log_of given))
+IsLastText (Explain N) given fault text = text ≡ comment_ending fault (course_summary (plain_course given N))
 IsLastText _ given fault text = ⊥
 
 -- how many of the data are refused, or not proved; of a slice whether its theorem is missing; a log has no place for switches either; of a log, how
@@ -35,4 +36,5 @@ refused_for (Lower N) given = refused_in (derived_course given N)
 refused_for (Slice name N) given = cond (is_some (target (accepted_events given N) name)) 0 1
 refused_for (Flat N) given = how_many (λ s. not (is_acceptance s && not (is_switch s))) (plain_course given N)
 refused_for Recheck given = let log = log_of given in denied log + length log.left
+refused_for (Explain N) given = refused_in (plain_course given N)
 refused_for _ given = 0

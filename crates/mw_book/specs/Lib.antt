@@ -9,6 +9,7 @@ pub mod Lowered
 pub mod Sliced
 pub mod Flattened
 pub mod Rechecked
+pub mod Explained
 pub mod Checks
 pub mod Runs
 pub mod Complete

@@ -1,7 +1,7 @@
 -- How the program ends, and what is then true.
 use Rattle.std.specs.Prelude.{◌≡◌, ℕ, Bool, true, false, List, [], ◌++◌, Option, Some, None}
 use Rattle.mw_model.specs.Terms.Object.{Object}
-use Rattle.mw_model.specs.Reports.Request.{Request, Trial, Help, Usage, Check, Taut, Lower, Slice, Flat, Recheck}
+use Rattle.mw_model.specs.Reports.Request.{Request, Trial, Help, Usage, Check, Taut, Lower, Slice, Flat, Recheck, Explain}
 use Rattle.mw_request.specs.Commands.{help_text}
 use Rattle.mw_model.specs.Texts.Lexemes.{Goes}
 use Rattle.mw_model.specs.Texts.Grammar.{reading, trees}
@@ -19,6 +19,7 @@ use Rattle.mw_commands.specs.Commands.TautologyBook.{OwesTautology}
 use Rattle.mw_commands.specs.Commands.Lowering.{OwesLowered, derived_course}
 use Rattle.mw_commands.specs.Commands.Flattening.{OwesFlat, flat_events, plain_course}
 use Rattle.mw_commands.specs.Commands.LogReport.{log_lines, log_of}
+use Rattle.mw_commands.specs.Commands.ExplanationBook.{OwesExplained}
 
 -- the bytes that a source has, where it tells them
 abbrev pub Has : Option (List ℕ) → List ℕ → Type 0
@@ -37,6 +38,7 @@ AreAnswers (Lower N) given text = InOrder OwesLowered (derived_course given N) t
 AreAnswers (Slice name N) given text = text ≡ []
 AreAnswers (Flat N) given text = InOrder OwesFlat (flat_events (plain_course given N)) text
 AreAnswers Recheck given text = text ≡ log_lines (log_of given).entered
+AreAnswers (Explain N) given text = InOrder (OwesExplained N) (plain_course given N) text
 AreAnswers _ given text = ⊥
 
 -- the status of a report

@@ -10,6 +10,7 @@ ghost use Rattle.mw_book.specs.Runs.{Fulfils, HelpEnds};
 
 use crate::Status;
 use crate::check::{check, trial};
+use crate::explain::explain;
 use crate::flat::flat;
 use crate::lower::lower;
 use crate::output::{status_of, write_all};
@@ -24,21 +25,23 @@ use std::alloc::Global;
 
 // How the program is used: a line for each command.
 const HELP: &[u8] =
-    b"milawa check [--steps N]\nmilawa trial M [--steps N]\nmilawa taut\nmilawa lower [--steps N]\nmilawa slice NAME [--steps N]\nmilawa flat [--steps N]\nmilawa recheck\n";
+    b"milawa check [--steps N]\nmilawa trial M [--steps N]\nmilawa taut\nmilawa lower [--steps N]\nmilawa slice NAME [--steps N]\nmilawa flat [--steps N]\nmilawa recheck\nmilawa explain [--steps N]\n";
 
-/// Does what the words ask for: judges the book on the source and writes its report to the sink, or judges the trial book and writes
-/// the last line of its report, or proves the formulas of the book on the source and writes the theorems, or judges that book with
-/// derivations as good as proofs and writes its events with proofs in their place, or judges that book and writes the events that one of its
-/// theorems rests on, or judges that book and writes it as a log of single steps, or judges the log on the source and writes its report, or
-/// writes how the program is used.
+/// Does what the words ask for: judges the book on the source and writes its report to the sink, or judges the trial book and writes the
+/// last line of its report, or proves the formulas of the book on the source and writes the theorems, or judges that book with
+/// derivations as good as proofs and writes its events with proofs in their place, or judges that book and writes the events that one of
+/// its theorems rests on, or judges that book and writes it as a log of single steps, or judges the log on the source and writes its
+/// report, or judges the book and writes of each event that is refused its line and a datum that says why, or writes how the program is
+/// used.
 ///
-/// `Done`, `SomeRefused` and `Syntax` come where the words ask for a book and its report, or its answers, have that status; the
-/// sink then took these whole, or the last line: what a report calls accepted, or gives a yes, is true in the standard model, and the events that
-/// the next three wrote are accepted when they are read again, as those of the log get a yes. `Help` comes where the words ask how the program is used, and `Usage` where
-/// they ask for nothing that it does. `ReadFault` and `WriteFault` come where the source, or the sink, counted a fault in this call, and
-/// `Memory` where memory ran out, or a bound was passed that is answered so: what the sink took is a prefix of a text that was due, and at a
-/// fault in reading what is due for all data that are complete in the bytes read, which hold no fault of the text. At `Memory` it is exactly the
-/// answers to some first data of the book, unless the sink counted a shortage in this call.
+/// `Done`, `SomeRefused` and `Syntax` come where the words ask for a book and its report, or its answers, have that status; the sink then
+/// took these whole, or the last line: what a report calls accepted, or gives a yes, is true in the standard model, and the events that
+/// `taut`, `lower` and `slice` wrote are accepted when they are read again, as those of the log get a yes, and data that say why events
+/// are refused are read back as they are. `Help` comes where the words ask how the program is used, and `Usage` where they ask for
+/// nothing that it does. `ReadFault` and `WriteFault` come where the source, or the sink, counted a fault in this call, and `Memory`
+/// where memory ran out, or a bound was passed that is answered so: what the sink took is a prefix of an expected text, and at a fault
+/// in reading the answers to all data that are complete in the bytes read, which hold no fault of the text. At `Memory` it is exactly
+/// the answers to some first data of the book, unless the sink counted a shortage in this call.
 pub fn run<S: Source, K: Sink>(
     alloc: Global,
     words: &[Text],
@@ -81,12 +84,13 @@ fn fulfil<S: Source, K: Sink>(
         Request::Slice { name, steps } => slice(alloc, name, steps, source, sink),
         Request::Flat { steps } => flat(alloc, steps, source, sink),
         Request::Recheck => recheck(alloc, source, sink),
+        Request::Explain { steps } => explain(alloc, steps, source, sink),
         Request::Help => help_then(Status::Help, sink),
         Request::Usage => help_then(Status::Usage, sink),
     }
 }
 
-// Judges the trial book of so many events and writes the last line of its report.
+// Judges the trial book of the given number of events and writes the last line of its report.
 fn judge_trial<K: Sink>(alloc: Global, events: u64, steps: u64, sink: &mut K) -> Status
     ensures ends { TrialEnds result events steps (K.taken sink.old) (K.taken sink.new) (K.shortages sink.old) (K.shortages sink.new) }
     ensures sink_counts { SinkCounts result (K.faults sink.old) (K.faults sink.new) }

@@ -41,7 +41,7 @@ pub(crate) fn write_slice(
     Ok(())
 }
 
-/// Writes that none of so many events is the theorem.
+/// Writes that none of the given number of events is the theorem.
 pub(crate) fn write_absent(lines: &mut Vec<u8>, events: u64) -> Result<(), Memory>
     ensures { OnOk result (lines.new.items ≡ lines.old.items ++ comment (spaced (codes "none of") (numeral events))) }
 {

@@ -15,10 +15,11 @@ ghost use Rattle.mw_book.specs.Lowered.{Lowered, LoweredFor};
 
 use crate::answering::Answering;
 use crate::fate_line::end_line;
+use crate::remark::begin_remark;
 use mw_commands::lowering::{lowered_events, lowerings_possible};
 use mw_heap::{Memory, Ref, Refusal};
 use mw_kernel::{Fate, Kernel};
-use mw_lines::{begin_line, write_fault, write_summary};
+use mw_lines::{write_fault, write_summary};
 use mw_lower::Lower;
 use mw_print::write_datum;
 use mw_read::{Reader, Step, SyntaxKind, shown};
@@ -62,9 +63,7 @@ impl Lowering {
         ensures rest { self.new ≡ record self.old { remark = self.new.remark } }
     {
         let number = self.events + 1;
-        self.remark.clear();
-        self.remark.extend_from_slice(b"; ")?;
-        begin_line(&mut self.remark, self.kernel.heap(), number, word, label)
+        begin_remark(&mut self.remark, self.kernel.heap(), number, word, label)
     }
 
     // The event with proofs in place of its derivations, of which the line is written aside.

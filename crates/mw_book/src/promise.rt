@@ -8,6 +8,7 @@ ghost use Rattle.mw_commands.specs.Headlines.{Promised, IsBegun};
 ghost use Rattle.mw_book.specs.Statuses.{AreAnswers};
 ghost use Rattle.mw_book.specs.LastTexts.{IsLastText, refused_for};
 
+use mw_commands::explaining::{explanations_again, explanations_possible};
 use mw_commands::flattening::{flattenings_again, flattenings_possible};
 use mw_commands::lowering::{lowerings_again, lowerings_possible};
 use mw_commands::proving::tautologies_again;
@@ -32,6 +33,8 @@ pub(crate) fn answers_promised()
     flattenings_again();
     slices();
     slices_again();
+    explanations_possible();
+    explanations_again();
     labelled_texts_are_read();
     tautologies_have_proofs();
 }

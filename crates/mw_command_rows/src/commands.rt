@@ -9,7 +9,7 @@ const BOOK: &str = "(print 1)";
 const REPORT: &str = "1 PRINT - accepted 1\nevents 1 accepted 1 refused 0 level 1\n";
 
 const HELP: &str =
-    "milawa check [--steps N]\nmilawa trial M [--steps N]\nmilawa taut\nmilawa lower [--steps N]\nmilawa slice NAME [--steps N]\nmilawa flat [--steps N]\nmilawa recheck\n";
+    "milawa check [--steps N]\nmilawa trial M [--steps N]\nmilawa taut\nmilawa lower [--steps N]\nmilawa slice NAME [--steps N]\nmilawa flat [--steps N]\nmilawa recheck\nmilawa explain [--steps N]\n";
 
 // Command lines that ask for nothing that the program does. A comma stands between two words.
 const OTHERS: &str = "\
@@ -49,6 +49,8 @@ flat,x
 flat,--steps,0
 recheck,x
 recheck,--steps,5
+explain,x
+explain,--steps,0
 ";
 
 // Command lines that ask for a book to be judged.
@@ -61,7 +63,7 @@ check,--steps,0000000000001
 check,--steps,1000000000000
 ";
 
-// Command lines that ask for a trial book to be judged, and the line that is due for it.
+// Command lines that ask for a trial book to be judged, and the expected line.
 const TRIALS: &str = "\
 trial,0 => events 0 accepted 0 refused 0 level 1
 trial,2 => events 2 accepted 2 refused 0 level 1
@@ -116,7 +118,7 @@ fn wrong_lines(
     Ok(wrong)
 }
 
-// The same for a trial book, where its line is due, and a newline after it.
+// The same for a trial book, where its line is expected, and a newline after it.
 fn add_wrong_trial(wrong: &mut String, alloc: Global, trial: &str) -> Result<(), AllocError> {
     let Some((line, due)) = trial.split_once(" => ") else {
         return writeln!(wrong, "no row: {trial}");

@@ -17,7 +17,7 @@ struct Cut {
     written: &'static str,
 }
 
-const CUTS: [Cut; 5] = [
+const CUTS: [Cut; 6] = [
     Cut {
         words: &["taut"],
         book: "(a) (b (pequal* x y)) 7",
@@ -53,9 +53,16 @@ const CUTS: [Cut; 5] = [
         write: 3,
         written: "5\n1 PROF",
     },
+    Cut {
+        words: &["explain"],
+        book: "(shout) (print b) (shout)",
+        read: "4\n; 1 SHOUT - refused EVENT\n(WHY 1 EVENT)\n",
+        write: 3,
+        written: "5\n; 1 SH",
+    },
 ];
 
-// What a command writes where the third read fails, and where its write of that number does, if it is not what is due.
+// What a command writes where the third read fails, and where its write of that number does, if it is not the expected answer.
 fn other_at_a_read(alloc: Global, cut: &Cut) -> Result<String, AllocError> {
     other_answer_with_faults(alloc, cut.words, cut.book, cut.read, READ, &[3], &[])
 }

@@ -72,7 +72,7 @@ const OF_NEVER: &str = "1
 ; events 4 flat 2
 ";
 
-// An event that `check` refuses at once. Each of its steps but the first names that step so many times, which are more numbers than a log may have for
+// An event that `check` refuses at once. Each of its steps but the first names that step many times, which is more numbers than a log may have for
 // one event.
 fn push_long_steps(book: &mut String, steps: usize, names: usize) -> Result<(), AllocError> {
     book.push_str(
@@ -122,7 +122,7 @@ fn other_answer_after_the_switch(alloc: Global) -> Result<String, AllocError> {
     other_answer(alloc, &["flat"], book.as_str(), due.as_str(), 4096)
 }
 
-// The books above to which the answer is another one, in pieces of so many bytes.
+// The books above to which the answer is another one, in pieces of the given number of bytes.
 fn wrong_flattenings(alloc: Global, size: usize) -> Result<String, AllocError> {
     wrong_answers(alloc, &["flat"], FLATTENED, size)
 }

@@ -41,7 +41,7 @@ fn book_of_theorems(alloc: Global) -> Result<String, AllocError> {
     Ok(book)
 }
 
-// What is due for the book where its theorems are written as they are, with this after them.
+// The expected answer to the book where its theorems are written as they are, with this after them.
 fn due_with(alloc: Global, book: &str, last: &str) -> Result<String, AllocError> {
     format!(in alloc; "0\n{book}{last}")
 }
@@ -55,7 +55,7 @@ fn due_for_flat(alloc: Global) -> Result<String, AllocError> {
     Ok(due)
 }
 
-// A book of formulas that are equations, none of which is a tautology, and what is due for it.
+// A book of formulas that are equations, none of which is a tautology, and the expected answer to it.
 fn book_of_formulas(alloc: Global) -> Result<String, AllocError> {
     let mut book = String::new(alloc);
     for number in 1..=MANY {
@@ -79,7 +79,7 @@ fn due_for_formulas(alloc: Global) -> Result<String, AllocError> {
     Ok(due)
 }
 
-// The answer to the book of theorems, where it is not the one that is due.
+// The answer to the book of theorems, where it is not the expected one.
 fn other_answer_to_theorems(
     alloc: Global,
     words: &[&str],

@@ -1,8 +1,10 @@
-//! Worked books for the further commands with the answers that are due, and the words of the command line, as tests of the whole program.
+//! Worked books for the further commands with the expected answers, and the words of the command line, as tests of the whole program.
 #![tactic(auto)]
 
 #[cfg(test)]
 mod commands;
+#[cfg(test)]
+mod explain;
 #[cfg(test)]
 mod faults;
 #[cfg(test)]

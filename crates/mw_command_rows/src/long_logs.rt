@@ -3,7 +3,7 @@ use mw_answers::{expect_empty, other_answer};
 use std::alloc::{AllocError, Global};
 use std::test::Fail;
 
-// A log of one event, after so many pairs of steps of which each names the one before.
+// A log of one event, after the given number of pairs of steps of which each names the one before.
 fn log_of_a_chain(alloc: Global, pairs: u32) -> Result<String, AllocError> {
     let mut log = String::from_str(alloc, "(step 1 axiom (pequal* x x) nil nil)\n")?;
     for k in 0..pairs {
@@ -24,7 +24,7 @@ fn log_of_a_chain(alloc: Global, pairs: u32) -> Result<String, AllocError> {
     Ok(log)
 }
 
-// A log of one event after a step that names another so many times.
+// A log of one event after a step that names another the given number of times.
 fn log_of_a_repeated_number(alloc: Global, times: usize) -> Result<String, AllocError> {
     let mut log = String::from_str(
         alloc,
@@ -37,7 +37,7 @@ fn log_of_a_repeated_number(alloc: Global, times: usize) -> Result<String, Alloc
     Ok(log)
 }
 
-// The answers to a log of a hundred thousand steps, and to one with a million numbers, where they are not the ones that are due.
+// The answers to a log of a hundred thousand steps, and to one with a million numbers, where they are not the expected ones.
 fn other_answer_to_a_chain(alloc: Global) -> Result<String, AllocError> {
     let log = log_of_a_chain(alloc, 50_000)?;
     let due = "0\n1 VERIFY Q yes\nevents 1 yes 1 no 0 left 0\n";

@@ -111,7 +111,7 @@ fn is_the_example_turned(alloc: Global) -> Result<bool, AllocError> {
     Ok(answer.status == Status::SomeRefused && is_turned)
 }
 
-// What is due for the book with a switch to a checker that accepts nothing.
+// The expected answer to the book with a switch to a checker that accepts nothing.
 const OF_NEVER: &str = "1
 (DEFINE NEVER (X AXIOMS THMS ATBL) NIL NIL NIL)
 (VERIFY CLAIM (POR* (PEQUAL* (NEVER X AXIOMS THMS ATBL) (QUOTE NIL)) (PNOT* (PEQUAL* (LOGIC.PROVABLEP (LOGIC.CONCLUSION X) AXIOMS THMS ATBL) (QUOTE NIL)))) (CUT (POR* (PEQUAL* (NEVER X AXIOMS THMS ATBL) (QUOTE NIL)) (PNOT* (PEQUAL* (LOGIC.PROVABLEP (LOGIC.CONCLUSION X) AXIOMS THMS ATBL) (QUOTE NIL)))) ((EXPANSION (POR* (PNOT* (PEQUAL* (LOGIC.PROVABLEP (LOGIC.CONCLUSION X) AXIOMS THMS ATBL) (QUOTE NIL))) (PEQUAL* (NEVER X AXIOMS THMS ATBL) (QUOTE NIL))) ((AXIOM (PEQUAL* (NEVER X AXIOMS THMS ATBL) (QUOTE NIL))))) (PROPOSITIONAL-SCHEMA (POR* (PNOT* (PNOT* (PEQUAL* (LOGIC.PROVABLEP (LOGIC.CONCLUSION X) AXIOMS THMS ATBL) (QUOTE NIL)))) (PNOT* (PEQUAL* (LOGIC.PROVABLEP (LOGIC.CONCLUSION X) AXIOMS THMS ATBL) (QUOTE NIL))))))))
@@ -141,7 +141,7 @@ fn keeps_derivations_after_wrap(alloc: Global) -> Result<bool, AllocError> {
     Ok(answer.ends_with(1, OF_SWITCHED))
 }
 
-// The books above to which the answer is another one, in pieces of so many bytes.
+// The books above to which the answer is another one, in pieces of the given number of bytes.
 fn wrong_lowerings(alloc: Global, size: usize) -> Result<String, AllocError> {
     wrong_answers(alloc, &["lower"], UNCHANGED, size)
 }

@@ -177,13 +177,13 @@ events 1 yes 0 no 1 left 0
 events 1 yes 0 no 1 left 0
 ";
 
-// The answer of `recheck` to the log that `flat` makes of the book, where it is not what is due.
+// The answer of `recheck` to the log that `flat` makes of the book, where it is not the expected answer.
 fn other_answer_to_the_log_of(alloc: Global, book: &str, due: &str) -> Result<String, AllocError> {
     let log = answer_of_command(alloc, &["flat"], book, 4096)?;
     other_answer(alloc, &["recheck"], log.report.as_str(), due, 4096)
 }
 
-// The books above to which the answer is another one, in pieces of so many bytes.
+// The books above to which the answer is another one, in pieces of the given number of bytes.
 fn wrong_logs(alloc: Global, size: usize) -> Result<String, AllocError> {
     wrong_answers(alloc, &["recheck"], LOGS, size)
 }

@@ -111,7 +111,7 @@ const UNNAMED: &str = "\
 // After books/wrap.book: a switch to it, and what is judged by it.
 const SWITCHED: &str = "(switch wrap) (print a) (verify refl (pequal* x x) (axiom (pequal* x x)))";
 
-// The books above to which the answer is another one, in pieces of so many bytes.
+// The books above to which the answer is another one, in pieces of the given number of bytes.
 fn wrong_slices(alloc: Global, size: usize) -> Result<String, AllocError> {
     wrong_answers(alloc, &["slice", "use"], SLICED, size)
 }

@@ -98,7 +98,7 @@ fn other_answer_to_the_proof_of(alloc: Global, formula: &str) -> Result<String, 
     other_answer(alloc, &["check"], proof.report.as_str(), due, 4096)
 }
 
-// The books above to which the answer is another one, in pieces of so many bytes.
+// The books above to which the answer is another one, in pieces of the given number of bytes.
 fn wrong_proofs(alloc: Global, size: usize) -> Result<String, AllocError> {
     wrong_answers(alloc, &["taut"], UNPROVED, size)
 }

@@ -23,3 +23,5 @@ pub mod OwedListed
 pub mod BlockTested
 pub mod CallerLemmas
 pub mod EntryLemmas
+pub mod FirstNested
+pub mod NestedDrafts

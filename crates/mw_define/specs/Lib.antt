@@ -8,3 +8,5 @@ pub mod Tests
 pub mod Blocks
 pub mod Owed
 pub mod BlockTests
+pub mod Newer
+pub mod NestedCall

@@ -18,8 +18,13 @@ use mw_heap::{Heap, Memory, Ref, looks_for};
 use mw_term::{Arity, Formals, is_among_symbols};
 use mw_translate::{Expanded, arities_of, expand, expand_under};
 
-// Adds x where it is a new name that is not there yet, and says whether it is.
-fn add_name(heap: &Heap, names: &mut IndexSet<Ref>, x: Ref, arity: &Arity) -> Result<bool, Memory>
+/// Adds x where it is a new name that is not there yet, and says whether it is. The error is out of memory.
+pub fn add_name(
+    heap: &Heap,
+    names: &mut IndexSet<Ref>,
+    x: Ref,
+    arity: &Arity,
+) -> Result<bool, Memory>
     requires within { IsIn heap.now.objects x }
     requires symbols { AreSymbols heap.now.objects names.old.keys }
     ensures new { IfOk result (λ b. b ≡ is_next_name arity.now (names_at heap.now.objects names.old.keys) (object_at heap.now.objects x)) }
@@ -82,8 +87,9 @@ pub(crate) fn pairs_of(heap: &Heap, drafts: &[Draft]) -> Result<Option<Vec<(Ref,
     Ok(Some(pairs))
 }
 
-// What a raw body expands to, where that is a term.
-fn expanded_body(
+/// What a raw body expands to under two tables, the newer one in front, where that is a term. It takes looks as `expand_under` does. The
+/// error is out of memory.
+pub fn expanded_body(
     heap: &mut Heap,
     raw: Ref,
     newer: &Arity,

@@ -56,8 +56,8 @@ fn drafts_of(heap: &Heap, list: Ref) -> Result<Option<Vec<Draft>>, Memory>
     }
 }
 
-// The drafts of a list of one or more of them.
-pub(crate) fn read_drafts(heap: &Heap, defs: Ref) -> Result<Option<Vec<Draft>>, Memory>
+/// The drafts of a list of one or more of them; nothing where it is none. The error is out of memory.
+pub fn read_drafts(heap: &Heap, defs: Ref) -> Result<Option<Vec<Draft>>, Memory>
     requires { IsIn heap.now.objects defs }
     ensures { IfOk result (λ o. MatchOption o (some_drafts (object_at heap.now.objects defs) ≡ None) (λ v. AreDraftsIn heap.now.objects v.items × (some_drafts (object_at heap.now.objects defs) ≡ Some (map (draft_at heap.now.objects) v.items)))) }
 {

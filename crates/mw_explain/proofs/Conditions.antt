@@ -21,7 +21,7 @@ use Rattle.mw_rules.specs.declared.method.Method.TheVariants.{Axiom as CodeAxiom
 use Rattle.mw_rules.specs.Methods.{method_of_logic}
 use Rattle.mw_explain.specs.declared.condition.Wrong.{Wrong}
 use Rattle.mw_explain.specs.declared.condition.Wrong.TheVariants.{Shape, Method as WrongMethod, Formula as WrongFormula, Subproofs, Extras, Premises, Induction as WrongInduction, Rule}
-use Rattle.mw_explain.specs.Condition.{is_list, IsWrong, IsWrongRow}
+use Rattle.mw_explain.specs.Condition.{is_list, IsPartIn, IsWrong, IsWrongRow}
 use Rattle.mw_explain.proofs.LookingInFormulas.{formula_passes}
 
 none_of : {X : Type 0} (o : Option X) → is_some o ≡ false → o ≡ None
@@ -153,8 +153,8 @@ module _ (t : Theory) where
           row_wrong os Extras h = by_row ∙ ap (λ z. step_shown x ∷ z) (by_tests m h.1 ∙ ap (λ b. cond (not b) (symbol "EXTRAS" ∷ []) (count_shown m)) h.0)
           row_wrong os (Premises n) h =
               with_extras h.3 h.0 ∙ ap (λ z. step_shown x ∷ z) (counted m false h.1 ∙ ap (λ k. symbol "PREMISES" ∷ Natural k ∷ []) (sym h.2))
-          row_wrong os WrongInduction h = (F, is_F, by_row ∙ ap (λ k. step_shown x ∷ row k) h)
-          row_wrong os Rule h = (m, F, Fs, is_m, is_F, is_Fs, with_extras h.2 h.0 ∙ ap (λ z. step_shown x ∷ z) (counted m true h.1))
+          row_wrong os WrongInduction h = (s, F, is_F, by_row ∙ ap (λ k. step_shown x ∷ row k) h)
+          row_wrong os Rule h = (m, F, Fs, is_m, is_F, is_Fs, with_extras h.2 h.0 ∙ ap (λ z. step_shown x ∷ z) (counted m true h.1), h.0, s)
 
       module _ (formed : is_formula_object A (second_of x) ≡ true) (f : (q : Object) → Member q (third_of x) → is_proof_at t q ≡ true) where
         pub no_list : is_list (third_of x) ≡ false → wrong_step t x ≡ step_shown x ∷ symbol "SUBPROOFS" ∷ []
@@ -181,6 +181,21 @@ of_induction CodeCut h = cc
 of_induction CodeInstantiation h = cc
 of_induction CodeInduction h = refl
 
+-- and CUT
+pub of_cut : (m : code.Method) → method_of_logic m ≡ Cut → m ≡ CodeCut
+of_cut CodeAxiom h = cc
+of_cut CodeTheorem h = cc
+of_cut CodePropositionalSchema h = cc
+of_cut CodeFunctionalEquality h = cc
+of_cut CodeBetaReduction h = cc
+of_cut CodeBaseEval h = cc
+of_cut CodeExpansion h = cc
+of_cut CodeContraction h = cc
+of_cut CodeAssociativity h = cc
+of_cut CodeCut h = refl
+of_cut CodeInstantiation h = cc
+of_cut CodeInduction h = cc
+
 -- ---- lists
 
 pub end_of_list : (y : Object) → is_pair y ≡ false → is_list y ≡ same_object y NIL
@@ -202,3 +217,14 @@ extras_of_instance A x = is_substitution_object-is A x ∙ sym (that-present (is
 
 pub formed_at : (t : Theory) (A : ArityTable) (x : Object) → arity_table t.definitions ≡ A → is_formula_object A (second_of x) ≡ true → is_formula_object (arity_table t.definitions) (second_of x) ≡ true
 formed_at t A x e h = ap (λ B. is_formula_object B (second_of x)) e ∙ h
+
+-- the row alone names no part of the conclusion
+pub row_part : (A : ArityTable) (m : Method) (ps x : Object) (os : List Object) (w : Wrong) → IsWrongRow A m ps x w → IsPartIn os w
+row_part A m ps x os Shape h = tt
+row_part A m ps x os WrongMethod h = tt
+row_part A m ps x os (WrongFormula p) h = absurd h
+row_part A m ps x os Subproofs h = tt
+row_part A m ps x os Extras h = tt
+row_part A m ps x os (Premises n) h = tt
+row_part A m ps x os WrongInduction h = tt
+row_part A m ps x os Rule h = tt

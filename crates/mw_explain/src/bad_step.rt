@@ -1,5 +1,5 @@
 //! Looking for the first step that does not follow though its subproofs are proofs.
-ghost use Rattle.std.specs.Prelude.{◌≡◌, ℕ, ◌<◌, List, [], ◌∷◌, length, map, All, IfOk};
+ghost use Rattle.std.specs.Prelude.{◌≡◌, ℕ, ◌<◌, List, [], ◌∷◌, length, map, All, IfOk, IfSome};
 ghost use Rattle.mw_model.specs.Terms.Term.{ArityTable};
 ghost use Rattle.mw_heap.specs.Objects.{object_at, IsIn, Grows};
 ghost use Rattle.mw_heap.specs.Lists.{list_object};
@@ -135,6 +135,7 @@ fn look(
     requires axioms { All (IsIn heap.old.objects) axioms.now }
     requires theorems { All (IsIn heap.old.objects) theorems.now }
     ensures grows { Grows heap.old.objects heap.new.objects }
+    ensures within { IfOk result (λ o. IfSome o (λ b. IsIn heap.old.objects b.step)) }
     ensures bad { IfOk result (λ o. (A : ArityTable) → AreMarks A heap.old.objects marks.now → first_bad (is_proof_on (basis heap.old.objects A axioms.now theorems.now (profile_of profile))) (object_at heap.old.objects proof) ≡ placed_in heap.old.objects o) }
 {
     let mut good = Box::new(heap.alloc(), IndexSet::new(heap.alloc()))?;
@@ -170,6 +171,7 @@ pub fn first_bad_step(
     requires marked { AreMarks arity.now heap.old.objects marks.old }
     ensures grows { Grows heap.old.objects heap.new.objects }
     ensures marked { AreMarks arity.now heap.new.objects marks.new }
+    ensures within { IfOk result (λ o. IfSome o (λ b. IsIn heap.old.objects b.step)) }
     ensures bad { IfOk result (λ o. first_bad (is_proof (list_object heap.old.objects axioms.now) (list_object heap.old.objects theorems.now) arity.now (profile_of profile)) (object_at heap.old.objects proof) ≡ placed_in heap.old.objects o) }
 {
     let below = heap.mark();

@@ -8,7 +8,7 @@ ghost use Rattle.mw_heap.specs.Objects.{object_at, IsIn};
 ghost use Rattle.mw_term.specs.Marking.{AreMarks};
 ghost use Rattle.mw_rules.specs.Methods.{method_of_logic};
 ghost use Rattle.mw_commands.specs.Commands.ExplanationSteps.{are_extras, subproof_count};
-ghost use Rattle.mw_explain.specs.Condition.{HasProofs, IsWrong, IsWrongRow, is_list};
+ghost use Rattle.mw_explain.specs.Condition.{HasProofs, IsPartIn, IsWrong, IsWrongRow, is_list};
 
 use crate::formula_part::bad_formula;
 use mw_heap::{Heap, Ref, View};
@@ -116,7 +116,8 @@ fn wrong_row(heap: &Heap, marks: &Marks, method: Method, subproofs: Ref, extras:
 pub fn wrong_step(heap: &Heap, arity: &Arity, marks: &Marks, step: Ref) -> Wrong
     requires marked { AreMarks arity.now heap.now.objects marks.now }
     requires within { step < length marks.now }
-    ensures { (t : Theory) → arity_table t.definitions ≡ arity.now → HasProofs t (object_at heap.now.objects step) → IsWrong t heap.now.objects (object_at heap.now.objects step) result }
+    ensures wrong { (t : Theory) → arity_table t.definitions ≡ arity.now → HasProofs t (object_at heap.now.objects step) → IsWrong t heap.now.objects (object_at heap.now.objects step) result }
+    ensures within { IsPartIn heap.now.objects result }
 {
     let Some(members) = members_of(heap, step) else {
         return Wrong::Shape;

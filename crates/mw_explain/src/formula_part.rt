@@ -1,5 +1,5 @@
 //! Looking for the first part that keeps an object from being a formula.
-ghost use Rattle.std.specs.Prelude.{◌≡◌, ◌<◌, false, List, length, option_map};
+ghost use Rattle.std.specs.Prelude.{◌≡◌, ◌<◌, false, List, length, IfSome, option_map};
 ghost use Rattle.mw_model.specs.Terms.Object.{Object};
 ghost use Rattle.mw_model.specs.Terms.Term.{ArityTable};
 ghost use Rattle.mw_model.specs.Laws.Rules.{is_formula_object};
@@ -94,7 +94,8 @@ fn next_part(heap: &Heap, marks: &Marks, x: Ref) -> Next
 pub fn bad_formula(heap: &Heap, arity: &Arity, marks: &Marks, x: Ref) -> Option<Ref>
     requires marked { AreMarks arity.now heap.now.objects marks.now }
     requires within { x < length marks.now }
-    ensures { option_map (object_at heap.now.objects) result ≡ bad_formula arity.now (object_at heap.now.objects x) }
+    ensures bad { option_map (object_at heap.now.objects) result ≡ bad_formula arity.now (object_at heap.now.objects x) }
+    ensures within { IfSome result (λ p. p < length marks.now) }
 {
     if is_formula(marks, x) {
         return None;

@@ -1,5 +1,5 @@
 //! Looking for the first part that should be a term and is none.
-ghost use Rattle.std.specs.Prelude.{◌≡◌, ◌<◌, false, length, option_map};
+ghost use Rattle.std.specs.Prelude.{◌≡◌, ◌<◌, false, length, IfSome, option_map};
 ghost use Rattle.mw_model.specs.Terms.Term.{ArityTable};
 ghost use Rattle.mw_model.specs.Laws.Rules.{is_term_object};
 ghost use Rattle.mw_heap.specs.Objects.{object_at, IsIn};
@@ -27,7 +27,7 @@ fn first_no_term(heap: &Heap, marks: &Marks, list: Ref) -> Option<Ref>
 }
 
 // The third member of a list, where it has one.
-fn third_member(heap: &Heap, x: Ref) -> Option<Ref>
+pub(crate) fn third_member(heap: &Heap, x: Ref) -> Option<Ref>
     requires { IsIn heap.now.objects x }
     ensures { IsThird heap.now.objects x result }
 {
@@ -82,7 +82,8 @@ fn bad_inside(heap: &Heap, arity: &Arity, marks: &Marks, x: Ref) -> Option<Ref>
 pub fn bad_term(heap: &Heap, arity: &Arity, marks: &Marks, x: Ref) -> Option<Ref>
     requires marked { AreMarks arity.now heap.now.objects marks.now }
     requires within { x < length marks.now }
-    ensures { option_map (object_at heap.now.objects) result ≡ bad_term arity.now (object_at heap.now.objects x) }
+    ensures bad { option_map (object_at heap.now.objects) result ≡ bad_term arity.now (object_at heap.now.objects x) }
+    ensures within { IfSome result (λ p. p < length marks.now) }
 {
     if is_term(marks, x) {
         return None;

@@ -58,7 +58,7 @@ eval_stays t N e = go (expand (arity_table t.definitions) (second_of e))
     go None = refl
     go (Some a) = shown (when (is_closed [] a) (Some a))
 
-abbrev word_of_event : Event → EventWord
+abbrev pub word_of_event : Event → EventWord
 word_of_event (Verify name formula proof) = word.Verify
 word_of_event (Define name formals body measure proofs) = word.Define
 word_of_event (Skolem name bound free body) = word.Skolem
@@ -68,7 +68,7 @@ word_of_event (Print x) = word.Print
 word_of_event (DefineAll definitions proofs) = word.DefineAll
 word_of_event (Profile n) = SetProfile
 
-word-is : (os : List Object) (e : Event) → event_word (event_object os e) ≡ Some (word_of_event e)
+pub word-is : (os : List Object) (e : Event) → event_word (event_object os e) ≡ Some (word_of_event e)
 word-is os (Verify name formula proof) = refl
 word-is os (Define name formals body measure proofs) = refl
 word-is os (Skolem name bound free body) = refl
@@ -103,7 +103,7 @@ unfolding need
 defined-as t N ps None = refl
 defined-as t N ps (Some ds) = settled-as t N ps (define_demand t ds)
 
-comes-by : (os : List Object) (t : Theory) (N : ℕ) (e : Event) → comes_to os t N e ≡ happens_by (word_of_event e) t N (event_object os e)
+pub comes-by : (os : List Object) (t : Theory) (N : ℕ) (e : Event) → comes_to os t N e ≡ happens_by (word_of_event e) t N (event_object os e)
 unfolding need
 comes-by os t N (Verify name formula proof) = sym (verify_is t N (symbol "VERIFY") (object_at os name) (object_at os formula) (object_at os proof))
 comes-by os t N (Define name formals body measure proofs) =

@@ -6,3 +6,13 @@ pub mod Refusing
 pub mod Rewritten
 pub mod Switching
 pub mod Told
+pub mod ProofReasons
+pub mod DefinitionReasons
+pub mod EventReasons
+pub mod Showing
+pub mod RefusedProofs
+pub mod KeptObjects
+pub mod ReasonNames
+pub mod ReasonsMeant
+pub mod Owing
+pub mod ExplainedEvents

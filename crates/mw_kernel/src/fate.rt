@@ -1,12 +1,13 @@
 //! The fate of an event.
-ghost use Rattle.std.specs.Prelude.{◌≡◌, ℕ, [], IfOk, IfSome, option_map};
+ghost use Rattle.std.specs.Prelude.{◌≡◌, ℕ, List, [], IfOk, IfSome, option_map};
+ghost use Rattle.mw_model.specs.Terms.Object.{Object};
 ghost use Rattle.mw_model.specs.Events.Refusal.{Accepted};
 ghost use Rattle.mw_model.specs.Events.Theory.{Theory};
 ghost use Rattle.mw_model.specs.Events.Fate.{show};
 ghost use Rattle.mw_model.specs.Texts.Printing.{text_of};
-ghost use Rattle.mw_heap.specs.Objects.{object_at, IsIn};
+ghost use Rattle.mw_heap.specs.Objects.{object_at, IsIn, Grows};
 ghost use Rattle.mw_heap.specs.Variants.{refusal_of};
-ghost use Rattle.mw_kernel.specs.Fates.{fate_of, KeepsRoom};
+ghost use Rattle.mw_kernel.specs.Fates.{fate_of, KeepsRoom, KeepsObjects};
 ghost use Rattle.mw_theory.specs.Settling.{fate_by};
 
 use mw_heap::{Heap, Memory, Ref, Refusal};
@@ -32,6 +33,7 @@ pub(crate) fn accepted(heap: &Heap) -> Fate
 pub(crate) fn fate_after(heap: &Heap, refused: Option<Refusal>) -> Fate
     ensures fate { fate_of result ≡ fate_by (option_map refusal_of refused) }
     ensures kept { (old new : ℕ) → IfSome refused (λ r. new ≡ old) → KeepsRoom result old new }
+    ensures objects { (old new : List Object) → IfSome refused (λ r. Grows old new) → KeepsObjects result old new }
 {
     match refused {
         None => accepted(heap),

@@ -17,7 +17,7 @@ use mw_term::Marks;
 use mw_theory::Theory;
 
 /// Why this is refused as a proof of the formula, where it is: Conclusion where its second member is not the formula, and then what the
-/// theory's checker finds. That is Proof by the built-in checker. A checker of the theory is run with so many units; it finds Nil where
+/// theory's checker finds. That is Proof by the built-in checker. A checker of the theory is run with the given number of units; it finds Nil where
 /// its value is NIL, Steps where it needs more units, Overflow where a sum or a product is too large, and Witness where it calls a
 /// function without code. The marks, which are under the theory's arity table, are extended.
 pub(crate) fn refusal_of_proof(

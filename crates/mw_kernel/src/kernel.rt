@@ -4,17 +4,21 @@ ghost use Rattle.mw_model.specs.Terms.Object.{Object, Symbol};
 ghost use Rattle.mw_model.specs.Terms.Term.{formula_object, table_object};
 ghost use Rattle.mw_model.specs.Values.Primitive.{One, is_symbol, name_of};
 ghost use Rattle.mw_model.specs.Values.Definition.{arity_table};
-ghost use Rattle.mw_model.specs.Events.Theory.{initial, claim, IsSound};
+ghost use Rattle.mw_model.specs.Events.Theory.{Theory, initial, claim, IsSound};
+ghost use Rattle.mw_model.specs.Events.Refusal.{RANGE, Refused};
 ghost use Rattle.mw_model.specs.Events.Fate.{fate, next, eval, profile};
 ghost use Rattle.mw_model.specs.Laws.Rewriting.{IsRewritten};
 ghost use Rattle.mw_heap.specs.Objects.{object_at, IsIn, Grows};
+ghost use Rattle.mw_heap.specs.Variants.{refusal_of};
 ghost use Rattle.mw_read.specs.Standing.{Stands, IsStanding, Follows, Says, IsLast, HasEndedWith, HasEnded};
 ghost use Rattle.mw_read.specs.Feeding.{IsAwaiting, IsReady, Continues};
 ghost use Rattle.mw_kernel.specs.Knowledge.{theory_of};
 ghost use Rattle.mw_kernel.specs.Proofs.{judged_for};
 ghost use Rattle.mw_theory.specs.Admitting.{AreWithin, drafts_given};
 ghost use Rattle.mw_theory.specs.Settling.{defined, skolem_at, verified};
-ghost use Rattle.mw_kernel.specs.Fates.{fate_of, KeepsRoom};
+ghost use Rattle.mw_commands.specs.Commands.Explanation.{why};
+ghost use Rattle.mw_kernel.specs.Explained.{PutsLine, PutsWhy};
+ghost use Rattle.mw_kernel.specs.Fates.{fate_of, KeepsRoom, KeepsObjects};
 ghost use Rattle.mw_theory.specs.Words.{eval_event, profile_event};
 ghost use Rattle.mw_kernel.specs.Switching.{switched, with_checker};
 
@@ -22,12 +26,15 @@ use crate::Fate;
 use crate::checker::Checker;
 use crate::claim::claim;
 use crate::eval::evaluated;
+use crate::explaining::parts_shown;
+use crate::explaining::why::put_reason;
 use crate::fate::{accepted, fate_after, shown};
 use crate::rewriting::rewritten;
 use crate::switch::refusal_of_switch;
 use mw_define::Draft;
 use mw_heap::{Heap, Memory, Ref, Refusal};
 use mw_machine::Machine;
+use mw_model::theory::refusals;
 use mw_proof::Rewriter;
 use mw_read::{Reader, Step};
 use mw_reflect::reached_sound;
@@ -137,13 +144,48 @@ impl Kernel {
         fate
     }
 
+    /// The fate of an event, as `event` gives it. Of an event that is refused the line of the datum (WHY number REASON part ..) is put behind
+    /// `out`, with what its author has to know. Its proofs are judged at most once more for that. After the error, which is out of memory,
+    /// `out` may have more bytes.
+    pub fn explained(&mut self, event: Ref, number: u64, out: &mut Vec<u8>) -> Result<Fate, Memory>
+        requires { IsIn self.old.objects event }
+        ensures fate { IfOk result (λ f. fate_of f ≡ fate (theory_of self.old) (object_at self.old.objects event) self.old.steps) }
+        ensures theory { OnOk result (theory_of self.new ≡ next (theory_of self.old) (object_at self.old.objects event) self.old.steps) }
+        ensures err { OnErr result (theory_of self.new ≡ theory_of self.old) }
+        ensures sound { IsSound (theory_of self.new) }
+        ensures steps { self.new.steps ≡ self.old.steps }
+        ensures room { length self.new.objects ≡ self.new.needed }
+        ensures kept { IfOk result (λ f. KeepsRoom f self.old.needed self.new.needed) }
+        ensures why { IfOk result (λ f. PutsWhy number (fate_of f) (theory_of self.old) self.old.steps (object_at self.old.objects event) out.old.items out.new.items) }
+    {
+        let turns = self.checker.machine.turns();
+        let looks = self.world.allow_looks();
+        let fate = self.happens_explained(event, number, out);
+        self.note_time(turns, looks);
+        self.world.cut();
+        fate
+    }
+
+    /// Puts the line of the datum (WHY number RANGE) behind `out`: that of an event that was not read since it holds a natural past the range.
+    /// The theory stays. After the error, which is out of memory, `out` may have more bytes.
+    pub fn explained_range(&mut self, number: u64, out: &mut Vec<u8>) -> Result<(), Memory>
+        ensures theory { theory_of self.new ≡ theory_of self.old }
+        ensures steps { self.new.steps ≡ self.old.steps }
+        ensures room { length self.new.objects ≡ self.new.needed }
+        ensures why { OnOk result ((t : Theory) (N : ℕ) (e : Object) → PutsLine (why number RANGE t N e) out.old.items out.new.items) }
+    {
+        let put = put_reason(&mut self.world.heap, number, Refusal::Range, &[], out);
+        self.world.cut();
+        put
+    }
+
     /// Whether the last event took long, as far as its runs and what labels multiply in it tell: a hint for a caller who keeps lines back.
     /// It promises nothing about time.
     pub fn took_long(&self) -> bool {
         self.took_long
     }
 
-    // Notes whether the event took long, before which the runs had taken so many turns, and which was allowed so many looks.
+    // Notes whether the event took long, before which the runs had taken the given number of turns, and which was allowed the given number of looks.
     fn note_time(&mut self, turns: u64, looks: u64)
         ensures { self.new ≡ self.old }
     {
@@ -223,7 +265,7 @@ impl Kernel {
     /// The event with its proofs rewritten, each to what it turns to, or kept where it turns to nothing: the proof of a VERIFY, each member
     /// of the list of proofs of a DEFINE or a DEFINE-ALL. The event itself where the theory's checker is not the built-in one, where the
     /// object is no event with proofs, and where its proofs are no proper list. The theory stays; the objects that are made are gone after
-    /// the next event. The one error is that memory is refused.
+    /// the next event. The one error is out of memory.
     pub fn rewritten<R: Rewriter>(&mut self, event: Ref, by: &mut R) -> Result<Ref, Memory>
         requires { IsIn self.old.objects event }
         ensures grows { Grows self.old.objects self.new.objects }
@@ -250,6 +292,7 @@ impl Kernel {
         ensures err { OnErr result (theory_of self.new ≡ theory_of self.old) }
         ensures steps { self.new.steps ≡ self.old.steps }
         ensures kept { IfOk result (λ f. KeepsRoom f self.old.needed self.new.needed) }
+        ensures objects { IfOk result (λ f. KeepsObjects f self.old.objects self.new.objects) }
     {
         events_keep();
         reached_sound();
@@ -294,6 +337,56 @@ impl Kernel {
         }
     }
 
+    // The fate of the event; of one that is refused the line that says why is put behind `out`. What it leaves in the heap is still there.
+    fn happens_explained(
+        &mut self,
+        event: Ref,
+        number: u64,
+        out: &mut Vec<u8>,
+    ) -> Result<Fate, Memory>
+        requires { IsIn self.old.objects event }
+        ensures fate { IfOk result (λ f. fate_of f ≡ fate (theory_of self.old) (object_at self.old.objects event) self.old.steps) }
+        ensures theory { OnOk result (theory_of self.new ≡ next (theory_of self.old) (object_at self.old.objects event) self.old.steps) }
+        ensures err { OnErr result (theory_of self.new ≡ theory_of self.old) }
+        ensures steps { self.new.steps ≡ self.old.steps }
+        ensures kept { IfOk result (λ f. KeepsRoom f self.old.needed self.new.needed) }
+        ensures why { IfOk result (λ f. PutsWhy number (fate_of f) (theory_of self.old) self.old.steps (object_at self.old.objects event) out.old.items out.new.items) }
+    {
+        refusals();
+        let fate = self.happens(event)?;
+        match fate {
+            Fate::Accepted(text) => Ok(Fate::Accepted(text)),
+            Fate::Refused(reason) => self.refused_for(event, number, reason, out),
+        }
+    }
+
+    // The fate of an event that is refused for this reason: the line that says why is put behind `out`.
+    fn refused_for(
+        &mut self,
+        event: Ref,
+        number: u64,
+        reason: Refusal,
+        out: &mut Vec<u8>,
+    ) -> Result<Fate, Memory>
+        requires event { IsIn self.old.objects event }
+        requires refused { fate (theory_of self.old) (object_at self.old.objects event) self.old.steps ≡ Refused (refusal_of reason) }
+        ensures fate { IfOk result (λ f. fate_of f ≡ Refused (refusal_of reason)) }
+        ensures theory { theory_of self.new ≡ theory_of self.old }
+        ensures rest { self.new ≡ record self.old { objects = self.new.objects } }
+        ensures why { OnOk result (PutsLine (why number (refusal_of reason) (theory_of self.old) self.old.steps (object_at self.old.objects event)) out.old.items out.new.items) }
+    {
+        let parts = parts_shown(
+            &mut self.world.heap,
+            &self.world.theory,
+            &mut self.world.marks,
+            &mut self.checker,
+            reason,
+            event,
+        )?;
+        put_reason(&mut self.world.heap, number, reason, parts.as_slice(), out)?;
+        Ok(Fate::Refused(reason))
+    }
+
     // The fate of a VERIFY.
     fn verify(&mut self, name: Ref, formula: Ref, proof: Ref) -> Result<Fate, Memory>
         requires name { IsIn self.old.objects name }
@@ -305,6 +398,7 @@ impl Kernel {
         ensures err { OnErr result (theory_of self.new ≡ theory_of self.old) }
         ensures steps { self.new.steps ≡ self.old.steps }
         ensures kept { IfOk result (λ f. KeepsRoom f self.old.needed self.new.needed) }
+        ensures objects { IfOk result (λ f. KeepsObjects f self.old.objects self.new.objects) }
     {
         let refused = self.world.verify(name, formula, proof, &mut self.checker)?;
         Ok(fate_after(&self.world.heap, refused))
@@ -320,6 +414,7 @@ impl Kernel {
         ensures err { OnErr result (theory_of self.new ≡ theory_of self.old) }
         ensures steps { self.new.steps ≡ self.old.steps }
         ensures kept { IfOk result (λ f. KeepsRoom f self.old.needed self.new.needed) }
+        ensures objects { IfOk result (λ f. KeepsObjects f self.old.objects self.new.objects) }
     {
         let refused = self.world.define(drafts, proofs, &mut self.checker)?;
         Ok(fate_after(&self.world.heap, refused))
@@ -337,6 +432,7 @@ impl Kernel {
         ensures err { OnErr result (theory_of self.new ≡ theory_of self.old) }
         ensures steps { self.new.steps ≡ self.old.steps }
         ensures kept { IfOk result (λ f. KeepsRoom f self.old.needed self.new.needed) }
+        ensures objects { IfOk result (λ f. KeepsObjects f self.old.objects self.new.objects) }
     {
         let refused = self.world.skolem(name, bound, free, body)?;
         Ok(fate_after(&self.world.heap, refused))
@@ -350,6 +446,7 @@ impl Kernel {
         ensures err { OnErr result (theory_of self.new ≡ theory_of self.old) }
         ensures steps { self.new.steps ≡ self.old.steps }
         ensures kept { IfOk result (λ f. KeepsRoom f self.old.needed self.new.needed) }
+        ensures objects { IfOk result (λ f. KeepsObjects f self.old.objects self.new.objects) }
     {
         let refused = self.world.set_profile(number)?;
         Ok(fate_after(&self.world.heap, refused))
@@ -360,6 +457,7 @@ impl Kernel {
         requires { IsIn self.old.objects term }
         ensures fate { IfOk result (λ f. fate_of f ≡ (eval (theory_of self.old) self.old.steps (eval_event (object_at self.old.objects term))).0) }
         ensures theory { theory_of self.new ≡ theory_of self.old }
+        ensures grows { Grows self.old.objects self.new.objects }
         ensures rest { self.new ≡ record self.old { objects = self.new.objects } }
     {
         evaluated(
@@ -372,7 +470,7 @@ impl Kernel {
         )
     }
 
-    // The fate of a SWITCH to the function of this name. Past the greatest level that a number of 64 bits holds memory is refused.
+    // The fate of a SWITCH to the function of this name. Past the greatest level that a number of 64 bits holds the answer is out of memory.
     fn switch(&mut self, name: Ref) -> Result<Fate, Memory>
         requires name { IsIn self.old.objects name }
         requires sound { IsSound (switched (theory_of self.old) (object_at self.old.objects name)).1 }
@@ -381,6 +479,7 @@ impl Kernel {
         ensures err { OnErr result (theory_of self.new ≡ theory_of self.old) }
         ensures steps { self.new.steps ≡ self.old.steps }
         ensures kept { IfOk result (λ f. KeepsRoom f self.old.needed self.new.needed) }
+        ensures objects { IfOk result (λ f. KeepsObjects f self.old.objects self.new.objects) }
     {
         let refused = refusal_of_switch(&mut self.world.heap, name, &self.world.theory)?;
         if let Some(reason) = refused {

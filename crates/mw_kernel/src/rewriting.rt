@@ -18,7 +18,7 @@ use mw_theory::{Event, Theory, event_of};
 
 /// The event with its proofs rewritten, each to what it turns to, or kept where it turns to nothing. The event itself where the theory's
 /// checker is not the built-in one, where the object is no event with proofs, and where its proofs are no proper list. The marks, which
-/// are under the theory's arity table, are extended. The one error is that memory is refused.
+/// are under the theory's arity table, are extended. The one error is out of memory.
 pub(crate) fn rewritten<R: Rewriter>(
     heap: &mut Heap,
     event: Ref,

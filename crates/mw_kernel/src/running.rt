@@ -21,7 +21,7 @@ const MOST_PLACES: u64 = 1 << 24;
 // And of at most this many instructions, by the length of all code, since such a run does not count them: about a second.
 const MOST_INSTRUCTIONS: u64 = 1 << 28;
 
-// Whether room is made first for a run of so many units, where a frame needs so many places, and a body has no more code than the table.
+// Whether room is made first for a run of the given number of units, where a frame needs the given number of places, and a body has no more code than the table.
 fn has_small_room(units: u64, width: u64, code: usize) -> bool
     ensures few { result ≡ true → units ≤ 10000 }
     ensures places { result ≡ true → (units + 1) * width ≤ 2 ^ 24 }
@@ -38,8 +38,8 @@ fn has_small_room(units: u64, width: u64, code: usize) -> bool
     places <= MOST_PLACES && instructions <= MOST_INSTRUCTIONS
 }
 
-/// Runs the code of an entry on values of its formals, with so many units. It comes to just what evaluation gives, or to memory that is
-/// refused. Of at most 10,000 units, where that takes at most 2^24 places of the stack and the table's code is so short that such a run
+/// Runs the code of an entry on values of its formals, with the given number of units. It comes to just what evaluation gives, or is out of
+/// memory. Of at most 10,000 units, where that takes at most 2^24 places of the stack and the table's code is so short that such a run
 /// ends in time, room is made first: once the run has begun it asks for no memory.
 pub(crate) fn run_entry(
     heap: &mut Heap,

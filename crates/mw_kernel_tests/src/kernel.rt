@@ -1,5 +1,5 @@
 //! What a kernel shows: a new one, one after an event that is refused, one after a theorem, and one after a switch; after which events it
-//! says that they took long; and what it takes for terms as names come.
+//! says that they took long; what it takes for terms as names come; and what it says of events that are refused.
 ghost use Rattle.std.specs.Prelude.{IfOk};
 ghost use Rattle.mw_heap.specs.Objects.{IsIn};
 
@@ -78,7 +78,7 @@ fn first_number(heap: &Heap, list: Ref) -> Option<u128> {
     }
 }
 
-// Whether a checker of the name F claims what is due.
+// Whether a checker of the name F claims the expected formula.
 fn claims(kernel: &mut Kernel) -> Result<bool, Memory> {
     let name = read(kernel, b"f ")?;
     if !matches!(kernel.heap().view(name), View::Symbol) {
@@ -88,8 +88,8 @@ fn claims(kernel: &mut Kernel) -> Result<bool, Memory> {
     Ok(read(kernel, CLAIM) == Ok(claim))
 }
 
-// Whether a kernel shows the initial theory with so many theorems: its level, that it has no checker, how long its lists are, how their
-// newest members begin, and that a checker claims what is due.
+// Whether a kernel shows the initial theory with the given number of theorems: its level, that it has no checker, how long its lists are, how their
+// newest members begin, and that a checker claims the expected formula.
 fn shows(kernel: &mut Kernel, theorems: usize) -> Result<bool, Memory> {
     let claims = claims(kernel)?;
     let heap = kernel.heap();
@@ -116,7 +116,7 @@ fn refusal(kernel: &mut Kernel, event: &[u8]) -> Result<Option<Refusal>, Memory>
     }
 }
 
-// Whether an event is refused for this reason, where a kernel shows the initial theory before it, and so many theorems with it after it.
+// Whether an event is refused for this reason, where a kernel shows the initial theory before it, and the given number of theorems with it after it.
 fn shows_around(kernel: &mut Kernel, event: &[u8], due: Option<Refusal>, theorems: usize) -> bool {
     [
         shows(kernel, 0) == Ok(true),
@@ -249,7 +249,7 @@ fn refused(kernel: &mut Kernel) -> [Result<bool, Memory>; 5] {
     ]
 }
 
-// Whether an event is refused since its claim is no formula. The error is memory that is refused, or another reason.
+// Whether an event is refused since its claim is no formula. The error is out of memory, or another reason.
 fn is_no_formula(kernel: &mut Kernel, event: &[u8]) -> Result<bool, Memory> {
     match refusal(kernel, event)? {
         None => Ok(false),
@@ -301,4 +301,37 @@ fn what_was_quoted_is_a_term_once_its_names_are_defined(rt: HostRuntime) {
 #[test]
 fn names_may_be_defined_in_the_other_order(rt: HostRuntime) {
     assert!(rt; on_a_kernel(rt.alloc(), 0, takes_inner_first) == Ok(true));
+}
+
+// Whether just this text is put behind a text for an event of this number.
+fn explains(kernel: &mut Kernel, event: &[u8], number: u64, text: &[u8]) -> Result<bool, Memory> {
+    let event = read(kernel, event)?;
+    let mut out = Vec::from_slice(kernel.heap().alloc(), b"; ")?;
+    kernel.explained(event, number, &mut out)?;
+    Ok(out.as_slice() == text)
+}
+
+// The same for an event that holds a natural past the range.
+fn explains_range(kernel: &mut Kernel, number: u64, text: &[u8]) -> Result<bool, Memory> {
+    let mut out = Vec::from_slice(kernel.heap().alloc(), b"; ")?;
+    kernel.explained_range(number, &mut out)?;
+    Ok(out.as_slice() == text)
+}
+
+const WRONG: &[u8] = b"(verify wrong (pequal* x y) (axiom (pequal* x x)))";
+
+const WHY_WRONG: &[u8] = b"; (WHY 2 CONCLUSION 1 (PEQUAL* X Y) (PEQUAL* X X))\n";
+
+fn explains_refusals(kernel: &mut Kernel) -> bool {
+    [
+        explains(kernel, REFL, 1, b"; ") == Ok(true),
+        explains(kernel, WRONG, 2, WHY_WRONG) == Ok(true),
+        explains_range(kernel, 3, b"; (WHY 3 RANGE)\n") == Ok(true),
+        shows(kernel, 1) == Ok(true),
+    ] == [true; 4]
+}
+
+#[test]
+fn an_event_that_is_refused_is_explained(rt: HostRuntime) {
+    assert!(rt; on_a_kernel(rt.alloc(), 0, explains_refusals) == Ok(true));
 }

@@ -3,7 +3,7 @@ use Rattle.std.proofs.Common.{◌≡◌, [], ◌∷◌, refl, codes}
 use Rattle.clap.proofs.OnLiterals.{clap_on_literals}
 use Rattle.mw_model.specs.Laws.BuiltInText.{joined}
 use Rattle.mw_model.specs.Terms.Object.{named}
-use Rattle.mw_model.specs.Reports.Request.{Check, Trial, Taut, Lower, Slice, Flat, Recheck, Help, Usage}
+use Rattle.mw_model.specs.Reports.Request.{Check, Trial, Taut, Lower, Slice, Flat, Recheck, Explain, Help, Usage}
 use Rattle.mw_request.specs.Commands.{asked, help_text}
 
 no_words : asked [] ≡ Usage
@@ -214,5 +214,19 @@ word_after_recheck : asked (codes "recheck" ∷ codes "log" ∷ []) ≡ Usage
 unfolding clap_on_literals
 word_after_recheck = refl
 
-help_text_of_all_commands : help_text ≡ joined ("milawa check [--steps N]" ∷ "milawa trial M [--steps N]" ∷ "milawa taut" ∷ "milawa lower [--steps N]" ∷ "milawa slice NAME [--steps N]" ∷ "milawa flat [--steps N]" ∷ "milawa recheck" ∷ [])
+explain_alone : asked (codes "explain" ∷ []) ≡ Explain 10000000
+unfolding clap_on_literals
+explain_alone = refl
+
+explain_with_steps : asked (codes "explain" ∷ codes "--steps" ∷ codes "5" ∷ []) ≡ Explain 5
+unfolding clap_on_literals
+explain_with_steps = refl
+
+word_after_explain : asked (codes "explain" ∷ codes "book" ∷ []) ≡ Usage
+unfolding clap_on_literals
+word_after_explain = refl
+
+help_text_of_all_commands :
+    help_text ≡ joined ("milawa check [--steps N]" ∷ "milawa trial M [--steps N]" ∷ "milawa taut" ∷ "milawa lower [--steps N]" ∷ "milawa slice NAME [--steps N]" ∷ "milawa flat [--steps N]" ∷ "milawa recheck" ∷
+    "milawa explain [--steps N]" ∷ [])
 help_text_of_all_commands = refl

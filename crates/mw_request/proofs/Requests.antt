@@ -9,7 +9,7 @@ use Rattle.clap.specs.declared.parser.matches.Found.{Found}
 use Rattle.clap.proofs.WalkLemmas.{first_value-rows}
 use Rattle.clap.proofs.OnLiterals.{clap_on_literals}
 use Rattle.mw_request.specs.Arguments.{events_of, is_help, name_of, steps_of}
-use Rattle.mw_model.specs.Reports.Request.{Request, Check, Taut, Lower, Flat, Recheck, Help, Usage}
+use Rattle.mw_model.specs.Reports.Request.{Request, Check, Taut, Lower, Flat, Recheck, Explain, Help, Usage}
 use Rattle.mw_request.specs.Commands.{asked, program, request_of, request_with, slice_with, trial_with, with_number}
 use Rattle.mw_model.specs.Terms.Object.{Name, same_bytes}
 use Rattle.mw_model.proofs.Names.{same_bytes-eq, same_bytes-refl}
@@ -65,14 +65,15 @@ pub record Named : Type 0 where
   pub is_slice : Bool
   pub is_flat : Bool
   pub is_recheck : Bool
+  pub is_explain : Bool
 
 abbrev asked_by : Named → (steps events : Option ℕ) → Option Name → Request
-asked_by n steps events theorem = cond n.is_check (with_number Check steps) (cond n.is_trial (trial_with events steps) (cond n.is_taut Taut (cond n.is_lower (with_number Lower steps) (cond n.is_slice (slice_with theorem steps) (cond n.is_flat (with_number Flat steps) (cond n.is_recheck Recheck Usage))))))
+asked_by n steps events theorem = cond n.is_check (with_number Check steps) (cond n.is_trial (trial_with events steps) (cond n.is_taut Taut (cond n.is_lower (with_number Lower steps) (cond n.is_slice (slice_with theorem steps) (cond n.is_flat (with_number Flat steps) (cond n.is_recheck Recheck (cond n.is_explain (with_number Explain steps) Usage)))))))
 
 -- what a subcommand of this name asks for
-pub name_asks : (name : Text) (is_check is_trial is_taut is_lower is_slice is_flat is_recheck : Bool) (steps events : Option ℕ) (theorem : Option Name) → is_check ≡ bytes_eq name (codes "check") → is_trial ≡ bytes_eq name (codes "trial") → is_taut ≡ bytes_eq name (codes "taut") → is_lower ≡ bytes_eq name (codes "lower") → is_slice ≡ bytes_eq name (codes "slice") → is_flat ≡ bytes_eq name (codes "flat") → is_recheck ≡ bytes_eq name (codes "recheck")
-    → asked_by (record { is_check = is_check; is_trial = is_trial; is_taut = is_taut; is_lower = is_lower; is_slice = is_slice; is_flat = is_flat; is_recheck = is_recheck }) steps events theorem ≡ request_with name steps events theorem
-name_asks name is_check is_trial is_taut is_lower is_slice is_flat is_recheck steps events theorem b c d e f g h =
+pub name_asks : (name : Text) (is_check is_trial is_taut is_lower is_slice is_flat is_recheck is_explain : Bool) (steps events : Option ℕ) (theorem : Option Name) → is_check ≡ bytes_eq name (codes "check") → is_trial ≡ bytes_eq name (codes "trial") → is_taut ≡ bytes_eq name (codes "taut") → is_lower ≡ bytes_eq name (codes "lower") → is_slice ≡ bytes_eq name (codes "slice") → is_flat ≡ bytes_eq name (codes "flat") → is_recheck ≡ bytes_eq name (codes "recheck") → is_explain ≡ bytes_eq name (codes "explain")
+    → asked_by (record { is_check = is_check; is_trial = is_trial; is_taut = is_taut; is_lower = is_lower; is_slice = is_slice; is_flat = is_flat; is_recheck = is_recheck; is_explain = is_explain }) steps events theorem ≡ request_with name steps events theorem
+name_asks name is_check is_trial is_taut is_lower is_slice is_flat is_recheck is_explain steps events theorem b c d e f g h j =
     let first = b ∙ named_so name (codes "check") in
     let second = c ∙ named_so name (codes "trial") in
     let third = d ∙ named_so name (codes "taut") in
@@ -80,7 +81,8 @@ name_asks name is_check is_trial is_taut is_lower is_slice is_flat is_recheck st
     let fifth = f ∙ named_so name (codes "slice") in
     let sixth = g ∙ named_so name (codes "flat") in
     let seventh = h ∙ named_so name (codes "recheck") in
-    λ i. asked_by (record { is_check = first i; is_trial = second i; is_taut = third i; is_lower = fourth i; is_slice = fifth i; is_flat = sixth i; is_recheck = seventh i }) steps events theorem
+    let eighth = j ∙ named_so name (codes "explain") in
+    λ i. asked_by (record { is_check = first i; is_trial = second i; is_taut = third i; is_lower = fourth i; is_slice = fifth i; is_flat = sixth i; is_recheck = seventh i; is_explain = eighth i }) steps events theorem
 
 -- the one that takes a name
 pub slice_asks : (name : Text) (steps events : Option ℕ) (theorem : Option Name) → bytes_eq name (codes "slice") ≡ true → slice_with theorem steps ≡ request_with name steps events theorem

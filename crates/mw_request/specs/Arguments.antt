@@ -14,15 +14,14 @@ use Rattle.clap.specs.declared.builder.action.ArgAction.TheVariants.{Set}
 abbrev pub steps_option : Rule
 steps_option = record (new_rule (codes "steps")) { long = Some (codes "steps"); action = Some Set }
 
--- the argument M of `trial`
+-- the arguments M of `trial` and NAME of `slice`
 abbrev pub events_argument : Rule
 events_argument = record (new_rule (codes "events")) { action = Some Set; required = true }
 
--- the argument NAME of `slice`
 abbrev pub name_argument : Rule
 name_argument = record (new_rule (codes "name")) { action = Some Set; required = true }
 
--- a command with that option alone
+-- a command with that option alone, and the two that have an argument besides
 abbrev pub steps_command : String → Shape
 steps_command word = record (new_shape (codes word)) { rules = steps_option ∷ [] }
 
@@ -32,12 +31,10 @@ trial_command = record (new_shape (codes "trial")) { rules = events_argument ∷
 abbrev pub slice_command : Shape
 slice_command = record (new_shape (codes "slice")) { rules = name_argument ∷ steps_option ∷ [] }
 
--- ---- the numbers and the name, as the program reads them
-
 abbrev pub default_steps : ℕ
 default_steps = 10000000
 
--- the number that the text is: at most so many decimal digits, and a value from the least to the most
+-- the number that the text is: its decimal digits are no more than `digits`, and its value is from the least to the most
 abbrev pub number_within : (digits least most : ℕ) → Text → Option ℕ
 number_within digits least most text =
     cond (list_all is_digit text && (leb 1 (length text) && (leb (length text) digits && (leb least (decimal_value text) && leb (decimal_value text) most))))

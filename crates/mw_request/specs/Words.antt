@@ -3,9 +3,9 @@ use Rattle.std.specs.Prelude.{true, [], ◌∷◌, ◌++◌, Some, codes}
 use Rattle.clap.specs.Walk.{Text, Rule}
 use Rattle.clap.specs.Simple.{App, Shape, new_app, new_rule, new_shape, on_top, with_subcommand}
 use Rattle.clap.specs.declared.builder.action.ArgAction.TheVariants.{Set}
-use Rattle.mw_request.specs.Arguments.{steps_command, steps_option, trial_command}
+use Rattle.mw_request.specs.Arguments.{steps_command, steps_option, trial_command, slice_command}
 use Rattle.mw_model.specs.Terms.Object.{name_of_bytes}
-use Rattle.mw_model.specs.Reports.Request.{Request, Check, Trial, Taut, Lower, Slice, Flat, Recheck, Help, Usage}
+use Rattle.mw_model.specs.Reports.Request.{Request, Check, Trial, Taut, Lower, Slice, Flat, Recheck, Explain, Help, Usage}
 use Rattle.mw_request.specs.Commands.{plain_command, with_subcommands}
 use Rattle.mw_request.specs.declared.words.Request.{Request as Asked}
 use Rattle.mw_request.specs.declared.words.Request.TheVariants as words
@@ -18,6 +18,7 @@ meaning_of (words.Lower steps) = Lower steps
 meaning_of (words.Slice name steps) = Slice (name_of_bytes name) steps
 meaning_of (words.Flat steps) = Flat steps
 meaning_of words.Recheck = Recheck
+meaning_of (words.Explain steps) = Explain steps
 meaning_of words.Help = Help
 meaning_of words.Usage = Usage
 
@@ -36,6 +37,10 @@ judging_program = with_subcommands checking_program (trial_command ∷ [])
 -- and with the two that write theorems with proofs
 abbrev pub proving_program : App
 proving_program = with_subcommands judging_program (plain_command "taut" ∷ steps_command "lower" ∷ [])
+
+-- and with the one that slices, and the two that write and judge logs
+abbrev pub logging_program : App
+logging_program = with_subcommands proving_program (slice_command ∷ steps_command "flat" ∷ plain_command "recheck" ∷ [])
 
 -- an argument that has to be there, and a command with it alone
 abbrev pub argument : Text → Rule

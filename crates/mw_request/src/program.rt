@@ -4,14 +4,22 @@ ghost use Rattle.clap.specs.Words.{app_of, shape_of, rule_of};
 ghost use Rattle.clap.specs.declared.builder.command.Command.TheViews.{out-Command as fields_of};
 ghost use Rattle.mw_request.specs.Commands as commands;
 ghost use Rattle.mw_request.specs.Arguments as arguments;
-ghost use Rattle.mw_request.specs.Words.{bare_program, checking_program, judging_program, proving_program, argument, argument_shape, steps_shape, with_steps};
+ghost use Rattle.mw_request.specs.Words.{bare_program, checking_program, judging_program, proving_program, logging_program, argument, argument_shape, steps_shape, with_steps};
 
 use clap::{Arg, ArgAction, Command};
 use std::alloc::{AllocError, Global};
 
-/// The command with its subcommands `check`, `trial`, `taut`, `lower`, `slice`, `flat` and `recheck`.
+/// The command with its subcommands `check`, `trial`, `taut`, `lower`, `slice`, `flat`, `recheck` and `explain`.
 pub(crate) fn program<'a>(alloc: Global) -> Result<Command<'a>, AllocError>
     ensures { IfOk result (λ c. app_of c ≡ commands.program) }
+{
+    let logging = logging_program(alloc)?;
+    with_steps(alloc, logging, Command::new(alloc, "explain"))
+}
+
+// The command with the subcommands up to those that write and judge logs.
+fn logging_program<'a>(alloc: Global) -> Result<Command<'a>, AllocError>
+    ensures { IfOk result (λ c. app_of c ≡ logging_program) }
 {
     let proving = proving_program(alloc)?;
     let slicing = with_argument(alloc, proving, "slice", "name")?;

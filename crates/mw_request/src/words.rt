@@ -3,7 +3,7 @@ ghost use Rattle.std.specs.Prelude.{◌≡◌, ℕ, false, Option, IfOk, option_
 ghost use Rattle.std.specs.Str.{bytes_eq};
 ghost use Rattle.clap.specs.Words.{subcommand_rows_of};
 ghost use Rattle.mw_model.specs.Terms.Object.{Name, name_of_bytes};
-ghost use Rattle.mw_model.specs.Reports.Request.{Check, Lower, Flat};
+ghost use Rattle.mw_model.specs.Reports.Request.{Check, Lower, Flat, Explain};
 ghost use Rattle.mw_request.specs.Commands as commands;
 ghost use Rattle.mw_request.specs.Arguments as numbers;
 ghost use Rattle.mw_request.specs.Words.{meaning_of};
@@ -35,6 +35,8 @@ pub enum Request {
     Flat { steps: u64 },
     /// To judge the log.
     Recheck,
+    /// To judge the book and say why events are refused, with this step limit.
+    Explain { steps: u64 },
     /// To show how the program is used.
     Help,
     /// Nothing that the program does.
@@ -123,6 +125,9 @@ fn request_by_numbers(word: &str, steps: Option<u64>, events: Option<u64>) -> Re
     if word == "recheck" {
         return Request::Recheck;
     }
+    if word == "explain" {
+        return explain_with(steps);
+    }
     Request::Usage
 }
 
@@ -178,6 +183,16 @@ fn flat_with(steps: Option<u64>) -> Request
 {
     match steps {
         Some(steps) => Request::Flat { steps },
+        None => Request::Usage,
+    }
+}
+
+// To judge the book and say why events are refused, where there is a step limit.
+fn explain_with(steps: Option<u64>) -> Request
+    ensures { meaning_of result ≡ commands.with_number Explain steps }
+{
+    match steps {
+        Some(steps) => Request::Explain { steps },
         None => Request::Usage,
     }
 }

@@ -1,7 +1,7 @@
 -- Each command does what its request is owed.
 use Rattle.std.proofs.Common.{refl, ap}
 use Rattle.mw_model.specs.Terms.Object.{name_of_bytes}
-use Rattle.mw_model.specs.Reports.Request.{Check, Taut, Lower, Slice, Flat, Recheck}
+use Rattle.mw_model.specs.Reports.Request.{Check, Taut, Lower, Slice, Flat, Recheck, Explain}
 use Rattle.mw_request.specs.Words.{meaning_of}
 use Rattle.mw_book.proofs.Fulfilled.{book_fulfils, trial_fulfils, help_fulfils, usage_fulfils}
 use Rattle.mw_book.proofs.command.fulfil.Goals as goal
@@ -23,6 +23,9 @@ returns-in-Flat g c = book_fulfils _ (Flat c.in-Flat.steps) c.flat.result _ _ _ 
 
 pub returns-in-Recheck : goal.returns-in-Recheck
 returns-in-Recheck g c = book_fulfils _ Recheck c.recheck.result _ _ _ _ _ _ _ _ _ _ (ap meaning_of c.in-Recheck.is) refl c.recheck.ensures.ends c.recheck.ensures.source_counts c.recheck.ensures.sink_counts
+
+pub returns-in-Explain : goal.returns-in-Explain
+returns-in-Explain g c = book_fulfils _ (Explain c.in-Explain.steps) c.explain.result _ _ _ _ _ _ _ _ _ _ (ap meaning_of c.in-Explain.is) refl c.explain.ensures.ends c.explain.ensures.source_counts c.explain.ensures.sink_counts
 
 pub returns-in-Trial : goal.returns-in-Trial
 returns-in-Trial g c = trial_fulfils _ c.in-Trial.events c.in-Trial.steps c.judge_trial.result _ _ _ _ _ _ _ _ (ap meaning_of c.in-Trial.is) c.judge_trial.ensures.ends c.judge_trial.ensures.sink_counts

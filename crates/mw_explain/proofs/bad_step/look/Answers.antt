@@ -19,3 +19,10 @@ returns-clause-bad c = λ A k.
     let b = basis os A c.args.axioms.now c.args.theorems.now (profile_of c.args.profile) in
     let f = subst (Finds (is_proof_on b) os c.args.proof c.find.new.path.items) c.in-Some.is (c.in_ok-step.ensures.found A k) in
     f.1 ∙ ap (λ l. Some (placed l (object_at os c.in-Some.step))) (sym (c.in_ok-place-in-Some.ensures ∙ ap (map number_of) c.deref.ensures.value))
+
+pub returns-clause-within : goal.returns-clause-within
+returns-clause-within c =
+    let os = c.args.heap.now.objects in
+    let A = c.requires.marks.0 in
+    let b = basis os A c.args.axioms.now c.args.theorems.now (profile_of c.args.profile) in
+    (subst (Finds (is_proof_on b) os c.args.proof c.find.new.path.items) c.in-Some.is (c.in_ok-step.ensures.found A c.requires.marks.1)).0

@@ -8,39 +8,44 @@ use Rattle.mw_commands.specs.Commands.ExplanationTerms.{bad_formula}
 use Rattle.mw_commands.specs.Commands.ExplanationSteps.{has_proof_shape}
 use Rattle.mw_commands.proofs.ExplainedParts.{formula_decides}
 use Rattle.mw_explain.specs.Condition.{IsWrongRow, is_list}
-use Rattle.mw_explain.proofs.Conditions.{no_formula, no_list, wrong_by_row, formed_at}
+use Rattle.mw_explain.proofs.Conditions.{no_formula, no_list, wrong_by_row, row_part, formed_at}
 use Rattle.mw_explain.proofs.condition.wrong_step.Goals as goal
 
-pub returns-in-Some-bad_formula : goal.returns-in-Some-bad_formula
-returns-in-Some-bad_formula c = λ t a f.
+pub returns-in-Some-bad_formula-clause-wrong : goal.returns-in-Some-bad_formula-clause-wrong
+returns-in-Some-bad_formula-clause-wrong c = λ t a f.
     let os = c.args.heap.now.objects in
     let x = object_at os c.args.step in
     let m = method_of_logic c.in-Some-of.method in
     let members = c.in-Some.ensures.members in
     let shape : has_proof_shape x ≡ true = sym c.in-Some.ensures.shape in
     let is_m : method_among methods (car x) ≡ Some m = ap (method_among methods) (sym members.method_is) ∙ sym c.in-Some-of.ensures in
-    no_formula t x m shape is_m (object_at os c.in-Some-bad_formula.part) (ap (λ A. bad_formula A (second_of x)) a ∙ (ap (bad_formula c.args.arity.now) (sym members.conclusion_is) ∙ sym c.in-Some-bad_formula.ensures))
+    no_formula t x m shape is_m (object_at os c.in-Some-bad_formula.part) (ap (λ A. bad_formula A (second_of x)) a ∙ (ap (bad_formula c.args.arity.now) (sym members.conclusion_is) ∙ sym c.in-Some-bad_formula.ensures.bad))
 
-pub returns-then-not-is_list : goal.returns-then-not-is_list
-returns-then-not-is_list c = λ t a f.
+pub returns-then-not-is_list-clause-wrong : goal.returns-then-not-is_list-clause-wrong
+returns-then-not-is_list-clause-wrong c = λ t a f.
     let os = c.args.heap.now.objects in
     let x = object_at os c.args.step in
     let m = method_of_logic c.in-Some-of.method in
     let members = c.in-Some.ensures.members in
     let shape : has_proof_shape x ≡ true = sym c.in-Some.ensures.shape in
     let is_m : method_among methods (car x) ≡ Some m = ap (method_among methods) (sym members.method_is) ∙ sym c.in-Some-of.ensures in
-    let formed = (formula_decides c.args.arity.now (second_of x)).0 (ap (bad_formula c.args.arity.now) (sym members.conclusion_is) ∙ sym c.in_default-bad_formula.ensures) in
+    let formed = (formula_decides c.args.arity.now (second_of x)).0 (ap (bad_formula c.args.arity.now) (sym members.conclusion_is) ∙ sym c.in_default-bad_formula.ensures.bad) in
     no_list t x m shape is_m (formed_at t c.args.arity.now x a formed) f (ap is_list (sym members.subproofs_are) ∙ (sym c.is_list.ensures ∙ c.if-not-is_list.true))
 
-pub returns : goal.returns
-returns c = λ t a f.
+pub returns-clause-wrong : goal.returns-clause-wrong
+returns-clause-wrong c = λ t a f.
     let os = c.args.heap.now.objects in
     let x = object_at os c.args.step in
     let m = method_of_logic c.in-Some-of.method in
     let members = c.in-Some.ensures.members in
     let shape : has_proof_shape x ≡ true = sym c.in-Some.ensures.shape in
     let is_m : method_among methods (car x) ≡ Some m = ap (method_among methods) (sym members.method_is) ∙ sym c.in-Some-of.ensures in
-    let formed = (formula_decides c.args.arity.now (second_of x)).0 (ap (bad_formula c.args.arity.now) (sym members.conclusion_is) ∙ sym c.in_default-bad_formula.ensures) in
+    let formed = (formula_decides c.args.arity.now (second_of x)).0 (ap (bad_formula c.args.arity.now) (sym members.conclusion_is) ∙ sym c.in_default-bad_formula.ensures.bad) in
     let w = c.wrong_row.result in
     let row = subst (λ y. IsWrongRow c.args.arity.now m (third_of x) y w) members.extras_are (subst (λ y. IsWrongRow c.args.arity.now m y (object_at os c.in-Some.members.extras) w) members.subproofs_are (c.wrong_row.ensures c.args.arity.now c.requires.marked)) in
     wrong_by_row t x m shape is_m (formed_at t c.args.arity.now x a formed) f os w (ap is_list (sym members.subproofs_are) ∙ (sym c.is_list.ensures ∙ c.if-not-is_list.false)) (subst (λ A. IsWrongRow A m (third_of x) (fourth_of x) w) (sym a) row)
+
+pub returns-clause-within : goal.returns-clause-within
+returns-clause-within c =
+    let os = c.args.heap.now.objects in
+    row_part c.args.arity.now (method_of_logic c.in-Some-of.method) (object_at os c.in-Some.members.subproofs) (object_at os c.in-Some.members.extras) os c.wrong_row.result (c.wrong_row.ensures c.args.arity.now c.requires.marked)

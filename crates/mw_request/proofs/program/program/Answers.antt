@@ -1,14 +1,11 @@
--- The subcommands one after another.
-use Rattle.std.proofs.Common.{◌≡◌, ◌∙◌, ap, ap₂, codes}
+-- The subcommand is put to the command with the others.
+use Rattle.std.proofs.Common.{◌≡◌, ◌∙◌, ap₂, codes}
 use Rattle.std.proofs.lemmas.Result.{IfOk-weaker}
-use Rattle.clap.specs.Words.{app_of, with_subcommand}
+use Rattle.clap.specs.Words.{app_of}
 use Rattle.mw_request.specs.Commands.{program}
-use Rattle.mw_request.specs.Words.{argument_shape, with_steps}
+use Rattle.mw_request.specs.Words.{with_steps}
 use Rattle.mw_request.proofs.Subcommands.{bare_shape}
 use Rattle.mw_request.proofs.program.program.Goals as goal
 
 pub returns : goal.returns
-returns c =
-    let slicing = c.in_ok-slicing.ensures ∙ ap (λ a. with_steps a (argument_shape (codes "slice") (codes "name"))) c.in_ok-proving.ensures in
-    let flattening = c.in_ok-flattening.ensures ∙ ap₂ with_steps slicing (bare_shape _ (codes "flat") c.new.ensures.app) in
-    IfOk-weaker c.subcommand.result _ (λ r. app_of r ≡ program) (λ r a. a.shape c.new-2.ensures.local ∙ ap₂ with_subcommand flattening (bare_shape _ (codes "recheck") c.new-2.ensures.app)) c.subcommand.ensures
+returns c = IfOk-weaker c.with_steps.result _ (λ r. app_of r ≡ program) (λ r e. e ∙ ap₂ with_steps c.in_ok-logging.ensures (bare_shape _ (codes "explain") c.new.ensures.app)) c.with_steps.ensures

@@ -7,6 +7,7 @@ use Rattle.mw_theory.specs.Knowledge.{parts_of, definitions_of, meant}
 use Rattle.mw_kernel.specs.Knowledge.{theory_of}
 use Rattle.mw_theory.proofs.CallerLemmas.{held, grown-other, grown_theory, IfOk-map}
 use Rattle.mw_theory.specs.Words.{eval_event}
+use Rattle.mw_heap.specs.Objects.{Grows}
 use Rattle.mw_kernel.proofs.kernel.Kernel.eval.Goals as goal
 
 pub evaluated-requires-clause-table : goal.evaluated-requires-clause-table
@@ -32,3 +33,6 @@ returns-clause-fate c =
     IfOk-map c.evaluated.result _ _
     (λ f h. h t (subst (λ T. StandsFor inside.heap.objects T t.definitions) (sym c.deref_mut.ensures.value) held.coded) held.arities ∙ ap (λ v. (eval (theory_of v) v.steps (eval_event (object_at v.objects c.args.term))).0) c.self.view_is)
     c.evaluated.ensures.fate
+
+pub returns-clause-grows : goal.returns-clause-grows
+returns-clause-grows c = subst (λ v. Grows v.objects c.evaluated.new.heap.objects) c.self.view_is c.evaluated.ensures.grows

@@ -10,6 +10,8 @@ use Rattle.mw_theory.proofs.CallerLemmas.{held, IfOk-map, OnOk-from}
 use Rattle.mw_kernel.proofs.Happening.{show_stays, eval_stays, no-event-fate, no-event-theory, fate-after, theory-after, sound-after}
 use Rattle.mw_theory.specs.Words.{IsEvent, eval_event}
 use Rattle.mw_theory.specs.declared.event.Event.TheVariants.{Verify, Define, Skolem, Switch, Eval, Print, DefineAll, Profile}
+use Rattle.mw_heap.proofs.Objects.{Grows-refl}
+use Rattle.mw_kernel.proofs.KeptObjects.{keeps-result}
 use Rattle.mw_kernel.proofs.kernel.Kernel.happens.Goals as goal
 
 pub returns-in_default-clause-fate : goal.returns-in_default-clause-fate
@@ -143,3 +145,12 @@ switch-requires-clause-sound c =
     let sound = subst (λ v. IsSound (theory_of v)) c.self.view_is (held _ _ _ _ c.self.invariant).sound in
     sound-after _ _ c.self.view_is c.args.event c.event_of.ensures.in_range (Switch m.name) (subst (IsEvent c.self.inside.world.heap.objects c.args.event) m.is c.in-Some.ensures.event)
     (c.events_keep.ensures.truly (theory_of old) old.steps (object_at old.objects c.args.event) sound (c.reached_sound.ensures.judges (theory_of old) old.steps sound))
+
+pub returns-in_default-clause-objects : goal.returns-in_default-clause-objects
+returns-in_default-clause-objects c = Grows-refl c.args.self.now.objects
+
+pub returns-in-Print-clause-objects : goal.returns-in-Print-clause-objects
+returns-in-Print-clause-objects c = keeps-result _ _ c.shown.result (Grows-refl c.args.self.now.objects)
+
+pub returns-in-Eval-clause-objects : goal.returns-in-Eval-clause-objects
+returns-in-Eval-clause-objects c = keeps-result _ _ c.eval.result c.eval.ensures.grows

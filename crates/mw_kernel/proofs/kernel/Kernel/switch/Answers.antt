@@ -9,6 +9,8 @@ use Rattle.mw_theory.proofs.CallerLemmas.{held, grown, OnErr-from}
 use Rattle.mw_kernel.specs.Switching.{with_checker, switched_by}
 use Rattle.mw_kernel.proofs.Switching.{switched-symbol}
 use Rattle.mw_kernel.proofs.Told.{told-theory, object-told, switch-told}
+use Rattle.mw_heap.specs.Objects.{Grows}
+use Rattle.mw_kernel.proofs.KeptObjects.{keeps-accepted}
 use Rattle.mw_kernel.proofs.kernel.Kernel.switch.Goals as goal
 
 pub refusal_of_switch-requires-clause-held : goal.refusal_of_switch-requires-clause-held
@@ -73,3 +75,9 @@ returns-clause-theory c =
     let same = told-theory c.self.inside.world c.self.invariant old c.self.view_is c.refusal_of_switch.new.heap.objects c.refusal_of_switch.ensures.grows in
     let name = object-told c.self.inside.world c.self.invariant old c.self.view_is c.refusal_of_switch.new.heap.objects c.refusal_of_switch.ensures.grows c.args.name c.requires.name in
     c.switch_to.ensures.theory ∙ (ap₂ with_checker same (ap name_of name) ∙ sym (ap (λ r. (switched_by (theory_of old) (object_at old.objects c.args.name) r).1) told))
+
+pub returns-in-Some-clause-objects : goal.returns-in-Some-clause-objects
+returns-in-Some-clause-objects c = subst (λ v. Grows v.objects c.refusal_of_switch.new.heap.objects) c.self.view_is c.refusal_of_switch.ensures.grows
+
+pub returns-clause-objects : goal.returns-clause-objects
+returns-clause-objects c = keeps-accepted _ _ c.accepted.result c.accepted.ensures

@@ -1,11 +1,12 @@
 -- The world's theorem, by the theory's checker.
-use Rattle.std.proofs.Common.{sym, ap, ◌∙◌, subst}
+use Rattle.std.proofs.Common.{sym, ap, ◌∙◌, subst, IfSome}
 use Rattle.mw_model.specs.Events.Theory.{IsSound}
 use Rattle.mw_heap.specs.Objects.{object_at}
 use Rattle.mw_kernel.specs.Knowledge.{theory_of}
 use Rattle.mw_kernel.specs.Proofs.{judged_for}
 use Rattle.mw_theory.specs.Settling.{verified}
 use Rattle.mw_theory.proofs.CallerLemmas.{OnErr-from}
+use Rattle.mw_heap.specs.Objects.{Grows}
 use Rattle.mw_kernel.proofs.kernel.Kernel.verify.Goals as goal
 
 pub verify-requires-clause-sound : goal.verify-requires-clause-sound
@@ -31,3 +32,8 @@ returns-in_err-refused-clause-steps c = c.verify.ensures.limit ∙ ap (λ v. v.s
 
 pub returns-clause-steps : goal.returns-clause-steps
 returns-clause-steps c = c.verify.ensures.limit ∙ ap (λ v. v.steps) c.self.view_is
+
+pub returns-clause-objects : goal.returns-clause-objects
+returns-clause-objects c =
+    let new = c.verify.new.self.heap.objects in
+    c.fate_after.ensures.objects c.args.self.now.objects new (subst (λ v. IfSome c.in_ok-refused.refused (λ q. Grows v.objects new)) c.self.view_is c.in_ok-refused.ensures.grows)
