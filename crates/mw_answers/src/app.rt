@@ -314,7 +314,7 @@ pub fn app_book() -> &'static str {
     APP
 }
 
-/// The lines that are due for its events, from this number on.
+/// The expected lines for its events, from this number on.
 pub fn app_lines(alloc: Global, first: u64) -> Result<String, AllocError> {
     lines_from(alloc, first, APPENDED)
 }

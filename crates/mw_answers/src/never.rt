@@ -13,7 +13,7 @@ pub const NEVER: &str = "(define never (x axioms thms atbl) nil nil ())
 (verify refl (pequal* x x) (axiom (pequal* x x)))
 ";
 
-/// The report that is due for it.
+/// The expected report on it.
 pub const OF_NEVER: &str = "1 DEFINE NEVER accepted
 2 VERIFY CLAIM accepted
 3 SWITCH NEVER accepted
@@ -21,7 +21,7 @@ pub const OF_NEVER: &str = "1 DEFINE NEVER accepted
 events 4 accepted 3 refused 1 level 2
 ";
 
-/// How `check` ends on it and what it writes, where this is not what is due, and else no text. Each read gives so many bytes at most.
+/// How `check` ends on it and what it writes, where this is not the expected answer, and else no text. Each read gives at most the given number of bytes.
 pub fn other_answer_on_never(alloc: Global, size: usize) -> Result<String, AllocError> {
     let due = format!(in alloc; "1\n{OF_NEVER}")?;
     other_answer(alloc, &["check"], NEVER, due.as_str(), size)

@@ -272,7 +272,7 @@ pub fn ranks_book() -> &'static str {
 }
 
 /// How `check` ends under this step limit on the theorems on ranks with these events after them and what it writes, as a row has it, where it
-/// does not end with the number that is due or the report does not begin with their lines and then those that are due, and else no text.
+/// does not end with the expected number or the report does not begin with their lines and then the expected ones, and else no text.
 pub fn other_report_after_ranks(
     alloc: Global,
     steps: &str,

@@ -1,4 +1,4 @@
-//! A book, what is due for it and what the program answers.
+//! A book, the expected answer to it and what the program answers.
 ghost use Rattle.std.specs.Prelude.{◌≡◌, ◌≢◌, ◌↔◌, [], IsTrue, OnOk, OnErr, string_bytes};
 ghost use Rattle.mw_book.specs.Numbers.{status_number};
 
@@ -10,7 +10,7 @@ use std::test::Fail;
 /// The line between two rows of a table.
 pub const NEXT_ROW: &str = "----\n";
 
-// What stands between a row's book and what is due for it.
+// What stands between a row's book and the expected answer to it.
 const DUE: &str = "\n=> ";
 
 /// What the program wrote and how it ended.
@@ -21,7 +21,7 @@ pub struct Answer {
 }
 
 impl Answer {
-    /// Whether this is just what is due: the number that the program ended with, and the report, byte by byte.
+    /// Whether this is just the expected answer: the number that the program ended with, and the report, byte by byte.
     pub fn is_due(&self, number: u8, report: &str) -> bool
         ensures { IsTrue result ↔ ((string_bytes self.now.report ≡ report.now) × (status_number self.now.status ≡ number)) }
     {
@@ -49,12 +49,12 @@ impl Answer {
 /// The most bytes that one of the first hundred writes takes where `answer_with_faults` runs the program.
 pub const WRITTEN: usize = 3;
 
-/// What `check` writes on this book, and how it ends, where each read gives so many bytes at most.
+/// What `check` writes on this book, and how it ends, where each read gives at most the given number of bytes.
 pub fn answer_of_check(alloc: Global, book: &str, size: usize) -> Result<Answer, AllocError> {
     answer_of_command(alloc, &["check"], book, size)
 }
 
-/// What the program, called with these words, writes on this book, and how it ends, where each read gives so many bytes at most. Each write
+/// What the program, called with these words, writes on this book, and how it ends, where each read gives at most the given number of bytes. Each write
 /// takes all that it is handed.
 pub fn answer_of_command(
     alloc: Global,
@@ -67,7 +67,7 @@ pub fn answer_of_command(
     run_on(alloc, words, &mut source, &mut sink)
 }
 
-/// What the program, called with these words, has written on this book when it ends, and how it ends, where each read gives so many bytes at
+/// What the program, called with these words, has written on this book when it ends, and how it ends, where each read gives the given number of bytes at
 /// most, each of the first hundred writes takes three at most, and the reads and the writes of these numbers, counted from 1, fail.
 pub fn answer_with_faults(
     alloc: Global,
@@ -83,7 +83,7 @@ pub fn answer_with_faults(
     run_on(alloc, words, &mut source, &mut sink)
 }
 
-/// How `check` ends on the book under this step limit and what it writes, as a row has it, where it does not end with the number that is due or
+/// How `check` ends on the book under this step limit and what it writes, as a row has it, where it does not end with the expected number or
 /// the report does not begin with the lines that are, and else no text.
 pub fn other_report(
     alloc: Global,
@@ -98,7 +98,7 @@ pub fn other_report(
     }
 }
 
-/// What is due for a book where these lines come before the others of its report.
+/// The expected answer to a book where these lines come before the others of its report.
 pub fn due_after(alloc: Global, lines: &str, due: &str) -> Result<String, AllocError> {
     match due.split_once("\n") {
         Some((number, others)) => format!(in alloc; "{number}\n{lines}{others}"),
@@ -106,14 +106,14 @@ pub fn due_after(alloc: Global, lines: &str, due: &str) -> Result<String, AllocE
     }
 }
 
-/// The step limit, the book and what is due of a row: a step limit stands on a line of its own before the book.
+/// The step limit, the book and the expected answer of a row: a step limit stands on a line of its own before the book.
 pub fn limited_parts(row: &str) -> Option<(&str, &str, &str)> {
     let (steps, rest) = row.split_once("\n")?;
     let (book, due) = rest.split_once(DUE)?;
     Some((steps, book, due))
 }
 
-/// How `check` ends and what it writes where that is not what is due, by a table of rows: a row is a step limit on a line of its own, a book,
+/// How `check` ends and what it writes where that is not the expected answer, by a table of rows: a row is a step limit on a line of its own, a book,
 /// after `=> ` the number that the program is to end with under that limit, and on the lines after it what the report is to begin with. A line
 /// `----` stands between two rows, and the newline before `=> ` belongs to no book.
 pub fn other_reports(alloc: Global, rows: &str) -> Result<String, AllocError> {
@@ -124,9 +124,9 @@ pub fn other_reports(alloc: Global, rows: &str) -> Result<String, AllocError> {
     Ok(others)
 }
 
-/// The books on which the program, called with these words, does not write and end as is due, each with how it ended and what it wrote,
-/// where each read gives so many bytes at most. A row of the table is a book, after `=> ` the number that the program is to end with, and
-/// on the lines after it the report that is due. A line `----` stands between two rows, and the newline before `=> ` belongs to no book.
+/// The books on which the program, called with these words, does not write and end as expected, each with how it ended and what it wrote,
+/// where each read gives at most the given number of bytes. A row of the table is a book, after `=> ` the number that the program is to end with, and
+/// on the lines after it the expected report. A line `----` stands between two rows, and the newline before `=> ` belongs to no book.
 pub fn wrong_answers(
     alloc: Global,
     words: &[&str],
@@ -140,8 +140,8 @@ pub fn wrong_answers(
     Ok(wrong)
 }
 
-/// How the program, called with these words, ends on a book and what it writes, as a row has it, where this is not what is due, and else no
-/// text. Each read gives so many bytes at most.
+/// How the program, called with these words, ends on a book and what it writes, as a row has it, where this is not the expected answer, and else no
+/// text. Each read gives at most the given number of bytes.
 pub fn other_answer(
     alloc: Global,
     words: &[&str],
@@ -191,7 +191,7 @@ pub(crate) fn lines_from(alloc: Global, first: u64, events: &str) -> Result<Stri
     Ok(lines)
 }
 
-// The answer, as a row has it, where it is not the one that is due, and else no text.
+// The answer, as a row has it, where it is not the expected one, and else no text.
 fn other_than(alloc: Global, answer: &Answer, due: &str) -> Result<String, AllocError> {
     match number_and_text(due) {
         Some((number, report)) if answer.is_due(number, report) => Ok(String::new(alloc)),
@@ -199,7 +199,7 @@ fn other_than(alloc: Global, answer: &Answer, due: &str) -> Result<String, Alloc
     }
 }
 
-// The number and the text of what is due.
+// The number and the text of the expected answer.
 fn number_and_text(due: &str) -> Option<(u8, &str)> {
     let (number, text) = due.split_once("\n")?;
     match number.parse::<u8>() {
@@ -208,7 +208,7 @@ fn number_and_text(due: &str) -> Option<(u8, &str)> {
     }
 }
 
-// Puts a row's book and the answer to it after the text, where it is not the one that is due.
+// Puts a row's book and the answer to it after the text, where it is not the expected one.
 fn add_wrong_answer(
     wrong: &mut String,
     alloc: Global,
@@ -226,7 +226,7 @@ fn add_wrong_answer(
     writeln!(wrong, "{book}\n=> {other}")
 }
 
-// Puts the answer to a row's book under the row's step limit after the text, where it is not the one that is due.
+// Puts the answer to a row's book under the row's step limit after the text, where it is not the expected one.
 fn add_other_report(others: &mut String, alloc: Global, row: &str) -> Result<(), AllocError> {
     let Some((steps, book, due)) = limited_parts(row) else {
         return writeln!(others, "no row: {row}");
@@ -248,7 +248,7 @@ fn run_on(
     Ok(Answer { report, status })
 }
 
-// A source of the book, of which each read gives so many bytes at most, and the reads of these numbers fail.
+// A source of the book, of which each read gives at most the given number of bytes, and the reads of these numbers fail.
 fn source_of(
     alloc: Global,
     book: &str,

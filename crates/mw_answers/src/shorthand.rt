@@ -218,7 +218,7 @@ pub fn shorthand_book() -> &'static str {
     SHORTHAND
 }
 
-/// The lines that are due for its events, from this number on.
+/// The expected lines for its events, from this number on.
 pub fn shorthand_lines(alloc: Global, first: u64) -> Result<String, AllocError> {
     lines_from(alloc, first, SHORTENED)
 }

@@ -186,7 +186,7 @@ pub fn wrap_book() -> &'static str {
     WRAP
 }
 
-/// The lines that are due for its events, from this number on.
+/// The expected lines for its events, from this number on.
 pub fn wrap_lines(alloc: Global, first: u64) -> Result<String, AllocError> {
     lines_from(alloc, first, WRAPPED)
 }

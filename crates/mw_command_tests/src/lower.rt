@@ -203,7 +203,7 @@ fn is_proof_kept(heap: &mut Heap) -> Result<bool, Memory> {
     Ok(lowered(heap, p)? == Rewritten::Proof(p))
 }
 
-// Whether a step with one premise is out of memory where so many looks are allowed.
+// Whether a step with one premise is out of memory where the given number of looks are allowed.
 fn lacks_looks(heap: &mut Heap, looks: u64) -> Result<bool, Memory> {
     let p = read(heap, b"(SYMMETRY (PEQUAL* Y X) ((AXIOM (PEQUAL* X Y))))")?;
     heap.allow_looks(looks);

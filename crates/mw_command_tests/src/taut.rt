@@ -59,7 +59,7 @@ fn is_second_choice_found(heap: &mut Heap) -> Result<bool, Memory> {
     Ok(decided(heap, either)? == Decision::Choice(due))
 }
 
-// The disjunction of so many equations 'k = 'k, and the denial of the first one.
+// The disjunction of the given number of equations 'k = 'k, and the denial of the first one.
 fn all_or_not_first(alloc: Global, count: u64) -> Result<String, AllocError> {
     let mut formula = String::from_str(alloc, "(PNOT* (PEQUAL* '0 '0))")?;
     for k in 0..count {
@@ -74,7 +74,7 @@ fn proved_of(heap: &mut Heap, count: u64) -> Result<Result<Judged, Decision>, Me
     proved(heap, formula.as_bytes())
 }
 
-// Whether each is decided as is due: not (X = X or Y = Y) or (Y = Y or X = X); that choice; twelve equations; and one more.
+// Whether each is decided as expected: not (X = X or Y = Y) or (Y = Y or X = X); that choice; twelve equations; and one more.
 fn decisions(heap: &mut Heap) -> Result<[bool; 4], Memory> {
     Ok([
         proved(

@@ -1,10 +1,10 @@
-//! Books at the bounds of instructions and of code: one within them gives what is due, and one past them ends out of memory.
+//! Books at the bounds of instructions and of code: one within them gives the expected answer, and one past them ends out of memory.
 use mw_answers::{Answer, answer_of_check, answer_of_command};
 use mw_book::Status;
 use std::alloc::{AllocError, Global};
 use std::test::Fail;
 
-// A term of so many tests within one another by labels, each of the one before it, twice: of X it runs 3 * 2^times - 1 - times instructions,
+// A term of the given number of tests within one another by labels, each of the one before it, twice: of X it runs 3 * 2^times - 1 - times instructions,
 // where that is no NIL, and takes no unit. It takes 5 * 2^times - 4 jobs to lay it out.
 fn tested_term(alloc: Global, times: usize) -> Result<String, AllocError> {
     let mut term = String::from_str(alloc, "#1=x")?;
@@ -35,7 +35,7 @@ fn answer_on_calls(alloc: Global, steps: &str) -> Result<Answer, AllocError> {
     answer_of_command(alloc, &["check", "--steps", steps], book.as_str(), 4096)
 }
 
-// Whether the book ends with what is due at this step limit.
+// Whether the book ends with the expected answer at this step limit.
 fn gives_a_value(alloc: Global, steps: &str) -> Result<bool, AllocError> {
     let answer = answer_on_calls(alloc, steps)?;
     let due = "15 EVAL - accepted 1\nevents 15 accepted 15 refused 0 level 1\n";

@@ -8,7 +8,7 @@ const LONG: &str = "1\n1 PRINT - refused LONG\nevents 1 accepted 0 refused 1 lev
 
 const LABELLED: &str = "0\n1 PRINT - accepted X\nevents 1 accepted 1 refused 0 level 1\n";
 
-// What is due for the print of NIL in 32,767 lists: as many as are shown.
+// The expected answer to the print of NIL in 32,767 lists: as many as are shown.
 const SHOWN: Nested = Nested {
     before: "0\n1 PRINT - accepted ",
     opening: "(",
@@ -28,7 +28,7 @@ const QUOTES: Nested = Nested {
     depth: 1_000_000,
 };
 
-// The print of NIL in lists: so many parentheses are open.
+// The print of NIL in lists: the given number of parentheses are open.
 fn lists(depth: usize) -> Nested {
     Nested {
         before: "(print ",
@@ -40,7 +40,7 @@ fn lists(depth: usize) -> Nested {
     }
 }
 
-// The answer to the lists that are shown, where it is not the one that is due.
+// The answer to the lists that are shown, where it is not the expected one.
 fn other_answer_on_shown(alloc: Global) -> Result<String, AllocError> {
     let book = text_of(alloc, &lists(32_767))?;
     let due = text_of(alloc, &SHOWN)?;
@@ -53,7 +53,7 @@ fn other_answer_on_long(alloc: Global, nested: &Nested) -> Result<String, AllocE
     other_answer(alloc, &["check"], book.as_str(), LONG, 4096)
 }
 
-// The answer to the print of a variable after so many labels, where it is not that variable.
+// The answer to the print of a variable after the given number of labels, where it is not that variable.
 fn other_answer_on_labels(alloc: Global, depth: usize) -> Result<String, AllocError> {
     let mut book = String::from_str(alloc, "(print ")?;
     for k in 0..depth {

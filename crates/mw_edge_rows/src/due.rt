@@ -1,4 +1,4 @@
-//! What is due for the beginning of a book, computed from where its data end.
+//! The expected answer to the beginning of a book, computed from where its data end.
 use mw_answers::{Answer, answer_of_check};
 use mw_book::Status;
 use mw_read::SyntaxKind;
@@ -13,7 +13,7 @@ pub(crate) struct Datum {
     pub(crate) level: u64,
 }
 
-/// The lines of the data that end within so many bytes.
+/// The lines of the data that end within the given number of bytes.
 pub(crate) fn lines_within(
     alloc: Global,
     data: &[Datum],
@@ -38,7 +38,7 @@ fn is_inside(data: &[Datum], place: usize) -> bool {
     false
 }
 
-// How many of the data that end within so many bytes are accepted and how many are refused, and the level after them.
+// How many of the data that end within the given number of bytes are accepted and how many are refused, and the level after them.
 fn count_within(data: &[Datum], bytes: usize) -> (u64, u64, u64) {
     let (mut accepted, mut refused, mut level) = (0_u64, 0_u64, 1);
     for datum in data {
@@ -54,7 +54,7 @@ fn count_within(data: &[Datum], bytes: usize) -> (u64, u64, u64) {
     (accepted, refused, level)
 }
 
-// What is due for the book that is cut there. A datum that is cut inside is not complete: it is a list.
+// The expected answer to the book that is cut there. A datum that is cut inside is not complete: it is a list.
 fn due_at(alloc: Global, data: &[Datum], cut: usize) -> Result<Answer, AllocError> {
     let mut report = lines_within(alloc, data, cut)?;
     if is_inside(data, cut) {
@@ -76,7 +76,7 @@ fn due_at(alloc: Global, data: &[Datum], cut: usize) -> Result<Answer, AllocErro
     Ok(Answer { report, status })
 }
 
-// Whether the answer to the book of these data that is cut there, in pieces of so many bytes, is the one that is due.
+// Whether the answer to the book of these data that is cut there, in pieces of the given number of bytes, is the expected one.
 fn is_due(
     alloc: Global,
     book: &str,
@@ -92,7 +92,7 @@ fn is_due(
     Ok(answer.report == due.report && answer.status == due.status)
 }
 
-/// A place where the book of these data may be cut so that the answer, in pieces of so many bytes, is not the one that is due.
+/// A place where the book of these data may be cut so that the answer, in pieces of the given number of bytes, is not the expected one.
 pub(crate) fn wrong_cut(
     alloc: Global,
     book: &str,

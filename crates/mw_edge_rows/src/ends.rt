@@ -87,7 +87,7 @@ fn failing_writes(alloc: Global) -> Result<usize, AllocError> {
     Ok(100)
 }
 
-// What is written on the book, where it is not what is due and these reads and writes fail.
+// What is written on the book, where it is not the expected answer and these reads and writes fail.
 fn other_answer_to_the_book(
     alloc: Global,
     due: &str,
@@ -97,7 +97,7 @@ fn other_answer_to_the_book(
     other_answer_with_faults(alloc, &CHECK, BOOK, due, 4096, reads, writes)
 }
 
-// The same for the book with a switch, of which all is due although a read or a write after the last one would fail.
+// The same for the book with a switch, of which the whole is expected although a read or a write after the last one would fail.
 fn other_answer_to_the_switch(
     alloc: Global,
     reads: &[u64],

@@ -35,7 +35,7 @@ fn ends_out_of_memory_on_calls(
     ends_out_of_memory(alloc, book.as_str())
 }
 
-// The answer to a book whose third event takes too much memory, where it is not the answers to the first two, in pieces of so many bytes.
+// The answer to a book whose third event takes too much memory, where it is not the answers to the first two, in pieces of the given number of bytes.
 fn other_answer_before_memory_ends(alloc: Global, size: usize) -> Result<String, AllocError> {
     let book = book_of_calls(alloc, "(eval 7) (shout) (eval ", "cons", ") (eval 8)")?;
     let due = "6\n1 EVAL - accepted 7\n2 SHOUT - refused EVENT\n";
@@ -59,7 +59,7 @@ fn other_report_on_rank(alloc: Global) -> Result<String, AllocError> {
     )
 }
 
-// The report on an EVAL of a call with so many actuals, each for a formal of its own, where it is not the pair of two.
+// The report on an EVAL of a call with the given number of actuals, each for a formal of its own, where it is not the pair of two.
 fn other_report_on_actuals(alloc: Global, count: usize) -> Result<String, AllocError> {
     let mut book = String::from_str(alloc, "(eval ((lambda (")?;
     for k in 0..count {
@@ -95,7 +95,7 @@ const OF_THE_BLOCK: &str = "0
 events 2 accepted 2 refused 0 level 1
 ";
 
-// The answer to a block of so many functions and an EVAL of the last but one, where it is not the one that is due.
+// The answer to a block of the given number of functions and an EVAL of the last but one, where it is not the expected one.
 fn other_answer_on_block(alloc: Global, count: usize) -> Result<String, AllocError> {
     let mut book = String::from_str(alloc, "(define-all (")?;
     for k in 0..count {
@@ -105,7 +105,7 @@ fn other_answer_on_block(alloc: Global, count: usize) -> Result<String, AllocErr
     other_answer(alloc, &["check"], book.as_str(), OF_THE_BLOCK, 4096)
 }
 
-// The answer to so many definitions, each of which calls the one before it, and an EVAL of one of them.
+// The answer to the given number of definitions, each of which calls the one before it, and an EVAL of one of them.
 fn answer_on_definitions(alloc: Global, count: usize) -> Result<Answer, AllocError> {
     let mut book = String::from_str(alloc, "(define f0 (x) x nil ())")?;
     for k in 1..count {

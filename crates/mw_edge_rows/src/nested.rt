@@ -2,7 +2,7 @@
 use mw_answers::other_report;
 use std::alloc::{AllocError, Global};
 
-/// A text: a part before the others, the opening so many times, the inner part, the closing as often, and a part after the others.
+/// A text: a part before the others, the opening the given number of times, the inner part, the closing as often, and a part after the others.
 #[derive(Drop)]
 pub(crate) struct Nested {
     pub(crate) before: &'static str,
@@ -13,7 +13,7 @@ pub(crate) struct Nested {
     pub(crate) depth: usize,
 }
 
-// Puts a text so many times after another.
+// Puts a text the given number of times after another.
 fn push_times(all: &mut String, text: &str, times: usize) -> Result<(), AllocError> {
     for _ in 0..times {
         all.push_str(text)?;
@@ -31,7 +31,7 @@ pub(crate) fn text_of(alloc: Global, nested: &Nested) -> Result<String, AllocErr
     Ok(text)
 }
 
-/// How `check` ends on the book under a step limit and what it writes, where that is not what is due, and else no text.
+/// How `check` ends on the book under a step limit and what it writes, where that is not the expected answer, and else no text.
 pub(crate) fn other_report_on_nested(
     alloc: Global,
     steps: &str,

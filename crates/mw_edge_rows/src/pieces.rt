@@ -20,7 +20,7 @@ const OF_BOOK: &str = "1
 events 5 accepted 2 refused 3 level 1
 ";
 
-// The data of the book. That the definitions give what is due for it, for each cut, is computed in proofs/Cuts.antt.
+// The data of the book. That the definitions give the expected answer to it, for each cut, is computed in proofs/Cuts.antt.
 const DATA: [Datum; 5] = [
     Datum {
         begins: 14,
@@ -59,7 +59,7 @@ const DATA: [Datum; 5] = [
     },
 ];
 
-// The answers to this book and to the one with a switch, in pieces of this size, that are not the ones that are due.
+// The answers to this book and to the one with a switch, in pieces of this size, that are not the expected ones.
 fn other_answers_in_pieces(alloc: Global, size: usize) -> Result<String, AllocError> {
     let mut others = other_answer(alloc, &["check"], BOOK, OF_BOOK, size)?;
     others.push_str(other_answer_on_never(alloc, size)?.as_str())?;

@@ -37,7 +37,7 @@ const OF_THE_PROOF: &str = "0
 events 1 accepted 1 refused 0 level 1
 ";
 
-// The answers to these books, where they are not the ones that are due.
+// The answers to these books, where they are not the expected ones.
 fn other_answer_on_the_term(alloc: Global) -> Result<String, AllocError> {
     let book = book_of_the_term(alloc)?;
     other_answer(alloc, &["check"], book.as_str(), OF_THE_TERM, 4096)

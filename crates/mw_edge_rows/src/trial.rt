@@ -9,7 +9,7 @@ const TWO: &[u8] = b"(verify trial (pequal* (+ '1 '1) '2) (base-eval (pequal* (+
 (verify trial (por* (pequal* (+ '2 '4) '6) (pequal* x '2)) (cut (por* (pequal* (+ '2 '4) '6) (pequal* x '2)) ((expansion (por* (pequal* x '2) (pequal* (+ '2 '4) '6)) ((base-eval (pequal* (+ '2 '4) '6)))) (propositional-schema (por* (pnot* (pequal* x '2)) (pequal* x '2))))))
 ";
 
-// Whether the trial book of so many events comes in pieces of the buffer's size, and then its end.
+// Whether the trial book of the given number of events comes in pieces of the buffer's size, and then its end.
 fn gives(events: u64, book: &[u8], buffer: &mut [u8]) -> bool
     requires { 0 < length buffer.old }
 {

@@ -366,7 +366,7 @@ events 2 accepted 2 refused 0 level 1
 events 2 accepted 1 refused 1 level 1
 ";
 
-// Each book comes after the recursions, and what is due for it after their lines.
+// Each book comes after the recursions, and the expected answer to it after their lines.
 const LIMITED_RECURSIONS: &str = "\
 8
 (eval (ev '(1 2)))
@@ -389,7 +389,7 @@ const LIMITED_RECURSIONS: &str = "\
 16 EVAL - refused STEPS
 ";
 
-// The answer to the recursions and these events after them, where it is not what is due for these with the lines of those before.
+// The answer to the recursions and these events after them, where it is not the expected answer to these with the lines of those before.
 fn other_lines(alloc: Global, steps: &str, events: &str, due: &str) -> Result<String, AllocError> {
     let mut book = String::from_str(alloc, RECURSIONS)?;
     book.push_str(events)?;

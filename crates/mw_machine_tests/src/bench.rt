@@ -42,7 +42,7 @@ fn answer_of(
     }
 }
 
-/// What a term comes to in so many steps. The error is memory that is refused.
+/// What a term comes to in the given number of steps. The error is out of memory.
 pub(crate) fn answer_in(
     heap: &mut Heap,
     table: &mut Table,
@@ -56,7 +56,7 @@ pub(crate) fn answer_in(
     answer_of(heap, table, machine, term, steps)
 }
 
-// What a term comes to in so many steps. The error is memory that is refused.
+// What a term comes to in the given number of steps. The error is out of memory.
 pub(crate) fn answer_for(alloc: Global, recipe: Recipe, steps: u64) -> Result<Answer, Memory> {
     let mut heap = Box::new(alloc, Heap::new(alloc)?)?;
     let mut table = Box::new(alloc, Table::new(alloc, Profile::Two))?;

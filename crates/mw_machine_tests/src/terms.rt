@@ -8,14 +8,14 @@ use mw_heap::{Heap, Memory, Ref};
 /// How a term is made.
 #[derive(Clone, Copy)]
 pub(crate) enum Recipe {
-    /// (CAR (CAR .. '0)), with so many calls.
+    /// (CAR (CAR .. '0)), with the given number of calls.
     Nested(usize),
-    /// The sum of a natural with itself, and so on, so many times: both sides of a sum are one term.
+    /// The sum of a natural with itself, and so on, the given number of times: both sides of a sum are one term.
     Doubled(u128, usize),
 }
 
 impl Recipe {
-    // The term. The error is memory that is refused.
+    // The term. The error is out of memory.
     pub(crate) fn term(self, heap: &mut Heap) -> Result<Ref, Memory>
         ensures grows { Grows heap.old.objects heap.new.objects }
         ensures term { IfOk result (IsSomeTerm heap.new.objects) }
@@ -27,7 +27,7 @@ impl Recipe {
     }
 }
 
-// The constant 'n. The error is memory that is refused.
+// The constant 'n. The error is out of memory.
 fn constant(heap: &mut Heap, n: u128) -> Result<Ref, Memory>
     ensures grows { Grows heap.old.objects heap.new.objects }
     ensures term { IfOk result (IsSomeTerm heap.new.objects) }
@@ -39,7 +39,7 @@ fn constant(heap: &mut Heap, n: u128) -> Result<Ref, Memory>
     heap.cons(quote, rest)
 }
 
-// The term (CAR x). The error is memory that is refused.
+// The term (CAR x). The error is out of memory.
 fn car_of(heap: &mut Heap, x: Ref) -> Result<Ref, Memory>
     requires { IsSomeTerm heap.old.objects x }
     ensures grows { Grows heap.old.objects heap.new.objects }
@@ -51,7 +51,7 @@ fn car_of(heap: &mut Heap, x: Ref) -> Result<Ref, Memory>
     heap.cons(car, actuals)
 }
 
-// The term (+ x y). The error is memory that is refused.
+// The term (+ x y). The error is out of memory.
 fn sum_of(heap: &mut Heap, x: Ref, y: Ref) -> Result<Ref, Memory>
     requires first { IsSomeTerm heap.old.objects x }
     requires second { IsSomeTerm heap.old.objects y }
@@ -65,7 +65,7 @@ fn sum_of(heap: &mut Heap, x: Ref, y: Ref) -> Result<Ref, Memory>
     heap.cons(plus, actuals)
 }
 
-// The term (CAR (CAR .. '0)), with so many calls. The error is memory that is refused.
+// The term (CAR (CAR .. '0)), with the given number of calls. The error is out of memory.
 fn nested(heap: &mut Heap, depth: usize) -> Result<Ref, Memory>
     ensures grows { Grows heap.old.objects heap.new.objects }
     ensures term { IfOk result (IsSomeTerm heap.new.objects) }
@@ -77,7 +77,7 @@ fn nested(heap: &mut Heap, depth: usize) -> Result<Ref, Memory>
     Ok(term)
 }
 
-// The sum of n with itself, and so on, so many times: both sides of a sum are one term. The error is memory that is refused.
+// The sum of n with itself, and so on, the given number of times: both sides of a sum are one term. The error is out of memory.
 fn doubled(heap: &mut Heap, n: u128, times: usize) -> Result<Ref, Memory>
     ensures grows { Grows heap.old.objects heap.new.objects }
     ensures term { IfOk result (IsSomeTerm heap.new.objects) }

@@ -16,7 +16,7 @@ fn turns_in(heap: &mut Heap, table: &mut Table, recipe: Recipe, steps: u64) -> R
     Ok(machine.turns())
 }
 
-// What a term takes in so many steps. The error is memory that is refused.
+// What a term takes in the given number of steps. The error is out of memory.
 fn turns(alloc: Global, recipe: Recipe, steps: u64) -> Result<u64, Memory> {
     let mut heap = Box::new(alloc, Heap::new(alloc)?)?;
     let mut table = Box::new(alloc, Table::new(alloc, Profile::Two))?;

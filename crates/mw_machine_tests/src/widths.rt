@@ -21,7 +21,7 @@ fn width_in(heap: &mut Heap, table: &mut Table, recipe: Recipe) -> Result<u64, M
     width_of(heap, table, term)
 }
 
-// What a term needs. The error is memory that is refused.
+// What a term needs. The error is out of memory.
 fn width(alloc: Global, recipe: Recipe) -> Result<u64, Memory> {
     let mut heap = Box::new(alloc, Heap::new(alloc)?)?;
     let mut table = Box::new(alloc, Table::new(alloc, Profile::Two))?;

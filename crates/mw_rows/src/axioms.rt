@@ -467,7 +467,7 @@ fn book_of_axioms(alloc: Global, profile: u8, own: &str) -> Result<String, Alloc
     Ok(book)
 }
 
-// What is due for so many events, of which each after the first shows an axiom.
+// The expected answer to the given number of events, of which each after the first shows an axiom.
 fn report_of_axioms(alloc: Global, events: u8) -> Result<String, AllocError> {
     let mut report = String::from_str(alloc, "0\n1 PROFILE - accepted\n")?;
     for number in 2..=events {
@@ -491,7 +491,7 @@ fn book_of_definitions(alloc: Global, profile: u8, own: &str) -> Result<String, 
     Ok(book)
 }
 
-// What is due for 53 definitions, and for the wrong one.
+// The expected answer to 53 definitions, and for the wrong one.
 fn report_of_definitions(alloc: Global) -> Result<String, AllocError> {
     let mut report = String::from_str(
         alloc,
@@ -507,14 +507,14 @@ fn report_of_definitions(alloc: Global) -> Result<String, AllocError> {
     Ok(report)
 }
 
-// The answer to the axioms of a profile, where it is not the one that is due.
+// The answer to the axioms of a profile, where it is not the expected one.
 fn other_axioms(alloc: Global, profile: u8, own: &str, events: u8) -> Result<String, AllocError> {
     let book = book_of_axioms(alloc, profile, own)?;
     let due = report_of_axioms(alloc, events)?;
     other_report(alloc, "10000000", book.as_str(), due.as_str())
 }
 
-// The answer to the definitions of a profile, where it is not the one that is due.
+// The answer to the definitions of a profile, where it is not the expected one.
 fn other_definitions(alloc: Global, profile: u8, own: &str) -> Result<String, AllocError> {
     let book = book_of_definitions(alloc, profile, own)?;
     let due = report_of_definitions(alloc)?;

@@ -1,4 +1,4 @@
-//! Worked books with the reports that are due for them, as tests of the whole program: the first book, the books of the guide, the axioms,
+//! Worked books with the expected reports, as tests of the whole program: the first book, the books of the guide, the axioms,
 //! switches; and that a wrong row is told.
 #![tactic(auto)]
 

@@ -150,7 +150,7 @@ const OUTCOMES: [(&str, &str, &str); 8] = [
     ("10000000", "(logic.len thms)", "NIL"),
 ];
 
-// A number of units, the number that the program ends with, and what is due for a theorem by the checker that runs LOGIC.PROOFP within them.
+// A number of units, the number that the program ends with, and the expected answer to a theorem by the checker that runs LOGIC.PROOFP within them.
 const JUDGED: [(&str, &str, &str); 2] = [
     (
         "10000000",
@@ -214,7 +214,7 @@ pub(crate) fn book_with_useless_checker(alloc: Global, test: &str) -> Result<Str
     )
 }
 
-// The answer to a theorem under a checker with this test, within so many units, where it is not refused for this reason.
+// The answer to a theorem under a checker with this test, within the given number of units, where it is not refused for this reason.
 fn other_outcome(
     alloc: Global,
     steps: &str,

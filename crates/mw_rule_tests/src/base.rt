@@ -20,7 +20,7 @@ fn value(heap: &mut Heap, p: Primitive, args: &[Ref]) -> Applied
     apply(heap, p, args, &truths)
 }
 
-// Whether CONS, CAR, CDR and CONSP have the values that are due.
+// Whether CONS, CAR, CDR and CONSP have the expected values.
 fn takes_pairs_apart(heap: &mut Heap) -> Result<[bool; 4], Memory> {
     let (nil, a, both) = read_three(heap, b"(NIL 2 (2))")?;
     Ok([
@@ -31,7 +31,7 @@ fn takes_pairs_apart(heap: &mut Heap) -> Result<[bool; 4], Memory> {
     ])
 }
 
-// Whether SYMBOLP, SYMBOL-<, EQUAL and IF have the values that are due.
+// Whether SYMBOLP, SYMBOL-<, EQUAL and IF have the expected values.
 fn tells_symbols(heap: &mut Heap) -> Result<[bool; 4], Memory> {
     let (t, nil) = read_two(heap, b"(T NIL)")?;
     Ok([
@@ -42,7 +42,7 @@ fn tells_symbols(heap: &mut Heap) -> Result<[bool; 4], Memory> {
     ])
 }
 
-// Whether NATP, <, + and - have the values that are due.
+// Whether NATP, <, + and - have the expected values.
 fn computes_numbers(heap: &mut Heap) -> Result<[bool; 4], Memory> {
     let (t, zero, a, four) = read_four(heap, b"(T 0 2 4)")?;
     Ok([
@@ -59,7 +59,7 @@ fn holds(heap: &mut Heap, formula: &[u8], profile: Profile) -> Result<bool, Memo
     base_eval(heap, c, profile)
 }
 
-// Whether * has the value that is due, and none where it would be too large; and whether the rule gives (* '2 '2) = '4 in profile Two, but
+// Whether * has the expected value, and none where it would be too large; and whether the rule gives (* '2 '2) = '4 in profile Two, but
 // not in profile One, and not (* '2 '2) = '2.
 fn computes_products(heap: &mut Heap) -> Result<[bool; 4], Memory> {
     let (a, four, most) = read_three(heap, b"(2 4 340282366920938463463374607431768211455)")?;

@@ -14,7 +14,7 @@ use std::test::Fail;
 
 const MEMBERS: u64 = 1000;
 
-// What a run of the function of this name on these values comes to, and the frames of the run; nothing where it has no code for so many.
+// What a run of the function of this name on these values comes to, and the frames of the run; nothing where it has no code for as many.
 fn run_named(
     heap: &mut Heap,
     table: &Table,
@@ -74,7 +74,7 @@ fn recursion_opens_a_frame_for_each_member(heap: &mut Heap, members: Ref) -> Res
     Ok(found == Some((Outcome::Value(count, 5998), 1001)))
 }
 
-// Whether so many units are few, and so many frames of this width take few places.
+// Whether the given number of units are few, and the given number of frames of this width take few places.
 fn has_room(units: u64, width: u64) -> bool
     ensures few { result ≡ true → units ≤ 1000 }
     ensures places { result ≡ true → (units + 1) * width ≤ 2 ^ 20 }

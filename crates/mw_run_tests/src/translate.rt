@@ -161,7 +161,7 @@ const LONG_ROWS: [LongRow; 4] = [
     },
 ];
 
-// The text so many times.
+// The text the given number of times.
 fn repeated(alloc: Global, text: &str, times: usize) -> Result<String, AllocError> {
     let mut all = String::new(alloc);
     for _ in 0..times {
@@ -224,7 +224,7 @@ fn is_nested_right(
     expands_to(heap, arity, raw.as_bytes(), term.as_bytes())
 }
 
-// Wires of a circuit in one LET*. Each is that of an IF of three that came up to so many wires before it, so that as many variables live
+// Wires of a circuit in one LET*. Each is that of an IF of three that came up to the given number of wires before it, so that as many variables live
 // everywhere.
 fn circuit(alloc: Global, wires: u64, live: u64) -> Result<String, AllocError>
     requires few_wires { wires < 10000 }
