@@ -55,14 +55,8 @@ fn apply_to_one(heap: &Heap, p: Primitive, a: Ref, truths: &Truths) -> Ref
 {
     match p {
         Primitive::Consp => truths.of(heap, heap.is_pair(Some(a))),
-        Primitive::Car => match heap.car(a) {
-            Some(first) => first,
-            None => truths.nil,
-        },
-        Primitive::Cdr => match heap.cdr(a) {
-            Some(second) => second,
-            None => truths.nil,
-        },
+        Primitive::Car => truths.car_of(heap, a),
+        Primitive::Cdr => truths.cdr_of(heap, a),
         Primitive::Symbolp => truths.of(heap, is_symbol(heap, Some(a))),
         Primitive::Natp => truths.of(heap, is_natural(heap, Some(a))),
         _ => unreachable!(),

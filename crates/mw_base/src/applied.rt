@@ -8,6 +8,6 @@ pub enum Applied {
     Value(Ref),
     /// A sum or a product of 2^128 or more, which no heap holds.
     Overflow,
-    /// Memory was refused.
+    /// Out of memory.
     Memory,
 }

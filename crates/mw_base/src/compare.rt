@@ -52,7 +52,7 @@ fn is_pair_of(heap: &Heap, first: Option<Ref>, second: Option<Ref>, v: Option<Re
     }
 }
 
-// The first part; nothing of what is no pair.
+// The first part, or `None` if it is not a pair.
 fn first_part(heap: &Heap, x: Option<Ref>) -> Option<Ref>
     requires { IsPart heap.now.objects x }
     ensures within { IsPart heap.now.objects result }
@@ -61,7 +61,7 @@ fn first_part(heap: &Heap, x: Option<Ref>) -> Option<Ref>
     heap.car(x?)
 }
 
-// The second part; nothing of what is no pair.
+// The second part, or `None` if it is not a pair.
 fn second_part(heap: &Heap, x: Option<Ref>) -> Option<Ref>
     requires { IsPart heap.now.objects x }
     ensures within { IsPart heap.now.objects result }

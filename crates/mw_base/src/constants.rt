@@ -7,9 +7,9 @@ ghost use Rattle.mw_heap.specs.Parts.{part_at, IsPart};
 
 use mw_heap::{Heap, Ref, View, Word};
 
-// Whether it is (quote c).
+/// Whether it is a constant, (quote c).
 #[tactic(auto, using(crate::proofs::ConstantTests::is_constant_object_at))]
-pub(crate) fn is_constant(heap: &Heap, x: Ref) -> bool
+pub fn is_constant(heap: &Heap, x: Ref) -> bool
     requires { IsIn heap.now.objects x }
     ensures { result ≡ is_constant_object (object_at heap.now.objects x) }
 {
@@ -22,8 +22,8 @@ pub(crate) fn is_constant(heap: &Heap, x: Ref) -> bool
     }
 }
 
-// Whether it is a proper list of constants.
-pub(crate) fn are_constants(heap: &Heap, x: Ref) -> bool
+/// Whether it is a proper list of constants.
+pub fn are_constants(heap: &Heap, x: Ref) -> bool
     requires { IsIn heap.now.objects x }
     ensures { result ≡ are_constant_objects (object_at heap.now.objects x) }
 {

@@ -12,6 +12,7 @@ mod values;
 
 pub use application::{apply, apply_reserved};
 pub use applied::Applied;
+pub use constants::{are_constants, is_constant};
 pub use rule::base_eval;
 pub use truths::Truths;
 pub use values::blocks_of_names;

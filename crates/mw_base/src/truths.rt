@@ -1,6 +1,6 @@
 //! T and NIL at hand.
 ghost use Rattle.std.specs.Prelude.{◌≡◌, ◌≤◌, ◌+◌, IfOk, OnErr};
-ghost use Rattle.mw_model.specs.Terms.Object.{truth_of};
+ghost use Rattle.mw_model.specs.Terms.Object.{truth_of, car, cdr};
 ghost use Rattle.mw_heap.specs.Objects.{object_at, IsIn, Grows};
 ghost use Rattle.mw_base.specs.Truths.{AreTruths};
 
@@ -14,7 +14,7 @@ pub struct Truths {
 }
 
 impl Truths {
-    /// T and NIL in a heap. The error is memory that is refused: no room of the heap is then smaller than before.
+    /// T and NIL in a heap. The error is out of memory: no room of the heap is then smaller than before.
     pub fn new(heap: &mut Heap) -> Result<Truths, Memory>
         ensures grows { Grows heap.old.objects heap.new.objects }
         ensures made { IfOk result (AreTruths heap.new.objects) }
@@ -26,13 +26,42 @@ impl Truths {
         Ok(Truths { t, nil })
     }
 
-    // T or NIL.
-    pub(crate) fn of(&self, heap: &Heap, holds: bool) -> Ref
+    /// T or NIL.
+    #[inline(always)]
+    pub fn of(&self, heap: &Heap, holds: bool) -> Ref
         requires { AreTruths heap.now.objects self.now }
         ensures within { IsIn heap.now.objects result }
         ensures value { object_at heap.now.objects result ≡ truth_of holds }
     {
         let _ = heap;
         if holds { self.t } else { self.nil }
+    }
+
+    /// The first part of a pair; NIL of anything else.
+    #[inline(always)]
+    pub fn car_of(&self, heap: &Heap, x: Ref) -> Ref
+        requires truths { AreTruths heap.now.objects self.now }
+        requires within { IsIn heap.now.objects x }
+        ensures within { IsIn heap.now.objects result }
+        ensures value { object_at heap.now.objects result ≡ car (object_at heap.now.objects x) }
+    {
+        match heap.pair_of(x) {
+            Some((first, _)) => first,
+            None => self.nil,
+        }
+    }
+
+    /// The second part of a pair; NIL of anything else.
+    #[inline(always)]
+    pub fn cdr_of(&self, heap: &Heap, x: Ref) -> Ref
+        requires truths { AreTruths heap.now.objects self.now }
+        requires within { IsIn heap.now.objects x }
+        ensures within { IsIn heap.now.objects result }
+        ensures value { object_at heap.now.objects result ≡ cdr (object_at heap.now.objects x) }
+    {
+        match heap.pair_of(x) {
+            Some((_, rest)) => rest,
+            None => self.nil,
+        }
     }
 }

@@ -8,7 +8,7 @@ ghost use Rattle.mw_base.specs.Names.{blocks_of};
 
 use mw_heap::{Heap, Primitive, Ref, View, Word};
 
-// The bytes of the name; those of NIL of what is no symbol.
+// The bytes of the name, or those of NIL if it is not a symbol.
 pub(crate) fn name(heap: &Heap, x: Option<Ref>) -> &[u8]
     requires { IsPart heap.now.objects x }
     ensures { (name_of (part_at heap.now.objects x)).bytes ≡ result.now }

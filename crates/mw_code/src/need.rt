@@ -68,7 +68,7 @@ fn instruction_at(code: &[Instruction], index: usize) -> Instruction
 }
 
 /// What the last place of code needs. Only the part from a place on is looked at: nothing is needed where it begins, and it goes to no
-/// place before that. The error is memory that is refused.
+/// place before that. The error is out of memory.
 pub(crate) fn find_need(
     alloc: Global,
     code: &[Instruction],

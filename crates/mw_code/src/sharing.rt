@@ -20,7 +20,7 @@ const JOBS_FOR_A_CELL: u64 = 64;
 const SHORT: u64 = 4096;
 
 /// What is left of the jobs that blocks share once this block took those for which its own cells do not pay. The error is that fewer were
-/// left, or memory that is refused.
+/// left, or out of memory.
 pub(crate) fn left_after(
     left: u64,
     heap: &Heap,

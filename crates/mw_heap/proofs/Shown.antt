@@ -4,7 +4,7 @@ use Rattle.std.proofs.lemmas.Bool.{both_ways}
 use Rattle.std.proofs.lemmas.List.{length-take}
 use Rattle.std.proofs.lemmas.Option.{slice_get_within, slice_get-get_or, get_or_from_slice_get}
 use Rattle.mw_model.specs.Terms.Object.{Object, Natural, Symbol, Pair, name_of_bytes, car, cdr, is_name, same_object}
-use Rattle.mw_model.specs.Values.Primitive.{is_symbol, name_of, number}
+use Rattle.mw_model.specs.Values.Primitive.{is_pair, is_symbol, name_of, number}
 use Rattle.mw_model.specs.Events.Evaluation.{range}
 use Rattle.mw_model.specs.Events.Fate.{is_out_of_range}
 use Rattle.mw_model.proofs.Names.{bytes-name_of_bytes, same_object-from, same_object-eq}
@@ -134,6 +134,23 @@ module _ (ns : List ℕ) (ss : List (List ℕ)) (cs : List Cell) (sound : IsSoun
       go false p false q = refl
       go true p false q = absurd (both_ways (same_object (object_at os x) (object_at os y)) q (same_object-from _ _ (ap (object_at os) (eqb-true x y p))))
       go false p true q = absurd (both_ways (eqb x y) p (eq-eqb x y (distinct_objects x y in_x in_y (same_object-eq _ _ q))))
+
+  -- a natural below 2^32 has a small cell
+  pub small_is : (x n : ℕ) → slice_get cs x ≡ Some (Small n) → IsIn os x × (object_at os x ≡ Natural n)
+  small_is x n at = (omega (arith, slice_get_within cs x (Small n) at, length-cells), shown x (Small n) at)
+
+  pub other_is_large : (x : ℕ) (c : Cell) → slice_get cs x ≡ Some c → ((n : ℕ) → c ≡ Small n → ⊥) → (n : ℕ) → object_at os x ≡ Natural n → 2 ^ 32 ≤ n
+  other_is_large x (Small m) at other n e = absurd (other m refl)
+  other_is_large x (Large i) at other n e = omega (arith, (large_range x i at).0, ap number (sym (shown x (Large i) at) ∙ e))
+  other_is_large x (Named i) at other n e = let z : Symbol (name_of_bytes (get_or ss i [])) ≡ Natural n = sym (shown x (Named i) at) ∙ e in cc
+  other_is_large x (Parts a b) at other n e = let z : Pair (object_at os a) (object_at os b) ≡ Natural n = sym (shown x (Parts a b) at) ∙ e in cc
+
+  -- a cell that is no pair shows none
+  pub other_is_no_pair : (x : ℕ) (c : Cell) → slice_get cs x ≡ Some c → ((a b : ℕ) → c ≡ Parts a b → ⊥) → is_pair (object_at os x) ≡ false
+  other_is_no_pair x (Small n) at other = ap is_pair (shown x (Small n) at)
+  other_is_no_pair x (Large i) at other = ap is_pair (shown x (Large i) at)
+  other_is_no_pair x (Named i) at other = ap is_pair (shown x (Named i) at)
+  other_is_no_pair x (Parts a b) at other = absurd (other a b refl)
 
   -- a symbol's cell has its name
   pub symbol_cell : (x : ℕ) (c : Cell) → slice_get cs x ≡ Some c → is_symbol (object_at os x) ≡ true → ((i : ℕ) → c ≡ Named i → ⊥) → ⊥

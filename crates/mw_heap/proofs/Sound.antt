@@ -1,5 +1,5 @@
 -- A sound heap stays sound as it grows and as it is cut, and its old objects stay.
-use Rattle.std.proofs.Common.{◌≡◌, ℕ, ◌+◌, ◌<◌, ◌≤◌, ◌^◌, false, Some, List, [], ◌∷◌, ◌++◌, length, take, drop, slice_get, sym, ap, ◌∙◌, subst, arith, ◌⊎◌, inl, inr, length-append, Result, Ok, Err, IfOk, OnOk, OnErr}
+use Rattle.std.proofs.Common.{◌≡◌, ◌≢◌, ℕ, ◌+◌, ◌<◌, ◌≤◌, ◌^◌, false, Some, List, [], ◌∷◌, ◌++◌, length, take, drop, slice_get, sym, ap, ◌∙◌, subst, arith, ◌⊎◌, inl, inr, length-append, Result, Ok, Err, IfOk, OnOk, OnErr}
 use Rattle.std.proofs.lemmas.List.{append-nil, take-append-le, take_all, length-take, length-take-le, take-append-drop}
 use Rattle.std.proofs.Math.Seq.{take-append_seam}
 use Rattle.std.proofs.lemmas.Option.{slice_get_within}
@@ -19,6 +19,21 @@ take-Inserts old new x i h = go h.change
     go : (new ≡ old) ⊎ (new ≡ old ++ x ∷ []) → take (length old) new ≡ old
     go (inl e) = ap (take (length old)) e ∙ take_all (length old) old (omega arith)
     go (inr e) = ap (take (length old)) e ∙ take-append_seam old (x ∷ [])
+
+pub length-Inserts : {X : Type 0} (old new : List X) (x : X) (i : ℕ) → Inserts old new x i → length new ≤ length old + 1
+length-Inserts old new x i h = go h.change
+  where
+    go : (new ≡ old) ⊎ (new ≡ old ++ x ∷ []) → length new ≤ length old + 1
+    go (inl e) = omega (arith, ap length e)
+    go (inr e) = omega (arith, ap length e, length-append old (x ∷ []))
+
+-- a value that is new went last
+pub last-Inserts : {X : Type 0} (old new : List X) (x : X) (i : ℕ) → Inserts old new x i → length new ≢ length old → new ≡ old ++ x ∷ []
+last-Inserts old new x i h differ = go h.change
+  where
+    go : (new ≡ old) ⊎ (new ≡ old ++ x ∷ []) → new ≡ old ++ x ∷ []
+    go (inl e) = absurd (differ (ap length e))
+    go (inr e) = e
 
 -- the place of what was inserted is an old one or the next
 pub Inserts-le : {X : Type 0} (old new : List X) (x : X) (i : ℕ) → Inserts old new x i → i ≤ length old

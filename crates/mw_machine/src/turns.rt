@@ -10,7 +10,7 @@ const MOST_TURNS: u64 = (1 << 26) + 256;
 // The turns of each unit that a run may take: a call of a function takes one unit, and the code of most bodies is shorter.
 const TURNS_FOR_A_UNIT: u64 = 64;
 
-/// The turns of a run, which takes one for each instruction, a round of them at a time: those that are left, or, where they are not
+/// The turns of a run, which takes one for each entry of code, a round of them at a time: those that are left, or, where they are not
 /// limited, those that were taken.
 #[derive(Clone, Copy)]
 pub(crate) enum Turns {
@@ -19,7 +19,7 @@ pub(crate) enum Turns {
 }
 
 impl Turns {
-    /// The turns of a run of at most so many units.
+    /// The turns of a run of at most this many units.
     pub(crate) fn for_units(units: u64) -> Turns
         ensures { result ≡ Turns.Limited (min (2 ^ 26 + 256 + min (units * 64) (2 ^ 64 - 1)) (2 ^ 64 - 1)) }
     {

@@ -43,7 +43,7 @@ fn data_are_written(rt: HostRuntime) {
     assert!(rt; holds(rt.alloc(), writes_data));
 }
 
-// Whether so many bytes are written of a datum whose text would fill no memory, and label 1000 is then unused.
+// Whether this number of bytes is written for a datum whose text would not fit in memory, with label 1000 unused then.
 fn writes_shared(heap: &mut Heap) -> Result<bool, Memory> {
     let x = shared_pairs(heap)?;
     let mut out = Vec::new(heap.alloc());

@@ -1,5 +1,6 @@
 //! Objects that are kept once, names in their order, and the words that the crates above share.
 use crate::shared::holds;
+use mw_forms::pair;
 use mw_heap::{Heap, Mark, Memory, Refusal, View, Word, is_bare_name};
 
 // Whether a natural over 2^32 and a pair of it are seen as what they are, the pair is kept once, and one object stays without it.
@@ -13,6 +14,62 @@ fn keeps_a_pair_once(heap: &mut Heap) -> Result<bool, Memory> {
     let is_same = heap.same(pair, again);
     heap.cut_back(mark);
     Ok([is_large, is_pair, is_same, heap.mark().cells() == 1] == [true; 4])
+}
+
+// Whether a natural below 2^32 is kept once, also after one with the same last ten bits was noted in its place.
+fn keeps_small_naturals_once(heap: &mut Heap) -> Result<bool, Memory> {
+    let five = heap.small(5)?;
+    let other = heap.small(5 + 1024)?;
+    let again = heap.small(5)?;
+    let made = heap.nat(5)?;
+    Ok(
+        [
+            other != five,
+            again == five,
+            made == five,
+            heap.mark().cells() == 2,
+        ] == [true; 4],
+    )
+}
+
+// Whether a natural is made anew after a cut, where another object came to its noted place.
+fn makes_a_small_natural_anew(heap: &mut Heap) -> Result<bool, Memory> {
+    let five = heap.small(5)?;
+    heap.cut_back(Mark::before(five));
+    let nil = heap.nil()?;
+    let again = heap.small(5)?;
+    Ok(
+        [
+            nil == five,
+            again != nil,
+            heap.small_number(again) == Some(5),
+        ] == [true; 3],
+    )
+}
+
+// Whether the naturals below 2^32, and no other objects, have a small number.
+fn numbers_small_naturals(heap: &mut Heap) -> Result<bool, Memory> {
+    let last = heap.small(u32::MAX)?;
+    let is_last = heap.small_number(last) == Some(u32::MAX);
+    let large = heap.nat(1 << 32)?;
+    let is_large = heap.small_number(large).is_none();
+    let nil = heap.nil()?;
+    Ok([is_last, is_large, heap.small_number(nil).is_none()] == [true; 3])
+}
+
+// Whether the list (1) has its parts and its length, and 1 has no parts.
+fn has_the_parts_of_a_pair(heap: &mut Heap) -> Result<bool, Memory> {
+    let one = heap.small(1)?;
+    let is_atom = heap.pair_of(one).is_none();
+    let nil = heap.nil()?;
+    let list = pair(heap, one, nil)?;
+    Ok(
+        [
+            is_atom,
+            heap.pair_of(list) == Some((one, nil)),
+            heap.lengths(list) == (3, 2),
+        ] == [true; 3],
+    )
 }
 
 // Whether NIL is found by its name, and made anew after it was forgotten.
@@ -59,7 +116,7 @@ fn keeps_the_words(heap: &mut Heap) -> Result<bool, Memory> {
     )
 }
 
-// Whether of the symbols CAR and CDR, of which CAR came first, what is due is said.
+// Whether the answers about the symbols CAR and CDR, of which CAR came first, are as expected.
 fn orders_names(heap: &mut Heap) -> Result<bool, Memory> {
     let car = heap.symbol(b"CAR")?;
     let cdr = heap.symbol(b"CDR")?;
@@ -79,6 +136,22 @@ fn orders_names(heap: &mut Heap) -> Result<bool, Memory> {
 #[test]
 fn a_pair_is_kept_once(rt: HostRuntime) {
     assert!(rt; holds(rt.alloc(), keeps_a_pair_once));
+}
+
+#[test]
+fn a_small_natural_is_kept_once(rt: HostRuntime) {
+    assert!(rt; holds(rt.alloc(), keeps_small_naturals_once));
+    assert!(rt; holds(rt.alloc(), makes_a_small_natural_anew));
+}
+
+#[test]
+fn a_small_natural_has_its_number(rt: HostRuntime) {
+    assert!(rt; holds(rt.alloc(), numbers_small_naturals));
+}
+
+#[test]
+fn a_pair_has_its_parts(rt: HostRuntime) {
+    assert!(rt; holds(rt.alloc(), has_the_parts_of_a_pair));
 }
 
 #[test]

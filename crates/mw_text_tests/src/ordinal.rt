@@ -4,13 +4,13 @@ use mw_forms::{read, read_two};
 use mw_heap::{Heap, Memory};
 use mw_ordinal::{is_ordinal, ordinal_less};
 
-// Whether it is said as it is due that the datum of a text is an ordinal.
+// Whether the test for an ordinal gives the expected answer on the datum of a text.
 fn tells_ordinal(heap: &mut Heap, text: &[u8], due: bool) -> Result<bool, Memory> {
     let x = read(heap, text)?;
     Ok(is_ordinal(heap, x) == due)
 }
 
-// Whether it is said as it is due that the first member of a list is below the second.
+// Whether the order gives the expected answer on the first two members of a list.
 fn tells_below(heap: &mut Heap, text: &[u8], due: bool) -> Result<bool, Memory> {
     let (x, y) = read_two(heap, text)?;
     Ok(ordinal_less(heap, x, y) == due)

@@ -8,7 +8,7 @@ use std::alloc::Global;
 use std::convert::AsStr;
 use std::io::{self, Read, Write};
 
-// Whether five reads from a source of "abcdef" give what is due, and it is then in the buffer.
+// Whether five reads from a source of "abcdef" give the expected answers, with the bytes in the buffer.
 fn gives(source: &mut MemSource) -> bool {
     let mut buffer = [0; 3];
     [
@@ -34,7 +34,7 @@ fn a_source_gives_by_its_cuts_and_fails_as_listed(rt: HostRuntime) {
     assert!(rt; gives_by_cuts(rt.alloc()) == Ok(true));
 }
 
-// Whether four writes to a sink come to what is due, and it then has the bytes that it took.
+// Whether four writes to a sink give the expected answers, and the sink then has the bytes that it took.
 fn takes(sink: &mut MemSink) -> bool {
     [
         sink.write(b"abc") == Ok(2),
@@ -74,7 +74,7 @@ fn gives_steadily(source: &mut SteadySource) -> bool {
     ] == [true; 3]
 }
 
-// Whether three reads from a steady source that has one cut give what is due.
+// Whether three reads from a steady source that has one cut give the expected answers.
 fn gives_by_one_cut(alloc: Global) -> Result<bool, Memory> {
     let bytes = Vec::from_slice(alloc, b"abc")?;
     let mut source = SteadySource::new(alloc, bytes, vec![in alloc; 1]?);
@@ -128,7 +128,7 @@ impl Write for Broken {
     }
 }
 
-// Whether two reads from a stream that is broken give what is due, and it is then in the buffer.
+// Whether two reads from a stream that is broken give the expected answers, with the bytes in the buffer.
 fn hands_reads_on() -> bool {
     let mut source = StdSource::new(Broken { calls: 0 });
     let mut buffer = [0; 2];
@@ -139,7 +139,7 @@ fn hands_reads_on() -> bool {
     ] == [true; 3]
 }
 
-// Whether four writes to such a stream come to what is due.
+// Whether four writes to such a stream give the expected answers.
 fn hands_writes_on() -> bool {
     let mut sink = StdSink::new(Broken { calls: 0 });
     [

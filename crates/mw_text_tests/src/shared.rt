@@ -21,7 +21,7 @@ pub(crate) fn ends_with_text(out: &[u8], text: &[u8]) -> bool {
     out.starts_with(b"> ") && out.ends_with(text) && out.len() == 2 + text.len()
 }
 
-/// Adds to a text these bytes, so many times the member A of a list, and these bytes.
+/// Adds to a text these bytes, then the member A of a list, repeated this number of times, and these bytes.
 pub(crate) fn add_long_list(
     text: &mut Vec<u8>,
     before: &[u8],

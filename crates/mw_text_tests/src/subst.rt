@@ -79,7 +79,7 @@ fn variables_become_terms(rt: HostRuntime) {
     assert!(rt; holds(rt.alloc(), substitutes));
 }
 
-// Whether (F X) with 'A for X is (F 'A) where so many looks are allowed. The error is that they are too few.
+// Whether (F X) with 'A for X is (F 'A) where this number of looks is allowed. The error is that they are too few.
 fn substitutes_within(heap: &mut Heap, looks: u64) -> Result<bool, Memory> {
     let (x, quoted_a, before, after) = read_four(heap, b"(X 'A (F X) (F 'A))")?;
     heap.allow_looks(looks);
@@ -104,7 +104,7 @@ fn looks_past_those_allowed_are_out_of_memory(rt: HostRuntime) {
     assert!(rt; holds(rt.alloc(), takes_seven_looks));
 }
 
-// The call of CONS on an object twice, so many times over.
+// The call of CONS on an object twice, repeated this number of times.
 fn doubled(heap: &mut Heap, x: Ref, times: u32) -> Result<Ref, Memory> {
     let mut all = x;
     for _ in 0..times {
@@ -178,7 +178,7 @@ fn is_with_term(heap: &mut Heap, x: Ref, variable: Ref, term: Ref, y: Ref) -> Re
     is_instance(heap, x, &sigma, y)
 }
 
-// Whether it is said as it is due that the first of two terms with 'A for X is the second.
+// Whether the test that the first of two terms with 'A for X is the second gives the expected answer.
 fn tells_instance(heap: &mut Heap, text: &[u8], due: bool) -> Result<bool, Memory> {
     let (x, quoted_a, before, after) = read_four(heap, text)?;
     Ok(is_with_term(heap, before, x, quoted_a, after)? == due)

@@ -23,7 +23,7 @@ fn on_a_table<F: FnOnce(&mut Heap, &mut Arity) -> Result<bool, Memory>>(
     test(&mut heap, &mut arity)
 }
 
-// Adds a function that the table lacks. The error is memory that is refused, or a function that the table has.
+// Adds a function that the table lacks. The error is out of memory, or a function that the table has.
 fn add(arity: &mut Arity, name: &[u8], count: u64) -> Result<(), Memory>
     requires { is_name name.now ≡ true }
 {
@@ -152,7 +152,7 @@ fn variables_come_in_order_of_first_occurrence(rt: HostRuntime) {
     assert!(rt; holds(rt.alloc(), orders_variables));
 }
 
-// Whether this is due to be said of formals: how many there are, whether the symbol x is one of them, and whether they close a term.
+// Whether this is the answer about formals: how many there are, whether the symbol x is one of them, and whether they close a term.
 fn are_as_due(
     heap: &Heap,
     formals: &Formals,
@@ -169,7 +169,7 @@ fn are_as_due(
     Ok(due == Some((formals.as_slice().len(), is_one, closes)))
 }
 
-// The same of the formals in a list, where nothing is due of what is no list of formals; a text gives the list, x and the term.
+// The same of the formals in a list, with no answer if it is not a list of formals; a text gives the list, x and the term.
 fn tells_list(
     heap: &mut Heap,
     text: &[u8],
@@ -182,7 +182,7 @@ fn tells_list(
     }
 }
 
-// Whether what is due is said of (X W Y), of (X Y) and of (X X), each with Y and with a nested term, whose variables are Y, X and W.
+// Whether the answers about (X W Y), (X Y) and (X X) are as expected, each with Y and with a nested term, whose variables are Y, X and W.
 fn tells_formals(heap: &mut Heap) -> Result<bool, Memory> {
     Ok(
         [

@@ -10,7 +10,7 @@ const MOST_LOOKS: u64 = 1 << 26;
 // cells, and work that looks at each cell a few dozen times is never refused.
 const LOOKS_FOR_A_CELL: u64 = 256;
 
-/// How many looks at cells work on so many cells may take, where labels may have it look at a cell many times: past them it is answered
+/// How many looks at cells work on this number of cells may take, where labels may have it look at a cell many times: past them it is answered
 /// as out of memory. A look is as much work as it is to compare two cells and to note that they were compared; what searches a table or
 /// makes a cell takes several.
 pub fn looks_for(cells: usize) -> u64

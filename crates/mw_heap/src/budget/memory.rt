@@ -2,7 +2,7 @@
 use std::alloc::{AllocError, AllocFailed};
 use thiserror::Error;
 
-/// Memory was refused, or a bound was passed past which the answer is the same: all the cells that a heap can number, the looks that the
+/// Out of memory, or a bound was passed past which the answer is the same: all the cells that a heap can number, the looks that the
 /// work of an event, or of a formula, may take, the marks that may be made anew, the jobs of one body's code, the code that is kept, the turns of a run, the
 /// switches of a book.
 #[derive(Clone, Copy, Debug, PartialEq, Eq, Error)]

@@ -7,7 +7,7 @@ ghost use Rattle.mw_heap.specs.Words.{word_object};
 
 use crate::{Heap, Memory, Ref, Word};
 
-/// The list of these members. The error is memory that is refused: the heap may then have grown.
+/// The list of these members. The error is out of memory: the heap may then have grown.
 pub fn list_of(heap: &mut Heap, members: &[Ref]) -> Result<Ref, Memory>
     requires { All (IsIn heap.old.objects) members.now }
     ensures grows { Grows heap.old.objects heap.new.objects }

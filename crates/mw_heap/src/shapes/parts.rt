@@ -10,7 +10,7 @@ ghost use Rattle.mw_heap.specs.Words.{word_object};
 use crate::{Heap, Ref, View, Word};
 
 impl Heap {
-    /// The first part of a pair; nothing of what is no pair.
+    /// The first part of a pair; None if it is not a pair.
     pub fn car(&self, x: Ref) -> Option<Ref>
         requires { IsIn self.now.objects x }
         ensures within { IsPart self.now.objects result }
@@ -23,7 +23,7 @@ impl Heap {
         }
     }
 
-    /// The second part of a pair; nothing of what is no pair.
+    /// The second part of a pair; None if it is not a pair.
     pub fn cdr(&self, x: Ref) -> Option<Ref>
         requires { IsIn self.now.objects x }
         ensures within { IsPart self.now.objects result }
@@ -56,7 +56,7 @@ impl Heap {
         self.second_of(self.cdr(x)?)
     }
 
-    /// The number; 0 of what is no natural.
+    /// The number of a natural; 0 for any other object.
     pub fn number(&self, x: Option<Ref>) -> u128
         requires { IsPart self.now.objects x }
         ensures { result ≡ number (part_at self.now.objects x) }

@@ -1,7 +1,7 @@
 //! The heap.
 ghost use Rattle.std.specs.Prelude.{◌≡◌, ℕ, ◌+◌, ◌<◌, ◌≤◌, ◌^◌, List, [], true, false, length, take, IfOk, IfSome, IsOk, OnOk, OnErr, IsTrue, MatchOption};
 ghost use Rattle.mw_model.specs.Terms.Object.{Symbol, Natural, Pair, T, NIL, name_of_bytes, is_name, same_object, is_before_bytes};
-ghost use Rattle.mw_model.specs.Values.Primitive.{is_symbol, name_of};
+ghost use Rattle.mw_model.specs.Values.Primitive.{is_pair, is_symbol, name_of};
 ghost use Rattle.mw_model.specs.Events.Fate.{is_out_of_range};
 ghost use Rattle.mw_heap.specs.Lengths.{text_length, tail_length};
 ghost use Rattle.mw_heap.specs.Parts.{part_at, IsPart};
@@ -12,8 +12,8 @@ use crate::budget::looks::take_look;
 use crate::store::cell::Cell;
 use crate::store::lengths::{Length, tail_told, text_told};
 use crate::store::sets::{
-    Naturals, can_number, cell_at, counts_from, find_place, insert_measured, insert_name,
-    insert_natural, note_place,
+    Naturals, can_number, cell_at, counts_from, find_place, find_small, insert_measured,
+    insert_name, insert_natural, insert_pair, note_place, note_small,
 };
 use crate::vocabulary::word::{WORDS, are_kept, word_in};
 use crate::{Mark, Memory, Notes, Ref, View, Word};
@@ -32,6 +32,8 @@ pub struct Heap {
     names: IndexSet<Vec<u8>>,
     // for each name where its cell may stand, which is looked up there before it is searched for
     places: Vec<Ref>,
+    // for a small natural, by its last bits, where its cell may stand, which is looked up there before it is searched for
+    smalls: Vec<Ref>,
     // whether the words are known to be the first objects
     has_words: bool,
     // how many looks at cells are left to work that may look at a cell many times
@@ -70,6 +72,7 @@ impl Heap {
             naturals: IndexSet::with_hasher(alloc, BuildHasherDefault::new()),
             names: IndexSet::new(alloc),
             places: Vec::new(alloc),
+            smalls: Vec::new(alloc),
             has_words: false,
             looks_left: u64::MAX,
             notes: Vec::new(alloc),
@@ -82,7 +85,7 @@ impl Heap {
         self.alloc
     }
 
-    /// Allows so many looks at cells, in place of those that were left, to work that may look at a cell many times, as where labels share
+    /// Allows this number of looks at cells, in place of those that were left, to work that may look at a cell many times, as where labels share
     /// what is substituted in. A new heap allows as many as a u64 can tell.
     pub fn allow_looks(&mut self, looks: u64)
         ensures { self.new.objects ≡ self.old.objects }
@@ -98,7 +101,7 @@ impl Heap {
         take_look(&mut self.looks_left)
     }
 
-    /// Takes so many looks from those that are allowed. The error is that fewer are left.
+    /// Takes this number of looks from those that are allowed. The error is that fewer are left.
     pub fn take_looks(&mut self, looks: u64) -> Result<(), Memory>
         ensures { self.new.objects ≡ self.old.objects }
     {
@@ -122,7 +125,7 @@ impl Heap {
         notes
     }
 
-    /// Takes back notes that were lent. Where memory is refused they are dropped.
+    /// Takes back notes that were lent. Without memory for that they are dropped.
     pub fn take_notes(&mut self, notes: Notes)
         ensures { self.new.objects ≡ self.old.objects }
     {
@@ -138,13 +141,7 @@ impl Heap {
         ensures spare { self.old.spare ≤ self.new.spare + 1 }
     {
         if let Ok(small) = u32::try_from(n) {
-            return insert_measured(
-                &mut self.cells,
-                &mut self.lengths,
-                &self.naturals,
-                &self.names,
-                Cell::Small(small),
-            );
+            return self.small(small);
         }
         let had = self.naturals.len();
         let index = insert_natural(&mut self.naturals, n)?;
@@ -160,6 +157,61 @@ impl Heap {
                 self.naturals.truncate(had);
                 Err(refusal)
             }
+        }
+    }
+
+    /// The natural `n`, which is searched for only where its cell does not stand in its noted place.
+    #[inline(always)]
+    pub fn small(&mut self, n: u32) -> Result<Ref, Memory>
+        ensures grows { Grows self.old.objects self.new.objects }
+        ensures made { IfOk result (λ r. IsIn self.new.objects r × (object_at self.new.objects r ≡ Natural n)) }
+        ensures err { OnErr result (self.new.objects ≡ self.old.objects) }
+        ensures room { 0 < self.old.spare → IsOk result }
+        ensures spare { self.old.spare ≤ self.new.spare + 1 }
+    {
+        match self.known_small(n) {
+            Some(known) => Ok(known),
+            None => self.put_small(n),
+        }
+    }
+
+    // The natural, where its cell stands in its noted place.
+    #[inline(always)]
+    fn known_small(&self, n: u32) -> Option<Ref>
+        ensures { IfSome result (λ r. IsIn self.now.objects r × (object_at self.now.objects r ≡ Natural n)) }
+    {
+        find_small(&self.cells, self.smalls.as_slice(), n)
+    }
+
+    // The natural, which is searched for, and added if it is new.
+    #[inline(never)]
+    fn put_small(&mut self, n: u32) -> Result<Ref, Memory>
+        ensures grows { Grows self.old.objects self.new.objects }
+        ensures made { IfOk result (λ r. IsIn self.new.objects r × (object_at self.new.objects r ≡ Natural n)) }
+        ensures err { OnErr result (self.new.objects ≡ self.old.objects) }
+        ensures room { 0 < self.old.spare → IsOk result }
+        ensures spare { self.old.spare ≤ self.new.spare + 1 }
+    {
+        let made = insert_measured(
+            &mut self.cells,
+            &mut self.lengths,
+            &self.naturals,
+            &self.names,
+            Cell::Small(n),
+        )?;
+        note_small(&mut self.smalls, n, made);
+        Ok(made)
+    }
+
+    /// The number of a natural below 2^32; None for any other object.
+    #[inline(always)]
+    pub fn small_number(&self, x: Ref) -> Option<u32>
+        requires { IsIn self.now.objects x }
+        ensures { MatchOption result ((n : ℕ) → object_at self.now.objects x ≡ Natural n → 2 ^ 32 ≤ n) (λ n. object_at self.now.objects x ≡ Natural n) }
+    {
+        match cell_at(&self.cells, x) {
+            Cell::Small(n) => Some(n),
+            _ => None,
         }
     }
 
@@ -201,7 +253,7 @@ impl Heap {
     }
 
     /// Keeps the words as the first objects, from now on and until a cut takes one away: then each is found without a search, and needs
-    /// no memory. The error is memory that is refused, or that other objects came first: the heap may then have grown, and keeps none.
+    /// no memory. The error is out of memory, or that other objects came first: the heap may then have grown, and keeps none.
     pub fn keep_words(&mut self) -> Result<(), Memory>
         ensures { Grows self.old.objects self.new.objects }
     {
@@ -228,7 +280,7 @@ impl Heap {
         }
     }
 
-    /// The word whose symbol an object is; nothing of what is none of them. Where the words are kept its place tells, and else their names are
+    /// The word whose symbol an object is; None if it is none of these. Where the words are kept its place tells, and else their names are
     /// compared.
     pub fn word_at(&self, x: Ref) -> Option<Word>
         requires { IsIn self.now.objects x }
@@ -294,7 +346,7 @@ impl Heap {
         }
     }
 
-    /// T and NIL. Room for both is made before either is, so that where memory is refused neither is made, and no room is smaller than
+    /// T and NIL. Room for both is made before either is, so that out of memory neither is made, and no room is smaller than
     /// before.
     pub fn truths(&mut self) -> Result<(Ref, Ref), Memory>
         ensures grows { Grows self.old.objects self.new.objects }
@@ -325,13 +377,21 @@ impl Heap {
         ensures room { 0 < self.old.spare → IsOk result }
         ensures spare { self.old.spare ≤ self.new.spare + 1 }
     {
-        insert_measured(
-            &mut self.cells,
-            &mut self.lengths,
-            &self.naturals,
-            &self.names,
-            Cell::Pair(first.short_index(), second.short_index()),
-        )
+        insert_pair(&mut self.cells, &mut self.lengths, first, second)
+    }
+
+    /// The parts of a pair; None if it is not a pair.
+    #[inline(always)]
+    pub fn pair_of(&self, x: Ref) -> Option<(Ref, Ref)>
+        requires { IsIn self.now.objects x }
+        ensures within { IfSome result (λ p. IsIn self.now.objects p.0 × IsIn self.now.objects p.1) }
+        ensures value { MatchOption result (is_pair (object_at self.now.objects x) ≡ false) (λ p. object_at self.now.objects x ≡ Pair (object_at self.now.objects p.0) (object_at self.now.objects p.1)) }
+        ensures older { IfSome result (λ p. (p.0 < x) × (p.1 < x)) }
+    {
+        match cell_at(&self.cells, x) {
+            Cell::Pair(first, second) => Some((Ref::new(first), Ref::new(second))),
+            _ => None,
+        }
     }
 
     /// What an object is made of. A pair's parts stand before it.
@@ -443,8 +503,8 @@ impl Heap {
         let _ = &self.cells;
     }
 
-    /// Makes room for so many more cells: as many calls of `nat` and `cons` then ask for no memory. The error is memory that is refused, or
-    /// that so many more cells could not be numbered; no room is then smaller than before.
+    /// Makes room for `cells` more: as many calls of `nat` and `cons` then ask for no memory. The error is out of memory, or
+    /// that as many more cells could not be numbered; no room is then smaller than before.
     pub fn reserve(&mut self, cells: usize) -> Result<(), Memory>
         ensures objects { self.new.objects ≡ self.old.objects }
         ensures room { OnOk result (cells ≤ self.new.spare) }
@@ -462,7 +522,7 @@ impl Heap {
         }
     }
 
-    /// Makes room for about so many more cells at once, where memory allows, so that the tables are seldom made anew. It promises no room:
+    /// Makes room for about `cells` more at once, where memory allows, so that the tables are seldom made anew. It promises no room:
     /// `reserve` does, which makes as much for large naturals.
     pub fn make_room(&mut self, cells: usize)
         ensures objects { self.new.objects ≡ self.old.objects }

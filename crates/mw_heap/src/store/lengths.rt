@@ -86,8 +86,8 @@ fn symbol_length(name: &[u8]) -> Length
     atom_length(name.len() + bars)
 }
 
-// The length of a pair, by those of its parts.
-fn pair_length(first: Length, rest: Length) -> Length
+/// The length of a pair, by those of its parts.
+pub(crate) fn pair_length(first: Length, rest: Length) -> Length
     ensures { (a d : Object) → first ≡ length_of a → rest ≡ length_of d → result ≡ length_of (Pair a d) }
 {
     match u16::try_from(text_told(first) + tail_told(rest)) {

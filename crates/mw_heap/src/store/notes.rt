@@ -71,7 +71,7 @@ impl Notes {
     }
 
     /// Notes a cell that is not noted yet. It takes memory in proportion to the place of the cell, unless one as far was noted before. The
-    /// error is that memory is refused.
+    /// error is out of memory.
     #[inline(always)]
     pub fn add(&mut self, x: Ref, note: Ref) -> Result<(), Memory>
         requires new { lookup (nat_eq x) self.old ≡ None }

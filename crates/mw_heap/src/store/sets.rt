@@ -6,7 +6,7 @@ ghost use Rattle.mw_heap.specs.Inserted.{Inserts};
 ghost use Rattle.mw_heap.specs.Lengths.{IsMeasurable, Measures};
 
 use crate::store::cell::Cell;
-use crate::store::lengths::{Length, measure};
+use crate::store::lengths::{Length, measure, pair_length};
 use crate::{Memory, Ref};
 use indexmap::IndexSet;
 use std::hash::{BuildHasherDefault, DefaultHasher};
@@ -36,7 +36,7 @@ pub(crate) fn insert_cell(cells: &mut IndexSet<Cell>, cell: Cell) -> Result<Ref,
     Err(Memory)
 }
 
-// Whether so many more cells can be numbered.
+// Whether this number of further cells can be numbered.
 pub(crate) fn can_number(cells: &IndexSet<Cell>, more: usize) -> bool
     requires { length cells.now.keys < 2 ^ 32 }
     ensures { IsTrue result ↔ (more ≤ 2 ^ 32 - 1 - length cells.now.keys) }
@@ -79,6 +79,40 @@ pub(crate) fn insert_measured(
             Err(Memory)
         }
     }
+}
+
+// The same for the pair of these parts, whose lengths are at hand.
+pub(crate) fn insert_pair(
+    cells: &mut IndexSet<Cell>,
+    lengths: &mut Vec<Length>,
+    first: Ref,
+    second: Ref,
+) -> Result<Ref, Memory>
+    requires few { length cells.old.keys < 2 ^ 32 }
+    requires all { vec_len lengths.old ≡ length cells.old.keys }
+    requires parts { (first < length cells.old.keys) × (second < length cells.old.keys) }
+    ensures inserted { IfOk result (λ r. Inserts cells.old.keys cells.new.keys (Cell.Pair first second) r) }
+    ensures distinct { OnOk result (IsInjective cells.new.keys) }
+    ensures few { length cells.new.keys < 2 ^ 32 }
+    ensures measured { (naturals : List ℕ) (names : List (List ℕ)) → OnOk result (Measures naturals names cells.old.keys cells.new.keys lengths.old.items lengths.new.items (Cell.Pair first second)) }
+    ensures err { OnErr result (cells.new.keys ≡ cells.old.keys) }
+    ensures lengths_err { OnErr result (lengths.new.items ≡ lengths.old.items) }
+    ensures room { 0 < min (spare cells.old) (min (vec_capacity lengths.old - vec_len lengths.old) (2 ^ 32 - 1 - length cells.old.keys)) → IsOk result }
+    ensures spare { spare cells.old ≤ spare cells.new + 1 }
+    ensures lengths_spare { vec_capacity lengths.old - vec_len lengths.old ≤ vec_capacity lengths.new - vec_len lengths.new + 1 }
+    ensures numbers { length cells.new.keys ≤ length cells.old.keys + 1 }
+{
+    let had = lengths.len();
+    let made = insert_cell(cells, Cell::Pair(first.short_index(), second.short_index()))?;
+    if cells.len() == had {
+        return Ok(made);
+    }
+    let measured = pair_length(lengths[first.index()], lengths[second.index()]);
+    if lengths.push(measured).is_err() {
+        cells.truncate(had);
+        return Err(Memory);
+    }
+    Ok(made)
 }
 
 // The index of the natural, which goes last if it is new.
@@ -134,6 +168,37 @@ pub(crate) fn note_place(places: &mut Vec<Ref>, index: usize, x: Ref) {
         places[index] = x;
     } else if index == places.len() {
         let _ = places.push(x);
+    }
+}
+
+// How many places of small naturals are noted.
+const NOTED: usize = 1024;
+
+// Where the place of this natural is noted, which others of the same last bits share.
+#[inline(always)]
+fn slot_of(n: u32) -> usize {
+    n as usize % NOTED
+}
+
+// The noted place of this natural, where its cell stands there.
+#[inline(always)]
+pub(crate) fn find_small(cells: &IndexSet<Cell>, smalls: &[Ref], n: u32) -> Option<Ref>
+    ensures { IfSome result (λ place. slice_get cells.now.keys place ≡ Some (Cell.Small n)) }
+{
+    let place = *smalls.get(slot_of(n))?;
+    match cells.as_slice().get(place.index()) {
+        Some(Cell::Small(m)) if *m == n => Some(place),
+        _ => None,
+    }
+}
+
+// Notes where this natural stands. The first note makes room for all, and without memory nothing is noted.
+pub(crate) fn note_small(smalls: &mut Vec<Ref>, n: u32, x: Ref) {
+    if smalls.is_empty() {
+        let _ = smalls.resize(NOTED, x);
+    }
+    if let Some(noted) = smalls.get_mut(slot_of(n)) {
+        *noted = x;
     }
 }
 

@@ -244,7 +244,7 @@ pub(crate) fn word_in(place: Ref) -> Option<Word>
     }
 }
 
-// Whether the words stay known where the heap is cut back to so many cells.
+// Whether the words stay known where the heap is cut back to this number of cells.
 pub(crate) fn are_kept(known: bool, cells: usize) -> bool
     ensures { result ≡ true → (known ≡ true) × (word_count ≤ cells) }
 {

@@ -1,33 +1,9 @@
--- A cell that is new goes last, and its length beside it; where that is refused the cell is taken out again.
-use Rattle.std.proofs.Common.{◌≡◌, ◌≢◌, ℕ, ◌+◌, ◌≤◌, List, [], ◌∷◌, ◌++◌, length, take, sym, ap, ◌∙◌, subst, arith, inl, inr, length-append}
-use Rattle.std.proofs.lemmas.List.{take_all}
-use Rattle.std.proofs.Math.Seq.{take-append_seam}
+-- A cell that is new goes last, and its length beside it; if memory runs out for that, the cell is taken out again.
+use Rattle.std.proofs.Common.{◌≡◌, length, take, sym, ap, ◌∙◌, subst, arith, inr}
 use Rattle.mw_heap.specs.Cells.{bytes_of}
-use Rattle.mw_heap.specs.Inserted.{Inserts}
 use Rattle.mw_heap.specs.Lengths.{IsLengthOf}
+use Rattle.mw_heap.proofs.Sound.{take-Inserts, length-Inserts, last-Inserts}
 use Rattle.mw_heap.proofs.store.sets.insert_measured.Goals as goal
-
--- what an insertion changes
-module _ {X : Type 0} (old new : List X) (x : X) (i : ℕ) (inserts : Inserts old new x i) where
-  length-Inserts : length new ≤ length old + 1
-  length-Inserts = elim inserts.change [
-    | inl h ↦ omega (arith, ap length h)
-    | inr h ↦ omega (arith, ap length h, length-append old (x ∷ []))
-  ]
-
-  -- a value that is new went last
-  last-Inserts : length new ≢ length old → new ≡ old ++ x ∷ []
-  last-Inserts differ = elim inserts.change [
-    | inl h ↦ absurd (differ (ap length h))
-    | inr h ↦ h
-  ]
-
-  -- and is taken out again by a cut
-  take-Inserts : take (length old) new ≡ old
-  take-Inserts = elim inserts.change [
-    | inl h ↦ ap (take (length old)) h ∙ take_all (length old) old (omega arith)
-    | inr h ↦ ap (take (length old)) h ∙ take-append_seam old (x ∷ [])
-  ]
 
 pub returns-in-Ok-clause-measured : goal.returns-in-Ok-clause-measured
 returns-in-Ok-clause-measured c =

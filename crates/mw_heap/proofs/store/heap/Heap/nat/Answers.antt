@@ -1,11 +1,11 @@
--- A small natural is a cell by itself; a large one is listed, and then its cell.
+-- A large natural is listed, and then its cell.
 use Rattle.std.proofs.Common.{◌∙◌, ◌<◌, ◌≤◌, ◌^◌, refl, ap, arith}
 use Rattle.std.proofs.lemmas.Option.{slice_get_within}
 use Rattle.mw_model.specs.Terms.Object.{Natural}
 use Rattle.mw_heap.specs.Cells.{is_large, bytes_of}
 use Rattle.mw_heap.proofs.Counts.{count_of-le-length}
-use Rattle.mw_heap.proofs.Measuring.{length-measured, measured-result, measured-after, objects-listed_natural}
-use Rattle.mw_heap.proofs.Sound.{BecomesWith, plain_sound, plain_grows, plain_made, Inserts-le, grows_from}
+use Rattle.mw_heap.proofs.Measuring.{length-measured, measured-after, objects-listed_natural}
+use Rattle.mw_heap.proofs.Sound.{BecomesWith, Inserts-le, grows_from}
 use Rattle.mw_heap.proofs.Numbered.{natural_adds}
 use Rattle.mw_heap.proofs.Words.{KeepsWords-Grows}
 use Rattle.mw_heap.proofs.store.heap.Heap.nat.Goals as goal
@@ -13,31 +13,8 @@ use Rattle.mw_heap.proofs.store.heap.Heap.nat.Goals as goal
 pub insert_measured-requires-clause-all : goal.insert_measured-requires-clause-all
 insert_measured-requires-clause-all c = c.self.inside.lengths.ok.0 ∙ length-measured _ _ _ _ c.self.invariant.measured
 
-pub insert_measured-requires-2-clause-all : goal.insert_measured-requires-2-clause-all
-insert_measured-requires-2-clause-all c = c.self.inside.lengths.ok.0 ∙ length-measured _ _ _ _ c.self.invariant.measured
-
-pub insert_measured-requires-2-clause-measurable : goal.insert_measured-requires-2-clause-measurable
-insert_measured-requires-2-clause-measurable c = slice_get_within _ _ _ c.in_ok-index.ensures.inserted.stands
-
-pub invariant_of-self : goal.invariant_of-self
-invariant_of-self c =
-    let e = c.insert_measured.ensures in
-    record {
-      sound = plain_sound _ _ _ c.self.invariant.sound _ (refl, refl) (omega (arith, c.in-Ok.ensures.0, c.in-Ok.ensures.1)) _ (ap (λ v. v.objects) c.self.view_is) _ e.few _ e.inserted e.distinct e.err;
-      measured = measured-result _ _ _ _ _ _ _ _ c.self.invariant.measured e.measured e.err e.lengths_err;
-      words = KeepsWords-Grows _ _ _ _ (ap (λ v. v.objects) c.self.view_is)
-          (plain_grows _ _ _ c.self.invariant.sound _ (refl, refl) (omega (arith, c.in-Ok.ensures.0, c.in-Ok.ensures.1)) _ (ap (λ v. v.objects) c.self.view_is) _ e.few _ e.inserted e.distinct e.err) c.self.invariant.words;
-    }
-
-pub returns-in-Ok-clause-grows : goal.returns-in-Ok-clause-grows
-returns-in-Ok-clause-grows c =
-    let e = c.insert_measured.ensures in
-    plain_grows _ _ _ c.self.invariant.sound _ (refl, refl) (omega (arith, c.in-Ok.ensures.0, c.in-Ok.ensures.1)) _ (ap (λ v. v.objects) c.self.view_is) _ e.few _ e.inserted e.distinct e.err
-
-pub returns-in-Ok-clause-made : goal.returns-in-Ok-clause-made
-returns-in-Ok-clause-made c =
-    let e = c.insert_measured.ensures in
-    plain_made _ _ _ c.self.invariant.sound _ (refl, refl) (omega (arith, c.in-Ok.ensures.0, c.in-Ok.ensures.1)) _ (ap (λ v. v.objects) c.self.view_is) _ e.few _ (ap Natural c.in-Ok.ensures.1) _ e.inserted e.distinct
+pub insert_measured-requires-clause-measurable : goal.insert_measured-requires-clause-measurable
+insert_measured-requires-clause-measurable c = slice_get_within _ _ _ c.in_ok-index.ensures.inserted.stands
 
 pub overflow_cast-index : goal.overflow_cast-index
 overflow_cast-index c =
@@ -45,7 +22,7 @@ overflow_cast-index c =
     let sound = c.self.invariant.sound in
     omega (arith, Inserts-le old.naturals.keys _ _ _ c.in_ok-index.ensures.inserted, sound.all_naturals, count_of-le-length is_large old.cells.keys, sound.are_cells.few)
 
-adds : (c : goal.In-Ok-insert_measured) → BecomesWith c.self.inside.naturals.keys c.insert_natural.new.naturals.keys (bytes_of c.self.inside.names.keys) (bytes_of c.self.inside.names.keys) c.self.inside.cells.keys c.insert_measured-2.new.cells.keys c.in-Ok-insert_measured.made (Natural c.args.n)
+adds : (c : goal.In-Ok-insert_measured) → BecomesWith c.self.inside.naturals.keys c.insert_natural.new.naturals.keys (bytes_of c.self.inside.names.keys) (bytes_of c.self.inside.names.keys) c.self.inside.cells.keys c.insert_measured.new.cells.keys c.in-Ok-insert_measured.made (Natural c.args.n)
 adds c =
     let e = c.in-Ok-insert_measured.ensures in
     let large : (2 ^ 32 ≤ c.args.n) × (c.args.n < 2 ^ 128) = (omega (arith, c.in_default.ensures), omega (arith, c.ranges.n.fits)) in
