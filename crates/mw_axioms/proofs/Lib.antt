@@ -1,3 +1,2 @@
 pub mod OnStack
-pub mod Gathers
 pub mod TableMeans

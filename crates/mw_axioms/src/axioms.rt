@@ -4,10 +4,10 @@ ghost use Rattle.mw_model.specs.Terms.Term.{formula_object};
 ghost use Rattle.mw_model.specs.Proofs.Axioms.{primitive_axioms};
 ghost use Rattle.mw_heap.specs.Objects.{object_at, Grows};
 ghost use Rattle.mw_heap.specs.Variants.{profile_of};
-ghost use Rattle.mw_axioms.specs.Stacks.{AreIn};
+ghost use Rattle.mw_build.specs.Stacks.{AreIn};
 
-use crate::machine::run;
 use crate::table::{OF_TIMES, SHARED};
+use mw_build::make_all;
 use mw_heap::{Heap, Memory, Profile, Ref};
 use std::marker::Model;
 
@@ -48,10 +48,10 @@ pub fn build(heap: &mut Heap, profile: Profile) -> Result<Axioms, Memory>
     ensures axioms { IfOk result (λ a. map (object_at heap.new.objects) a ≡ map formula_object (primitive_axioms (profile_of profile))) }
 {
     let mut formulas = Vec::new(heap.alloc());
-    run(heap, &mut formulas, &SHARED)?;
+    make_all(heap, &SHARED, &mut formulas)?;
     match profile {
         Profile::One => {}
-        Profile::Two => run(heap, &mut formulas, &OF_TIMES)?,
+        Profile::Two => make_all(heap, &OF_TIMES, &mut formulas)?,
     }
     Ok(Axioms { formulas })
 }

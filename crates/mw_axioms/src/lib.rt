@@ -2,8 +2,6 @@
 #![tactic(auto)]
 
 mod axioms;
-mod machine;
-mod piece;
 mod table;
 
 pub use axioms::{Axioms, build};

@@ -1,68 +1,69 @@
 //! The axioms, written as pieces: the parts of each list stand before it, so that `X, Y, IS` is (pequal* x y).
-use crate::piece::Piece::{self, List, Number, Symbol};
-use crate::piece::Word;
+use mw_build::Piece::{self, Call, Form, Number};
+use mw_build::Variable;
+use mw_heap::{Primitive, Word};
 
-const X: Piece = Symbol(Word::X);
+const X: Piece = Piece::Variable(Variable::X);
 
-const Y: Piece = Symbol(Word::Y);
+const Y: Piece = Piece::Variable(Variable::Y);
 
-const Z: Piece = Symbol(Word::Z);
+const Z: Piece = Piece::Variable(Variable::Z);
 
-const A: Piece = Symbol(Word::A);
+const A: Piece = Piece::Variable(Variable::A);
 
-const B: Piece = Symbol(Word::B);
+const B: Piece = Piece::Variable(Variable::B);
 
-const C: Piece = Symbol(Word::C);
+const C: Piece = Piece::Variable(Variable::C);
 
-const X1: Piece = Symbol(Word::X1);
+const X1: Piece = Piece::Variable(Variable::X1);
 
-const X2: Piece = Symbol(Word::X2);
+const X2: Piece = Piece::Variable(Variable::X2);
 
-const Y1: Piece = Symbol(Word::Y1);
+const Y1: Piece = Piece::Variable(Variable::Y1);
 
-const Y2: Piece = Symbol(Word::Y2);
+const Y2: Piece = Piece::Variable(Variable::Y2);
 
-const T: Piece = Symbol(Word::T);
+const T: Piece = Piece::Word(Word::T);
 
-const NIL: Piece = Symbol(Word::Nil);
+const NIL: Piece = Piece::Word(Word::Nil);
 
 const ZERO: Piece = Number(0);
 
 const ONE: Piece = Number(1);
 
-const QUOTE: Piece = List(Word::Quote, 1);
+const QUOTE: Piece = Form(Word::Quote, 1);
 
-const IS: Piece = List(Word::Is, 2);
+const IS: Piece = Form(Word::Pequal, 2);
 
-const NOT: Piece = List(Word::Not, 1);
+const NOT: Piece = Form(Word::Pnot, 1);
 
-const OR: Piece = List(Word::Or, 2);
+const OR: Piece = Form(Word::Por, 2);
 
-const IF: Piece = List(Word::If, 3);
+const IF: Piece = Call(Primitive::If, 3);
 
-const EQUAL: Piece = List(Word::Equal, 2);
+const EQUAL: Piece = Call(Primitive::Equal, 2);
 
-const CONSP: Piece = List(Word::Consp, 1);
+const CONSP: Piece = Call(Primitive::Consp, 1);
 
-const CONS: Piece = List(Word::Cons, 2);
+const CONS: Piece = Call(Primitive::Cons, 2);
 
-const CAR: Piece = List(Word::Car, 1);
+const CAR: Piece = Call(Primitive::Car, 1);
 
-const CDR: Piece = List(Word::Cdr, 1);
+const CDR: Piece = Call(Primitive::Cdr, 1);
 
-const SYMBOLP: Piece = List(Word::Symbolp, 1);
+const SYMBOLP: Piece = Call(Primitive::Symbolp, 1);
 
-const BEFORE: Piece = List(Word::SymbolLess, 2);
+const BEFORE: Piece = Call(Primitive::SymbolLess, 2);
 
-const NATP: Piece = List(Word::Natp, 1);
+const NATP: Piece = Call(Primitive::Natp, 1);
 
-const LESS: Piece = List(Word::Less, 2);
+const LESS: Piece = Call(Primitive::Less, 2);
 
-const PLUS: Piece = List(Word::Plus, 2);
+const PLUS: Piece = Call(Primitive::Plus, 2);
 
-const MINUS: Piece = List(Word::Minus, 2);
+const MINUS: Piece = Call(Primitive::Minus, 2);
 
-const TIMES: Piece = List(Word::Times, 2);
+const TIMES: Piece = Call(Primitive::Times, 2);
 
 // The axioms of both profiles.
 pub(crate) static SHARED: [Piece; 640] = [

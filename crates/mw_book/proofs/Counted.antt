@@ -5,11 +5,11 @@ use Rattle.mw_model.specs.Terms.Object.{Object}
 use Rattle.mw_model.specs.Texts.Pieces.{how_many}
 use Rattle.mw_model.specs.Reports.Request.{Taut}
 use Rattle.mw_commands.specs.Commands.TautologyBook.{OwesTautology, is_proved, tautology_summary}
-use Rattle.mw_lines.specs.Lines.{formulas_line}
+use Rattle.mw_taut.specs.Counts.{formulas_line}
 use Rattle.mw_book.specs.Answered.{Answered, IsProving, ProvedFor, lines_of}
 use Rattle.mw_book.specs.Answering.{Answers}
 use Rattle.mw_book.specs.Statuses.{AreAnswers}
-use Rattle.mw_book.specs.declared.proving.Proving.{Proving}
+use Rattle.mw_book.specs.declared.taut.Proving.{Proving}
 use Rattle.mw_book.proofs.Pieces.{how_many-append}
 use Rattle.mw_book.proofs.Promising.{answers_both}
 use Rattle.mw_book.proofs.Proved.{proved_by}

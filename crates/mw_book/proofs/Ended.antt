@@ -7,9 +7,9 @@ use Rattle.mw_model.specs.Events.Fate.{fate, next, after}
 use Rattle.mw_model.specs.Texts.Printing.{numeral}
 use Rattle.mw_model.specs.Reports.Report.{spaced, is_accepted, accepted_among, refused_among, summary}
 use Rattle.mw_kernel.specs.Knowledge.{theory_of}
-use Rattle.mw_lines.specs.Lines.{summary_of}
+use Rattle.mw_book.specs.Lines.{summary_of}
 use Rattle.mw_book.specs.Knowing.{Judged}
-use Rattle.mw_book.specs.declared.judging.Judging.{Judging}
+use Rattle.mw_book.specs.declared.check.Judging.{Judging}
 
 -- each event is accepted or refused
 one_more : (b : Bool) (a r n : ℕ) → a + r ≡ n → (cond b 1 0 + a) + (cond b 0 1 + r) ≡ suc n

@@ -17,10 +17,10 @@ use Rattle.mw_kernel.specs.declared.fate.Fate.TheVariants as outcome
 use Rattle.mw_kernel.specs.Fates.{fate_of}
 use Rattle.mw_kernel.specs.Knowledge.{Knowledge, theory_of}
 use Rattle.mw_kernel.specs.Explained.{PutsWhy}
-use Rattle.mw_lines.specs.Lines.{line_begun, summary_of}
+use Rattle.mw_book.specs.Lines.{line_begun, summary_of}
 use Rattle.mw_book.specs.Answering.{Answers, HasAnswered}
 use Rattle.mw_book.specs.Explained.{Explained, ExplainedFor, piece_for}
-use Rattle.mw_book.specs.declared.explaining.Explaining.{Explaining}
+use Rattle.mw_book.specs.declared.explain.Explaining.{Explaining}
 use Rattle.mw_book.proofs.AnsweredBy.{answers_by}
 use Rattle.mw_book.proofs.Courses.{event_after, judged}
 use Rattle.mw_book.proofs.OneEvent.{course_summary_is, pieces_more, refused_few, refused_more, refused_text, theory_more}

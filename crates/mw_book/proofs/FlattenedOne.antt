@@ -14,10 +14,10 @@ use Rattle.mw_commands.specs.Commands.Transition.{Transition, is_acceptance, las
 use Rattle.mw_commands.specs.Commands.Slice.{begins_with, some_passes}
 use Rattle.mw_commands.specs.Commands.Flattening.{OwesFlat, flat_events, flat_summary, is_logged_word, is_switch, plain_course}
 use Rattle.mw_kernel.specs.Knowledge.{Knowledge, theory_of}
-use Rattle.mw_lines.specs.Lines.{flat_line}
+use Rattle.mw_book.specs.Lines.{flat_line}
 use Rattle.mw_book.specs.Answering.{Answers, HasAnswered}
 use Rattle.mw_book.specs.Flattened.{Flattened, FlattenedFor, HasEndedEvent, has_no_place, is_known_logged, lines_of}
-use Rattle.mw_book.specs.declared.flattening.Flattening.{Flattening}
+use Rattle.mw_book.specs.declared.flat.Flattening.{Flattening}
 use Rattle.mw_book.proofs.AnsweredBy.{answers_by}
 use Rattle.mw_book.proofs.Courses.{event_after, course_more, judged, last-append, length-course}
 use Rattle.mw_book.proofs.FlatPieces.{few_flat, flat_more, flat_one, some_more}

@@ -5,7 +5,8 @@ use Rattle.mw_model.specs.Reports.Request.{Request, Check, Taut, Lower, Flat, Re
 use Rattle.mw_kernel.specs.Knowledge.{theory_of}
 use Rattle.mw_read.specs.Kinds.{kind_of}
 use Rattle.mw_read.specs.declared.step.SyntaxKind.{SyntaxKind}
-use Rattle.mw_lines.specs.Lines.{answers_line, fault_line, flat_line, formulas_line, summary_of}
+use Rattle.mw_taut.specs.Counts.{formulas_line}
+use Rattle.mw_book.specs.Lines.{answers_line, fault_line, flat_line, summary_of}
 use Rattle.mw_book.specs.Answered.{Answered, IsProving, ProvedFor}
 use Rattle.mw_book.specs.Answering.{fault_of}
 use Rattle.mw_book.specs.LastTexts.{IsLastText, refused_for}
@@ -14,12 +15,12 @@ use Rattle.mw_book.specs.Flattened.{Flattened, FlattenedFor}
 use Rattle.mw_book.specs.Lowered.{Lowered, LoweredFor}
 use Rattle.mw_book.specs.Rechecked.{Rechecked, RecheckedFor}
 use Rattle.mw_book.specs.Explained.{Explained, ExplainedFor}
-use Rattle.mw_book.specs.declared.explaining.Explaining.{Explaining}
-use Rattle.mw_book.specs.declared.flattening.Flattening.{Flattening}
-use Rattle.mw_book.specs.declared.judging.Judging.{Judging}
-use Rattle.mw_book.specs.declared.lowering.Lowering.{Lowering}
-use Rattle.mw_book.specs.declared.proving.Proving.{Proving}
-use Rattle.mw_book.specs.declared.rechecking.Rechecking.{Rechecking}
+use Rattle.mw_book.specs.declared.explain.Explaining.{Explaining}
+use Rattle.mw_book.specs.declared.flat.Flattening.{Flattening}
+use Rattle.mw_book.specs.declared.check.Judging.{Judging}
+use Rattle.mw_book.specs.declared.lower.Lowering.{Lowering}
+use Rattle.mw_book.specs.declared.taut.Proving.{Proving}
+use Rattle.mw_book.specs.declared.recheck.Rechecking.{Rechecking}
 use Rattle.mw_book.proofs.AnsweredBy.{last_by, refused_by, some_refused_by}
 use Rattle.mw_book.proofs.Counted.{summary_is as formulas_are}
 use Rattle.mw_book.proofs.Ended.{summary_is}

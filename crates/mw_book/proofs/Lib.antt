@@ -29,6 +29,8 @@ pub mod RecheckedOne
 pub mod ExplainedOne
 pub mod SlicedPlaces
 pub mod LastLines
+pub mod Summary
+pub mod Symbols
 pub mod Sinks
 pub mod Clauses
 pub mod ExpectedOutputs

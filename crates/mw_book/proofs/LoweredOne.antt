@@ -19,10 +19,10 @@ use Rattle.mw_commands.specs.Commands.Derivation.{Turns}
 use Rattle.mw_commands.specs.Commands.Transition.{Transition, Effect, last_theory}
 use Rattle.mw_commands.specs.Commands.Lowering.{IsLoweredBy, OwesByFate, OwesLowered, derived_course, course_summary}
 use Rattle.mw_kernel.specs.Knowledge.{Knowledge, theory_of}
-use Rattle.mw_lines.specs.Lines.{line_begun, summary_of}
+use Rattle.mw_book.specs.Lines.{line_begun, summary_of}
 use Rattle.mw_book.specs.Answering.{Answers, HasAnswered}
 use Rattle.mw_book.specs.Lowered.{Lowered, LoweredFor}
-use Rattle.mw_book.specs.declared.lowering.Lowering.{Lowering}
+use Rattle.mw_book.specs.declared.lower.Lowering.{Lowering}
 use Rattle.mw_book.proofs.AnsweredBy.{answers_by}
 use Rattle.mw_book.proofs.Courses.{event_after}
 use Rattle.mw_book.proofs.OneEvent.{course_summary_is, pieces_more, refused_few, refused_more, refused_text, theory_more}

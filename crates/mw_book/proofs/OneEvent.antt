@@ -8,7 +8,7 @@ use Rattle.mw_model.specs.Reports.Report.{fate_text, line, is_accepted}
 use Rattle.mw_model.specs.Texts.Pieces.{InOrder, how_many}
 use Rattle.mw_commands.specs.Commands.Transition.{Transition, Effect, course, last_theory, is_acceptance}
 use Rattle.mw_commands.specs.Commands.Lowering.{refused_in, course_summary}
-use Rattle.mw_lines.specs.Lines.{line_begun, summary_of}
+use Rattle.mw_book.specs.Lines.{line_begun, summary_of}
 use Rattle.mw_book.proofs.Courses.{event_after, course_more, last-append, length-course}
 use Rattle.mw_book.proofs.Ended.{same_text}
 use Rattle.mw_book.proofs.OneMore.{line-parts}

@@ -9,8 +9,8 @@ use Rattle.mw_model.specs.Events.Fate.{is_out_of_range, fate, next, after}
 use Rattle.mw_model.specs.Texts.Printing.{numeral}
 use Rattle.mw_model.specs.Reports.Report.{fate_text, word_text, label_text, line, lines, is_accepted, refused_among}
 use Rattle.mw_kernel.specs.Knowledge.{Knowledge, theory_of}
-use Rattle.mw_lines.specs.Lines.{line_begun}
-use Rattle.mw_book.specs.declared.judging.Judging.{Judging}
+use Rattle.mw_book.specs.Lines.{line_begun}
+use Rattle.mw_book.specs.declared.check.Judging.{Judging}
 use Rattle.mw_model.specs.Reports.Request.{Check}
 use Rattle.mw_book.specs.Answering.{Answers, HasAnswered}
 use Rattle.mw_book.specs.Knowing.{Judged, JudgedFor}

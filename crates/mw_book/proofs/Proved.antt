@@ -12,12 +12,11 @@ use Rattle.mw_heap.specs.Objects.{Grows}
 use Rattle.mw_heap.proofs.Objects.{length-Grows, IsIn-Grows, object_at-Grows}
 use Rattle.mw_term.proofs.CallerLemmas.{AreMarks-take, AreMarks-cut}
 use Rattle.mw_term.specs.Marking.{ObjectMark, AreMarks}
-use Rattle.mw_lines.specs.Members.{ShowsWord}
-use Rattle.mw_book.specs.Answered.{Answered, IsProving, ProvedFor, lines_of}
+use Rattle.mw_book.specs.Answered.{Answered, IsProving, ProvedFor, ShowsWord, lines_of}
 use Rattle.mw_book.specs.Answering.{Answers, HasAnswered}
 use Rattle.mw_book.specs.Statuses.{AreAnswers}
 use Rattle.mw_book.proofs.AnsweredBy.{answers_by}
-use Rattle.mw_book.specs.declared.proving.Proving.{Proving}
+use Rattle.mw_book.specs.declared.taut.Proving.{Proving}
 
 pub known_proving : (p : Proving) → HasAnswered ProvedFor p → IsProving p
 known_proving p h = h.2.2.0

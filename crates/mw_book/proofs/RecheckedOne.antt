@@ -15,10 +15,10 @@ use Rattle.mw_read.specs.Shown.{IsShown, ShowsEvent, first_symbol}
 use Rattle.mw_flat.specs.Going.{Going, theory_of, HasCollected, IsNoted, IsAnswered, ComesBy, Comes, is_step_word}
 use Rattle.mw_flat.specs.Verdicts.{answer_of}
 use Rattle.mw_flat.specs.declared.verdict.Verdict.{Verdict}
-use Rattle.mw_lines.specs.Lines.{answers_line, line_begun}
+use Rattle.mw_book.specs.Lines.{answers_line, line_begun}
 use Rattle.mw_book.specs.Answering.{Answers, HasAnswered}
 use Rattle.mw_book.specs.Rechecked.{HasEndedDatum, Rechecked, RecheckedFor, denied_said, events_said, said_text}
-use Rattle.mw_book.specs.declared.rechecking.Rechecking.{Rechecking}
+use Rattle.mw_book.specs.declared.recheck.Rechecking.{Rechecking}
 use Rattle.mw_book.proofs.AnsweredBy.{answers_by}
 use Rattle.mw_book.proofs.Logs.{all_answered, event_more, few_entered, last_entered, log_lines-append, step_more, theory_after-last, with_last_event, with_last_step}
 use Rattle.mw_book.proofs.OneMore.{joined, line_after}

@@ -15,7 +15,7 @@ use Rattle.mw_kernel.specs.Knowledge.{Knowledge, theory_of}
 use Rattle.mw_slice.specs.Slices.{events_of}
 use Rattle.mw_book.specs.Answering.{Answers}
 use Rattle.mw_book.specs.Sliced.{Sliced, SlicedFor, name_asked}
-use Rattle.mw_book.specs.declared.slicing.Slicing.{Slicing}
+use Rattle.mw_book.specs.declared.slice.Slicing.{Slicing}
 use Rattle.mw_book.proofs.AnsweredBy.{answers_by}
 use Rattle.mw_book.proofs.Appending.{after-append}
 use Rattle.mw_book.proofs.Courses.{course-append, course_leads, judged}

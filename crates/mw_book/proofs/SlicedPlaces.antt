@@ -15,11 +15,11 @@ use Rattle.mw_commands.specs.Commands.Slicing.{accepted_events, SliceOwed}
 use Rattle.mw_read.specs.Kinds.{kind_of}
 use Rattle.mw_read.specs.declared.step.SyntaxKind.{SyntaxKind}
 use Rattle.mw_slice.specs.Slices.{events_of}
-use Rattle.mw_lines.specs.Lines.{fault_line}
+use Rattle.mw_book.specs.Lines.{fault_line}
 use Rattle.mw_book.specs.Answering.{fault_of}
 use Rattle.mw_book.specs.LastTexts.{IsLastText, refused_for}
 use Rattle.mw_book.specs.Sliced.{SlicedFor, name_asked}
-use Rattle.mw_book.specs.declared.slicing.Slicing.{Slicing}
+use Rattle.mw_book.specs.declared.slice.Slicing.{Slicing}
 use Rattle.mw_book.proofs.AnsweredBy.{last_by, refused_by}
 use Rattle.mw_book.proofs.SlicedOne.{IsSliced, slice_request}
 

@@ -1,5 +1,5 @@
 -- What may be written of a slice, and how a slice ends.
-use Rattle.std.proofs.Common.{◌≡◌, ℕ, ◌≤◌, cond, List, [], ◌∷◌, ◌++◌, length, map, Option, Some, None, codes, refl, sym, append-nil, is_some}
+use Rattle.std.proofs.Common.{◌≡◌, ℕ, ◌≤◌, cond, List, [], ◌∷◌, ◌++◌, length, map, Option, Some, None, codes, refl, is_some}
 use Rattle.mw_model.specs.Terms.Object.{Name, Object}
 use Rattle.mw_model.specs.Texts.Lexemes.{Fault}
 use Rattle.mw_model.specs.Texts.Grammar.{Book, limit}
@@ -10,7 +10,7 @@ use Rattle.mw_model.specs.Texts.Pieces.{InOrder, comment, comment_ending}
 use Rattle.mw_commands.specs.Commands.Slice.{event_at, target, IsSlice}
 use Rattle.mw_commands.specs.Commands.Slicing.{accepted_events, of_events, SliceOwed, SliceWritten, slicing_status, status_for}
 use Rattle.mw_commands.specs.Headlines.{SliceAccepted}
-use Rattle.mw_book.proofs.Pieces.{LabelledTexts, in_order_both, may_be_written}
+use Rattle.mw_book.proofs.Pieces.{LabelledTexts, may_be_written}
 
 -- that a slice is accepted when it is read again
 abbrev pub SlicesAgain : Type 0
@@ -32,9 +32,6 @@ all_written labelled (x ∷ xs) =
     let w = may_be_written labelled x in
     let r = all_written labelled xs in
     ((w.0 ++ 10 ∷ []) ++ r.0, (w.0 ++ 10 ∷ [], r.0, refl, (w.0, w.1, w.2, refl), r.1))
-
-pub line_more : (xs : List Object) (x : Object) (body line : List ℕ) → InOrder IsDatumLine xs body → IsDatumLine x line → InOrder IsDatumLine (xs ++ x ∷ []) (body ++ line)
-line_more xs x body line h d = in_order_both IsDatumLine xs (x ∷ []) body line h (line, [], sym (append-nil line), d, refl)
 
 pub some_slice : LabelledTexts → HasSlices → (f : Option Fault) (goal : Option ℕ) (es accepted : List Object) → (text : List ℕ) × SliceOwed f goal es accepted text
 some_slice labelled has (Some f) goal es accepted = (comment_ending (Some f) [], refl)

@@ -9,7 +9,7 @@ use Rattle.mw_commands.specs.Commands.Lowering.{refused_in}
 use Rattle.mw_commands.specs.Commands.Flattening.{plain_course}
 use Rattle.mw_kernel.specs.Knowledge.{theory_of}
 use Rattle.mw_book.specs.Answering.{AnsweredBy}
-use Rattle.mw_book.specs.declared.explaining.Explaining.{Explaining}
+use Rattle.mw_book.specs.declared.explain.Explaining.{Explaining}
 
 -- These data were judged: the kernel has the theory that they lead to, and the numbers count them.
 pub record Explained (x : Explaining) (N : ℕ) (given : List Object) : Type 0 where

@@ -8,7 +8,7 @@ use Rattle.mw_commands.specs.Commands.Slice.{some_passes}
 use Rattle.mw_commands.specs.Commands.Flattening.{flat_events, is_switch, plain_course}
 use Rattle.mw_kernel.specs.Knowledge.{theory_of}
 use Rattle.mw_book.specs.Answering.{AnsweredBy}
-use Rattle.mw_book.specs.declared.flattening.Flattening.{Flattening}
+use Rattle.mw_book.specs.declared.flat.Flattening.{Flattening}
 
 -- a refused event and a switch have no place in a log
 abbrev pub has_no_place : Transition → Bool
@@ -37,7 +37,7 @@ abbrev pub is_known_logged : {E : Type 0} → Result Bool E → Bool
 is_known_logged (Ok b) = b
 is_known_logged (Err e) = false
 
--- An event was counted, that was accepted or not, and a switch or not; what is due for it was put after the lines. Of one that is accepted and no
+-- An event was counted, that was accepted or not, and a switch or not; what belongs to it was put after the lines. Of one that is accepted and no
 -- switch it is known whether a log has its word.
 pub record HasEndedEvent {E : Type 0} (old new : Flattening) (accepted : Bool) (logged : Result Bool E) (switch : Bool) : Type 0 where
   pub line : new.lines.items ≡ old.lines.items ++ cond (accepted && (not switch && is_known_logged logged)) old.piece.items []

@@ -8,7 +8,7 @@ use Rattle.mw_model.specs.Events.Fate.{after}
 use Rattle.mw_model.specs.Reports.Report.{refused_among}
 use Rattle.mw_kernel.specs.Knowledge.{theory_of}
 use Rattle.mw_book.specs.Answering.{AnsweredBy}
-use Rattle.mw_book.specs.declared.judging.Judging.{Judging}
+use Rattle.mw_book.specs.declared.check.Judging.{Judging}
 
 -- These data were judged: the kernel has the theory that they lead to, and the numbers count them.
 pub record Judged (j : Judging) (N : ℕ) (given : List Object) : Type 0 where

@@ -13,4 +13,5 @@ pub mod Explained
 pub mod Checks
 pub mod Runs
 pub mod Complete
+pub mod Lines
 pub mod Exits

@@ -6,7 +6,7 @@ use Rattle.mw_commands.specs.Commands.Transition.{last_theory}
 use Rattle.mw_commands.specs.Commands.Lowering.{derived_course, refused_in}
 use Rattle.mw_kernel.specs.Knowledge.{theory_of}
 use Rattle.mw_book.specs.Answering.{AnsweredBy}
-use Rattle.mw_book.specs.declared.lowering.Lowering.{Lowering}
+use Rattle.mw_book.specs.declared.lower.Lowering.{Lowering}
 
 -- These data were judged, with derivations as good as proofs: the kernel has the theory that they lead to, and the numbers count them.
 pub record Lowered (l : Lowering) (N : ℕ) (given : List Object) : Type 0 where

@@ -6,7 +6,7 @@ use Rattle.mw_commands.specs.Commands.Log.{Answer, Yes, No}
 use Rattle.mw_commands.specs.Commands.LogReport.{answer_text, denied, last_logged, log_of}
 use Rattle.mw_flat.specs.Going.{HasCollected, theory_of}
 use Rattle.mw_book.specs.Answering.{AnsweredBy}
-use Rattle.mw_book.specs.declared.rechecking.Rechecking.{Rechecking}
+use Rattle.mw_book.specs.declared.recheck.Rechecking.{Rechecking}
 
 -- These data were answered: the theory is the one to which their events lead, the steps after the last event wait, and the numbers count the data,
 -- the events, and those that got a no.

@@ -9,7 +9,7 @@ use Rattle.mw_commands.specs.Commands.Slicing.{accepted_events}
 use Rattle.mw_kernel.specs.Knowledge.{theory_of}
 use Rattle.mw_slice.specs.Slices.{events_of}
 use Rattle.mw_book.specs.Answering.{AnsweredBy}
-use Rattle.mw_book.specs.declared.slicing.Slicing.{Slicing}
+use Rattle.mw_book.specs.declared.slice.Slicing.{Slicing}
 
 -- the name of the theorem that is asked for
 abbrev pub name_asked : Slicing → Name

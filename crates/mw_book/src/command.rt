@@ -18,9 +18,8 @@ use crate::promise::answers_promised;
 use crate::recheck::recheck;
 use crate::slice::slice;
 use crate::taut::taut;
-use mw_port::{Sink, Source, Text};
+use mw_port::{Sink, Source, Text, TrialSource};
 use mw_request::{Request, request_of};
-use mw_trial::TrialSource;
 use std::alloc::Global;
 
 // How the program is used: a line for each command.

@@ -4,7 +4,7 @@ ghost use Rattle.mw_port.specs.Memories.{no_faults};
 
 use mw_port::{Halt, Sink};
 
-/// Where the lines go that nobody is to read. It tells nothing of what it took, and never fails.
+/// Where the lines go that nobody is to read. It keeps nothing of what it took, and never fails.
 #[derive(Drop)]
 pub(crate) struct Nowhere;
 

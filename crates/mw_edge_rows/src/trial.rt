@@ -1,8 +1,7 @@
 //! The trial book, in pieces of two sizes.
 ghost use Rattle.std.specs.Prelude.{◌<◌, length};
 
-use mw_book::TrialSource;
-use mw_port::Source;
+use mw_port::{Source, TrialSource};
 use std::test::Fail;
 
 const TWO: &[u8] = b"(verify trial (pequal* (+ '1 '1) '2) (base-eval (pequal* (+ '1 '1) '2)))

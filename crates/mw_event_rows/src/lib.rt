@@ -1,4 +1,4 @@
-//! Worked books for events of each kind, as tests of the whole program: definitions, runs, inductions, profiles, what is no event.
+//! Worked books for events of each kind, as tests of the whole program: definitions, runs, inductions, profiles, and data that are not events.
 #![tactic(auto)]
 
 #[cfg(test)]

@@ -8,6 +8,7 @@ use Rattle.mw_model.specs.Terms.Reading.{and_more, formula_under}
 use Rattle.mw_model.specs.Values.Definition.{arity_table}
 use Rattle.mw_model.specs.Values.Primitive.{is_pair}
 use Rattle.mw_model.specs.Laws.Rules.{is_formula_object, is_substitution_object}
+use Rattle.mw_model.specs.Laws.RulesInduction.{is_list_object}
 use Rattle.mw_model.specs.Terms.Substitution.{is_substitution, substitution_of}
 use Rattle.mw_model.specs.Proofs.Proof.{Method, Axiom, Theorem, PropositionalSchema, FunctionalEquality, BetaReduction, BaseEval, Expansion, Contraction, Associativity, Cut, Instantiation, Induction}
 use Rattle.mw_model.specs.Proofs.Judgment.{methods, method_among, judge, judge_each}
@@ -21,7 +22,7 @@ use Rattle.mw_rules.specs.declared.method.Method.TheVariants.{Axiom as CodeAxiom
 use Rattle.mw_rules.specs.Methods.{method_of_logic}
 use Rattle.mw_explain.specs.declared.condition.Wrong.{Wrong}
 use Rattle.mw_explain.specs.declared.condition.Wrong.TheVariants.{Shape, Method as WrongMethod, Formula as WrongFormula, Subproofs, Extras, Premises, Induction as WrongInduction, Rule}
-use Rattle.mw_explain.specs.Condition.{is_list, IsPartIn, IsWrong, IsWrongRow}
+use Rattle.mw_explain.specs.Condition.{IsPartIn, IsWrong, IsWrongRow}
 use Rattle.mw_explain.proofs.LookingInFormulas.{formula_passes}
 
 none_of : {X : Type 0} (o : Option X) → is_some o ≡ false → o ≡ None
@@ -51,7 +52,7 @@ module _ (t : Theory) where
   conclusions ps = judge_each t.axioms t.theorems A t.definitions.profile ps
 
   -- proofs have conclusions exactly where they are a proper list, and as many
-  proper : (ps : Object) → ((q : Object) → Member q ps → is_proof_at t q ≡ true) → is_some (conclusions ps) ≡ is_list ps
+  proper : (ps : Object) → ((q : Object) → Member q ps → is_proof_at t q ≡ true) → is_some (conclusions ps) ≡ is_list_object ps
   proper (Natural n) f = refl
   proper (Symbol s) f = some_if [] (same_name s nil_name)
   proper (Pair p ps) f = some_more (judge t.axioms t.theorems A t.definitions.profile p) (conclusions ps) (f p (first ps)) ∙ proper ps (λ q i. f q (later p ps i))
@@ -157,10 +158,10 @@ module _ (t : Theory) where
           row_wrong os Rule h = (m, F, Fs, is_m, is_F, is_Fs, with_extras h.2 h.0 ∙ ap (λ z. step_shown x ∷ z) (counted m true h.1), h.0, s)
 
       module _ (formed : is_formula_object A (second_of x) ≡ true) (f : (q : Object) → Member q (third_of x) → is_proof_at t q ≡ true) where
-        pub no_list : is_list (third_of x) ≡ false → wrong_step t x ≡ step_shown x ∷ symbol "SUBPROOFS" ∷ []
+        pub no_list : is_list_object (third_of x) ≡ false → wrong_step t x ≡ step_shown x ∷ symbol "SUBPROOFS" ∷ []
         no_list h = let F = some_of (formula_under A (second_of x)) formed in without_conclusions F.0 F.1 (none_of (conclusions (third_of x)) (proper (third_of x) f ∙ h))
 
-        pub wrong_by_row : (os : List Object) (w : Wrong) → is_list (third_of x) ≡ true → IsWrongRow A m (third_of x) (fourth_of x) w → IsWrong t os x w
+        pub wrong_by_row : (os : List Object) (w : Wrong) → is_list_object (third_of x) ≡ true → IsWrongRow A m (third_of x) (fourth_of x) w → IsWrong t os x w
         wrong_by_row os w h k =
             let F = some_of (formula_under A (second_of x)) formed in
             let Fs = some_of (conclusions (third_of x)) (proper (third_of x) f ∙ h) in
@@ -180,40 +181,6 @@ of_induction CodeAssociativity h = cc
 of_induction CodeCut h = cc
 of_induction CodeInstantiation h = cc
 of_induction CodeInduction h = refl
-
--- and CUT
-pub of_cut : (m : code.Method) → method_of_logic m ≡ Cut → m ≡ CodeCut
-of_cut CodeAxiom h = cc
-of_cut CodeTheorem h = cc
-of_cut CodePropositionalSchema h = cc
-of_cut CodeFunctionalEquality h = cc
-of_cut CodeBetaReduction h = cc
-of_cut CodeBaseEval h = cc
-of_cut CodeExpansion h = cc
-of_cut CodeContraction h = cc
-of_cut CodeAssociativity h = cc
-of_cut CodeCut h = refl
-of_cut CodeInstantiation h = cc
-of_cut CodeInduction h = cc
-
--- ---- lists
-
-pub end_of_list : (y : Object) → is_pair y ≡ false → is_list y ≡ same_object y NIL
-end_of_list (Natural n) h = refl
-end_of_list (Symbol s) h = refl
-end_of_list (Pair a b) h = cc
-
-pub end_of_members : (n : ℕ) (y : Object) → is_pair y ≡ false → has_members n y ≡ (eqb n 0 && same_object y NIL)
-end_of_members zero y h = refl
-end_of_members (suc n) (Natural k) h = ap (λ b. b && false) (sym (eqb-suc-zero n))
-end_of_members (suc n) (Symbol s) h = ap (λ b. b && same_object (Symbol s) NIL) (sym (eqb-suc-zero n))
-end_of_members (suc n) (Pair a b) h = cc
-
-pub more_members : (n : ℕ) (y a b : Object) → y ≡ Pair a b → has_members (suc n) y ≡ has_members n b
-more_members n y a b h = ap (has_members (suc n)) h
-
-pub extras_of_instance : (A : ArityTable) (x : Object) → is_substitution_object A x ≡ are_extras A Instantiation x
-extras_of_instance A x = is_substitution_object-is A x ∙ sym (that-present (is_substitution A) (substitution_of x))
 
 pub formed_at : (t : Theory) (A : ArityTable) (x : Object) → arity_table t.definitions ≡ A → is_formula_object A (second_of x) ≡ true → is_formula_object (arity_table t.definitions) (second_of x) ≡ true
 formed_at t A x e h = ap (λ B. is_formula_object B (second_of x)) e ∙ h

@@ -19,7 +19,7 @@ use Rattle.mw_define.specs.Blocks.{draft_at, IsDraftIn, IsExpansion}
 use Rattle.mw_define.specs.Newer.{HasNoArities, AreArities}
 use Rattle.mw_commands.specs.Commands.Explanation.{draft_shown, first_shown, names_in, formals_in}
 use Rattle.mw_explain.specs.Drafts.{IsExpandedTo, bodies_under, formals_at}
-use Rattle.mw_explain.specs.Shown.{Shows}
+use Rattle.mw_bad_steps.specs.Shown.{Shows}
 
 -- any reason but two shows the variables
 pub other-reasons : (r : Reason) (A B : ArityTable) (d : Draft) → (r ≡ reason.Formals → ⊥) → (r ≡ reason.Term → ⊥) → draft_shown (refusal_of r) A B d ≡ draft_shown VARIABLES A B d

@@ -7,11 +7,9 @@ use Rattle.mw_model.specs.Values.Definition.{arity_table}
 use Rattle.mw_model.specs.Events.Theory.{Theory}
 use Rattle.mw_heap.specs.Objects.{object_at}
 use Rattle.mw_proof.specs.Step.{is_proof}
-use Rattle.mw_commands.specs.Commands.ExplanationSteps.{placed, placed_step, first_bad, is_proof_at, wrong_step, bad_step_shown}
-use Rattle.mw_explain.specs.declared.bad_step.BadStep.{BadStep}
-use Rattle.mw_explain.specs.BadStep.{placed_in}
-use Rattle.mw_explain.specs.Showing.{before}
-use Rattle.mw_explain.proofs.ShownSteps.{listed_before}
+use Rattle.mw_commands.specs.Commands.ExplanationSteps.{listed, placed, placed_step, first_bad, is_proof_at, wrong_step, bad_step_shown}
+use Rattle.mw_bad_steps.specs.declared.bad_step.BadStep.{BadStep}
+use Rattle.mw_bad_steps.specs.BadStep.{placed_in}
 
 module _ (t : Theory) (os : List Object) (y : Object) (o : Option BadStep) where
   abbrev pub Found : Object → Object → ArityTable → Profile → Type 0
@@ -29,5 +27,5 @@ module _ (t : Theory) (os : List Object) (y : Object) (o : Option BadStep) where
     pub one_found : (b : BadStep) → o ≡ Some b → first_bad (is_proof_at t) y ≡ Some (placed b.place.items (object_at os b.step))
     one_found b s = found_at ∙ ap (placed_in os) s
 
-    pub step_follows_place : (b : BadStep) → o ≡ Some b → bad_step_shown t y ≡ before (map Natural b.place.items) NIL ∷ wrong_step t (object_at os b.step)
-    step_follows_place b s = ap (placed_step t) (one_found b s) ∙ ap (λ l. l ∷ wrong_step t (object_at os b.step)) (listed_before (map Natural b.place.items))
+    pub step_follows_place : (b : BadStep) → o ≡ Some b → bad_step_shown t y ≡ listed (map Natural b.place.items) ∷ wrong_step t (object_at os b.step)
+    step_follows_place b s = ap (placed_step t) (one_found b s)

@@ -5,7 +5,8 @@ use Rattle.mw_model.specs.Terms.Object.{Name, Object, Natural, Symbol, Pair}
 use Rattle.mw_model.specs.Terms.Term.{ArityTable, arity_of}
 use Rattle.mw_model.specs.Events.Expansion.{Abbreviation, AND, OR, COND, LIST, LET, LETSTAR, FIRST, SECOND, THIRD, FOURTH, FIFTH, QUOTE, Other, abbreviation_of, expand}
 use Rattle.mw_commands.specs.Commands.ExplanationTerms.{or_itself, bad_part, bad_in_list, bad_in_clauses, bad_in_bindings, bad_in_let, bad_raw}
-use Rattle.mw_explain.specs.RawParts.{members, clause_members, binding_members, let_members, form_members, raw_parts, found_in}
+use Rattle.mw_bad_steps.specs.Members.{members_in}
+use Rattle.mw_explain.specs.RawParts.{clause_members, binding_members, let_members, form_members, raw_parts, found_in}
 
 pub option_or-assoc : (a b c : Option Object) → option_or (option_or a b) c ≡ option_or a (option_or b c)
 option_or-assoc None b c = refl
@@ -22,7 +23,7 @@ module _ (A : ArityTable) where
   abbrev found : List Object → Option Object
   found ps = found_in (bad_raw A) ps
 
-  in_list : (x : Object) → bad_in_list abbreviation_of good A x ≡ found (members x)
+  in_list : (x : Object) → bad_in_list abbreviation_of good A x ≡ found (members_in x)
   in_list (Natural n) = refl
   in_list (Symbol s) = refl
   in_list (Pair a r) = ap (option_or (bad_raw A a)) (in_list r)
@@ -30,26 +31,26 @@ module _ (A : ArityTable) where
   in_clauses : (x : Object) → bad_in_clauses abbreviation_of good A x ≡ found (clause_members x)
   in_clauses (Natural n) = refl
   in_clauses (Symbol s) = refl
-  in_clauses (Pair a r) = ap₂ option_or (in_list a) (in_clauses r) ∙ sym (found-append (bad_raw A) (members a) (clause_members r))
+  in_clauses (Pair a r) = ap₂ option_or (in_list a) (in_clauses r) ∙ sym (found-append (bad_raw A) (members_in a) (clause_members r))
 
   in_bindings : (x : Object) → bad_in_bindings abbreviation_of good A x ≡ found (binding_members x)
   in_bindings (Natural n) = refl
   in_bindings (Symbol s) = refl
   in_bindings (Pair (Natural n) r) = refl
   in_bindings (Pair (Symbol s) r) = refl
-  in_bindings (Pair (Pair x e) r) = ap₂ option_or (in_list e) (in_bindings r) ∙ sym (found-append (bad_raw A) (members e) (binding_members r))
+  in_bindings (Pair (Pair x e) r) = ap₂ option_or (in_list e) (in_bindings r) ∙ sym (found-append (bad_raw A) (members_in e) (binding_members r))
 
   in_let : (x : Object) → bad_in_let abbreviation_of good A x ≡ found (let_members x)
   in_let (Natural n) = refl
   in_let (Symbol s) = refl
-  in_let (Pair ps b) = ap₂ option_or (in_bindings ps) (in_list b) ∙ sym (found-append (bad_raw A) (binding_members ps) (members b))
+  in_let (Pair ps b) = ap₂ option_or (in_bindings ps) (in_list b) ∙ sym (found-append (bad_raw A) (binding_members ps) (members_in b))
 
   -- what is looked for behind a word of this meaning
   abbrev in_form : Abbreviation → Bool → Object → Option Object
   in_form meaning known r =
       elim meaning [ QUOTE ↦ None | COND ↦ bad_in_clauses abbreviation_of good A r | LET ↦ bad_in_let abbreviation_of good A r | LETSTAR ↦ bad_in_let abbreviation_of good A r | Other ↦ cond known (bad_in_list abbreviation_of good A r) None | _ ↦ bad_in_list abbreviation_of good A r ]
 
-  called : (known : Bool) (r : Object) → cond known (bad_in_list abbreviation_of good A r) None ≡ found (cond known (members r) [])
+  called : (known : Bool) (r : Object) → cond known (bad_in_list abbreviation_of good A r) None ≡ found (cond known (members_in r) [])
   called true r = in_list r
   called false r = refl
 

@@ -8,7 +8,8 @@ use Rattle.mw_model.specs.Events.Expansion.{abbreviation_of}
 use Rattle.mw_heap.specs.declared.store.view.View.{View}
 use Rattle.mw_heap.specs.declared.store.view.View.TheVariants.{Nat, Symbol as Named, Pair as Parts}
 use Rattle.mw_heap.specs.Objects.{object_at, Shows}
-use Rattle.mw_explain.specs.RawParts.{members, clause_members, binding_members, let_members, form_members, lambda_members, raw_parts, AreBefore, Puts}
+use Rattle.mw_bad_steps.specs.Members.{members_in}
+use Rattle.mw_explain.specs.RawParts.{clause_members, binding_members, let_members, form_members, lambda_members, raw_parts, AreBefore, PutsParts}
 
 map-push : (f : ℕ → Object) (rs : List ℕ) (r : ℕ) → map f (rs ++ r ∷ []) ≡ map f rs ++ f r ∷ []
 map-push f [] r = refl
@@ -39,7 +40,7 @@ module _ (os : List Object) (x : ℕ) where
   }
 
   -- all parts of y
-  pub putting-more : (whole rest all ps : List Object) (y : ℕ) (old now more : List ℕ) → IsPutting os x whole all old now → all ≡ ps ++ rest → y ≤ x → Puts os y ps now more → IsPutting os x whole rest old more
+  pub putting-more : (whole rest all ps : List Object) (y : ℕ) (old now more : List ℕ) → IsPutting os x whole all old now → all ≡ ps ++ rest → y ≤ x → PutsParts os y ps now more → IsPutting os x whole rest old more
   putting-more whole rest all ps y old now more h e l p = record {
     parts =
         ap (λ l. l ++ rest) p.parts
@@ -48,32 +49,32 @@ module _ (os : List Object) (x : ℕ) where
     before = λ n m b. p.before n (omega (arith, l, m)) (h.before n m b);
   }
 
-  pub putting-end : (whole rest : List Object) (old now : List ℕ) → IsPutting os x whole rest old now → rest ≡ [] → Puts os x whole old now
+  pub putting-end : (whole rest : List Object) (old now : List ℕ) → IsPutting os x whole rest old now → rest ≡ [] → PutsParts os x whole old now
   putting-end whole rest old now h e = record {
     parts = sym (append-nil (map (object_at os) now)) ∙ (ap (λ l. map (object_at os) now ++ l) (sym e) ∙ h.parts);
     before = h.before;
   }
 
   -- nothing is put
-  pub puts-none : (ps : List Object) (old : List ℕ) → ps ≡ [] → Puts os x ps old old
+  pub puts-none : (ps : List Object) (old : List ℕ) → ps ≡ [] → PutsParts os x ps old old
   puts-none ps old e = putting-end ps ps old old (putting-start ps old) e
 
 -- parts of y are parts of x
-pub puts-older : (os : List Object) (x y : ℕ) (all ps : List Object) (old new : List ℕ) → all ≡ ps → y ≤ x → Puts os y ps old new → Puts os x all old new
+pub puts-older : (os : List Object) (x y : ℕ) (all ps : List Object) (old new : List ℕ) → all ≡ ps → y ≤ x → PutsParts os y ps old new → PutsParts os x all old new
 puts-older os x y all ps old new e l p = record { parts = p.parts ∙ ap (λ qs. map (object_at os) old ++ qs) (sym e); before = λ n m b. p.before n (omega (arith, l, m)) b }
 
 -- the body of a lambda call, and then its actuals
-pub puts-lambda : (os : List Object) (x head actuals body : ℕ) (l xs z : Object) (old pushed new : List ℕ) → object_at os head ≡ Pair l (Pair xs (Pair (object_at os body) z)) → body < head → pushed ≡ old ++ body ∷ [] → Puts os actuals (members (object_at os actuals)) pushed new → head < x → actuals < x → Puts os x (lambda_members (object_at os head) (object_at os actuals)) old new
+pub puts-lambda : (os : List Object) (x head actuals body : ℕ) (l xs z : Object) (old pushed new : List ℕ) → object_at os head ≡ Pair l (Pair xs (Pair (object_at os body) z)) → body < head → pushed ≡ old ++ body ∷ [] → PutsParts os actuals (members_in (object_at os actuals)) pushed new → head < x → actuals < x → PutsParts os x (lambda_members (object_at os head) (object_at os actuals)) old new
 puts-lambda os x head actuals body l xs z old pushed new e b k p h a =
     let r = object_at os actuals in
     let all = lambda_members (object_at os head) r in
-    let is : all ≡ object_at os body ∷ members r = ap (λ y. lambda_members y r) e in
-    let one = putting-one os x all (members r) all body old old pushed (putting-start os x all old) is (omega (arith, b, h)) k in
-    let two = putting-more os x all [] (members r) (members r) actuals old pushed new one (sym (append-nil (members r))) (omega (arith, a)) p in
+    let is : all ≡ object_at os body ∷ members_in r = ap (λ y. lambda_members y r) e in
+    let one = putting-one os x all (members_in r) all body old old pushed (putting-start os x all old) is (omega (arith, b, h)) k in
+    let two = putting-more os x all [] (members_in r) (members_in r) actuals old pushed new one (sym (append-nil (members_in r))) (omega (arith, a)) p in
     putting-end os x all [] old new two refl
 
 -- what is no pair has no members
-pub no-members : (x : Object) → is_pair x ≡ false → members x ≡ []
+pub no-members : (x : Object) → is_pair x ≡ false → members_in x ≡ []
 no-members (Natural n) h = refl
 no-members (Symbol s) h = refl
 no-members (Pair a b) h = cc
@@ -99,7 +100,7 @@ no-let (Symbol s) h = refl
 no-let (Pair a b) h = cc
 
 -- the parts of y, and then those of z
-pub puts-both : (os : List Object) (x y z : ℕ) (all ps qs : List Object) (old now more : List ℕ) → all ≡ ps ++ qs → y ≤ x → z ≤ x → Puts os y ps old now → Puts os z qs now more → Puts os x all old more
+pub puts-both : (os : List Object) (x y z : ℕ) (all ps qs : List Object) (old now more : List ℕ) → all ≡ ps ++ qs → y ≤ x → z ≤ x → PutsParts os y ps old now → PutsParts os z qs now more → PutsParts os x all old more
 puts-both os x y z all ps qs old now more e l m p q =
     let one = putting-more os x all qs all ps y old old now (putting-start os x all old) e l p in
     let two = putting-more os x all [] qs qs z old now more one (sym (append-nil qs)) m q in

@@ -9,7 +9,7 @@ use Rattle.mw_heap.specs.Objects.{object_at, IsIn, Grows}
 use Rattle.mw_heap.proofs.Objects.{IsIn-Grows, object_at-Grows}
 use Rattle.mw_commands.specs.Commands.ExplanationTerms.{arity_shown}
 use Rattle.mw_commands.specs.Commands.Explanation.{or_else_shown}
-use Rattle.mw_explain.specs.Shown.{Shows}
+use Rattle.mw_bad_steps.specs.Shown.{Shows}
 
 pub symbol-arity : (A : ArityTable) (x : Object) → is_symbol x ≡ true → option_to_list (option_map Natural (arity_of A (name_of x))) ≡ arity_shown A x
 symbol-arity A (Natural n) h = cc

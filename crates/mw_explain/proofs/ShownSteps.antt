@@ -5,18 +5,14 @@ use Rattle.std.proofs.lemmas.List.{map-append}
 use Rattle.mw_model.specs.Terms.Object.{Object, Natural, Symbol, Pair, NIL, second_of}
 use Rattle.mw_heap.specs.Objects.{object_at, IsIn}
 use Rattle.mw_commands.specs.Commands.ExplanationSteps.{conclusions_shown, listed}
-use Rattle.mw_explain.specs.Shown.{Shows}
-use Rattle.mw_explain.specs.Showing.{before, conclusions_in}
-use Rattle.mw_explain.proofs.ShownMore.{Shows-push, Shows-none}
+use Rattle.mw_bad_steps.specs.Shown.{Shows}
+use Rattle.mw_bad_steps.specs.Members.{conclusions_in}
+use Rattle.mw_bad_steps.proofs.ShownMore.{Shows-push, Shows-none}
 
-pub conclusions_listed : (ps : Object) → conclusions_shown ps ≡ before (conclusions_in ps) NIL
+pub conclusions_listed : (ps : Object) → conclusions_shown ps ≡ listed (conclusions_in ps)
 conclusions_listed (Natural n) = refl
 conclusions_listed (Symbol s) = refl
 conclusions_listed (Pair p ps) = ap (Pair (second_of p)) (conclusions_listed ps)
-
-pub listed_before : (xs : List Object) → listed xs ≡ before xs NIL
-listed_before [] = refl
-listed_before (x ∷ xs) = ap (Pair x) (listed_before xs)
 
 pub one_shown : (os : List Object) (had one : List ℕ) (a : ℕ) (x : Object) → had ≡ [] → one ≡ had ++ a ∷ [] → IsIn os a → object_at os a ≡ x → Shows os one (x ∷ [])
 one_shown os had one a x e d i f =

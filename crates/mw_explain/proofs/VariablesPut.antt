@@ -13,7 +13,7 @@ use Rattle.mw_term.proofs.Symbols.{symbol_is, symbols_each}
 use Rattle.mw_term.proofs.FormalList.{names_at-push}
 use Rattle.mw_explain.specs.Drafts.{IsExpandedTo}
 use Rattle.mw_explain.specs.OtherVariables.{put_others}
-use Rattle.mw_explain.specs.Shown.{Shows}
+use Rattle.mw_bad_steps.specs.Shown.{Shows}
 use Rattle.mw_explain.proofs.PuttingOthers.{put-append}
 
 pub symbols-none : (os : List Object) (rs : List ℕ) → rs ≡ [] → AreSymbols os rs

@@ -13,22 +13,18 @@ use Rattle.mw_heap.specs.Objects.{object_at}
 use Rattle.mw_proof.specs.declared.members.Members.{Members}
 use Rattle.mw_proof.specs.Members.{AreMembers}
 use Rattle.mw_commands.specs.Commands.ExplanationSteps.{are_extras, listed, mended, premises_wanted, wrong_induction}
-use Rattle.mw_explain.specs.Candidates.{IsMended}
+use Rattle.mw_bad_steps.specs.Candidates.{IsMended}
 use Rattle.mw_explain.specs.Extras.{premises_at, IsFound}
 use Rattle.mw_explain.proofs.ExtrasExact.{premises_shown}
-use Rattle.mw_explain.proofs.MendedSteps.{that_some}
+use Rattle.mw_bad_steps.proofs.MendedSteps.{that_some, formulas_object-listed}
 
 -- ---- an induction
-
-listed_formulas : (Fs : List Formula) → listed (map formula_object Fs) ≡ formulas_object Fs
-listed_formulas [] = refl
-listed_formulas (F ∷ Fs) = ap (Pair (formula_object F)) (listed_formulas Fs)
 
 some_wanted : (o : Option (List Formula)) (y : Object) → option_map formulas_object o ≡ Some y → wrong_induction o ≡ symbol "PREMISES" ∷ y ∷ []
 some_wanted None y h = cc
 some_wanted (Some Fs) y h =
     let e : formulas_object Fs ≡ y = cc h in
-    ap (λ z. symbol "PREMISES" ∷ z ∷ []) (listed_formulas Fs ∙ e)
+    ap (λ z. symbol "PREMISES" ∷ z ∷ []) (sym (formulas_object-listed Fs) ∙ e)
 
 none_wanted : (o : Option (List Formula)) → option_map formulas_object o ≡ None → wrong_induction o ≡ symbol "EXTRAS" ∷ []
 none_wanted None h = refl

@@ -1,6 +1,6 @@
 -- The first condition that a step fails.
-use Rattle.std.specs.Prelude.{◌≡◌, Bool, true, false, List, [], ◌∷◌, Some, option_map, option_to_list}
-use Rattle.mw_model.specs.Terms.Object.{Object, Natural, Symbol, Pair, symbol, same_name, nil_name, Member, car, second_of, third_of, fourth_of, has_members}
+use Rattle.std.specs.Prelude.{◌≡◌, true, false, List, [], ◌∷◌, Some, option_map, option_to_list}
+use Rattle.mw_model.specs.Terms.Object.{Object, Natural, symbol, Member, car, second_of, third_of, fourth_of, has_members}
 use Rattle.mw_model.specs.Terms.Term.{ArityTable, Formula, formula_object}
 use Rattle.mw_model.specs.Terms.Reading.{formula_under}
 use Rattle.mw_model.specs.Values.Definition.{arity_table}
@@ -12,11 +12,6 @@ use Rattle.mw_commands.specs.Commands.ExplanationTerms.{part_shown}
 use Rattle.mw_commands.specs.Commands.ExplanationSteps.{are_extras, has_proof_shape, is_proof_at, mended, premises_wanted, step_shown, subproof_count, wrong_induction, wrong_step}
 use Rattle.mw_explain.specs.declared.condition.Wrong.{Wrong}
 use Rattle.mw_explain.specs.declared.condition.Wrong.TheVariants.{Shape, Method, Formula as Part, Subproofs, Extras, Premises, Induction, Rule}
-
-abbrev pub is_list : Object → Bool
-is_list (Pair a r) = is_list r
-is_list (Symbol s) = same_name s nil_name
-is_list (Natural n) = false
 
 -- the subproofs of x are proofs
 abbrev pub HasProofs : Theory → Object → Type 0

@@ -9,13 +9,13 @@ use Rattle.mw_explain.specs.declared.formula_part.Next.{Next}
 use Rattle.mw_explain.specs.declared.formula_part.Next.TheVariants.{Nothing, InTerm, InFormula}
 use Rattle.mw_explain.specs.TermParts.{IsBefore}
 
--- where to look on in x, which is no formula
+-- where to look on in x, which is not a formula
 abbrev pub LeadsOn : ArityTable → List Object → ℕ → Next → Type 0
 LeadsOn A os x Nothing = bad_formula A (object_at os x) ≡ Some (object_at os x)
 LeadsOn A os x (InTerm p) = (bad_formula A (object_at os x) ≡ bad_term A (object_at os p)) × IsBefore A os x p
 LeadsOn A os x (InFormula p) = (bad_formula A (object_at os x) ≡ bad_formula A (object_at os p)) × (p < x) × (is_formula_object A (object_at os p) ≡ false)
 
--- the first of two that is no term; that is no formula
+-- the first of two that is not a term; that is not a formula
 abbrev pub IsNextTerm : ArityTable → List Object → ℕ → ℕ → Next → Type 0
 IsNextTerm A os a b Nothing = (is_term_object A (object_at os a) ≡ true) × (is_term_object A (object_at os b) ≡ true)
 IsNextTerm A os a b (InTerm p) = ((p ≡ a) × (is_term_object A (object_at os a) ≡ false)) ⊎ ((p ≡ b) × (is_term_object A (object_at os a) ≡ true) × (is_term_object A (object_at os b) ≡ false))

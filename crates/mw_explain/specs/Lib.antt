@@ -1,13 +1,7 @@
 pub mod TermParts
 pub mod FormulaParts
-pub mod BadStep
+pub mod Extras
 pub mod Condition
-pub mod Shown
 pub mod RawParts
 pub mod Drafts
 pub mod OtherVariables
-pub mod Showing
-pub mod Candidates
-pub mod Forms
-pub mod Premises
-pub mod Extras

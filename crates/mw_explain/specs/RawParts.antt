@@ -6,34 +6,31 @@ use Rattle.mw_model.specs.Terms.Term.{ArityTable, arity_of}
 use Rattle.mw_model.specs.Events.Expansion.{Abbreviation, COND, LET, LETSTAR, QUOTE, Other, abbreviation_of, expand}
 use Rattle.mw_heap.specs.Objects.{object_at}
 use Rattle.mw_commands.specs.Commands.ExplanationTerms.{bad_raw}
+use Rattle.mw_bad_steps.specs.Members.{members_in}
 
--- the members of a list; of clauses; of what follows the names of bindings; of bindings and a body
-abbrev pub members : Object → List Object
-members (Pair a r) = a ∷ members r
-members _ = []
-
+-- the members of clauses; of what follows the names of bindings; of bindings and a body
 abbrev pub clause_members : Object → List Object
-clause_members (Pair a r) = members a ++ clause_members r
+clause_members (Pair a r) = members_in a ++ clause_members r
 clause_members _ = []
 
 abbrev pub binding_members : Object → List Object
-binding_members (Pair (Pair x e) r) = members e ++ binding_members r
+binding_members (Pair (Pair x e) r) = members_in e ++ binding_members r
 binding_members _ = []
 
 abbrev pub let_members : Object → List Object
-let_members (Pair ps b) = binding_members ps ++ members b
+let_members (Pair ps b) = binding_members ps ++ members_in b
 let_members _ = []
 
 -- of what follows a word of this meaning, which the table has or not
 abbrev pub called_members : Bool → Object → List Object
-called_members known r = cond known (members r) []
+called_members known r = cond known (members_in r) []
 
 abbrev pub form_members : Bool → Abbreviation → Object → List Object
-form_members known meaning r = elim meaning [ QUOTE ↦ [] | COND ↦ clause_members r | LET ↦ let_members r | LETSTAR ↦ let_members r | Other ↦ called_members known r | _ ↦ members r ]
+form_members known meaning r = elim meaning [ QUOTE ↦ [] | COND ↦ clause_members r | LET ↦ let_members r | LETSTAR ↦ let_members r | Other ↦ called_members known r | _ ↦ members_in r ]
 
 -- of a lambda call: the body and the actuals
 abbrev pub lambda_members : Object → Object → List Object
-lambda_members (Pair l (Pair xs (Pair b z))) r = b ∷ members r
+lambda_members (Pair l (Pair xs (Pair b z))) r = b ∷ members_in r
 lambda_members _ r = []
 
 abbrev pub raw_parts : ArityTable → Object → List Object
@@ -52,7 +49,7 @@ AreBefore n [] = Unit {0}
 AreBefore n (r ∷ rs) = (r < n) × AreBefore n rs
 
 -- these objects, which are parts of x, were put behind the others
-pub record Puts (os : List Object) (x : ℕ) (ps : List Object) (old new : List ℕ) : Type 0 where
+pub record PutsParts (os : List Object) (x : ℕ) (ps : List Object) (old new : List ℕ) : Type 0 where
   pub parts : map (object_at os) new ≡ map (object_at os) old ++ ps
   pub before : (n : ℕ) → x ≤ n → AreBefore n old → AreBefore n new
 

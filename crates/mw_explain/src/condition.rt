@@ -1,6 +1,5 @@
-//! Which condition a step fails that is no proof though its subproofs are.
+//! The first condition that fails of a step which is not a proof though its subproofs are.
 ghost use Rattle.std.specs.Prelude.{◌≡◌, ◌<◌, length};
-ghost use Rattle.mw_model.specs.Terms.Object.{has_members};
 ghost use Rattle.mw_model.specs.Terms.Term.{ArityTable};
 ghost use Rattle.mw_model.specs.Values.Definition.{arity_table};
 ghost use Rattle.mw_model.specs.Events.Theory.{Theory};
@@ -8,10 +7,11 @@ ghost use Rattle.mw_heap.specs.Objects.{object_at, IsIn};
 ghost use Rattle.mw_term.specs.Marking.{AreMarks};
 ghost use Rattle.mw_rules.specs.Methods.{method_of_logic};
 ghost use Rattle.mw_commands.specs.Commands.ExplanationSteps.{are_extras, subproof_count};
-ghost use Rattle.mw_explain.specs.Condition.{HasProofs, IsPartIn, IsWrong, IsWrongRow, is_list};
+ghost use Rattle.mw_explain.specs.Condition.{HasProofs, IsPartIn, IsWrong, IsWrongRow};
 
 use crate::formula_part::bad_formula;
-use mw_heap::{Heap, Ref, View};
+use mw_bad_steps::{has_members, is_list};
+use mw_heap::{Heap, Ref};
 use mw_proof::members_of;
 use mw_rules::Method;
 use mw_term::{Arity, Marks, is_substitution};
@@ -19,51 +19,22 @@ use mw_term::{Arity, Marks, is_substitution};
 /// The first condition that a step fails.
 #[derive(Clone, Copy, Debug, PartialEq, Eq)]
 pub enum Wrong {
-    /// It is no proper list of two to four members.
+    /// It is not a proper list of two to four members.
     Shape,
-    /// Its first member is none of the methods.
+    /// Its first member does not name a method.
     Method,
-    /// Its conclusion is no formula, for this part.
+    /// Its conclusion is not a formula, because of this part.
     Formula(Ref),
-    /// Its third member is no proper list.
+    /// Its third member is not a proper list.
     Subproofs,
-    /// Its extras are none that the method has.
+    /// Its extras are not of the kind that the method has.
     Extras,
-    /// It does not have as many subproofs as the method: this many.
+    /// It does not have the number of subproofs of its method, which is this.
     Premises(u64),
     /// It is by INDUCTION, and its extras or its subproofs' conclusions are wrong.
     Induction,
     /// The row of its method does not hold.
     Rule,
-}
-
-// Whether it is a proper list.
-fn is_list(heap: &Heap, x: Ref) -> bool
-    requires { IsIn heap.now.objects x }
-    ensures { result ≡ is_list (object_at heap.now.objects x) }
-{
-    let mut rest = x;
-    while let View::Pair(_, more) = heap.view(rest) {
-        rest = more;
-    }
-    heap.is_nil(Some(rest))
-}
-
-// Whether it is a proper list of as many members.
-fn has_members(heap: &Heap, x: Ref, count: u64) -> bool
-    requires { IsIn heap.now.objects x }
-    ensures { result ≡ has_members count (object_at heap.now.objects x) }
-{
-    let mut rest = x;
-    let mut left = count;
-    while let View::Pair(_, more) = heap.view(rest) {
-        if left == 0 {
-            return false;
-        }
-        left -= 1;
-        rest = more;
-    }
-    left == 0 && heap.is_nil(Some(rest))
 }
 
 // How many subproofs a method has, other than INDUCTION.
@@ -111,7 +82,7 @@ fn wrong_row(heap: &Heap, marks: &Marks, method: Method, subproofs: Ref, extras:
     }
 }
 
-/// The first condition that a step fails, where its subproofs are proofs and it is none. The marks are under the table. It takes no
+/// The first condition that fails of a step, if its subproofs are proofs and it is not one. The marks are under the table. It takes no
 /// memory.
 pub fn wrong_step(heap: &Heap, arity: &Arity, marks: &Marks, step: Ref) -> Wrong
     requires marked { AreMarks arity.now heap.now.objects marks.now }

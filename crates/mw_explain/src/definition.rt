@@ -8,7 +8,7 @@ ghost use Rattle.mw_heap.specs.Variants.{refusal_of};
 ghost use Rattle.mw_define.specs.Blocks.{draft_at, AreDraftsIn};
 ghost use Rattle.mw_commands.specs.Commands.Explanation.{draft_shown, drafts_shown, first_shown};
 ghost use Rattle.mw_explain.specs.Drafts.{bodies_under};
-ghost use Rattle.mw_explain.specs.Shown.{Shows};
+ghost use Rattle.mw_bad_steps.specs.Shown.{Shows};
 
 use crate::draft_name::names_shown;
 use crate::one_draft::draft_shown;
@@ -105,11 +105,11 @@ fn nested_shown(heap: &mut Heap, drafts: &[Draft], arity: &Arity) -> Result<Vec<
     call_shown(heap, nested)
 }
 
-/// What is shown of definitions that are refused for this reason, as an explanation of it; nothing of those that pass its test. Of a name
-/// or a list of formals: the number of the first definition that has a bad one, from 1 on, and that. Of a body or a measure that is no
-/// term: the number, which of the two it is, and its first bad part. Of variables: the number, and those that are no formals. Of a call of
-/// the block in an actual of one: the number, and the outer call. Recursive definitions may call each other; a witness and the term of an
-/// evaluation are not recursive. What it takes counts as looks that the heap allows. The error is out of memory.
+/// What is shown of definitions that are refused for this reason, as an explanation of it; nothing of definitions that pass its test. Of
+/// a name or a list of formals: the number of the first definition that has a bad one, from 1 on, and that. Of a body or a measure that
+/// is not a term: the number, which of the two it is, and its first bad part. Of variables: the number, and those that are not formals.
+/// Of a call of the block in an actual of one: the number, and the outer call. Recursive definitions may call each other; a witness and
+/// the term of an evaluation are not recursive. What it takes counts as looks that the heap allows. The error is out of memory.
 pub fn definition_shown(
     heap: &mut Heap,
     reason: Refusal,

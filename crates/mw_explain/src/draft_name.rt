@@ -6,7 +6,7 @@ ghost use Rattle.mw_define.specs.Blocks.{draft_at, AreDraftsIn};
 ghost use Rattle.mw_commands.specs.Commands.Explanation.{bad_name};
 ghost use Rattle.mw_commands.specs.Commands.ExplanationTerms.{arity_shown};
 ghost use Rattle.mw_explain.specs.Drafts.{IsBadName};
-ghost use Rattle.mw_explain.specs.Shown.{Shows};
+ghost use Rattle.mw_bad_steps.specs.Shown.{Shows};
 
 use crate::putting_first::put_number;
 use crate::shown_part::arity_shown;

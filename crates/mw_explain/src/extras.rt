@@ -8,8 +8,7 @@ ghost use Rattle.mw_heap.specs.Objects.{object_at, IsIn, Grows};
 ghost use Rattle.mw_term.specs.Marking.{AreMarks};
 ghost use Rattle.mw_explain.specs.Extras.{are_cases_at, premises_at, IsFound};
 
-use crate::form::{Form, has_form};
-use crate::premises::premises;
+use mw_bad_steps::{Form, has_form, premises_of_induction};
 use mw_heap::{Heap, Memory, Ref, View};
 use mw_term::{Marks, is_substitution, take_searches, take_searches_of_members};
 
@@ -106,5 +105,5 @@ pub(crate) fn premises_of(
     if !are_cases(heap, marks, conditions, cases)? {
         return Ok(None);
     }
-    Ok(Some(premises(heap, conclusion, measure, conditions, cases)?))
+    Ok(Some(premises_of_induction(heap, conclusion, measure, conditions, cases)?))
 }

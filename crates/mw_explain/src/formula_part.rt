@@ -20,7 +20,7 @@ pub enum Next {
     InFormula(Ref),
 }
 
-// The first of two that is no term.
+// The first of the two that is not a term.
 fn in_terms(marks: &Marks, a: Ref, b: Ref) -> Next
     requires first { a < length marks.now }
     requires second { b < length marks.now }
@@ -35,7 +35,7 @@ fn in_terms(marks: &Marks, a: Ref, b: Ref) -> Next
     }
 }
 
-// The first of two that is no formula.
+// The first of the two that is not a formula.
 fn in_formulas(marks: &Marks, a: Ref, b: Ref) -> Next
     requires first { a < length marks.now }
     requires second { b < length marks.now }
@@ -50,7 +50,7 @@ fn in_formulas(marks: &Marks, a: Ref, b: Ref) -> Next
     }
 }
 
-// This, where it is no formula.
+// This part, if it is not a formula.
 fn in_negation(marks: &Marks, a: Ref) -> Next
     requires { a < length marks.now }
     ensures { (A : ArityTable) (os : List Object) → AreMarks A os marks.now → IsNegated A os a result }
@@ -62,7 +62,7 @@ fn in_negation(marks: &Marks, a: Ref) -> Next
     }
 }
 
-// Where to look on in what is no formula.
+// Where to look on in an object that is not a formula.
 fn next_part(heap: &Heap, marks: &Marks, x: Ref) -> Next
     requires marks { (A : ArityTable) × AreMarks A heap.now.objects marks.now }
     requires within { x < length marks.now }
@@ -90,7 +90,7 @@ fn next_part(heap: &Heap, marks: &Marks, x: Ref) -> Next
 }
 
 /// The first part of an object that should be a term or a formula and is not, what is inside a part before the part itself, from left to
-/// right; nothing of a formula. The marks are under the table. It takes no memory.
+/// right; none of a formula. The marks are under the table. It takes no memory.
 pub fn bad_formula(heap: &Heap, arity: &Arity, marks: &Marks, x: Ref) -> Option<Ref>
     requires marked { AreMarks arity.now heap.now.objects marks.now }
     requires within { x < length marks.now }

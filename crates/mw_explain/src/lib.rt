@@ -1,27 +1,15 @@
-//! Why an object is no proof, no term or no formula: the first bad step and the condition that it fails, and the first bad part.
+//! What is shown of a refused event: the first bad part of an object that is not a term or not a formula, what definitions lack, and the
+//! condition that fails of the first bad step of a proof.
 #![tactic(auto)]
 
-mod bad_step;
-mod candidate;
-mod candidates;
-mod computed;
-mod conclusions;
 mod condition;
 mod definition;
-mod disjunction;
 mod draft_name;
-mod equal_calls;
 mod extras;
-mod falls;
-mod form;
 mod formula_part;
-mod formulas;
-mod instance;
-mod mending;
 mod one_draft;
 mod other_variables;
 mod place;
-mod premises;
 mod putting_first;
 mod raw_part;
 mod raw_parts;
@@ -30,7 +18,6 @@ mod step_shown;
 mod term_part;
 mod wrong_shown;
 
-pub use bad_step::{BadStep, first_bad_step};
 pub use condition::{Wrong, wrong_step};
 pub use definition::definition_shown;
 pub use formula_part::bad_formula;

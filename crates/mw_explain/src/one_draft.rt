@@ -11,7 +11,7 @@ ghost use Rattle.mw_term.specs.Parts.{names_at, AreSymbols};
 ghost use Rattle.mw_define.specs.Blocks.{draft_at, IsDraftIn};
 ghost use Rattle.mw_commands.specs.Commands.ExplanationTerms.{bad_raw};
 ghost use Rattle.mw_commands.specs.Commands.Explanation.{draft_shown, or_else_shown, raw_shown};
-ghost use Rattle.mw_explain.specs.Shown.{Shows};
+ghost use Rattle.mw_bad_steps.specs.Shown.{Shows};
 
 use crate::other_variables::other_variables;
 use crate::putting_first::put_symbol;
@@ -50,7 +50,8 @@ fn formals_shown(heap: &mut Heap, list: Ref) -> Result<Vec<Ref>, Memory>
     Ok(Vec::new(heap.alloc()))
 }
 
-// The first part that keeps a raw term from expanding to a term under two tables, with its arity, after a word; nothing of what expands.
+// The first part that keeps a raw term from expanding to a term under two tables, with its arity, after a word; nothing of a raw term
+// that expands.
 fn term_shown(
     heap: &mut Heap,
     word: &[u8],

@@ -9,7 +9,7 @@ ghost use Rattle.mw_heap.specs.Objects.{object_at, IsIn};
 ghost use Rattle.mw_term.specs.Parts.{names_at, AreSymbols};
 ghost use Rattle.mw_explain.specs.Drafts.{IsExpandedTo, formals_at};
 ghost use Rattle.mw_explain.specs.OtherVariables.{put_others};
-ghost use Rattle.mw_explain.specs.Shown.{Shows};
+ghost use Rattle.mw_bad_steps.specs.Shown.{Shows};
 
 use indexmap::IndexSet;
 use mw_heap::{Heap, Memory, Ref};
@@ -71,7 +71,7 @@ fn put_each(
     Ok(())
 }
 
-// Puts the variables of a term that are no formals behind the others; nothing where there is no term.
+// Puts the variables of a term that are not formals behind the others; nothing where there is no term.
 fn put_variables(
     heap: &Heap,
     formals: &Option<Formals>,
@@ -92,8 +92,8 @@ fn put_variables(
     put_each(heap, formals, others, variables.as_slice())
 }
 
-// The variables of a body and a measure that are no formals, in order of first occurrence, the body first. Of what is no term there are
-// none.
+// The variables of a body and a measure that are not formals, in order of first occurrence, the body first. Where there is no term there are
+// no variables.
 pub(crate) fn other_variables(
     heap: &Heap,
     formals: &Option<Formals>,

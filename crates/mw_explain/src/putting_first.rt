@@ -2,7 +2,7 @@
 ghost use Rattle.std.specs.Prelude.{◌≡◌, ◌∷◌, true, List, IfOk};
 ghost use Rattle.mw_model.specs.Terms.Object.{Object, Natural, Symbol, name_of_bytes, is_name};
 ghost use Rattle.mw_heap.specs.Objects.{Grows};
-ghost use Rattle.mw_explain.specs.Shown.{Shows};
+ghost use Rattle.mw_bad_steps.specs.Shown.{Shows};
 
 use mw_heap::{Heap, Memory, Ref};
 

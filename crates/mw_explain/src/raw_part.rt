@@ -59,9 +59,9 @@ fn next_bad(
 }
 
 /// The first part that keeps a raw term from expanding to a term under two arity tables, the newer one in front: what is inside a part
-/// comes before the part itself, from left to right. Nothing of what expands. A call by a name that neither table has is not looked into.
-/// On the way down each part that is met is expanded: what that takes counts as in `expand_under`, and so many cells may be looked at
-/// besides as the heap allows for its size. The error is out of memory.
+/// comes before the part itself, from left to right. None of a raw term that expands. A call by a name that neither table has is not
+/// looked into. On the way down each part that is met is expanded, which takes looks as in `expand_under`; the search for the parts may
+/// look at as many cells again as the heap allows for its size. The error is out of memory.
 pub fn bad_raw(
     heap: &mut Heap,
     raw: Ref,

@@ -4,7 +4,8 @@ ghost use Rattle.mw_model.specs.Terms.Term.{arity_of};
 ghost use Rattle.mw_model.specs.Values.Primitive.{is_symbol, name_of};
 ghost use Rattle.mw_model.specs.Events.Expansion.{abbreviation_of};
 ghost use Rattle.mw_heap.specs.Objects.{object_at, IsIn};
-ghost use Rattle.mw_explain.specs.RawParts.{members, clause_members, binding_members, let_members, form_members, called_members, lambda_members, raw_parts, AreBefore, Puts};
+ghost use Rattle.mw_bad_steps.specs.Members.{members_in};
+ghost use Rattle.mw_explain.specs.RawParts.{clause_members, binding_members, let_members, form_members, called_members, lambda_members, raw_parts, AreBefore, PutsParts};
 
 use crate::term_part::third_member;
 use mw_heap::{Heap, Memory, Ref, View, take_look};
@@ -19,7 +20,7 @@ fn put_members(
     looks_left: &mut u64,
 ) -> Result<(), Memory>
     requires { IsIn heap.now.objects list }
-    ensures { OnOk result (Puts heap.now.objects list (members (object_at heap.now.objects list)) parts.old.items parts.new.items) }
+    ensures { OnOk result (PutsParts heap.now.objects list (members_in (object_at heap.now.objects list)) parts.old.items parts.new.items) }
 {
     let mut rest = list;
     while let View::Pair(first, more) = heap.view(rest) {
@@ -38,7 +39,7 @@ fn put_clauses(
     looks_left: &mut u64,
 ) -> Result<(), Memory>
     requires { IsIn heap.now.objects clauses }
-    ensures { OnOk result (Puts heap.now.objects clauses (clause_members (object_at heap.now.objects clauses)) parts.old.items parts.new.items) }
+    ensures { OnOk result (PutsParts heap.now.objects clauses (clause_members (object_at heap.now.objects clauses)) parts.old.items parts.new.items) }
 {
     let mut rest = clauses;
     while let View::Pair(clause, more) = heap.view(rest) {
@@ -49,7 +50,7 @@ fn put_clauses(
     Ok(())
 }
 
-// Puts what follows the names of bindings behind the parts, up to a binding that is no pair.
+// Puts what follows the names of bindings behind the parts, up to a binding that is not a pair.
 fn put_bindings(
     heap: &Heap,
     bindings: Ref,
@@ -57,7 +58,7 @@ fn put_bindings(
     looks_left: &mut u64,
 ) -> Result<(), Memory>
     requires { IsIn heap.now.objects bindings }
-    ensures { OnOk result (Puts heap.now.objects bindings (binding_members (object_at heap.now.objects bindings)) parts.old.items parts.new.items) }
+    ensures { OnOk result (PutsParts heap.now.objects bindings (binding_members (object_at heap.now.objects bindings)) parts.old.items parts.new.items) }
 {
     let mut rest = bindings;
     while let View::Pair(binding, more) = heap.view(rest) {
@@ -74,7 +75,7 @@ fn put_bindings(
 // Puts what follows the names of the bindings of a LET or a LET*, and its body, behind the parts.
 fn put_let(heap: &Heap, rest: Ref, parts: &mut Vec<Ref>, looks_left: &mut u64) -> Result<(), Memory>
     requires { IsIn heap.now.objects rest }
-    ensures { OnOk result (Puts heap.now.objects rest (let_members (object_at heap.now.objects rest)) parts.old.items parts.new.items) }
+    ensures { OnOk result (PutsParts heap.now.objects rest (let_members (object_at heap.now.objects rest)) parts.old.items parts.new.items) }
 {
     let View::Pair(bindings, body) = heap.view(rest) else {
         return Ok(());
@@ -96,7 +97,7 @@ fn put_actuals(
     requires name { IsIn heap.now.objects name }
     requires symbol { is_symbol (object_at heap.now.objects name) ≡ true }
     requires actuals { IsIn heap.now.objects actuals }
-    ensures { OnOk result (Puts heap.now.objects actuals (called_members (is_some (arity_of (newer.now ++ older.now) (name_of (object_at heap.now.objects name)))) (object_at heap.now.objects actuals)) parts.old.items parts.new.items) }
+    ensures { OnOk result (PutsParts heap.now.objects actuals (called_members (is_some (arity_of (newer.now ++ older.now) (name_of (object_at heap.now.objects name)))) (object_at heap.now.objects actuals)) parts.old.items parts.new.items) }
 {
     match look_up(newer, older, heap.name_of(name)) {
         Some(_) => put_members(heap, actuals, parts, looks_left),
@@ -117,7 +118,7 @@ fn put_form(
     requires name { IsIn heap.now.objects name }
     requires symbol { is_symbol (object_at heap.now.objects name) ≡ true }
     requires rest { IsIn heap.now.objects rest }
-    ensures { OnOk result (Puts heap.now.objects rest (form_members (is_some (arity_of (newer.now ++ older.now) (name_of (object_at heap.now.objects name)))) (abbreviation_of (name_of (object_at heap.now.objects name))) (object_at heap.now.objects rest)) parts.old.items parts.new.items) }
+    ensures { OnOk result (PutsParts heap.now.objects rest (form_members (is_some (arity_of (newer.now ++ older.now) (name_of (object_at heap.now.objects name)))) (abbreviation_of (name_of (object_at heap.now.objects name))) (object_at heap.now.objects rest)) parts.old.items parts.new.items) }
 {
     match abbreviation_named(heap, name) {
         Abbreviation::Quote => Ok(()),
@@ -139,7 +140,7 @@ fn put_lambda(
 ) -> Result<(), Memory>
     requires head { IsIn heap.now.objects head }
     requires actuals { IsIn heap.now.objects actuals }
-    ensures { OnOk result ((x : ℕ) → head < x → actuals < x → Puts heap.now.objects x (lambda_members (object_at heap.now.objects head) (object_at heap.now.objects actuals)) parts.old.items parts.new.items) }
+    ensures { OnOk result ((x : ℕ) → head < x → actuals < x → PutsParts heap.now.objects x (lambda_members (object_at heap.now.objects head) (object_at heap.now.objects actuals)) parts.old.items parts.new.items) }
 {
     let Some(body) = third_member(heap, head) else {
         return Ok(());
@@ -158,7 +159,7 @@ fn put_parts(
     looks_left: &mut u64,
 ) -> Result<(), Memory>
     requires { IsIn heap.now.objects x }
-    ensures { OnOk result (Puts heap.now.objects x (raw_parts (newer.now ++ older.now) (object_at heap.now.objects x)) parts.old.items parts.new.items) }
+    ensures { OnOk result (PutsParts heap.now.objects x (raw_parts (newer.now ++ older.now) (object_at heap.now.objects x)) parts.old.items parts.new.items) }
 {
     let View::Pair(head, rest) = heap.view(x) else {
         return Ok(());

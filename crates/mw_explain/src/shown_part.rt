@@ -3,7 +3,7 @@ ghost use Rattle.std.specs.Prelude.{◌≡◌, ◌++◌, Some, option_map, optio
 ghost use Rattle.mw_model.specs.Terms.Object.{Natural};
 ghost use Rattle.mw_heap.specs.Objects.{object_at, IsIn, Grows};
 ghost use Rattle.mw_commands.specs.Commands.ExplanationTerms.{arity_shown, head_of, part_shown};
-ghost use Rattle.mw_explain.specs.Shown.{Shows};
+ghost use Rattle.mw_bad_steps.specs.Shown.{Shows};
 
 use mw_heap::{Heap, Memory, Ref, View};
 use mw_term::Arity;

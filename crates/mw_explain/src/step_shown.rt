@@ -4,9 +4,9 @@ ghost use Rattle.mw_model.specs.Terms.Object.{Symbol, name_of_bytes, is_name};
 ghost use Rattle.mw_heap.specs.Objects.{object_at, IsIn, Grows};
 ghost use Rattle.mw_heap.specs.Parts.{IsPart};
 ghost use Rattle.mw_commands.specs.Commands.ExplanationSteps.{step_shown};
-ghost use Rattle.mw_explain.specs.Shown.{Shows};
+ghost use Rattle.mw_bad_steps.specs.Shown.{Shows};
 
-use crate::conclusions::{first_and_rest, seconds_of};
+use mw_bad_steps::{first_and_rest, seconds_of};
 use mw_heap::{Heap, Memory, Ref, list_of};
 
 // The list of the method, the conclusion, the conclusions of the subproofs and the extras, each NIL where there is none.

@@ -1,4 +1,4 @@
-//! Looking for the first part that should be a term and is none.
+//! Looking for the first part that should be a term and is not.
 ghost use Rattle.std.specs.Prelude.{◌≡◌, ◌<◌, false, length, IfSome, option_map};
 ghost use Rattle.mw_model.specs.Terms.Term.{ArityTable};
 ghost use Rattle.mw_model.specs.Laws.Rules.{is_term_object};
@@ -10,7 +10,7 @@ ghost use Rattle.mw_explain.specs.TermParts.{IsFirstMember, IsThird, Leads, is_c
 use mw_heap::{Heap, Ref, View, Word};
 use mw_term::{Arity, Marks, is_term};
 
-// The first member of a list that is no term.
+// The first member of a list that is not a term.
 fn first_no_term(heap: &Heap, marks: &Marks, list: Ref) -> Option<Ref>
     requires marks { (A : ArityTable) × AreMarks A heap.now.objects marks.now }
     requires within { list < length marks.now }
@@ -56,7 +56,7 @@ fn is_called(heap: &Heap, arity: &Arity, head: Ref) -> bool
     }
 }
 
-// Where to look on in what is no term.
+// Where to look on in an object that is not a term.
 fn bad_inside(heap: &Heap, arity: &Arity, marks: &Marks, x: Ref) -> Option<Ref>
     requires marked { AreMarks arity.now heap.now.objects marks.now }
     requires within { x < length marks.now }

@@ -1,4 +1,4 @@
-//! What is shown of a step that is no proof though its subproofs are.
+//! What is shown of a step that is not a proof though its subproofs are.
 ghost use Rattle.std.specs.Prelude.{◌≡◌, ◌<◌, ◌++◌, true, length, All, IfOk};
 ghost use Rattle.mw_model.specs.Terms.Term.{ArityTable};
 ghost use Rattle.mw_model.specs.Values.Definition.{arity_table};
@@ -8,17 +8,16 @@ ghost use Rattle.mw_heap.specs.Lists.{list_object};
 ghost use Rattle.mw_heap.specs.Variants.{profile_of};
 ghost use Rattle.mw_term.specs.Marking.{AreMarks};
 ghost use Rattle.mw_commands.specs.Commands.ExplanationSteps.{wrong_step, bad_step_shown};
-ghost use Rattle.mw_explain.specs.Shown.{Shows};
+ghost use Rattle.mw_bad_steps.specs.Shown.{Shows};
 ghost use Rattle.mw_explain.specs.Condition.{HasProofs, IsWrong};
 ghost use Rattle.mw_explain.specs.declared.condition.Wrong.TheVariants.{Shape, Formula as Part, Premises, Induction, Rule};
 
-use crate::bad_step::first_bad_step;
 use crate::condition::{Wrong, wrong_step};
 use crate::extras::premises_of;
-use crate::mending::mended;
 use crate::place::place_shown;
 use crate::shown_part::part_shown;
 use crate::step_shown::condition_shown;
+use mw_bad_steps::{first_bad_step, mended};
 use mw_commands::explaining::bad_steps;
 use mw_heap::{Heap, Memory, Profile, Ref};
 use mw_proof::members_of;
@@ -34,7 +33,7 @@ fn joined(first: Vec<Ref>, others: &[Ref]) -> Result<Vec<Ref>, Memory>
     Ok(all)
 }
 
-// What is no list of two to four members, and the word SHAPE.
+// An object that is not a list of two to four members, and the word SHAPE.
 fn shape_shown(heap: &mut Heap, step: Ref) -> Result<Vec<Ref>, Memory>
     requires { IsIn heap.old.objects step }
     ensures grows { Grows heap.old.objects heap.new.objects }
@@ -47,7 +46,7 @@ fn shape_shown(heap: &mut Heap, step: Ref) -> Result<Vec<Ref>, Memory>
     Ok(shown)
 }
 
-// A step whose conclusion is no formula, for this part.
+// A step whose conclusion is not a formula, because of this part.
 fn formula_shown(heap: &mut Heap, arity: &Arity, step: Ref, part: Ref) -> Result<Vec<Ref>, Memory>
     requires step { IsIn heap.old.objects step }
     requires part { IsIn heap.old.objects part }
@@ -59,7 +58,7 @@ fn formula_shown(heap: &mut Heap, arity: &Arity, step: Ref, part: Ref) -> Result
     joined(shown, &parts)
 }
 
-// A step that does not have as many subproofs as its method.
+// A step that does not have the number of subproofs of its method.
 fn count_shown(heap: &mut Heap, step: Ref, count: u64) -> Result<Vec<Ref>, Memory>
     requires { IsIn heap.old.objects step }
     ensures grows { Grows heap.old.objects heap.new.objects }
@@ -110,7 +109,7 @@ fn rule_shown(
     condition_shown(heap, step, b"RULE", conclusion)
 }
 
-// What is shown of a step that is no proof though its subproofs are.
+// What is shown of a step that is not a proof though its subproofs are.
 fn wrong_shown(
     heap: &mut Heap,
     step: Ref,
@@ -140,10 +139,10 @@ fn wrong_shown(
     }
 }
 
-/// What is shown of what is no proof from these axioms and theorems, under the arity table and in the profile: the place of its first bad
-/// step as a list of numbers; that step, with its subproofs' conclusions in place of the subproofs; the first condition that it fails; and
-/// what that condition wants. Nothing of a proof. It extends the marks, which are under that table. What is made takes looks from those
-/// that the heap allows. The error is out of memory, also where no look is left.
+/// What is shown of an object that is not a proof from these axioms and theorems, under the arity table and in the profile: the place of
+/// its first bad step as a list of numbers; that step, with its subproofs' conclusions in place of the subproofs; the first condition
+/// that fails of it; and what that condition wants. Nothing is shown of a proof. It extends the marks, which are under that table. What
+/// is made takes looks from those that the heap allows. The error is out of memory, also where no look is left.
 pub fn bad_step_shown(
     heap: &mut Heap,
     proof: Ref,

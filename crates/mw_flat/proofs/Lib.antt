@@ -22,3 +22,5 @@ pub mod ReadableConclusions
 pub mod Settled
 pub mod EntryAnswered
 pub mod GoodSteps
+pub mod FlatWritten
+pub mod ShortTheorems

@@ -5,3 +5,4 @@ pub mod Collecting
 pub mod Steps
 pub mod Going
 pub mod Code
+pub mod FlatEvents

@@ -1,22 +1,12 @@
 //! The members of a step.
 ghost use Rattle.std.specs.Prelude.{◌≡◌, ◌<◌, ◌++◌, IfOk, OnOk};
 ghost use Rattle.mw_model.specs.Terms.Object.{NIL};
-ghost use Rattle.mw_model.specs.Texts.Printing.{numeral, text_of};
+ghost use Rattle.mw_model.specs.Texts.Printing.{text_of};
 ghost use Rattle.mw_heap.specs.Parts.{part_at, IsPart};
 ghost use Rattle.mw_flat.specs.Members.{WritesMember};
 
-use itoa::Buffer;
 use mw_heap::{Heap, Memory, Ref};
 use mw_print::write_datum;
-
-/// Writes a natural in decimal digits.
-pub(crate) fn write_digits(n: u64, line: &mut Vec<u8>) -> Result<(), Memory>
-    ensures { OnOk result (line.new.items ≡ line.old.items ++ numeral n) }
-{
-    let mut buffer = Buffer::new();
-    line.extend_from_slice(buffer.format(n).as_bytes())?;
-    Ok(())
-}
 
 /// Writes NIL.
 pub(crate) fn write_nil(line: &mut Vec<u8>) -> Result<(), Memory>

@@ -5,13 +5,14 @@ ghost use Rattle.mw_commands.specs.Commands.Flattening.{number_among, numbers_am
 ghost use Rattle.mw_heap.specs.Objects.{object_at, IsIn};
 ghost use Rattle.mw_heap.specs.Parts.{part_at, IsPart};
 
-use crate::member::{write_digits, write_nil};
+use crate::member::write_nil;
 use crate::number::number_of;
 use indexmap::IndexSet;
 use mw_heap::{Heap, Memory, Ref, View, take_look};
+use mw_print::write_number;
 
 // Writes the number of a proof, which takes one of those that are left.
-fn write_number(
+fn write_number_of(
     heap: &Heap,
     complete: &IndexSet<Ref>,
     p: Ref,
@@ -23,7 +24,7 @@ fn write_number(
     ensures { OnOk result (line.new.items ≡ line.old.items ++ numeral (number_among (map (object_at heap.now.objects) complete.now.keys) (object_at heap.now.objects p))) }
 {
     take_look(left)?;
-    write_digits(number_of(heap, complete, p), line)
+    write_number(line, number_of(heap, complete, p))
 }
 
 // Writes what follows the first number.
@@ -41,7 +42,7 @@ fn write_rest(
     let mut rest = list;
     while let View::Pair(p, more) = heap.view(rest) {
         line.push(b' ')?;
-        write_number(heap, complete, p, left, line)?;
+        write_number_of(heap, complete, p, left, line)?;
         rest = more;
     }
     line.push(b')')?;
@@ -64,7 +65,7 @@ fn write_list(
         return write_nil(line);
     };
     line.push(b'(')?;
-    write_number(heap, complete, first, left, line)?;
+    write_number_of(heap, complete, first, left, line)?;
     write_rest(heap, complete, rest, left, line)
 }
 

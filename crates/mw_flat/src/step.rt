@@ -6,10 +6,11 @@ ghost use Rattle.mw_heap.specs.Objects.{object_at, IsIn};
 ghost use Rattle.mw_heap.specs.Parts.{part_at, IsPart};
 ghost use Rattle.mw_flat.specs.Members.{WritesMembers};
 
-use crate::member::{write_digits, write_member};
+use crate::member::write_member;
 use crate::numbers::write_numbers;
 use indexmap::IndexSet;
 use mw_heap::{Heap, Memory, Ref};
+use mw_print::write_number;
 
 // The fourth member of a list; nothing where there is none.
 fn fourth_of(heap: &Heap, x: Ref) -> Option<Ref>
@@ -34,7 +35,7 @@ fn write_members(
     ensures { OnOk result (WritesMembers (step_members (map (object_at heap.now.objects) complete.now.keys) (number, object_at heap.now.objects x)) 1 line.old.items line.new.items) }
 {
     line.push(b' ')?;
-    write_digits(number, line)?;
+    write_number(line, number)?;
     let next = write_member(heap, heap.car(x), 1, line)?;
     let next = write_member(heap, heap.second_of(x), next, line)?;
     write_numbers(heap, complete, heap.third_of(x), left, line)?;

@@ -22,7 +22,7 @@ use Rattle.mw_theory.specs.Proofs.{by_formula}
 use Rattle.mw_theory.proofs.CallerLemmas.{meant-grows, pair_before}
 use Rattle.mw_commands.specs.Commands.Explanation.{wrong_proof, proof_shown}
 use Rattle.mw_commands.specs.Commands.ExplanationSteps.{Placed, placed_step, first_bad, is_proof_at, bad_step_shown}
-use Rattle.mw_explain.specs.Shown.{Shows}
+use Rattle.mw_bad_steps.specs.Shown.{Shows}
 use Rattle.mw_kernel.specs.Proofs.{judged_for}
 use Rattle.mw_kernel.specs.Reasons.{IsNoneOr, AreRefused}
 

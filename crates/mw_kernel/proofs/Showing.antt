@@ -8,7 +8,7 @@ use Rattle.mw_heap.specs.Objects.{object_at, IsIn, Grows}
 use Rattle.mw_heap.specs.Lists.{list_object, proper_list}
 use Rattle.mw_heap.proofs.Objects.{IsIn-Grows, object_at-Grows}
 use Rattle.mw_commands.specs.Commands.ExplanationSteps.{listed}
-use Rattle.mw_explain.specs.Shown.{Shows}
+use Rattle.mw_bad_steps.specs.Shown.{Shows}
 
 pub listed-is : (os : List Object) (xs : List ℕ) → list_object os xs ≡ listed (map (object_at os) xs)
 listed-is os [] = refl

@@ -7,7 +7,7 @@ ghost use Rattle.mw_heap.specs.Variants.{refusal_of};
 ghost use Rattle.mw_term.specs.Marking.{AreMarks};
 ghost use Rattle.mw_theory.specs.Knowledge.{parts_of, meant, IsHeld};
 ghost use Rattle.mw_commands.specs.Commands.Explanation.{shown, word_of};
-ghost use Rattle.mw_explain.specs.Shown.{Shows};
+ghost use Rattle.mw_bad_steps.specs.Shown.{Shows};
 
 pub(crate) mod definitions;
 pub(crate) mod event_parts;
@@ -95,7 +95,7 @@ pub(crate) fn parts_shown(
         } => witness_shown(heap, &theory.arity, reason, name, bound, free, body),
         Event::Switch(name) => switch_shown(heap, &theory.arity, reason, name),
         Event::Eval(term) => term_shown(heap, &theory.arity, reason, term),
-        Event::Print(_x) => Ok(Vec::new(heap.alloc())),
-        Event::Profile(_number) => Ok(Vec::new(heap.alloc())),
+        Event::Print(_) => Ok(Vec::new(heap.alloc())),
+        Event::Profile(_) => Ok(Vec::new(heap.alloc())),
     }
 }

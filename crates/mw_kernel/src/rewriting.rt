@@ -10,6 +10,7 @@ ghost use Rattle.mw_term.specs.Marking.{AreMarks};
 ghost use Rattle.mw_theory.specs.Knowledge.{parts_of, meant, IsHeld};
 ghost use Rattle.mw_theory.specs.Words.{verify_event, define_event, define_all_event};
 
+use mw_bad_steps::is_list;
 use mw_define::Draft;
 use mw_heap::{Heap, Memory, Ref, View, Word, form_of, list_of};
 use mw_proof::{Rewriter, Rewritten};
@@ -248,16 +249,4 @@ fn rewritten_proof<R: Rewriter>(
         Rewritten::Keep => Ok(proof),
         Rewritten::Memory => Err(Memory),
     }
-}
-
-// Whether it is a proper list.
-fn is_list(heap: &Heap, list: Ref) -> bool
-    requires { IsIn heap.now.objects list }
-    ensures { result ≡ is_list_object (object_at heap.now.objects list) }
-{
-    let mut rest = list;
-    while let View::Pair(_, more) = heap.view(rest) {
-        rest = more;
-    }
-    heap.is_nil(Some(rest))
 }

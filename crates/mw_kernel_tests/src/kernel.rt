@@ -238,7 +238,7 @@ const INNER_FIRST: &[u8] = b"(verify inner-first #1=(pequal* #2=(inner (outer x)
 const IMPROPER: &[u8] = b"(verify improper #1=(pequal* #2=(outer . x) #2#) \
     (instantiation #1# ((axiom (pequal* x x))) ((x . #2#))))";
 
-// Which of these are refused since they are no formulas: of each function alone, of both, and of what is no list.
+// Which of these are refused since they are no formulas: of each function alone, of both, and of an object that is not a list.
 fn refused(kernel: &mut Kernel) -> [Result<bool, Memory>; 5] {
     [
         is_no_formula(kernel, OF_OUTER),

@@ -3,8 +3,8 @@ use Rattle.std.proofs.Common.{◌≡◌, ℕ, suc, ◌+◌, ◌-◌, ◌<◌, �
 use Rattle.mw_model.specs.Terms.Object.{Object, Pair, NIL}
 use Rattle.mw_heap.specs.Objects.{object_at, IsIn, Grows}
 use Rattle.mw_heap.proofs.Objects.{Grows-trans, object_at-Grows}
-use Rattle.mw_axioms.specs.Stacks.{stack_of, AreIn}
-use Rattle.mw_axioms.proofs.OnStack.{AreIn-grows, stack_of-grows, stack_of-put}
+use Rattle.mw_build.specs.Stacks.{stack_of, AreIn}
+use Rattle.mw_build.proofs.OnStack.{AreIn-grows, stack_of-grows, stack_of-put}
 use Rattle.mw_lower.specs.Pieces.{newest, older, gather}
 
 -- k of n are taken, and then one more

@@ -22,7 +22,7 @@ abbrev pub further_among : List Further → Object → Option Further
 further_among [] x = None
 further_among (f ∷ fs) x = cond (same_object x (Symbol (logic.rule_name (rule_of f)))) (Some f) (further_among fs x)
 
--- how many premises a rule takes: at most so many, or any number
+-- how many premises a rule takes: at most this number, or any number
 abbrev pub most_premises_of : logic.Rule → Option ℕ
 most_premises_of (logic.By m) = most_subproofs m
 most_premises_of logic.CommuteOr = Some 1

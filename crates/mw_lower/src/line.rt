@@ -2,7 +2,7 @@
 ghost use Rattle.std.specs.Prelude.{◌≡◌, All, map, get_or, IfOk, OnOk};
 ghost use Rattle.mw_model.specs.Terms.Object.{NIL};
 ghost use Rattle.mw_heap.specs.Objects.{object_at, IsIn, Grows};
-ghost use Rattle.mw_axioms.specs.Stacks.{AreIn};
+ghost use Rattle.mw_build.specs.Stacks.{AreIn};
 ghost use Rattle.mw_lower.specs.Lines.{line_of, of_two, of_four, all_lines, last_line};
 
 use crate::machine::{make, take};

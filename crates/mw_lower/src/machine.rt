@@ -3,7 +3,7 @@ ghost use Rattle.std.specs.Prelude.{◌≡◌, All, [], ◌∷◌, map, get_or, 
 ghost use Rattle.mw_model.specs.Terms.Object.{NIL, Pair, Symbol};
 ghost use Rattle.mw_heap.specs.Objects.{object_at, IsIn, Grows};
 ghost use Rattle.mw_heap.specs.Words.{word_object};
-ghost use Rattle.mw_axioms.specs.Stacks.{stack_of, AreIn};
+ghost use Rattle.mw_build.specs.Stacks.{stack_of, AreIn};
 ghost use Rattle.mw_lower.specs.Pieces.{name_of_variable, newest, older, gather, step, run, made_of};
 
 use crate::piece::{Piece, Variable};

@@ -1,4 +1,4 @@
-//! The outside as traits: sources of bytes and sinks for them, in memory and over the standard streams.
+//! The outside as traits: sources of bytes and sinks for them, in memory and over the standard streams, and the trial book as a source.
 #![tactic(auto)]
 
 pub mod memory;
@@ -7,6 +7,7 @@ pub mod source;
 pub mod standard;
 pub mod steady;
 pub mod text;
+mod trial;
 
 pub use memory::{MemSink, MemSource};
 pub use sink::{Halt, Sink};
@@ -14,3 +15,4 @@ pub use source::{Failed, Source};
 pub use standard::{StdSink, StdSource};
 pub use steady::{SteadySink, SteadySource};
 pub use text::Text;
+pub use trial::TrialSource;

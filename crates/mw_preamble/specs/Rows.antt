@@ -40,7 +40,7 @@ with_row A x = A
 abbrev pub axiom_of : Object → Object
 axiom_of x = cdr (cdr x)
 
--- rows that may be added one after the other, up to what is no pair
+-- rows that may be added one after the other, up to the first rest that is not a pair
 abbrev pub are_rows : ArityTable → Object → Bool
 are_rows A (Pair x rest) = is_row A x && are_rows (with_row A x) rest
 are_rows A x = true
@@ -53,7 +53,7 @@ abbrev pub axioms_of : Object → List Object
 axioms_of (Pair x rest) = axiom_of x ∷ axioms_of rest
 axioms_of x = []
 
--- The parts of a pair; what is no pair is its own part.
+-- The parts of a pair, or the object itself if it is not a pair.
 abbrev pub first_part : Object → Object
 first_part (Pair a b) = a
 first_part x = x

@@ -47,7 +47,7 @@ impl Entries {
         self.blocks[index].as_slice()
     }
 
-    /// Adds a block. Where memory is refused nothing changes.
+    /// Adds a block. If memory runs out nothing changes.
     pub fn add(&mut self, block: Vec<Definition>) -> Result<(), Memory>
         ensures added { OnOk result (self.new ≡ self.old ++ block.items ∷ []) }
         ensures err { OnErr result (self.new ≡ self.old) }

@@ -10,7 +10,7 @@ ghost use Rattle.mw_preamble.specs.Rows.{IsRowOf, first_part, second_part};
 use crate::Definition;
 use mw_heap::{Heap, Ref, View, Word};
 
-// The first part of a pair; what is no pair is its own part.
+// The first part of a pair, or the object itself if it is not a pair.
 fn first(heap: &Heap, x: Ref) -> Ref
     requires { IsIn heap.now.objects x }
     ensures within { IsIn heap.now.objects result }
@@ -22,7 +22,7 @@ fn first(heap: &Heap, x: Ref) -> Ref
     }
 }
 
-// The second part of a pair; what is no pair is its own part.
+// The second part of a pair, or the object itself if it is not a pair.
 fn second(heap: &Heap, x: Ref) -> Ref
     requires { IsIn heap.now.objects x }
     ensures within { IsIn heap.now.objects result }

@@ -1,4 +1,4 @@
-//! The text of objects.
+//! The text of objects, and lines of it.
 #![tactic(auto)]
 
 mod atom;
@@ -6,6 +6,7 @@ mod bytes;
 mod datum;
 mod labelled;
 mod laws;
+mod line;
 mod name;
 mod numbers;
 mod part;
@@ -17,4 +18,5 @@ mod text;
 pub use bytes::Bytes;
 pub use datum::write_datum;
 pub use laws::labelled_texts_are_read;
+pub use line::{write_line, write_number, write_text_and_number};
 pub use printing::{Printed, print, text_len};

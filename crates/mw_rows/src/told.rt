@@ -1,4 +1,4 @@
-//! That wrong rows are told, each with what the program answers, and what is no row as that.
+//! That wrong rows are reported, each with the program's answer, and so is a text that is not a row.
 use mw_answers::{other_reports, wrong_answers};
 use std::alloc::{AllocError, Global};
 use std::test::Fail;

@@ -2,7 +2,8 @@
 ghost use Rattle.std.specs.Prelude.{◌≡◌, [], ◌∷◌, All, IfOk};
 ghost use Rattle.mw_heap.specs.Objects.{IsIn};
 
-use mw_explain::{BadStep, Wrong, bad_formula, bad_term, first_bad_step, wrong_step};
+use mw_bad_steps::{BadStep, first_bad_step};
+use mw_explain::{Wrong, bad_formula, bad_term, wrong_step};
 use mw_forms::{boxed, read, read_three, read_two};
 use mw_heap::{Heap, Memory, Profile, Ref};
 use mw_rules::Known;

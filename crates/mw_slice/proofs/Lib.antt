@@ -10,3 +10,4 @@ mod OneHeap
 mod Keeping
 mod Noted
 mod Walking
+mod KeptLines

@@ -208,7 +208,7 @@ pub fn copy(from: &Heap, x: Ref, to: &mut Heap, copies: &mut Copies) -> Result<R
     copy_cells(from, x, to, copies, &mut jobs)
 }
 
-/// The same, where the heap is as it was once memory is refused.
+/// The same, where the heap is as it was after running out of memory.
 pub(crate) fn copy_or_cut(
     from: &Heap,
     x: Ref,

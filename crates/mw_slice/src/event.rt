@@ -50,7 +50,7 @@ pub(crate) fn rest(heap: &Heap, nil: Ref, list: Ref) -> Ref
     or_nil(heap, heap.cdr(list), nil)
 }
 
-// Whether the list has so many members.
+// Whether the list has this number of members.
 fn has_members(heap: &Heap, list: Ref, count: usize) -> bool
     requires { IsIn heap.now.objects list }
     ensures { result ≡ has_members count (object_at heap.now.objects list) }
@@ -65,7 +65,7 @@ fn has_members(heap: &Heap, list: Ref, count: usize) -> bool
     heap.is_nil(Some(list))
 }
 
-// Whether the event begins with the word and has so many members.
+// Whether the event begins with the word and has this number of members.
 fn is_event(heap: &Heap, event: Ref, word: Word, count: usize) -> bool
     requires { IsIn heap.now.objects event }
     ensures { result ≡ (same_object (car (object_at heap.now.objects event)) (word_object word) && has_members count (object_at heap.now.objects event)) }

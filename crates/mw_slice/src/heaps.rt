@@ -136,7 +136,7 @@ impl Heaps {
         })
     }
 
-    /// Copies an event from another heap to the last one, or to a new one where that is full. The error is that memory is refused: the
+    /// Copies an event from another heap to the last one, or to a new one where that is full. The error is out of memory: the
     /// heaps are then as they were, but for a new one.
     pub fn copy(&mut self, from: &Heap, x: Ref, copies: &mut Copies) -> Result<Added, Memory>
         requires { IsIn from.now.objects x }

@@ -1,4 +1,5 @@
-//! What a theorem rests on: the accepted events of a book, in heaps of their own, and those of them that a theorem needs.
+//! What a theorem rests on: the accepted events of a book, in heaps of their own, and those of them that a theorem needs, also as they
+//! are written.
 #![tactic(auto)]
 
 mod added;
@@ -9,6 +10,7 @@ mod event;
 mod firsts;
 mod gathering;
 mod heaps;
+mod kept;
 mod names;
 mod nil;
 mod part;
@@ -20,6 +22,7 @@ mod walk;
 
 pub use copies::Copies;
 pub use copying::copy;
+pub use kept::{write_absent, write_slice};
 pub use picked::Picked;
 pub use positions::Positions;
 pub use slicer::Slicer;

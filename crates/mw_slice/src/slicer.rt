@@ -49,7 +49,7 @@ impl Slicer {
     }
 
     /// Copies an event from another heap and adds it at the end. It takes time in proportion to the distinct cells of the event. The
-    /// error is that memory is refused: the events are then as they were, and so are their heaps.
+    /// error is out of memory: the events are then as they were, and so are their heaps.
     pub fn add(&mut self, from: &Heap, event: Ref) -> Result<(), Memory>
         requires within { IsIn from.now.objects event }
         ensures added { OnOk result (events_of self.new ≡ events_of self.old ++ object_at from.now.objects event ∷ []) }

@@ -24,3 +24,6 @@ pub mod Posed
 pub mod InRange
 pub mod PureProofs
 pub mod DecidedBy
+pub mod Verdicts
+mod Given
+mod RulesMean

@@ -1,14 +1,47 @@
-//! Rules that are made of the steps.
+//! Formulas, and rules of proofs, in a heap.
 ghost use Rattle.std.specs.Prelude.{◌≡◌, IfOk};
 ghost use Rattle.mw_heap.specs.Objects.{object_at, IsIn, Grows};
-ghost use Rattle.mw_taut.specs.Steps.{commuted, inserted, appended, resolved, doubled, left, right};
+ghost use Rattle.mw_taut.specs.Steps.{not_object, or_object, schema, commuted, resolved, detached, doubled, left, right, neither};
+ghost use Rattle.mw_taut.specs.Reducing.{kept_from};
 
-use crate::formulas::{not, or};
-use crate::steps::{associativity, contraction, cut, expansion, schema};
+use crate::apply::apply;
+use crate::rule::{
+    COMMUTED, DETACHED, DOUBLED, KEPT_FROM, LEFT, NEITHER, NOT, OR, RESOLVED, RIGHT, SCHEMA,
+};
 use mw_heap::{Heap, Memory, Ref};
 
+/// The formula (pnot* a).
+pub(crate) fn not(heap: &mut Heap, a: Ref) -> Result<Ref, Memory>
+    requires { IsIn heap.old.objects a }
+    ensures grows { Grows heap.old.objects heap.new.objects }
+    ensures within { IfOk result (λ r. IsIn heap.new.objects r) }
+    ensures made { IfOk result (λ r. object_at heap.new.objects r ≡ not_object (object_at heap.old.objects a)) }
+{
+    apply(heap, NOT, &[a])
+}
+
+/// The formula (por* a b).
+pub(crate) fn or(heap: &mut Heap, a: Ref, b: Ref) -> Result<Ref, Memory>
+    requires a_in { IsIn heap.old.objects a }
+    requires b_in { IsIn heap.old.objects b }
+    ensures grows { Grows heap.old.objects heap.new.objects }
+    ensures within { IfOk result (λ r. IsIn heap.new.objects r) }
+    ensures made { IfOk result (λ r. object_at heap.new.objects r ≡ or_object (object_at heap.old.objects a) (object_at heap.old.objects b)) }
+{
+    apply(heap, OR, &[a, b])
+}
+
+/// not a or a.
+pub(crate) fn schema(heap: &mut Heap, a: Ref) -> Result<Ref, Memory>
+    requires { IsIn heap.old.objects a }
+    ensures grows { Grows heap.old.objects heap.new.objects }
+    ensures within { IfOk result (λ r. IsIn heap.new.objects r) }
+    ensures made { IfOk result (λ r. object_at heap.new.objects r ≡ schema (object_at heap.old.objects a)) }
+{
+    apply(heap, SCHEMA, &[a])
+}
+
 /// Of a or b, by p: b or a.
-#[tactic(auto, using(crate::proofs::Growing::growing), unfolding(crate::specs::Steps::commuted))]
 pub(crate) fn commuted(heap: &mut Heap, a: Ref, b: Ref, p: Ref) -> Result<Ref, Memory>
     requires a_in { IsIn heap.old.objects a }
     requires b_in { IsIn heap.old.objects b }
@@ -17,52 +50,10 @@ pub(crate) fn commuted(heap: &mut Heap, a: Ref, b: Ref, p: Ref) -> Result<Ref, M
     ensures within { IfOk result (λ r. IsIn heap.new.objects r) }
     ensures made { IfOk result (λ r. object_at heap.new.objects r ≡ commuted (object_at heap.old.objects a) (object_at heap.old.objects b) (object_at heap.old.objects p)) }
 {
-    let law = schema(heap, a)?;
-    cut(heap, b, a, p, law)
-}
-
-/// Of a or c, by p: a or (b or c).
-#[tactic(auto, using(crate::proofs::Growing::growing), unfolding(crate::specs::Steps::inserted))]
-pub(crate) fn inserted(heap: &mut Heap, a: Ref, b: Ref, c: Ref, p: Ref) -> Result<Ref, Memory>
-    requires a_in { IsIn heap.old.objects a }
-    requires b_in { IsIn heap.old.objects b }
-    requires c_in { IsIn heap.old.objects c }
-    requires p_in { IsIn heap.old.objects p }
-    ensures grows { Grows heap.old.objects heap.new.objects }
-    ensures within { IfOk result (λ r. IsIn heap.new.objects r) }
-    ensures made { IfOk result (λ r. object_at heap.new.objects r ≡ inserted (object_at heap.old.objects a) (object_at heap.old.objects b) (object_at heap.old.objects c) (object_at heap.old.objects p)) }
-{
-    let turned = commuted(heap, a, c, p)?;
-    let first = or(heap, c, a)?;
-    let wider = expansion(heap, b, first, turned)?;
-    let moved = associativity(heap, b, c, a, wider)?;
-    let rest = or(heap, b, c)?;
-    commuted(heap, rest, a, moved)
-}
-
-/// Of a or b, by p: a or (b or c).
-#[tactic(auto, using(crate::proofs::Growing::growing), unfolding(crate::specs::Steps::appended))]
-pub(crate) fn appended(heap: &mut Heap, a: Ref, b: Ref, c: Ref, p: Ref) -> Result<Ref, Memory>
-    requires a_in { IsIn heap.old.objects a }
-    requires b_in { IsIn heap.old.objects b }
-    requires c_in { IsIn heap.old.objects c }
-    requires p_in { IsIn heap.old.objects p }
-    ensures grows { Grows heap.old.objects heap.new.objects }
-    ensures within { IfOk result (λ r. IsIn heap.new.objects r) }
-    ensures made { IfOk result (λ r. object_at heap.new.objects r ≡ appended (object_at heap.old.objects a) (object_at heap.old.objects b) (object_at heap.old.objects c) (object_at heap.old.objects p)) }
-{
-    let first = or(heap, a, b)?;
-    let wider = expansion(heap, c, first, p)?;
-    let moved = associativity(heap, c, a, b, wider)?;
-    let last = or(heap, c, a)?;
-    let turned = commuted(heap, last, b, moved)?;
-    let moved = associativity(heap, b, c, a, turned)?;
-    let rest = or(heap, b, c)?;
-    commuted(heap, rest, a, moved)
+    apply(heap, COMMUTED, &[a, b, p])
 }
 
 /// Of x or c, by p, and not x or c, by q: c.
-#[tactic(auto, using(crate::proofs::Growing::growing), unfolding(crate::specs::Steps::resolved))]
 pub(crate) fn resolved(heap: &mut Heap, c: Ref, p: Ref, q: Ref) -> Result<Ref, Memory>
     requires c_in { IsIn heap.old.objects c }
     requires p_in { IsIn heap.old.objects p }
@@ -71,12 +62,23 @@ pub(crate) fn resolved(heap: &mut Heap, c: Ref, p: Ref, q: Ref) -> Result<Ref, M
     ensures within { IfOk result (λ r. IsIn heap.new.objects r) }
     ensures made { IfOk result (λ r. object_at heap.new.objects r ≡ resolved (object_at heap.old.objects c) (object_at heap.old.objects p) (object_at heap.old.objects q)) }
 {
-    let twice = cut(heap, c, c, p, q)?;
-    contraction(heap, c, twice)
+    apply(heap, RESOLVED, &[c, p, q])
+}
+
+/// Of a, by p, and not a or c, by q: c.
+pub(crate) fn detached(heap: &mut Heap, a: Ref, c: Ref, p: Ref, q: Ref) -> Result<Ref, Memory>
+    requires a_in { IsIn heap.old.objects a }
+    requires c_in { IsIn heap.old.objects c }
+    requires p_in { IsIn heap.old.objects p }
+    requires q_in { IsIn heap.old.objects q }
+    ensures grows { Grows heap.old.objects heap.new.objects }
+    ensures within { IfOk result (λ r. IsIn heap.new.objects r) }
+    ensures made { IfOk result (λ r. object_at heap.new.objects r ≡ detached (object_at heap.old.objects a) (object_at heap.old.objects c) (object_at heap.old.objects p) (object_at heap.old.objects q)) }
+{
+    apply(heap, DETACHED, &[a, c, p, q])
 }
 
 /// Of a or c, by p: not not a or c.
-#[tactic(auto, using(crate::proofs::Growing::growing), unfolding(crate::specs::Steps::doubled))]
 pub(crate) fn doubled(heap: &mut Heap, a: Ref, c: Ref, p: Ref) -> Result<Ref, Memory>
     requires a_in { IsIn heap.old.objects a }
     requires c_in { IsIn heap.old.objects c }
@@ -85,16 +87,10 @@ pub(crate) fn doubled(heap: &mut Heap, a: Ref, c: Ref, p: Ref) -> Result<Ref, Me
     ensures within { IfOk result (λ r. IsIn heap.new.objects r) }
     ensures made { IfOk result (λ r. object_at heap.new.objects r ≡ doubled (object_at heap.old.objects a) (object_at heap.old.objects c) (object_at heap.old.objects p)) }
 {
-    let denial = not(heap, a)?;
-    let twice = not(heap, denial)?;
-    let law = schema(heap, denial)?;
-    let law = commuted(heap, twice, denial, law)?;
-    let turned = cut(heap, c, twice, p, law)?;
-    commuted(heap, c, twice, turned)
+    apply(heap, DOUBLED, &[a, c, p])
 }
 
 /// Of a or c, by p: (a or b) or c.
-#[tactic(auto, using(crate::proofs::Growing::growing), unfolding(crate::specs::Steps::left))]
 pub(crate) fn left(heap: &mut Heap, a: Ref, b: Ref, c: Ref, p: Ref) -> Result<Ref, Memory>
     requires a_in { IsIn heap.old.objects a }
     requires b_in { IsIn heap.old.objects b }
@@ -104,12 +100,10 @@ pub(crate) fn left(heap: &mut Heap, a: Ref, b: Ref, c: Ref, p: Ref) -> Result<Re
     ensures within { IfOk result (λ r. IsIn heap.new.objects r) }
     ensures made { IfOk result (λ r. object_at heap.new.objects r ≡ left (object_at heap.old.objects a) (object_at heap.old.objects b) (object_at heap.old.objects c) (object_at heap.old.objects p)) }
 {
-    let wider = inserted(heap, a, b, c, p)?;
-    associativity(heap, a, b, c, wider)
+    apply(heap, LEFT, &[a, b, c, p])
 }
 
 /// Of b or c, by p: (a or b) or c.
-#[tactic(auto, using(crate::proofs::Growing::growing), unfolding(crate::specs::Steps::right))]
 pub(crate) fn right(heap: &mut Heap, a: Ref, b: Ref, c: Ref, p: Ref) -> Result<Ref, Memory>
     requires a_in { IsIn heap.old.objects a }
     requires b_in { IsIn heap.old.objects b }
@@ -119,7 +113,37 @@ pub(crate) fn right(heap: &mut Heap, a: Ref, b: Ref, c: Ref, p: Ref) -> Result<R
     ensures within { IfOk result (λ r. IsIn heap.new.objects r) }
     ensures made { IfOk result (λ r. object_at heap.new.objects r ≡ right (object_at heap.old.objects a) (object_at heap.old.objects b) (object_at heap.old.objects c) (object_at heap.old.objects p)) }
 {
-    let second = or(heap, b, c)?;
-    let wider = expansion(heap, a, second, p)?;
-    associativity(heap, a, b, c, wider)
+    apply(heap, RIGHT, &[a, b, c, p])
+}
+
+/// Of not a or c, by p, and not b or c, by q: not (a or b) or c.
+pub(crate) fn neither(
+    heap: &mut Heap,
+    a: Ref,
+    b: Ref,
+    c: Ref,
+    p: Ref,
+    q: Ref,
+) -> Result<Ref, Memory>
+    requires a_in { IsIn heap.old.objects a }
+    requires b_in { IsIn heap.old.objects b }
+    requires c_in { IsIn heap.old.objects c }
+    requires p_in { IsIn heap.old.objects p }
+    requires q_in { IsIn heap.old.objects q }
+    ensures grows { Grows heap.old.objects heap.new.objects }
+    ensures within { IfOk result (λ r. IsIn heap.new.objects r) }
+    ensures made { IfOk result (λ r. object_at heap.new.objects r ≡ neither (object_at heap.old.objects a) (object_at heap.old.objects b) (object_at heap.old.objects c) (object_at heap.old.objects p) (object_at heap.old.objects q)) }
+{
+    apply(heap, NEITHER, &[a, b, c, p, q])
+}
+
+/// That x or d follows from x.
+pub(crate) fn kept_from(heap: &mut Heap, d: Ref, x: Ref) -> Result<Ref, Memory>
+    requires d_in { IsIn heap.old.objects d }
+    requires x_in { IsIn heap.old.objects x }
+    ensures grows { Grows heap.old.objects heap.new.objects }
+    ensures within { IfOk result (λ r. IsIn heap.new.objects r) }
+    ensures made { IfOk result (λ r. object_at heap.new.objects r ≡ kept_from (object_at heap.old.objects d) (object_at heap.old.objects x)) }
+{
+    apply(heap, KEPT_FROM, &[d, x])
 }

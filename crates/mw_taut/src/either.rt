@@ -4,13 +4,12 @@ ghost use Rattle.mw_heap.specs.Objects.{object_at, IsIn, Grows};
 ghost use Rattle.mw_taut.specs.Steps.{left, right};
 ghost use Rattle.mw_taut.specs.Reducing.{Fixed, settled_at, other_at, form_at, IsOtherIn, IsFormIn, either_value, either_after, either_before, either};
 
-use crate::both::{either_both, either_first_kept, either_second_kept};
-use crate::derived::{left, right};
-use crate::neither::neither;
-use crate::one::{either_first, either_second};
+use crate::change::{
+    either_both, either_first, either_first_kept, either_second, either_second_kept, kept,
+};
+use crate::derived::{left, neither, right};
 use crate::reduced::{Change, Reduced};
 use crate::settled::Settled;
-use crate::unchanged::kept;
 use mw_heap::{Heap, Memory, Ref};
 
 // Where x holds.

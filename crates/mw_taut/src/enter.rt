@@ -8,13 +8,12 @@ ghost use Rattle.mw_taut.specs.Decided.{IsTableOf};
 
 use crate::case::{Entered, Follow, Outcome};
 use crate::choice::{choice_list, with_value};
-use crate::derived::commuted;
+use crate::derived::{commuted, kept_from};
 use crate::literal::literal;
 use crate::reduce::reduce_all;
 use crate::reduced::Reduced;
 use crate::settled::Settled;
 use crate::table::Table;
-use crate::unchanged::kept_from;
 use mw_heap::{Heap, Memory, Ref};
 
 // Where the value of the formula f is fixed, in the context d: a proof of the context or the formula; where the formula is false, so it is

@@ -3,9 +3,7 @@ ghost use Rattle.std.specs.Prelude.{◌≡◌, IfOk};
 ghost use Rattle.mw_heap.specs.Objects.{object_at, IsIn, Grows};
 ghost use Rattle.mw_taut.specs.Reducing.{literal_object, literal_law};
 
-use crate::derived::commuted;
-use crate::formulas::not;
-use crate::steps::schema;
+use crate::derived::{commuted, not, schema};
 use mw_heap::{Heap, Memory, Ref};
 
 /// The equation where it is taken to be true, and else its denial.

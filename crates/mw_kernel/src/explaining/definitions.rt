@@ -12,7 +12,7 @@ ghost use Rattle.mw_define.specs.BlockTests.{FailsBlock};
 ghost use Rattle.mw_theory.specs.Admitting.{AreWithin, drafts_given};
 ghost use Rattle.mw_theory.specs.Knowledge.{parts_of, meant, IsHeld};
 ghost use Rattle.mw_theory.specs.Settling.{defined};
-ghost use Rattle.mw_explain.specs.Shown.{Shows};
+ghost use Rattle.mw_bad_steps.specs.Shown.{Shows};
 ghost use Rattle.mw_kernel.specs.Proofs.{judged_for};
 ghost use Rattle.mw_kernel.specs.Reasons.{is_of_definitions};
 ghost use Rattle.mw_kernel.specs.Defining.{Owe, block_shown, definitions_shown};
@@ -97,9 +97,9 @@ fn obligations_shown(heap: &mut Heap, drafts: Drafts, arity: &Arity) -> Result<V
     heap.list_members(owed)
 }
 
-/// What is shown of a DEFINE or a DEFINE-ALL that gives these definitions, with these proofs, and that is refused for this reason: of what
-/// fails its tests the part that does, all obligations where they are more or fewer than the proofs, and else the first proof that is refused.
-/// The error is out of memory.
+/// What is shown of a DEFINE or a DEFINE-ALL that gives these definitions, with these proofs, and that is refused for this reason: where
+/// the definitions fail their tests, the part that does; where there are more or fewer obligations than proofs, all obligations; and else
+/// the first proof that is refused. The error is out of memory.
 pub(crate) fn definitions_shown(
     heap: &mut Heap,
     theory: &Theory,

@@ -12,7 +12,7 @@ ghost use Rattle.mw_theory.specs.Settling.{skolem_at, verified};
 ghost use Rattle.mw_theory.specs.Words.{verify_event, skolem_event, switch_event, eval_event};
 ghost use Rattle.mw_commands.specs.Commands.Explanation.{shown, shown_by, word_of};
 ghost use Rattle.mw_commands.specs.Commands.ExplanationTerms.{bad_formula, part_shown};
-ghost use Rattle.mw_explain.specs.Shown.{Shows};
+ghost use Rattle.mw_bad_steps.specs.Shown.{Shows};
 ghost use Rattle.mw_kernel.specs.Proofs.{judged_for};
 ghost use Rattle.mw_kernel.specs.Switching.{switched};
 
@@ -25,7 +25,7 @@ use mw_heap::{Heap, Memory, Ref, Refusal};
 use mw_term::{Arity, Marks};
 use mw_theory::{Theory, members_wanted};
 
-/// How many members its word wants, of what is no event for their number; nothing of what begins with no word of events.
+/// How many members its word wants, where an event has the wrong number of them; None if it does not begin with an event's word.
 pub(crate) fn members_shown(heap: &mut Heap, event: Ref) -> Result<Vec<Ref>, Memory>
     requires within { IsIn heap.old.objects event }
     requires none { event_word (object_at heap.old.objects event) ≡ None }
@@ -116,7 +116,7 @@ pub(crate) fn witness_shown(
     definition_shown(heap, reason, &[draft], arity, false)
 }
 
-/// What is shown of a SWITCH: the arity of its name, or the claim that is no theorem.
+/// What is shown of a SWITCH: the arity of its name, or the claim that is not a theorem.
 pub(crate) fn switch_shown(
     heap: &mut Heap,
     arity: &Arity,

@@ -9,7 +9,7 @@ ghost use Rattle.mw_heap.specs.Variants.{refusal_of};
 ghost use Rattle.mw_term.specs.Marking.{AreMarks};
 ghost use Rattle.mw_theory.specs.Knowledge.{parts_of, meant, IsHeld};
 ghost use Rattle.mw_commands.specs.Commands.Explanation.{wrong_proof, proof_shown};
-ghost use Rattle.mw_explain.specs.Shown.{Shows};
+ghost use Rattle.mw_bad_steps.specs.Shown.{Shows};
 ghost use Rattle.mw_kernel.specs.Proofs.{judged_for};
 ghost use Rattle.mw_commands.specs.Commands.ExplanationSteps.{bad_step_shown};
 ghost use Rattle.mw_kernel.specs.Reasons.{IsNoneOr, AreRefused};
@@ -109,7 +109,7 @@ fn where_some(parts: Vec<Ref>) -> Option<Vec<Ref>>
     if parts.is_empty() { None } else { Some(parts) }
 }
 
-// The first bad step of what is no proof, with what is wrong with it; nothing of a proof.
+// The first bad step, with what is wrong with it; None if it is a proof.
 fn bad_step_of(
     heap: &mut Heap,
     theory: &Theory,

@@ -2,12 +2,13 @@
 use Rattle.std.proofs.Common.{◌≡◌, true, Some, sym, ap, ◌∙◌, subst}
 use Rattle.mw_model.specs.Terms.Object.{car, second_of, third_of, fourth_of}
 use Rattle.mw_model.specs.Proofs.Judgment.{methods, method_among}
+use Rattle.mw_model.specs.Laws.RulesInduction.{is_list_object}
 use Rattle.mw_heap.specs.Objects.{object_at}
 use Rattle.mw_rules.specs.Methods.{method_of_logic}
 use Rattle.mw_commands.specs.Commands.ExplanationTerms.{bad_formula}
 use Rattle.mw_commands.specs.Commands.ExplanationSteps.{has_proof_shape}
 use Rattle.mw_commands.proofs.ExplainedParts.{formula_decides}
-use Rattle.mw_explain.specs.Condition.{IsWrongRow, is_list}
+use Rattle.mw_explain.specs.Condition.{IsWrongRow}
 use Rattle.mw_explain.proofs.Conditions.{no_formula, no_list, wrong_by_row, row_part, formed_at}
 use Rattle.mw_explain.proofs.condition.wrong_step.Goals as goal
 
@@ -30,7 +31,7 @@ returns-then-not-is_list-clause-wrong c = λ t a f.
     let shape : has_proof_shape x ≡ true = sym c.in-Some.ensures.shape in
     let is_m : method_among methods (car x) ≡ Some m = ap (method_among methods) (sym members.method_is) ∙ sym c.in-Some-of.ensures in
     let formed = (formula_decides c.args.arity.now (second_of x)).0 (ap (bad_formula c.args.arity.now) (sym members.conclusion_is) ∙ sym c.in_default-bad_formula.ensures.bad) in
-    no_list t x m shape is_m (formed_at t c.args.arity.now x a formed) f (ap is_list (sym members.subproofs_are) ∙ (sym c.is_list.ensures ∙ c.if-not-is_list.true))
+    no_list t x m shape is_m (formed_at t c.args.arity.now x a formed) f (ap is_list_object (sym members.subproofs_are) ∙ (sym c.is_list.ensures ∙ c.if-not-is_list.true))
 
 pub returns-clause-wrong : goal.returns-clause-wrong
 returns-clause-wrong c = λ t a f.
@@ -43,7 +44,7 @@ returns-clause-wrong c = λ t a f.
     let formed = (formula_decides c.args.arity.now (second_of x)).0 (ap (bad_formula c.args.arity.now) (sym members.conclusion_is) ∙ sym c.in_default-bad_formula.ensures.bad) in
     let w = c.wrong_row.result in
     let row = subst (λ y. IsWrongRow c.args.arity.now m (third_of x) y w) members.extras_are (subst (λ y. IsWrongRow c.args.arity.now m y (object_at os c.in-Some.members.extras) w) members.subproofs_are (c.wrong_row.ensures c.args.arity.now c.requires.marked)) in
-    wrong_by_row t x m shape is_m (formed_at t c.args.arity.now x a formed) f os w (ap is_list (sym members.subproofs_are) ∙ (sym c.is_list.ensures ∙ c.if-not-is_list.false)) (subst (λ A. IsWrongRow A m (third_of x) (fourth_of x) w) (sym a) row)
+    wrong_by_row t x m shape is_m (formed_at t c.args.arity.now x a formed) f os w (ap is_list_object (sym members.subproofs_are) ∙ (sym c.is_list.ensures ∙ c.if-not-is_list.false)) (subst (λ A. IsWrongRow A m (third_of x) (fourth_of x) w) (sym a) row)
 
 pub returns-clause-within : goal.returns-clause-within
 returns-clause-within c =

@@ -6,7 +6,7 @@ use Rattle.mw_define.specs.Blocks.{draft_at}
 use Rattle.mw_heap.specs.declared.vocabulary.refusal.Refusal.TheVariants as reason
 use Rattle.mw_commands.specs.Commands.Explanation.{draft_shown, first_shown, drafts_shown}
 use Rattle.mw_explain.specs.Drafts.{bodies_under}
-use Rattle.mw_explain.specs.Shown.{Shows}
+use Rattle.mw_bad_steps.specs.Shown.{Shows}
 use Rattle.mw_explain.proofs.DefinitionShown.{by-drafts, no-name, no-formals}
 use Rattle.mw_explain.proofs.definition.definition_shown.Goals as goal
 

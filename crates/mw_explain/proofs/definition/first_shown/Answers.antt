@@ -7,7 +7,7 @@ use Rattle.mw_define.specs.Blocks.{draft_at}
 use Rattle.mw_define.proofs.NewNames.{draft-in}
 use Rattle.mw_define.proofs.Expanding.{draft-Grows}
 use Rattle.mw_commands.specs.Commands.Explanation.{draft_shown, first_shown}
-use Rattle.mw_explain.specs.Shown.{Shows}
+use Rattle.mw_bad_steps.specs.Shown.{Shows}
 use Rattle.mw_explain.proofs.ShownParts.{shown-empty, shows-none}
 use Rattle.mw_explain.proofs.DraftsShown.{draft_at-Grows, shown-next, shown-here, shown-end, not-empty}
 use Rattle.mw_explain.proofs.definition.first_shown.Goals as goal

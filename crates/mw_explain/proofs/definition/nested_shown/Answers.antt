@@ -4,7 +4,7 @@ use Rattle.std.proofs.lemmas.Result.{IfOk-weaker}
 use Rattle.mw_heap.proofs.Objects.{Grows-trans}
 use Rattle.mw_define.specs.Blocks.{draft_at}
 use Rattle.mw_define.specs.NestedCall.{IsNestedFrom}
-use Rattle.mw_explain.specs.Shown.{Shows}
+use Rattle.mw_bad_steps.specs.Shown.{Shows}
 use Rattle.mw_explain.proofs.ShownParts.{shows-none}
 use Rattle.mw_explain.proofs.NestedShown.{nothing-nested, something-nested, call-in}
 use Rattle.mw_explain.proofs.definition.nested_shown.Goals as goal

@@ -3,7 +3,7 @@ use Rattle.std.proofs.Common.{map, ap, subst, IfOk}
 use Rattle.mw_heap.specs.Variants.{refusal_of}
 use Rattle.mw_define.specs.Blocks.{draft_at}
 use Rattle.mw_commands.specs.Commands.Explanation.{draft_shown, first_shown}
-use Rattle.mw_explain.specs.Shown.{Shows}
+use Rattle.mw_bad_steps.specs.Shown.{Shows}
 use Rattle.mw_explain.proofs.definition.terms_shown.Goals as goal
 
 pub returns-clause-shown : goal.returns-clause-shown

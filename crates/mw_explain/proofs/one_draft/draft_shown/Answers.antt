@@ -5,7 +5,7 @@ use Rattle.std.proofs.Common.{IfOk}
 use Rattle.mw_heap.specs.Variants.{refusal_of}
 use Rattle.mw_define.specs.Blocks.{draft_at}
 use Rattle.mw_commands.specs.Commands.Explanation.{draft_shown}
-use Rattle.mw_explain.specs.Shown.{Shows}
+use Rattle.mw_bad_steps.specs.Shown.{Shows}
 use Rattle.mw_explain.proofs.DraftsShown.{other-reasons}
 use Rattle.mw_explain.proofs.one_draft.draft_shown.Goals as goal
 

@@ -6,7 +6,7 @@ use Rattle.mw_heap.specs.Objects.{object_at}
 use Rattle.mw_heap.proofs.Objects.{Grows-trans, IsIn-Grows, object_at-Grows}
 use Rattle.mw_commands.specs.Commands.ExplanationTerms.{part_shown}
 use Rattle.mw_commands.specs.Commands.Explanation.{raw_shown}
-use Rattle.mw_explain.specs.Shown.{Shows}
+use Rattle.mw_bad_steps.specs.Shown.{Shows}
 use Rattle.mw_explain.proofs.ShownParts.{shows-none}
 use Rattle.mw_explain.proofs.one_draft.term_shown.Goals as goal
 

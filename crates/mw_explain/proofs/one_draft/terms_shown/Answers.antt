@@ -6,7 +6,7 @@ use Rattle.mw_heap.specs.Objects.{object_at}
 use Rattle.mw_heap.proofs.Objects.{Grows-trans, IsIn-Grows, object_at-Grows}
 use Rattle.mw_commands.specs.Commands.ExplanationTerms.{bad_raw}
 use Rattle.mw_commands.specs.Commands.Explanation.{or_else_shown, raw_shown}
-use Rattle.mw_explain.specs.Shown.{Shows}
+use Rattle.mw_bad_steps.specs.Shown.{Shows}
 use Rattle.mw_explain.proofs.ShownParts.{or_else-first, shown-empty}
 use Rattle.mw_explain.proofs.one_draft.terms_shown.Goals as goal
 

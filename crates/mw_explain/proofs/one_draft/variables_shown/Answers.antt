@@ -9,7 +9,7 @@ use Rattle.mw_heap.specs.Objects.{object_at, Grows}
 use Rattle.mw_heap.proofs.Objects.{Grows-trans, IsIn-Grows, object_at-Grows}
 use Rattle.mw_term.specs.Parts.{AreSymbols}
 use Rattle.mw_explain.specs.Drafts.{IsExpandedTo, formals_at}
-use Rattle.mw_explain.specs.Shown.{Shows}
+use Rattle.mw_bad_steps.specs.Shown.{Shows}
 use Rattle.mw_explain.proofs.DraftsShown.{expanded-to, expanded-in, expanded-Grows, formals-named}
 use Rattle.mw_explain.proofs.one_draft.variables_shown.Goals as goal
 

@@ -7,7 +7,7 @@ use Rattle.mw_model.specs.Events.Expansion.{without}
 use Rattle.mw_term.specs.Parts.{names_at}
 use Rattle.mw_explain.specs.Drafts.{formals_at}
 use Rattle.mw_explain.specs.OtherVariables.{put_others}
-use Rattle.mw_explain.specs.Shown.{Shows}
+use Rattle.mw_bad_steps.specs.Shown.{Shows}
 use Rattle.mw_explain.proofs.PuttingOthers.{put-both}
 use Rattle.mw_explain.proofs.VariablesPut.{symbols-none, shows-symbols, variables-firsts}
 use Rattle.mw_explain.proofs.other_variables.other_variables.Goals as goal

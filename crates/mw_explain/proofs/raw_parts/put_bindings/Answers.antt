@@ -3,7 +3,8 @@ use Rattle.std.proofs.Common.{ap, ◌∙◌, arith}
 use Rattle.mw_model.specs.Terms.Object.{Pair}
 use Rattle.mw_heap.specs.Objects.{object_at}
 use Rattle.mw_heap.proofs.NoPair.{shown_no_pair}
-use Rattle.mw_explain.specs.RawParts.{members, binding_members}
+use Rattle.mw_bad_steps.specs.Members.{members_in}
+use Rattle.mw_explain.specs.RawParts.{binding_members}
 use Rattle.mw_explain.proofs.PuttingParts.{putting-start, putting-more, putting-end, no-bindings, no-binding}
 use Rattle.mw_explain.proofs.raw_parts.put_bindings.Goals as goal
 
@@ -22,7 +23,7 @@ loop-binding-preserved c =
     record {
       within = c.in-Pair.ensures.shows.1;
       older = omega (arith, below.1, c.loop-binding.invariant.older);
-      putting = putting-more os c.args.bindings (binding_members (object_at os c.args.bindings)) (binding_members (object_at os c.in-Pair.more)) (binding_members (object_at os c.loop-binding.rest)) (members (object_at os c.in-Pair-view.values)) c.in-Pair-view.values c.args.parts.now.items c.loop-binding.parts.items c.put_members.new.parts.items c.loop-binding.invariant.putting (ap binding_members is) (omega (arith, c.in-Pair-view.ensures.below.1, below.0, c.loop-binding.invariant.older)) c.in_ok-put_members.ensures;
+      putting = putting-more os c.args.bindings (binding_members (object_at os c.args.bindings)) (binding_members (object_at os c.in-Pair.more)) (binding_members (object_at os c.loop-binding.rest)) (members_in (object_at os c.in-Pair-view.values)) c.in-Pair-view.values c.args.parts.now.items c.loop-binding.parts.items c.put_members.new.parts.items c.loop-binding.invariant.putting (ap binding_members is) (omega (arith, c.in-Pair-view.ensures.below.1, below.0, c.loop-binding.invariant.older)) c.in_ok-put_members.ensures;
     }
 
 pub returns-in_default-view : goal.returns-in_default-view

@@ -5,7 +5,7 @@ use Rattle.mw_model.specs.Terms.Term.{arity_of}
 use Rattle.mw_model.specs.Values.Primitive.{name_of}
 use Rattle.mw_model.specs.Events.Expansion.{abbreviation_of}
 use Rattle.mw_heap.specs.Objects.{object_at}
-use Rattle.mw_explain.specs.RawParts.{form_members, raw_parts, Puts}
+use Rattle.mw_explain.specs.RawParts.{form_members, raw_parts, PutsParts}
 use Rattle.mw_explain.proofs.PuttingParts.{puts-older, symbol-parts, other-parts, no_symbol}
 use Rattle.mw_explain.proofs.raw_parts.put_parts.Goals as goal
 

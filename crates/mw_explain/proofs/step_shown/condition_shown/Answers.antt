@@ -4,7 +4,7 @@ use Rattle.std.specs.Prelude.{option_to_list}
 use Rattle.mw_model.specs.Terms.Object.{Symbol, name_of_bytes}
 use Rattle.mw_heap.specs.Objects.{object_at}
 use Rattle.mw_commands.specs.Commands.ExplanationSteps.{step_shown}
-use Rattle.mw_explain.specs.Shown.{Shows}
+use Rattle.mw_bad_steps.specs.Shown.{Shows}
 use Rattle.mw_explain.proofs.step_shown.condition_shown.Goals as goal
 
 pub returns-in-None-clause-shown : goal.returns-in-None-clause-shown

@@ -6,8 +6,9 @@ use Rattle.std.proofs.lemmas.List.Elements.{All-cons, All-nil}
 use Rattle.mw_heap.specs.Objects.{object_at, IsIn}
 use Rattle.mw_heap.specs.Lists.{list_object}
 use Rattle.mw_heap.proofs.Objects.{IsIn-Grows, object_at-Grows}
-use Rattle.mw_explain.specs.Showing.{before, conclusions_in}
-use Rattle.mw_explain.proofs.ShownMore.{list_object-before}
+use Rattle.mw_commands.specs.Commands.ExplanationSteps.{listed}
+use Rattle.mw_bad_steps.specs.Members.{conclusions_in}
+use Rattle.mw_bad_steps.proofs.ShownMore.{list_object-listed}
 use Rattle.mw_explain.proofs.ShownSteps.{conclusions_listed}
 use Rattle.mw_explain.proofs.step_shown.step_shown.Goals as goal
 
@@ -80,5 +81,5 @@ returns-clause-made c =
     let subproofs = c.first_and_rest-subproofs.ensures.first ∙ ap car e2 in
     let extras = object_at-Grows h1 h2 g2 _ i4.0 ∙ (c.first_and_rest-extras.ensures.first ∙ ap car e3) in
     let shown = c.in_ok-seconds.ensures in
-    let conclusions = c.in_ok-conclusions.ensures.made.1 ∙ (ap (list_object h1) c.deref.ensures.value ∙ (list_object-before h1 _ _ shown.1 ∙ (ap (λ y. before (conclusions_in y) NIL) subproofs ∙ sym (conclusions_listed (third_of x))))) in
+    let conclusions = c.in_ok-conclusions.ensures.made.1 ∙ (ap (list_object h1) c.deref.ensures.value ∙ (list_object-listed h1 _ _ shown.1 ∙ (ap (λ y. listed (conclusions_in y)) subproofs ∙ sym (conclusions_listed (third_of x))))) in
     IfOk-weaker c.list_of-2.result _ _ (λ r made. made.1 ∙ ap₂ Pair method (ap₂ Pair conclusion (ap₂ Pair conclusions (ap (λ y. Pair y NIL) extras)))) c.list_of-2.ensures.made

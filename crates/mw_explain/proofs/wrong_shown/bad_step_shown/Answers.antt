@@ -10,9 +10,9 @@ use Rattle.mw_proof.proofs.Holding.{list_object-grows}
 use Rattle.mw_term.proofs.CallerLemmas.{AreMarks-grows}
 use Rattle.mw_commands.specs.Commands.ExplanationSteps.{placed, wrong_step}
 use Rattle.mw_explain.specs.Condition.{HasProofs}
-use Rattle.mw_explain.specs.Shown.{Shows}
-use Rattle.mw_explain.specs.Showing.{before}
-use Rattle.mw_explain.proofs.ShownMore.{Shows-grows, Shows-none}
+use Rattle.mw_bad_steps.specs.Shown.{Shows}
+use Rattle.mw_commands.specs.Commands.ExplanationSteps.{listed}
+use Rattle.mw_bad_steps.proofs.ShownMore.{Shows-grows, Shows-none}
 use Rattle.mw_explain.proofs.ShownSteps.{one_shown, more_shown, shows_same}
 use Rattle.mw_explain.proofs.FirstShown.{nothing_shown, one_found, step_follows_place}
 use Rattle.mw_explain.proofs.wrong_shown.bad_step_shown.Goals as goal
@@ -47,4 +47,4 @@ returns-clause-shown c = IfOk-weaker c.joined.result _ _ (λ v is t e f g h.
     let rest = Shows-grows h2 h3 c.in_ok-shown.shown.items (wrong_step t (object_at h1 b.step)) c.in_ok-place.ensures.grows wrong in
     let first = one_shown h3 _ c.push.new.self.items c.in_ok-place.place _ c.new-all.ensures.items c.in_ok-push.ensures.items c.in_ok-place.ensures.within c.in_ok-place.ensures.made in
     let all = more_shown h3 c.push.new.self.items v.items c.in_ok-shown.shown.items _ (wrong_step t (object_at h1 b.step)) (is ∙ ap (λ l. c.push.new.self.items ++ l) c.deref-2.ensures.value) first rest in
-    shows_same h3 v.items _ _ (whole ∙ (ap (λ y. before (map Natural b.place.items) NIL ∷ wrong_step t y) (sym here) ∙ ap (λ l. before (map Natural l) NIL ∷ wrong_step t (object_at h1 b.step)) (sym c.deref.ensures.value))) all) c.joined.ensures
+    shows_same h3 v.items _ _ (whole ∙ (ap (λ y. listed (map Natural b.place.items) ∷ wrong_step t y) (sym here) ∙ ap (λ l. listed (map Natural l) ∷ wrong_step t (object_at h1 b.step)) (sym c.deref.ensures.value))) all) c.joined.ensures

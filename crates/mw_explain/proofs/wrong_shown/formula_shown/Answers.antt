@@ -6,7 +6,7 @@ use Rattle.mw_heap.specs.Objects.{object_at}
 use Rattle.mw_heap.proofs.Objects.{object_at-Grows}
 use Rattle.mw_commands.specs.Commands.ExplanationTerms.{part_shown}
 use Rattle.mw_commands.specs.Commands.ExplanationSteps.{step_shown}
-use Rattle.mw_explain.proofs.ShownMore.{Shows-grows}
+use Rattle.mw_bad_steps.proofs.ShownMore.{Shows-grows}
 use Rattle.mw_explain.proofs.ShownSteps.{more_shown, shows_same}
 use Rattle.mw_explain.proofs.wrong_shown.formula_shown.Goals as goal
 

@@ -16,7 +16,7 @@ returns c =
     let qs = map (object_at os) c.args.complete.now.keys in
     let n = c.args.number in
     let start = c.args.line.now.items in
-    let a = c.write_digits.new.line.items in
+    let a = c.write_number.new.lines.items in
     let b = c.write_member.new.line.items in
     let d = c.write_member-2.new.line.items in
     let e = c.write_numbers.new.line.items in
@@ -26,7 +26,7 @@ returns c =
     let j = c.in_ok-next-2.next in
     let k = c.in_ok-write_member.field-0 in
     writes_more (Natural n) (car x ∷ second_of x ∷ numbers ∷ fourth_of x ∷ []) 1 1 start a f
-    (writes_text (Natural n) 1 start a (atom_is_compact (Natural n) 1 refl) (c.in_ok-write_digits.ensures ∙ (ap (λ l. l ++ numeral n) c.in_ok-push.ensures.items ∙ append_assoc start (32 ∷ []) (numeral n))))
+    (writes_text (Natural n) 1 start a (atom_is_compact (Natural n) 1 refl) (c.in_ok-write_number.ensures ∙ (ap (λ l. l ++ numeral n) c.in_ok-push.ensures.items ∙ append_assoc start (32 ∷ []) (numeral n))))
     (writes_more (car x) (second_of x ∷ numbers ∷ fourth_of x ∷ []) 1 i a b f
     (subst (λ y. WritesMember y 1 a b i) c.car.ensures.value c.in_ok-next.ensures.written)
     (writes_more (second_of x) (numbers ∷ fourth_of x ∷ []) i j b d f

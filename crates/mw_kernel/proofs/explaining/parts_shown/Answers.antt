@@ -9,7 +9,7 @@ use Rattle.mw_theory.specs.Words.{IsEvent}
 use Rattle.mw_theory.specs.declared.event.Event.TheVariants.{Verify, Define, Skolem, Switch, Eval, Print, DefineAll, Profile}
 use Rattle.mw_theory.proofs.CallerLemmas.{IfOk-map}
 use Rattle.mw_commands.specs.Commands.Explanation.{shown, word_of}
-use Rattle.mw_explain.specs.Shown.{Shows}
+use Rattle.mw_bad_steps.specs.Shown.{Shows}
 use Rattle.mw_kernel.proofs.DefinitionReasons.{refused-definitions, defining-reason, shown-define, shown-define-all}
 use Rattle.mw_kernel.proofs.EventReasons.{print-shown, profile-shown, skolem-not-nested, eval-not-nested}
 use Rattle.mw_kernel.proofs.ExplainedEvents.{no-event-reason, refused-event, shown-event}
@@ -170,9 +170,9 @@ returns-in-Print-clause-shown c =
     let t = meant os (parts_of c.args.theory.now) in
     let N = c.args.checker.now.steps in
     let r = refusal_of c.args.reason in
-    let e = Print m._x in
+    let e = Print m.field-0 in
     let event = subst (IsEvent os c.args.event) m.is c.in-Some.ensures.event in
-    let same = print-shown t N r (object_at os m._x) (text_of (object_at os m._x)) (refused-event os t N c.args.event r c.event_of.ensures.in_range c.requires.refused e event) ∙ shown-event os t N c.args.event r c.event_of.ensures.in_range c.requires.refused e event in
+    let same = print-shown t N r (object_at os m.field-0) (text_of (object_at os m.field-0)) (refused-event os t N c.args.event r c.event_of.ensures.in_range c.requires.refused e event) ∙ shown-event os t N c.args.event r c.event_of.ensures.in_range c.requires.refused e event in
     subst (Shows os c.new.result.items) same (subst (λ l. Shows os l []) (sym c.new.ensures.items) (Shows-none os))
 
 pub returns-in-Profile-clause-shown : goal.returns-in-Profile-clause-shown
@@ -182,7 +182,7 @@ returns-in-Profile-clause-shown c =
     let t = meant os (parts_of c.args.theory.now) in
     let N = c.args.checker.now.steps in
     let r = refusal_of c.args.reason in
-    let e = Profile m._number in
+    let e = Profile m.field-0 in
     let event = subst (IsEvent os c.args.event) m.is c.in-Some.ensures.event in
-    let same = profile-shown t N r (object_at os m._number) (refused-event os t N c.args.event r c.event_of.ensures.in_range c.requires.refused e event) ∙ shown-event os t N c.args.event r c.event_of.ensures.in_range c.requires.refused e event in
+    let same = profile-shown t N r (object_at os m.field-0) (refused-event os t N c.args.event r c.event_of.ensures.in_range c.requires.refused e event) ∙ shown-event os t N c.args.event r c.event_of.ensures.in_range c.requires.refused e event in
     subst (Shows os c.new-in-Profile.result.items) same (subst (λ l. Shows os l []) (sym c.new-in-Profile.ensures.items) (Shows-none os))

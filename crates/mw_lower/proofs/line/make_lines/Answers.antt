@@ -3,8 +3,8 @@ use Rattle.std.proofs.Common.{[], ◌∷◌, ◌++◌, map, sym, ap, ◌∙◌, 
 use Rattle.std.proofs.lemmas.List.{drop_all, map-append}
 use Rattle.mw_heap.specs.Objects.{object_at}
 use Rattle.mw_heap.proofs.Objects.{Grows-trans, IsIn-Grows, object_at-Grows}
-use Rattle.mw_axioms.specs.Stacks.{AreIn}
-use Rattle.mw_axioms.proofs.OnStack.{AreIn-grows, AreIn-push, map-grows}
+use Rattle.mw_build.specs.Stacks.{AreIn}
+use Rattle.mw_build.proofs.OnStack.{AreIn-grows, AreIn-push, map-grows}
 use Rattle.mw_lower.specs.Lines.{all_lines}
 use Rattle.mw_lower.proofs.OneMore.{one_more_line}
 use Rattle.mw_lower.proofs.line.make_lines.Goals as goal

@@ -2,7 +2,7 @@
 use Rattle.std.proofs.Common.{◌≡◌, drop, map}
 use Rattle.mw_model.specs.Terms.Object.{NIL}
 use Rattle.mw_heap.specs.Objects.{object_at, IsIn, Grows}
-use Rattle.mw_axioms.specs.Stacks.{AreIn}
+use Rattle.mw_build.specs.Stacks.{AreIn}
 use Rattle.mw_lower.specs.Lines.{all_lines}
 use Rattle.mw_lower.proofs.line.make_lines.Given as goal
 

@@ -2,7 +2,7 @@
 use Rattle.std.proofs.Common.{map, ap, ◌∙◌}
 use Rattle.mw_heap.specs.Objects.{object_at}
 use Rattle.mw_heap.proofs.Objects.{Grows-trans}
-use Rattle.mw_axioms.specs.Stacks.{stack_of}
+use Rattle.mw_build.specs.Stacks.{stack_of}
 use Rattle.mw_lower.specs.Pieces.{newest, run}
 use Rattle.mw_lower.proofs.Results.{IfOk-map}
 use Rattle.mw_lower.proofs.machine.make.Goals as goal

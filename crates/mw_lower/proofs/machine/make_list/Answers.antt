@@ -1,8 +1,8 @@
 -- Each object taken goes to the front of the members.
 use Rattle.std.proofs.Common.{ap, ◌∙◌, subst, sym}
 use Rattle.mw_heap.proofs.Objects.{Grows-trans, IsIn-Grows}
-use Rattle.mw_axioms.specs.Stacks.{stack_of, AreIn}
-use Rattle.mw_axioms.proofs.OnStack.{AreIn-push}
+use Rattle.mw_build.specs.Stacks.{stack_of, AreIn}
+use Rattle.mw_build.proofs.OnStack.{AreIn-push}
 use Rattle.mw_lower.proofs.Gathers.{Gathers-first, Gathers-taken, Gathers-list}
 use Rattle.mw_lower.proofs.machine.make_list.Goals as goal
 

@@ -2,8 +2,8 @@
 use Rattle.std.proofs.Common.{◌∷◌, sym, ap, ap₂, ◌∙◌, subst}
 use Rattle.mw_model.specs.Terms.Object.{Pair}
 use Rattle.mw_heap.proofs.Objects.{Grows-trans, IsIn-Grows, object_at-Grows}
-use Rattle.mw_axioms.specs.Stacks.{stack_of, AreIn}
-use Rattle.mw_axioms.proofs.OnStack.{AreIn-grows, AreIn-push, stack_of-put}
+use Rattle.mw_build.specs.Stacks.{stack_of, AreIn}
+use Rattle.mw_build.proofs.OnStack.{AreIn-grows, AreIn-push, stack_of-put}
 use Rattle.mw_lower.specs.Pieces.{newest, older}
 use Rattle.mw_lower.proofs.machine.make_pair.Goals as goal
 

@@ -2,8 +2,8 @@
 use Rattle.std.proofs.Common.{sym, ap, subst, ◌∙◌}
 use Rattle.mw_model.specs.Terms.Object.{Symbol, name_of_bytes}
 use Rattle.mw_model.proofs.Names.{name_of_bytes-bytes}
-use Rattle.mw_axioms.specs.Stacks.{stack_of, AreIn}
-use Rattle.mw_axioms.proofs.OnStack.{stack_of-put, AreIn-push, AreIn-grows}
+use Rattle.mw_build.specs.Stacks.{stack_of, AreIn}
+use Rattle.mw_build.proofs.OnStack.{stack_of-put, AreIn-push, AreIn-grows}
 use Rattle.mw_lower.proofs.machine.put_variable.Goals as goal
 
 pub returns-clause-within : goal.returns-clause-within

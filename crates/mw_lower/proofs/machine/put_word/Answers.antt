@@ -1,7 +1,7 @@
 -- What is made stands on what stood there before.
 use Rattle.std.proofs.Common.{sym, ap, subst, ◌∙◌}
-use Rattle.mw_axioms.specs.Stacks.{stack_of, AreIn}
-use Rattle.mw_axioms.proofs.OnStack.{stack_of-put, AreIn-push, AreIn-grows}
+use Rattle.mw_build.specs.Stacks.{stack_of, AreIn}
+use Rattle.mw_build.proofs.OnStack.{stack_of-put, AreIn-push, AreIn-grows}
 use Rattle.mw_lower.proofs.machine.put_word.Goals as goal
 
 pub returns-clause-within : goal.returns-clause-within

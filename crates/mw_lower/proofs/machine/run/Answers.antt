@@ -3,8 +3,8 @@ use Rattle.std.proofs.Common.{map, refl, sym, ap, ◌∙◌}
 use Rattle.std.proofs.lemmas.List.{drop_all}
 use Rattle.mw_heap.specs.Objects.{object_at}
 use Rattle.mw_heap.proofs.Objects.{Grows-refl, Grows-trans}
-use Rattle.mw_axioms.specs.Stacks.{stack_of}
-use Rattle.mw_axioms.proofs.OnStack.{AreIn-grows, map-grows}
+use Rattle.mw_build.specs.Stacks.{stack_of}
+use Rattle.mw_build.proofs.OnStack.{AreIn-grows, map-grows}
 use Rattle.mw_lower.specs.Pieces.{run}
 use Rattle.mw_lower.proofs.OneMore.{one_more_piece}
 use Rattle.mw_lower.proofs.machine.run.Goals as goal

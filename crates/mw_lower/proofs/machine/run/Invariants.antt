@@ -1,7 +1,7 @@
 -- The pieces that are left do to the stack what all of them do to the first one.
 use Rattle.std.proofs.Common.{◌≡◌, drop, map}
 use Rattle.mw_heap.specs.Objects.{object_at, Grows}
-use Rattle.mw_axioms.specs.Stacks.{stack_of, AreIn}
+use Rattle.mw_build.specs.Stacks.{stack_of, AreIn}
 use Rattle.mw_lower.specs.Pieces.{run}
 use Rattle.mw_lower.proofs.machine.run.Given as goal
 

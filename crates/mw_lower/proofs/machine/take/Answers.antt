@@ -1,7 +1,7 @@
 -- The newest is the last of the references, and the others stay.
 use Rattle.std.proofs.Common.{sym, ap, ◌∙◌, subst}
-use Rattle.mw_axioms.specs.Stacks.{stack_of, AreIn}
-use Rattle.mw_axioms.proofs.OnStack.{stack_of-push, AreIn-front, IsIn-newest}
+use Rattle.mw_build.specs.Stacks.{stack_of, AreIn}
+use Rattle.mw_build.proofs.OnStack.{stack_of-push, AreIn-front, IsIn-newest}
 use Rattle.mw_lower.specs.Pieces.{newest, older}
 use Rattle.mw_lower.proofs.machine.take.Goals as goal
 

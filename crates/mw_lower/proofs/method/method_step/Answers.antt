@@ -2,7 +2,7 @@
 use Rattle.std.proofs.Common.{◌∙◌, arith}
 use Rattle.mw_heap.specs.Objects.{IsIn}
 use Rattle.mw_heap.proofs.Objects.{Grows-trans, IsIn-Grows}
-use Rattle.mw_axioms.proofs.OnStack.{AreIn-grows}
+use Rattle.mw_build.proofs.OnStack.{AreIn-grows}
 use Rattle.mw_lower.proofs.MethodSteps.{with_grows}
 use Rattle.mw_lower.proofs.method.method_step.Goals as goal
 

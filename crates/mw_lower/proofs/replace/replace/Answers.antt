@@ -7,7 +7,7 @@ use Rattle.mw_heap.proofs.Objects.{Grows-refl, Grows-trans, IsIn-Grows, object_a
 use Rattle.mw_proof.proofs.Holding.{list_object-grows}
 use Rattle.mw_lower.specs.Schemes.{IsProof}
 use Rattle.mw_lower.specs.Unless.{unless_all}
-use Rattle.mw_axioms.proofs.OnStack.{AreIn-grows, AreIn-push}
+use Rattle.mw_build.proofs.OnStack.{AreIn-grows, AreIn-push}
 use Rattle.mw_lower.proofs.Replaced.{not_headed, test_exact, functional_proves}
 use Rattle.mw_lower.proofs.replace.replace.Goals as goal
 

@@ -3,7 +3,7 @@ use Rattle.std.proofs.Common.{◌≡◌, true, [], ◌∷◌, map, Some, is_some
 use Rattle.mw_heap.specs.Variants.{refusal_of}
 use Rattle.mw_define.specs.Blocks.{draft_at}
 use Rattle.mw_define.specs.BlockTests.{the_names, the_formal_lists}
-use Rattle.mw_explain.specs.Shown.{Shows}
+use Rattle.mw_bad_steps.specs.Shown.{Shows}
 use Rattle.mw_theory.specs.Admitting.{drafts_given}
 use Rattle.mw_theory.proofs.CallerLemmas.{IfOk-map}
 use Rattle.mw_kernel.specs.Defining.{block_shown}

@@ -12,7 +12,7 @@ use Rattle.mw_theory.specs.Admitting.{drafts_given}
 use Rattle.mw_theory.specs.Knowledge.{parts_of, meant}
 use Rattle.mw_theory.proofs.CallerLemmas.{IfOk-map, held-grows, meant-grows}
 use Rattle.mw_commands.specs.Commands.Explanation.{proof_shown}
-use Rattle.mw_explain.specs.Shown.{Shows}
+use Rattle.mw_bad_steps.specs.Shown.{Shows}
 use Rattle.mw_kernel.specs.Reasons.{AreRefused}
 use Rattle.mw_kernel.specs.Defining.{Owe, block_shown, definitions_shown}
 use Rattle.mw_kernel.proofs.DefinitionReasons.{refused-definitions, fails-told, owed-told, proofs-told}

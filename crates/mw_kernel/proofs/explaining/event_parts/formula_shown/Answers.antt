@@ -1,7 +1,7 @@
 -- The part is in the heap, since it has a mark.
 use Rattle.std.proofs.Common.{subst, arith}
 use Rattle.mw_commands.specs.Commands.ExplanationTerms.{part_shown}
-use Rattle.mw_explain.specs.Shown.{Shows}
+use Rattle.mw_bad_steps.specs.Shown.{Shows}
 use Rattle.mw_theory.proofs.CallerLemmas.{IfOk-map}
 use Rattle.mw_term.proofs.CallerLemmas.{AreMarks-grows}
 use Rattle.mw_kernel.proofs.Showing.{part-within}

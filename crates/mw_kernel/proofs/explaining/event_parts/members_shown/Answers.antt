@@ -2,7 +2,7 @@
 use Rattle.std.proofs.Common.{[], ◌∷◌, option_map, sym, ap, ◌∙◌, subst}
 use Rattle.mw_model.specs.Events.Fate.{member_count}
 use Rattle.mw_heap.specs.Objects.{object_at}
-use Rattle.mw_explain.specs.Shown.{Shows}
+use Rattle.mw_bad_steps.specs.Shown.{Shows}
 use Rattle.mw_theory.proofs.CallerLemmas.{IfOk-map}
 use Rattle.mw_kernel.proofs.EventReasons.{wanted_shown, members-shown}
 use Rattle.mw_kernel.proofs.ExplainedEvents.{begun-is}

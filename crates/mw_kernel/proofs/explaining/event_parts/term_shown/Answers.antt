@@ -6,7 +6,7 @@ use Rattle.mw_heap.specs.Variants.{refusal_of}
 use Rattle.mw_heap.proofs.Objects.{Grows-trans, IsIn-Grows, object_at-Grows}
 use Rattle.mw_theory.proofs.CallerLemmas.{IfOk-map}
 use Rattle.mw_commands.specs.Commands.Explanation.{drafts_shown}
-use Rattle.mw_explain.specs.Shown.{Shows}
+use Rattle.mw_bad_steps.specs.Shown.{Shows}
 use Rattle.mw_kernel.proofs.EventReasons.{term-shown}
 use Rattle.mw_kernel.proofs.Showing.{Shows-none}
 use Rattle.mw_kernel.proofs.explaining.event_parts.term_shown.Goals as goal

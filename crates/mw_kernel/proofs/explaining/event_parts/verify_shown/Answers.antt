@@ -13,7 +13,7 @@ use Rattle.mw_theory.specs.Words.{verify_event}
 use Rattle.mw_theory.proofs.CallerLemmas.{IfOk-map}
 use Rattle.mw_commands.specs.Commands.Explanation.{shown_by}
 use Rattle.mw_commands.specs.Commands.ExplanationTerms.{bad_formula, part_shown}
-use Rattle.mw_explain.specs.Shown.{Shows}
+use Rattle.mw_bad_steps.specs.Shown.{Shows}
 use Rattle.mw_kernel.proofs.EventReasons.{verify-shown}
 use Rattle.mw_kernel.proofs.ReasonsMeant.{same-meant}
 use Rattle.mw_kernel.proofs.explaining.event_parts.verify_shown.Goals as goal

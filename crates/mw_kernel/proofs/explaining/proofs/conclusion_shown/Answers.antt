@@ -1,7 +1,7 @@
 -- Just the conclusion.
 use Rattle.std.proofs.Common.{[], ◌∷◌, subst}
 use Rattle.mw_theory.proofs.CallerLemmas.{IfOk-map}
-use Rattle.mw_explain.specs.Shown.{Shows}
+use Rattle.mw_bad_steps.specs.Shown.{Shows}
 use Rattle.mw_kernel.proofs.explaining.proofs.conclusion_shown.Goals as goal
 
 pub just-requires : goal.just-requires

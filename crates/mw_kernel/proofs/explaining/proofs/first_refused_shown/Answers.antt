@@ -8,7 +8,7 @@ use Rattle.mw_heap.proofs.NoPair.{shown_no_pair}
 use Rattle.mw_term.proofs.CallerLemmas.{AreMarks-grows}
 use Rattle.mw_theory.specs.Knowledge.{parts_of, meant}
 use Rattle.mw_theory.proofs.CallerLemmas.{held-grows, meant-grows, IfOk-map}
-use Rattle.mw_explain.specs.Shown.{Shows}
+use Rattle.mw_bad_steps.specs.Shown.{Shows}
 use Rattle.mw_kernel.proofs.Showing.{Shows-none}
 use Rattle.mw_kernel.specs.Proofs.{judged_for}
 use Rattle.mw_kernel.specs.Reasons.{IsNoneOr}

@@ -4,7 +4,7 @@ use Rattle.mw_heap.specs.Variants.{refusal_of}
 use Rattle.mw_heap.proofs.Objects.{Grows-refl, Grows-trans, IsIn-Grows, object_at-Grows}
 use Rattle.mw_theory.proofs.CallerLemmas.{held-grows, meant-grows}
 use Rattle.mw_commands.specs.Commands.Explanation.{wrong_proof}
-use Rattle.mw_explain.specs.Shown.{Shows}
+use Rattle.mw_bad_steps.specs.Shown.{Shows}
 use Rattle.mw_kernel.proofs.RefusedProofs.{judged-none, judged-some}
 use Rattle.mw_kernel.proofs.explaining.proofs.judged_shown.Goals as goal
 

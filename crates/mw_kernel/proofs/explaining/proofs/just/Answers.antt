@@ -1,7 +1,7 @@
 -- It is the one member.
 use Rattle.std.proofs.Common.{[], ◌∷◌, ◌++◌, refl, sym, ap, ◌∙◌, subst}
 use Rattle.mw_heap.specs.Objects.{object_at}
-use Rattle.mw_explain.specs.Shown.{Shows}
+use Rattle.mw_bad_steps.specs.Shown.{Shows}
 use Rattle.mw_kernel.proofs.Showing.{Shows-one}
 use Rattle.mw_kernel.proofs.explaining.proofs.just.Goals as goal
 

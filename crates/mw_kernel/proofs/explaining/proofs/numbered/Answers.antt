@@ -3,7 +3,7 @@ use Rattle.std.proofs.Common.{[], ◌∷◌, ◌++◌, map, sym, ap, ◌∙◌, 
 use Rattle.mw_model.specs.Terms.Object.{Natural}
 use Rattle.mw_heap.specs.Objects.{object_at}
 use Rattle.mw_heap.proofs.Objects.{IsIn-Grows, object_at-Grows}
-use Rattle.mw_explain.specs.Shown.{Shows}
+use Rattle.mw_bad_steps.specs.Shown.{Shows}
 use Rattle.mw_kernel.proofs.Showing.{Shows-more, Shows-grown}
 use Rattle.mw_kernel.proofs.explaining.proofs.numbered.Goals as goal
 

@@ -6,7 +6,7 @@ use Rattle.mw_term.proofs.CallerLemmas.{AreMarks-grows}
 use Rattle.mw_theory.specs.Knowledge.{parts_of, meant}
 use Rattle.mw_theory.proofs.CallerLemmas.{IfOk-map}
 use Rattle.mw_commands.specs.Commands.Explanation.{wrong_proof}
-use Rattle.mw_explain.specs.Shown.{Shows}
+use Rattle.mw_bad_steps.specs.Shown.{Shows}
 use Rattle.mw_kernel.proofs.Showing.{Shows-none}
 use Rattle.mw_kernel.proofs.ReasonsMeant.{nothing-wrong}
 use Rattle.mw_kernel.proofs.explaining.proofs.wrong_proof_shown.Goals as goal

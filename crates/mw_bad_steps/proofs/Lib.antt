@@ -1,0 +1,17 @@
+pub mod OneStep
+pub mod Paths
+pub mod Looking
+pub mod LookingOlder
+pub mod LookingSizes
+pub mod ListEnds
+pub mod ShownMore
+pub mod Disjunctions
+pub mod Sides
+pub mod FormTests
+pub mod PremisesPut
+pub mod EqualCalls
+pub mod ComputedValues
+pub mod Meaning
+pub mod Methods
+pub mod FromPremises
+pub mod MendedSteps

@@ -1,0 +1,31 @@
+-- The hypothesis of the next substitution is put.
+use Rattle.std.proofs.Common.{◌++◌, map, All, sym, ap, ◌∙◌, subst}
+use Rattle.mw_model.specs.Laws.RulesInduction.{hypotheses_object}
+use Rattle.mw_model.specs.Laws.Rules.{not_object, substitute_formula_object}
+use Rattle.mw_heap.specs.Objects.{object_at, IsIn}
+use Rattle.mw_heap.proofs.Objects.{Grows-trans}
+use Rattle.mw_bad_steps.specs.Members.{members_in}
+use Rattle.mw_bad_steps.proofs.PremisesPut.{put_next, first_pairs, next_part, same_hypothesis}
+use Rattle.mw_bad_steps.proofs.premises.put_hypotheses.Goals as goal
+
+pub loop-s-preserved : goal.loop-s-preserved
+loop-s-preserved c =
+    let os = c.args.heap.now.objects in
+    let cur = c.loop-s.heap.objects in
+    let inv = c.loop-s.invariant in
+    let s = c.in-Pair.s in
+    let more = c.in-Pair.more in
+    let a = object_at os c.args.a in
+    let items = c.loop-s.members.items in
+    let part = next_part os cur inv.grows c.loop-s.rest s more inv.rest c.in-Pair.ensures.below.0 c.in-Pair.ensures.below.1 c.in-Pair.ensures.shows.2 in
+    let pairs = first_pairs (object_at os c.loop-s.rest) (object_at os s) (object_at os more) part.2 inv.pairs in
+    let next = ap (λ y. map (object_at cur) items ++ members_in (hypotheses_object a y)) (sym part.2) ∙ inv.same in
+    let made = c.in_ok-made.ensures.made ∙ same_hypothesis os cur inv.grows c.args.a s c.requires.within part.0 in
+    let put = put_next cur c.hypothesis.new.heap.objects items c.in_ok-made.made (not_object (substitute_formula_object (object_at os s) a)) (members_in (hypotheses_object a (object_at os more))) _ c.in_ok-made.ensures.grows inv.within next c.in_ok-made.ensures.within made in
+    record {
+      grows = Grows-trans _ _ _ inv.grows c.in_ok-made.ensures.grows;
+      rest = part.1;
+      pairs = pairs.1;
+      within = subst (All (IsIn c.hypothesis.new.heap.objects)) (sym c.in_ok-push.ensures.items) put.0;
+      same = ap (λ l. map (object_at c.hypothesis.new.heap.objects) l ++ members_in (hypotheses_object a (object_at os more))) c.in_ok-push.ensures.items ∙ put.1;
+    }

@@ -1,0 +1,26 @@
+-- One datum more is answered.
+use Rattle.std.proofs.Common.{◌≡◌, ℕ, List, [], ◌++◌, Option, sym, ap, ◌∙◌}
+use Rattle.mw_model.specs.Terms.Object.{Object}
+use Rattle.mw_model.specs.Reports.Report.{word_text}
+use Rattle.mw_read.specs.Shown.{shown_text}
+use Rattle.mw_taut.proofs.Verdicts.{verdict_proved}
+use Rattle.mw_book.specs.Answered.{ShowsWord}
+use Rattle.mw_book.proofs.Counted.{answers_one}
+use Rattle.mw_book.proofs.taut.Proving.write.Goals as goal
+
+-- what is shown, written in place of what was there, is the text of the first member
+word_is : (os : List Object) (word : Option ℕ) (x : Object) (none now text : List ℕ) → ShowsWord os word x → none ≡ [] → now ≡ none ++ shown_text os word → text ≡ now → text ≡ word_text x
+word_is os word x none now text shows empty written same = same ∙ written ∙ ap (λ l. l ++ shown_text os word) empty ∙ shows.1
+
+pub write_shown-requires : goal.write_shown-requires
+write_shown-requires c = c.requires.found.1.0
+
+pub write_answer-requires : goal.write_answer-requires
+write_answer-requires c = let f = c.requires.found in record { found = (f.0, word_is _ c.args.word f.0 _ _ _ f.1 c.clear.ensures.items c.in_ok-write_shown.ensures c.deref.ensures.value, f.2) }
+
+pub returns-clause-answers : goal.returns-clause-answers
+returns-clause-answers c = λ x shows found given.
+    let old = c.args.self.now in
+    let p = c.in_ok-write_answer.ensures x (word_is _ c.args.word x _ _ _ shows c.clear.ensures.items c.in_ok-write_shown.ensures c.deref.ensures.value) found in
+    answers_one old c.count.new.self x c.is_theorem.result p.0 p.2 (verdict_proved old.heap.objects x c.args.verdict.now found ∙ sym c.is_theorem.ensures)
+    (ap (λ l. l.items) c.count.ensures.lines ∙ c.in_ok-extend_from_slice.ensures.items ∙ ap (λ l. old.lines.items ++ l) (c.deref-2.ensures.value ∙ p.1 ∙ ap (λ l. l ++ p.0) c.clear-2.ensures.items)) c.count.ensures.counted c.count.ensures.unproved_counted c.count.ensures.proving given

@@ -1,0 +1,3 @@
+pub mod OnStack
+mod Taking
+mod OneMore

@@ -1,7 +1,0 @@
--- The numbers so far.
-use Rattle.std.proofs.Common.{◌≡◌, take, map}
-use Rattle.mw_explain.specs.BadStep.{number_of}
-use Rattle.mw_explain.proofs.bad_step.place_of.Given as goal
-
-abbrev pub invariant-loop-w : goal.invariant-loop-w
-invariant-loop-w l = l.place.items ≡ map number_of (take l.w-index l.path)

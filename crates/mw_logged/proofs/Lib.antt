@@ -1,2 +1,0 @@
-pub mod FlatWritten
-pub mod ShortTheorems

@@ -1,0 +1,14 @@
+-- By what the rules make.
+use Rattle.std.proofs.Common.{ap, ◌∙◌}
+use Rattle.mw_taut.specs.Reducing.{Changed}
+use Rattle.mw_taut.proofs.RulesMean.{either_first_made}
+use Rattle.mw_taut.proofs.change.either_first.Goals as goal
+
+pub change-requires : goal.change-requires
+change-requires c = record { denied_in = c.requires.s_in.denied; given_in = (c.requires.d_in, (c.requires.x_in, (c.requires.y_in, (c.requires.s_in.formula, (c.requires.s_in.from, (c.requires.s_in.to, (c.requires.q_in, tt))))))) }
+
+pub returns-clause-within : goal.returns-clause-within
+returns-clause-within c = c.in_ok-changed.ensures.within
+
+pub returns-clause-made : goal.returns-clause-made
+returns-clause-made c = ap Changed (c.in_ok-changed.ensures.made ∙ either_first_made _ _ _ _ _ _ _ _)

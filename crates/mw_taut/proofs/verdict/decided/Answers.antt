@@ -1,0 +1,57 @@
+-- The decision on the formula.
+use Rattle.std.proofs.Common.{subst}
+use Rattle.mw_model.specs.Terms.Reading.{formula_under}
+use Rattle.mw_commands.specs.Commands.Tautology.{decision}
+use Rattle.mw_heap.specs.Objects.{object_at}
+use Rattle.mw_heap.proofs.Objects.{Grows-trans, IsIn-Grows}
+use Rattle.mw_taut.specs.Decided.{IsDecision}
+use Rattle.mw_taut.proofs.Verdicts.{present, proof_holds, theorem_found, choice_found, many_found}
+use Rattle.mw_taut.proofs.verdict.decided.Goals as goal
+
+pub decide-requires-clause-within : goal.decide-requires-clause-within
+decide-requires-clause-within c = c.requires.named.1.formula_in
+
+pub returns-in_err-theorem_of-in-Proof-clause-grows : goal.returns-in_err-theorem_of-in-Proof-clause-grows
+returns-in_err-theorem_of-in-Proof-clause-grows c = Grows-trans _ _ _ c.decide.ensures.grows c.theorem_of.ensures.grows
+
+pub returns-in_ok-theorem_of-in-Proof-clause-grows : goal.returns-in_ok-theorem_of-in-Proof-clause-grows
+returns-in_ok-theorem_of-in-Proof-clause-grows c = Grows-trans _ _ _ c.decide.ensures.grows c.theorem_of.ensures.grows
+
+pub theorem_of-requires-clause-proof : goal.theorem_of-requires-clause-proof
+theorem_of-requires-clause-proof c =
+    let A = c.args.arity.now in
+    let f = present (formula_under A (object_at c.args.heap.now.objects c.args.formula)) c.requires.formula in
+    (proof_holds c.decide.new.heap.objects A f.0 (decision f.0) c.in-Proof.proof (subst (IsDecision c.decide.new.heap.objects A f.0 (decision f.0)) c.in-Proof.is (c.decide.ensures.decided f.0 f.1))).1
+
+pub theorem_of-requires-clause-name : goal.theorem_of-requires-clause-name
+theorem_of-requires-clause-name c = IsIn-Grows _ _ c.decide.ensures.grows c.args.name c.requires.named.1.name_in
+
+pub theorem_of-requires-clause-formula : goal.theorem_of-requires-clause-formula
+theorem_of-requires-clause-formula c = IsIn-Grows _ _ c.decide.ensures.grows c.args.formula c.requires.named.1.formula_in
+
+pub returns-in_ok-theorem_of-in-Proof-clause-verdict : goal.returns-in_ok-theorem_of-in-Proof-clause-verdict
+returns-in_ok-theorem_of-in-Proof-clause-verdict c = λ x named.
+    let os = c.args.heap.now.objects in
+    let mid = c.decide.new.heap.objects in
+    let A = c.args.arity.now in
+    let f = present (formula_under A (object_at os c.args.formula)) c.requires.formula in
+    theorem_found os mid c.theorem_of.new.heap.objects c.decide.ensures.grows A c.requires.arity c.args.name c.args.formula f.0 f.1 x named c.in-Proof.proof c.in_ok-theorem_of-in-Proof.field-0
+    (subst (IsDecision mid A f.0 (decision f.0)) c.in-Proof.is (c.decide.ensures.decided f.0 f.1)) c.in_ok-theorem_of-in-Proof.ensures.made.0 c.in_ok-theorem_of-in-Proof.ensures.made.1
+
+pub returns-in-Choice-clause-verdict : goal.returns-in-Choice-clause-verdict
+returns-in-Choice-clause-verdict c = λ x named.
+    let os = c.args.heap.now.objects in
+    let mid = c.decide.new.heap.objects in
+    let A = c.args.arity.now in
+    let f = present (formula_under A (object_at os c.args.formula)) c.requires.formula in
+    choice_found os mid mid c.decide.ensures.grows A c.requires.arity c.args.name c.args.formula f.0 f.1 x named c.in-Choice.choice
+    (subst (IsDecision mid A f.0 (decision f.0)) c.in-Choice.is (c.decide.ensures.decided f.0 f.1))
+
+pub returns-in-Many-clause-verdict : goal.returns-in-Many-clause-verdict
+returns-in-Many-clause-verdict c = λ x named.
+    let os = c.args.heap.now.objects in
+    let mid = c.decide.new.heap.objects in
+    let A = c.args.arity.now in
+    let f = present (formula_under A (object_at os c.args.formula)) c.requires.formula in
+    many_found os mid mid c.decide.ensures.grows A c.requires.arity c.args.name c.args.formula f.0 f.1 x named
+    (subst (IsDecision mid A f.0 (decision f.0)) c.in-Many.is (c.decide.ensures.decided f.0 f.1))

@@ -1,0 +1,31 @@
+-- What is found of the formula is found of the datum.
+use Rattle.std.proofs.Common.{Result, Ok, Err, OnOk, sym, ◌∙◌}
+use Rattle.std.proofs.lemmas.Result.{IfOk-weaker}
+use Rattle.mw_heap.specs.Objects.{object_at}
+use Rattle.mw_term.proofs.CallerLemmas.{AreMarks-grows}
+use Rattle.mw_taut.proofs.Verdicts.{no_formula_given}
+use Rattle.mw_taut.proofs.verdict.verdict_on.Goals as goal
+
+ok_has : {X E : Type 0} (r : Result X E) (P : Type 0) → P → OnOk r P
+ok_has (Ok x) P p = p
+ok_has (Err e) P p = tt
+
+pub is_marked_formula-requires-clause-within : goal.is_marked_formula-requires-clause-within
+is_marked_formula-requires-clause-within c = c.in-Some.ensures.formula_in
+
+pub returns-then-not-branch-clause-verdict : goal.returns-then-not-branch-clause-verdict
+returns-then-not-branch-clause-verdict c =
+    let os = c.args.heap.now.objects in
+    no_formula_given os (object_at os c.args.x) _ _ c.args.arity.now c.in-Some.ensures c.requires.arity (sym c.in_ok-is_marked_formula.ensures.formula ∙ c.if-not-branch.true)
+
+pub decided-requires-clause-named : goal.decided-requires-clause-named
+decided-requires-clause-named c = (object_at c.args.heap.now.objects c.args.x, c.in-Some.ensures)
+
+pub decided-requires-clause-formula : goal.decided-requires-clause-formula
+decided-requires-clause-formula c = sym c.in_ok-is_marked_formula.ensures.formula ∙ c.if-not-branch.false
+
+pub returns-clause-marked : goal.returns-clause-marked
+returns-clause-marked c = ok_has c.decided.result _ (AreMarks-grows _ _ _ _ c.decided.ensures.grows c.in_ok-is_marked_formula.ensures.marked)
+
+pub returns-clause-verdict : goal.returns-clause-verdict
+returns-clause-verdict c = IfOk-weaker c.decided.result _ _ (λ v f. f (object_at c.args.heap.now.objects c.args.x) c.in-Some.ensures) c.decided.ensures.verdict

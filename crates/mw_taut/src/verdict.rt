@@ -1,0 +1,113 @@
+//! What is found of a datum that may give a formula.
+ghost use Rattle.std.specs.Prelude.{◌≡◌, true, None, IfOk, OnOk, MatchOption};
+ghost use Rattle.mw_model.specs.Terms.Object.{Object, list4, symbol};
+ghost use Rattle.mw_model.specs.Laws.Rules.{is_formula_object};
+ghost use Rattle.mw_commands.specs.Commands.TautologyBook.{formula_given, initial_arities};
+ghost use Rattle.mw_heap.specs.Objects.{object_at, IsIn, Grows};
+ghost use Rattle.mw_term.specs.Marking.{AreMarks};
+ghost use Rattle.mw_taut.specs.Members.{IsNamed};
+ghost use Rattle.mw_taut.specs.Verdicts.{IsVerdict, is_theorem};
+
+use crate::deciding::{Decision, decide};
+use mw_heap::{Heap, Memory, Ref, View, Word, form_of};
+use mw_term::{Arity, Marks, is_formula};
+
+/// What is found of a datum.
+#[derive(Clone, Copy, Debug, PartialEq, Eq)]
+pub enum Verdict {
+    /// It gives no formula.
+    Shape,
+    /// Its formula has more than twelve equations.
+    Many,
+    /// Its formula is false under this choice.
+    Fails(Ref),
+    /// Its formula is a tautology: the event that proves it.
+    Theorem(Ref),
+}
+
+impl Verdict {
+    /// Whether the formula was proved.
+    pub fn is_theorem(&self) -> bool
+        ensures { result ≡ is_theorem self.now }
+    {
+        matches!(self, Verdict::Theorem(_))
+    }
+}
+
+// The name and the formula, where it is a list of two whose first member is a symbol. That the heap holds no natural past the range is
+// seen at the view.
+fn members_of(heap: &Heap, x: Ref) -> Option<(Ref, Ref)>
+    requires { IsIn heap.now.objects x }
+    ensures { MatchOption result (formula_given (object_at heap.now.objects x) ≡ None) (λ m. IsNamed heap.now.objects (object_at heap.now.objects x) m.0 m.1) }
+{
+    heap.in_range(x);
+    let Some((name, formula)) = heap.two_members(x) else {
+        return None;
+    };
+    match heap.view(name) {
+        View::Symbol => Some((name, formula)),
+        _ => None,
+    }
+}
+
+// Whether it is a formula. The objects that have no marks yet get them.
+fn is_marked_formula(heap: &Heap, arity: &Arity, marks: &mut Marks, x: Ref) -> Result<bool, Memory>
+    requires within { IsIn heap.now.objects x }
+    requires marked { AreMarks arity.now heap.now.objects marks.old }
+    ensures marked { OnOk result (AreMarks arity.now heap.now.objects marks.new) }
+    ensures formula { IfOk result (λ b. b ≡ is_formula_object arity.now (object_at heap.now.objects x)) }
+{
+    marks.extend(heap, arity, heap.mark())?;
+    Ok(is_formula(marks, x))
+}
+
+// The event (VERIFY name formula proof).
+fn theorem_of(heap: &mut Heap, name: Ref, formula: Ref, proof: Ref) -> Result<Ref, Memory>
+    requires name { IsIn heap.old.objects name }
+    requires formula { IsIn heap.old.objects formula }
+    requires proof { IsIn heap.old.objects proof }
+    ensures grows { Grows heap.old.objects heap.new.objects }
+    ensures made { IfOk result (λ r. IsIn heap.new.objects r × (object_at heap.new.objects r ≡ list4 (symbol "VERIFY") (object_at heap.old.objects name) (object_at heap.old.objects formula) (object_at heap.old.objects proof))) }
+{
+    form_of(heap, Word::Verify, &[name, formula, proof])
+}
+
+// What is found of a datum with these members, of which the second is a formula.
+fn decided(heap: &mut Heap, arity: &Arity, name: Ref, formula: Ref) -> Result<Verdict, Memory>
+    requires arity { arity.now ≡ initial_arities }
+    requires named { (x : Object) × IsNamed heap.old.objects x name formula }
+    requires formula { is_formula_object arity.now (object_at heap.old.objects formula) ≡ true }
+    ensures grows { Grows heap.old.objects heap.new.objects }
+    ensures verdict { IfOk result (λ v. (x : Object) → IsNamed heap.old.objects x name formula → IsVerdict heap.new.objects x v) }
+{
+    match decide(heap, formula, arity) {
+        Decision::Proof(proof) => Ok(Verdict::Theorem(theorem_of(heap, name, formula, proof)?)),
+        Decision::Choice(choice) => Ok(Verdict::Fails(choice)),
+        Decision::Many => Ok(Verdict::Many),
+        Decision::Memory => Err(Memory),
+    }
+}
+
+/// What is found of a datum. The objects that have no marks yet get them, but not those that are made. Beside that it takes the
+/// time of `decide`. It is out of memory where that is, or where its own parts are: the heap may have grown then too.
+pub fn verdict_on(
+    heap: &mut Heap,
+    arity: &Arity,
+    marks: &mut Marks,
+    x: Ref,
+) -> Result<Verdict, Memory>
+    requires within { IsIn heap.old.objects x }
+    requires arity { arity.now ≡ initial_arities }
+    requires marked { AreMarks arity.now heap.old.objects marks.old }
+    ensures grows { Grows heap.old.objects heap.new.objects }
+    ensures marked { OnOk result (AreMarks arity.now heap.new.objects marks.new) }
+    ensures verdict { IfOk result (IsVerdict heap.new.objects (object_at heap.old.objects x)) }
+{
+    let Some((name, formula)) = members_of(heap, x) else {
+        return Ok(Verdict::Shape);
+    };
+    if !is_marked_formula(heap, arity, marks, formula)? {
+        return Ok(Verdict::Shape);
+    }
+    decided(heap, arity, name, formula)
+}
