@@ -23,7 +23,7 @@ use Rattle.mw_commands.specs.Commands.LogReport.{Entered, log_of, denied, last_l
 use Rattle.mw_commands.specs.Commands.ExplanationBook.{ExplanationHeadline}
 use Rattle.mw_commands.specs.Commands.Flattening.{plain_course, flat_events, flat_event, before_switch, FlatWritten, flattening_status}
 
--- read as a book, the text has so many events, and each is accepted
+-- read as a book, the text has this number of events, and each is accepted
 pub record AcceptsAll (text : List ℕ) (N events : ℕ) : Type 0 where
   pub ends : (report text N).status ≡ Done
   pub accepted : accepted_among (initial One) (trees text).events N ≡ events

@@ -23,7 +23,7 @@ ghost use Rattle.mw_model.specs.Reports.Report.{report_of};
 ghost use Rattle.mw_model.specs.Texts.Grammar.{Book, book, limit, trees};
 
 /// An object has a first bad step exactly where it is no proof. That step stands at its place, it is no proof, and its subproofs are proofs.
-/// Where shape, method, conclusion and subproofs of what is no proof are as they should be, the row of its method does not hold.
+/// Where shape, method, conclusion and subproofs are as they should be and it is still not a proof, the row of its method does not hold.
 pub fn bad_steps()
     ensures some { (t : Theory) (p : Object) → is_proof_at t p ≡ false → (b : Placed) × (first_bad (is_proof_at t) p ≡ Some b) }
     ensures none { (t : Theory) (p : Object) → is_proof_at t p ≡ true → first_bad (is_proof_at t) p ≡ None }

@@ -88,7 +88,7 @@ pub data FailsWithin (most : Option ℕ) (A : ArityTable) (ds : List Draft) : Re
   fails : (r : Refusal) → FailsBlock A ds r → FailsWithin most A ds r
   too_many : (fs : List Name) (xss : List (List Name)) (bs ms : List Term) → the_names A ds ≡ Some fs → the_formal_lists A ds ≡ Some xss → the_terms_under A ds fs xss ≡ Some (bs, ms) → are_closed_by xss bs ms ≡ true → is_nested (functions fs xss bs) (functions fs xss bs) ≡ false → IsPast most (length (obligations (functions fs xss bs) (measures fs ms))) → FailsWithin most A ds COUNT
 
--- a block that may owe only so many formulas
+-- a block that may owe `most` formulas at most, if there is such a bound
 abbrev pub IsBlockWithin : Option ℕ → ArityTable → List Draft → List Object → Admitted → Type 0
 IsBlockWithin most A ds os (admitted.Obligations owed) = PassesWithin most A ds os owed
 IsBlockWithin most A ds os (admitted.Refused r) = FailsWithin most A ds (refusal_of r)

@@ -38,7 +38,7 @@ abbrev pub is_past : Option ℕ → ℕ → Bool
 is_past None n = false
 is_past (Some most) n = ltb most n
 
--- more of the formulas are distinct than may be owed, and so many references are kept too
+-- more formulas are distinct, and more references are kept, than may be owed
 pub record AreTooMany (o : Obligations) (Fs : List Formula) : Type 0 where
   pub kept : is_past o.most (length o.formulas.keys) ≡ true
   pub distinct : is_past o.most (length (firsts same_formula Fs)) ≡ true

@@ -43,7 +43,7 @@ fn admit_expanded(
     }
 }
 
-// The block of these drafts, whose names and formals passed: so many formals has each name.
+// The block of these drafts, whose names and formals passed, by the number of formals of each name.
 fn admit_counted(
     heap: &mut Heap,
     names: IndexSet<Ref>,
@@ -135,7 +135,7 @@ pub fn admit_block(heap: &mut Heap, defs: Ref, arity: &Arity) -> Admitted
     }
 }
 
-/// Tests a block as `admit_block` does, for an event that has proofs for at most so many obligations: the last test is that no more are
+/// Tests a block as `admit_block` does, for an event that has proofs for at most `most` obligations: the last test is that no more are
 /// owed, and its refusal is Count. Once there is one too many, no further ones are made.
 pub fn admit_block_within(heap: &mut Heap, defs: Ref, arity: &Arity, most: u64) -> Admitted
     requires { IsIn heap.old.objects defs }
@@ -161,7 +161,7 @@ pub fn admit_function(heap: &mut Heap, draft: Draft, arity: &Arity) -> Admitted
     }
 }
 
-/// Tests a function as `admit_function` does, for an event that has proofs for at most so many obligations, as `admit_block_within` does.
+/// Tests a function as `admit_function` does, for an event that has proofs for at most `most` obligations, as `admit_block_within` does.
 pub fn admit_function_within(heap: &mut Heap, draft: Draft, arity: &Arity, most: u64) -> Admitted
     requires { IsDraftIn heap.old.objects draft }
     ensures grows { Grows heap.old.objects heap.new.objects }

@@ -165,7 +165,7 @@ fn expand_each(
     Ok(Some(expanded))
 }
 
-// The same, where the bodies may call functions of these names, with so many arguments, besides those of the table.
+// The same, where the bodies may call functions of these names, with these numbers of arguments, besides those of the table.
 pub(crate) fn expand_all(
     heap: &mut Heap,
     drafts: &[Draft],

@@ -67,7 +67,7 @@ pub fn read_drafts(heap: &Heap, defs: Ref) -> Result<Option<Vec<Draft>>, Memory>
     drafts_of(heap, defs)
 }
 
-/// Whether this is a list of one or more drafts. The error is that memory is refused.
+/// Whether this is a list of one or more drafts. The error is out of memory.
 pub fn are_drafts(heap: &Heap, defs: Ref) -> Result<bool, Memory>
     requires { IsIn heap.now.objects defs }
     ensures { IfOk result (λ b. b ≡ is_some (some_drafts (object_at heap.now.objects defs))) }

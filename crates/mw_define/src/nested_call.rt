@@ -111,7 +111,7 @@ fn find_nested_of(
     find_nested(heap, block, &mut known)
 }
 
-// The first nested call of the functions of these drafts, where their names and formals passed: so many formals has each name.
+// The first nested call of the functions of these drafts, whose names and formals passed, by the number of formals of each name.
 fn nested_counted(
     heap: &mut Heap,
     names: IndexSet<Ref>,

@@ -13,7 +13,7 @@ use mw_heap::{Heap, Memory, Ref, list_of};
 pub use reading::{read, read_four, read_three, read_two};
 use std::alloc::Global;
 
-/// A heap with no objects, in a box. The error is memory that is refused.
+/// A heap with no objects, in a box. The error is out of memory.
 pub fn boxed(alloc: Global) -> Result<Box<Heap>, Memory>
     ensures { IfOk result (λ heap. heap.value.objects ≡ []) }
 {
@@ -40,7 +40,7 @@ pub fn are_in(heap: &Heap, xs: &[Ref]) -> bool
     true
 }
 
-/// The pair of two objects. The error is memory that is refused, or a part that is not in the heap.
+/// The pair of two objects. The error is out of memory, or a part that is not in the heap.
 pub fn pair(heap: &mut Heap, first: Ref, second: Ref) -> Result<Ref, Memory>
     ensures grows { Grows heap.old.objects heap.new.objects }
     ensures within { OnOk result (IsIn heap.old.objects first × IsIn heap.old.objects second) }
@@ -53,7 +53,7 @@ pub fn pair(heap: &mut Heap, first: Ref, second: Ref) -> Result<Ref, Memory>
     }
 }
 
-/// The list of the symbol of this name and of these parts. The error is memory that is refused, or a part that is not in the heap.
+/// The list of the symbol of this name and of these parts. The error is out of memory, or a part that is not in the heap.
 pub fn form(heap: &mut Heap, head: &[u8], parts: &[Ref]) -> Result<Ref, Memory>
     requires { is_name head.now ≡ true }
     ensures grows { Grows heap.old.objects heap.new.objects }

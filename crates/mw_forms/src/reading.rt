@@ -5,7 +5,7 @@ ghost use Rattle.mw_heap.specs.Objects.{IsIn, Grows};
 use mw_heap::{Heap, Memory, Ref};
 use mw_read::{Reader, Step};
 
-/// The first datum of a text. The error is memory that is refused, or a text that does not begin with a datum.
+/// The first datum of a text. The error is out of memory, or a text that does not begin with a datum.
 pub fn read(heap: &mut Heap, text: &[u8]) -> Result<Ref, Memory>
     ensures grows { Grows heap.old.objects heap.new.objects }
     ensures within { IfOk result (λ x. IsIn heap.new.objects x) }

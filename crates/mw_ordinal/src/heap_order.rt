@@ -11,7 +11,7 @@ ghost use Rattle.mw_ordinal.specs.Leading.{is_positive, may_lead};
 use crate::turn::Turn;
 use mw_heap::{Heap, Ref, View};
 
-/// Whether x is below y: what is no pair is below each pair; pairs compare by their exponents where these differ, else by their
+/// Whether x is below y: an object that is not a pair is below each pair; pairs compare by their exponents where these differ, else by their
 /// coefficients where these differ, else by their rests; others compare as numbers.
 pub fn ordinal_less(heap: &Heap, x: Ref, y: Ref) -> bool
     requires x_in { IsIn heap.now.objects x }
@@ -100,7 +100,7 @@ fn leads_below(heap: &Heap, x: Ref, e: Ref) -> bool
     }
 }
 
-// Compares what is no pair, or the leading terms of two pairs. What is left to compare where these are equal are the rests.
+// Compares two objects of which one is not a pair, or the leading terms of two pairs. If these are equal, the rests are left to compare.
 fn compare_once(heap: &Heap, x: Ref, y: Ref) -> Turn
     requires x_in { IsIn heap.now.objects x }
     requires y_in { IsIn heap.now.objects y }
@@ -150,7 +150,7 @@ fn is_below_unless_pairs(heap: &Heap, x: Option<Ref>, y: Option<Ref>) -> bool
     }
 }
 
-// The number of what is no pair; nothing of a pair.
+// The number of an object that is not a pair; None if it is a pair.
 fn number_of_no_pair(heap: &Heap, x: Option<Ref>) -> Option<u128>
     requires { IsPart heap.now.objects x }
     ensures { MatchOption result (is_pair (part_at heap.now.objects x) ≡ true) (λ n. (is_pair (part_at heap.now.objects x) ≡ false) × (number (part_at heap.now.objects x) ≡ n)) }

@@ -51,7 +51,7 @@ abbrev pub IsOver : Option ℕ → ℕ → Type 0
 IsOver None n = ⊥
 IsOver (Some most) n = most < n
 
--- the conclusions of a list of at most so many
+-- the conclusions of a list of `most` members at most, if there is such a bound
 abbrev pub IsAnswer : {X : Type 0} → ArityTable → List Object → ℕ → Option ℕ → Option (Vec ℕ X) → Type 0
 IsAnswer A os list most None = (have_conclusions A (object_at os list) ≡ false) ⊎ IsOver most (length_object (object_at os list))
 IsAnswer A os list most (Some rs) = AreConclusions A os list rs.items × IsWithin most (length rs.items)

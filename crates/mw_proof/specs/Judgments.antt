@@ -19,13 +19,13 @@ HasStepForEach os proof before after = (keys : List ℕ) × AreGathered os keys 
 abbrev pub HasStepForSome : List Object → ℕ → ℕ → ℕ → Type 0
 HasStepForSome os proof before after = (keys : List ℕ) × AreProofsOf os proof keys × (after ≤ before + length keys)
 
--- each was decided, or something did not hold of one, or memory was refused
+-- each was decided, or something did not hold of one, or memory ran out
 abbrev pub DecidesEach : Judged → List Object → ℕ → ℕ → ℕ → Type 0
 DecidesEach Good os proof before after = HasStepForEach os proof before after
 DecidesEach Bad os proof before after = HasStepForSome os proof before after
 DecidesEach Memory os proof before after = HasStepForSome os proof before after
 
--- the marks reach just to the end of the heap, or memory was refused and none of them went
+-- the marks reach just to the end of the heap, or memory ran out and none of them went
 abbrev pub Reaches : Judged → ℕ → ℕ → ℕ → Type 0
 Reaches Good before end after = after ≡ end
 Reaches Bad before end after = after ≡ end

@@ -16,7 +16,7 @@ pub record AreMembers (os : List Object) (p : ℕ) (m : Members) : Type 0 where
   pub subproofs_are : object_at os m.subproofs ≡ subproofs_of (object_at os p)
   pub extras_are : object_at os m.extras ≡ fourth_of (object_at os p)
 
--- the first part and the rest of a pair; of what is no pair, itself
+-- the first part and the rest of a pair, or the object itself if it is not a pair
 abbrev pub first_or_self : Object → Object
 first_or_self (Pair a r) = a
 first_or_self (Natural n) = Natural n

@@ -10,7 +10,7 @@ use mw_heap::{Heap, Memory, Ref, View};
 use mw_term::{Marks, is_formula};
 
 /// The conclusions of a proper list of objects, where there are at most `most` and each is a formula; then the objects are added to those
-/// found. It looks at one more cell of the list at most. The error is memory that is refused.
+/// found. It looks at one more cell of the list at most. The error is out of memory.
 pub fn conclusions_of(
     heap: &Heap,
     subproofs: Ref,

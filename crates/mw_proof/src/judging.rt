@@ -27,10 +27,9 @@ pub enum Judged {
     Memory,
 }
 
-/// Whether `proof` is a proof from these axioms and theorems, under the arity table and in the profile. It extends the marks, which
-/// are under that table, to all objects that the heap has at entry, and no further. It looks at each distinct
-/// proof once, and takes a step for it: the proof, its subproofs, theirs and so on, up to the first of which something does not hold, or
-/// at which memory is refused.
+/// Whether `proof` is a proof from these axioms and theorems, under the arity table and in the profile. It extends the marks, which are
+/// under that table, to all objects that the heap has at entry, and no further. It looks at each distinct proof once, and takes a step for
+/// it: the proof, its subproofs, theirs and so on, up to the first of which something does not hold, or at which memory runs out.
 pub fn judge_counted<L: Ledger>(
     heap: &mut Heap,
     proof: Ref,

@@ -202,7 +202,7 @@ impl Parser {
         }
     }
 
-    // A lexeme that is no atom ends, after so many bytes.
+    // A lexeme that is not an atom ends, after this number of bytes.
     #[inline(always)]
     pub(crate) fn take(
         &mut self,

@@ -4,7 +4,7 @@ ghost use Rattle.mw_model.specs.Texts.Lexemes.{is_digit, decimal_value};
 ghost use Rattle.std.specs.List.{list_all};
 ghost use Rattle.mw_request.specs.Arguments as model;
 
-/// The number that the text is: at most so many decimal digits, and a value from the least to the most.
+/// The number that the text is: at most `digits` decimal digits, and a value from the least to the most.
 pub(crate) fn number_within(text: &str, digits: usize, least: u64, most: u64) -> Option<u64>
     requires { digits ≤ 13 }
     ensures { result ≡ model.number_within digits least most text.now }

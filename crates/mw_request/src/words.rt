@@ -23,7 +23,7 @@ use std::convert::AsStr;
 pub enum Request {
     /// To judge the book, with this step limit.
     Check { steps: u64 },
-    /// To judge the trial book of so many events, with this step limit.
+    /// To judge the trial book with this number of events, with this step limit.
     Trial { events: u64, steps: u64 },
     /// To prove the formulas that are tautologies.
     Taut,

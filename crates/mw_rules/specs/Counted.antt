@@ -5,7 +5,7 @@ use Rattle.mw_model.specs.Values.Primitive.{Profile}
 use Rattle.mw_model.specs.Proofs.Proof.{Method, Axiom, Theorem, PropositionalSchema, FunctionalEquality, BetaReduction, BaseEval, Expansion, Contraction, Associativity, Cut, Instantiation, Induction}
 use Rattle.mw_model.specs.Laws.Rules.{object_is_schema, object_is_functional_equality, object_is_beta, object_is_base_eval, object_is_expansion, object_is_contraction, object_is_associativity, object_is_cut}
 
--- at most so many, or any number
+-- the most subproofs that a method takes; nothing if it takes any number
 abbrev pub most_subproofs : Method → Option ℕ
 most_subproofs Induction = None
 most_subproofs Cut = Some 2

@@ -52,7 +52,7 @@ impl Known {
         self.entries.len()
     }
 
-    /// Adds an object, also one that is known already. Where memory is refused nothing changes.
+    /// Adds an object, also one that is known already. If memory runs out nothing changes.
     pub fn add(&mut self, x: Ref) -> Result<(), Memory>
         ensures added { OnOk result (self.new ≡ x ∷ self.old) }
         ensures err { OnErr result (self.new ≡ self.old) }

@@ -20,8 +20,8 @@ use mw_induct::premises_hold;
 use mw_prop::{associativity, contraction, cut, expansion, schema};
 use mw_term::Marks;
 
-/// Whether the conclusion follows by the method from those of the subproofs, with these extras, over these axioms and theorems and in
-/// the profile. The marks say what is a term. The error is memory that is refused.
+/// Whether the conclusion follows by the method from those of the subproofs, with these extras, over these axioms and theorems and in the
+/// profile. The marks say what is a term. The error is out of memory.
 pub fn follows(
     heap: &mut Heap,
     method: Method,

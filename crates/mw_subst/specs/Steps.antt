@@ -19,8 +19,8 @@ abbrev pub step_for : Option ℕ → ℕ
 step_for None = 1
 step_for (Some r) = 0
 
--- The part was made from what it needs, or it waits on the path for a smaller part that it needs and that was not made. Before and after it
--- so many steps were taken.
+-- The part was made from what it needs, or it waits on the path for a smaller part that it needs and that was not made. The numbers are
+-- of the steps that were taken before it and after it.
 abbrev pub Advances : List Object → List Object → Object → Memo → Memo → List Part → List Part → Part → ℕ → ℕ → Type 0
 Advances old new s memo more path longer part before after =
     ((r : ℕ) × IsIn new r × (object_at new r ≡ substituted s part (object_at old (cell_of part))) × Adds memo.terms memo.lists more.terms more.lists part r × (longer ≡ path) × (after ≡ before) × ((q : Part) → Needs old part q → IsFound memo.terms memo.lists q))

@@ -131,8 +131,8 @@ fn compare(heap: &mut Heap, x: Ref, sigma: &Sigma, y: Ref, noted: &mut Memo) -> 
 }
 
 /// Whether y is the term x with the terms of a substitution for its variables. Nothing is made. It takes a look, from those that the heap
-/// allows, for each cell that it comes to as a term and for each that it comes to as a list of terms; and it ends at the first that differs.
-/// The errors are that memory is refused and that no look is left.
+/// allows, for each cell that it comes to as a term and for each that it comes to as a list of terms; and it ends at the first that
+/// differs. The errors are out of memory, and that no look is left.
 pub fn is_instance(heap: &mut Heap, x: Ref, sigma: &Sigma, y: Ref) -> Result<bool, Memory>
     requires within { IsIn heap.old.objects x }
     requires sigma { AreIn heap.old.objects sigma.now }

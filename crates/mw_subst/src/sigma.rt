@@ -50,7 +50,7 @@ impl Sigma {
         }
     }
 
-    /// Adds a pair at the end. Where memory is refused nothing changes.
+    /// Adds a pair at the end. If memory runs out nothing changes.
     pub fn put(&mut self, variable: Ref, term: Ref) -> Result<(), Memory>
         ensures added { OnOk result (self.new ≡ self.old ++ (variable, term) ∷ []) }
         ensures err { OnErr result (self.new ≡ self.old) }

@@ -156,8 +156,8 @@ fn make<L: Ledger>(
 
 /// The term x with the terms of a substitution for its variables. It takes one step for each cell that it reaches, however often that
 /// stands in x, and no other step. It reaches the term x; with a term (h . r) the list r, unless h is QUOTE; and with a list (a . r) the
-/// term a and the list r. It looks at no cell more than five times, and takes each look from those that the heap allows. Where memory is
-/// refused, or no look is left, each step was for another cell that it reaches.
+/// term a and the list r. It looks at no cell more than five times, and takes each look from those that the heap allows. If memory runs
+/// out, or no look is left, each step was for another cell that it reaches.
 pub fn substitute_counted<L: Ledger>(
     heap: &mut Heap,
     x: Ref,

@@ -35,7 +35,7 @@ mark_in ms i = get_or ms i no_mark
 abbrev pub right_mark : ArityTable → List Object → ℕ → ObjectMark
 right_mark A os x = mark_of_object A (object_at os x)
 
--- B has all that A has, and no arity that A does not have for what is no function name
+-- B has all that A has, and the same as A for a name that is not a function name
 pub record Extends (A B : ArityTable) : Type 0 where
   pub kept : (f : Name) (n : ℕ) → arity_of A f ≡ Some n → arity_of B f ≡ Some n
   pub words : (f : Name) → is_function_name f ≡ false → arity_of B f ≡ arity_of A f

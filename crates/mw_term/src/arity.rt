@@ -67,7 +67,7 @@ impl Arity {
         (name.as_slice(), *count)
     }
 
-    /// Adds a function that takes `count` arguments. Where memory is refused nothing changes.
+    /// Adds a function that takes `count` arguments. If memory runs out nothing changes.
     pub fn add(&mut self, name: &[u8], count: u64) -> Result<(), Memory>
         requires name { is_name name.now ≡ true }
         requires absent { arity_of self.old (name_of_bytes name.now) ≡ None }

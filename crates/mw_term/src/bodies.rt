@@ -41,7 +41,7 @@ impl Bodies {
         self.found.get(&body)
     }
 
-    // Counts so many more variables with those that are held. Where that makes too many, these are forgotten first.
+    // Counts this many more variables with those that are held. Where that makes too many, these are forgotten first.
     fn make_room_for(&mut self, more: usize)
         ensures { (os : List Object) → AreBodies os self.old.found.entries → AreBodies os self.new.found.entries }
     {
@@ -53,8 +53,7 @@ impl Bodies {
         self.held = more;
     }
 
-    /// Adds the free variables of a body, and forgets those of the others where they would be too many. The one error is that memory is
-    /// refused.
+    /// Adds the free variables of a body, and forgets those of the others where they would be too many. The one error is out of memory.
     pub fn add(&mut self, body: Ref, variables: IndexSet<Ref>) -> Result<(), Memory>
         ensures added { OnOk result (variables_found self.new.found.entries body ≡ Some variables) }
         ensures bodies { OnOk result ((os : List Object) → AreBodies os self.old.found.entries → AreVariablesOf os body variables.keys → AreBodies os self.new.found.entries) }

@@ -28,7 +28,7 @@ impl Model for Formals {
 }
 
 impl Formals {
-    /// The formals of which `x` is the list, where it is a proper list of distinct variables. The one error is that memory is refused.
+    /// The formals of which `x` is the list, where it is a proper list of distinct variables. The one error is out of memory.
     pub fn of_list(heap: &Heap, x: Ref) -> Result<Option<Formals>, Memory>
         requires { IsIn heap.now.objects x }
         ensures formals { IfOk result (λ o. option_map (names_at heap.now.objects) o ≡ formals_of (object_at heap.now.objects x)) }
@@ -41,8 +41,8 @@ impl Formals {
         }
     }
 
-    /// The same, where each member that is looked at takes a look from those that are left. The errors are that memory is refused and
-    /// that no look is left.
+    /// The same, where each member that is looked at takes a look from those that are left. The errors are out of memory, and that no look
+    /// is left.
     pub fn of_list_counted(
         heap: &Heap,
         x: Ref,
@@ -85,7 +85,7 @@ impl Formals {
         is_among_symbols(heap, &self.symbols, x)
     }
 
-    /// Whether each free variable of a term is one of them. The one error is that memory is refused.
+    /// Whether each free variable of a term is one of them. The one error is out of memory.
     pub fn closes(&self, heap: &Heap, term: Ref) -> Result<bool, Memory>
         requires within { IsIn heap.now.objects term }
         requires symbols { AreSymbols heap.now.objects self.now }
@@ -96,7 +96,7 @@ impl Formals {
     }
 
     /// The same, where each cell that is looked at and each variable that is tested takes a look from those that are left. The errors are
-    /// that memory is refused and that no look is left.
+    /// out of memory, and that no look is left.
     pub fn closes_counted(
         &self,
         heap: &Heap,

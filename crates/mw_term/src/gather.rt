@@ -15,9 +15,9 @@ use crate::work::Work;
 use indexmap::IndexSet;
 use mw_heap::{Heap, Memory, Ref, View, Word};
 
-/// The free variables of a term, in order of first occurrence. Those of a lambda call are those of its actuals. The one error is that
-/// memory is refused. It takes time and memory in proportion to the distinct objects that make up the term. Of an object that is no
-/// term it gives some symbols.
+/// The free variables of a term, in order of first occurrence. Those of a lambda call are those of its actuals. The one error is out of
+/// memory. It takes time and memory in proportion to the distinct objects that make up the term. Of an object that is no term it gives some
+/// symbols.
 pub fn vars(heap: &Heap, t: Ref) -> Result<Vars, Memory>
     requires { IsIn heap.now.objects t }
     ensures within { IfOk result (All (IsIn heap.now.objects)) }
@@ -29,8 +29,8 @@ pub fn vars(heap: &Heap, t: Ref) -> Result<Vars, Memory>
     Ok(Vars::from_set(symbols))
 }
 
-/// The same, where each cell that is looked at takes a look from those that are left. The errors are that memory is refused and that no
-/// look is left.
+/// The same, where each cell that is looked at takes a look from those that are left. The errors are out of memory, and that no look is
+/// left.
 pub fn vars_counted(heap: &Heap, t: Ref, looks_left: &mut u64) -> Result<Vars, Memory>
     requires { IsIn heap.now.objects t }
     ensures within { IfOk result (All (IsIn heap.now.objects)) }

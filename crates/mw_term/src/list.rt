@@ -20,7 +20,7 @@ pub(crate) fn are_more_terms(first: &CellMark, rest: &CellMark) -> bool
     first.is_term() && rest.is_terms()
 }
 
-// Whether a list has so many members. It takes a look at each.
+// Whether a list has this many members. It takes a look at each.
 fn has_length(heap: &Heap, list: Ref, length: u64, work: &mut Work) -> Result<bool, Memory>
     requires { IsIn heap.now.objects list }
     ensures { IfOk result (λ b. b ≡ eqb length (length_of (object_at heap.now.objects list))) }

@@ -10,14 +10,14 @@ const LOOKS_FOR_A_SEARCH: u64 = 4;
 // The searches that a new cell counts as: it stays in the heap for as long as its event.
 const SEARCHES_FOR_A_NEW_CELL: u64 = 8;
 
-/// Takes the looks of so many searches from those that the heap allows, as many as a walk made. The error is that fewer are left.
+/// Takes the looks of this many searches from those that the heap allows, as many as a walk made. The error is that fewer are left.
 pub fn take_searches(heap: &mut Heap, searches: u64) -> Result<(), Memory>
     ensures { heap.new.objects ≡ heap.old.objects }
 {
     heap.take_looks(searches.saturating_mul(LOOKS_FOR_A_SEARCH))
 }
 
-/// Takes the looks of so many searches from those that the heap allows, and of eight for each object that came after a mark. The error is
+/// Takes the looks of this many searches from those that the heap allows, and of eight for each object that came after a mark. The error is
 /// that fewer are left.
 pub fn take_searches_since(heap: &mut Heap, had: Mark, searches: u64) -> Result<(), Memory>
     ensures { heap.new.objects ≡ heap.old.objects }

@@ -117,7 +117,7 @@ fn mark_up_to(
 #[derive(Drop)]
 pub struct Marks {
     pub(crate) cells: Vec<CellMark>,
-    // whether memory was refused as they were made right: then no object gets a mark
+    // whether memory ran out as they were made right: then no object gets a mark
     pub(crate) is_without_memory: bool,
     alloc: Global,
 }
@@ -135,9 +135,9 @@ impl Model for Marks {
 }
 
 /// The marks of the objects of the heap below a mark. It takes time in proportion to them, to the formals and the variables of each
-/// distinct head of a lambda call, and to the size of each distinct body of one once; a body is walked again only where so many others
-/// came between that its variables were forgotten. Where these share so much that it would be more than an allowance, it is answered as
-/// out of memory.
+/// distinct head of a lambda call, and to the size of each distinct body of one once; a body is walked again only if its variables were
+/// forgotten because of those that came between. Where these share so much that it would be more than an allowance, it is answered as out
+/// of memory.
 pub fn mark_terms(alloc: Global, heap: &Heap, arity: &Arity, below: Mark) -> Result<Marks, Memory>
     requires { below ≤ length heap.now.objects }
     ensures marked { IfOk result (AreMarks arity.now heap.now.objects) }
@@ -160,7 +160,7 @@ impl Marks {
         }
     }
 
-    /// The marks of no objects, to which none are added: `extend` answers that memory is refused.
+    /// The marks of no objects, to which none are added: `extend` answers out of memory.
     pub(crate) fn without_memory(alloc: Global) -> Marks
         ensures { result ≡ [] }
     {
@@ -178,8 +178,8 @@ impl Marks {
         self.cells.len()
     }
 
-    /// Adds the marks of the objects of the heap below a mark, at the cost of `mark_terms` for these. The error is memory that is
-    /// refused, also where the allowance of `mark_terms` is used up, and always after `give_up`. Then the marks stay.
+    /// Adds the marks of the objects of the heap below a mark, at the cost of `mark_terms` for these. The error is out of memory, also if
+    /// the allowance of `mark_terms` is used up, and always after `give_up`. Then the marks stay.
     pub fn extend(&mut self, heap: &Heap, arity: &Arity, below: Mark) -> Result<(), Memory>
         requires marked { AreMarks arity.now heap.now.objects self.old }
         requires from { length self.old ≤ below }

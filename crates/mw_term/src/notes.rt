@@ -24,7 +24,7 @@ impl Notes {
         }
     }
 
-    /// Notes a cell with a part. The one error is that memory is refused: then the notes of this part may be lost.
+    /// Notes a cell with a part. The one error is out of memory: then the notes of this part may be lost.
     pub fn add(&mut self, part: Ref, cell: Ref) -> Result<(), Memory>
         ensures { OnOk result ((w : ℕ) → cells_noted self.new.by_part.entries w ≡ cond (nat_eq part w) (cells_noted self.old.by_part.entries w ++ cell ∷ []) (cells_noted self.old.by_part.entries w)) }
     {

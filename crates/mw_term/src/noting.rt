@@ -134,8 +134,8 @@ fn note_members(
     Ok(lasts && second_lasts)
 }
 
-/// Notes a cell with all that could make it pass a test that it does not pass. It answers whether nothing can: then its mark lasts, whatever
-/// names come. The one error is that memory is refused.
+/// Notes a cell with all that could make it pass a test that it does not pass. It answers whether nothing can: then its mark lasts,
+/// whatever names come. The one error is out of memory.
 pub(crate) fn note_reasons(
     notes: &mut Notes,
     lasting: &[bool],

@@ -52,7 +52,7 @@ impl Watch {
         }
     }
 
-    /// Has all objects wait that are noted with a symbol or a part, since that has changed. The one error is that memory is refused.
+    /// Has all objects wait that are noted with a symbol or a part, since that has changed. The one error is out of memory.
     pub fn wake(&mut self, part: Ref) -> Result<(), Memory>
         ensures { OnOk result (WakesNoted self.old self.new part) }
     {

@@ -14,7 +14,7 @@ pub(crate) struct Work {
 }
 
 impl Work {
-    /// Work that may take so many looks.
+    /// Work that may take this many looks.
     pub fn new(alloc: Global, looks: u64) -> Work
         ensures { result.looks_left ≡ looks }
     {

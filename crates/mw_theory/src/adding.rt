@@ -27,7 +27,7 @@ pub(crate) struct Lists {
 }
 
 /// Adds a block of definitions and its axioms to the arity table, the entries, the code and the known axioms, and answers the lists with
-/// them in front. The one error is that memory is refused: then only the heap has grown, and the table stands for what it stood for.
+/// them in front. The one error is out of memory: then only the heap has grown, and the table stands for what it stood for.
 pub(crate) fn add_block(
     heap: &mut Heap,
     block: &[Definition],
@@ -91,7 +91,7 @@ fn with_lists(
     Ok(Lists { axioms, arity_list })
 }
 
-// Adds a block to the arity table, the entries, the known axioms and the code. Where memory is refused the first three are what they were.
+// Adds a block to the arity table, the entries, the known axioms and the code. If memory runs out, the first three are what they were.
 fn add_or_keep(
     heap: &Heap,
     block: &[Definition],
@@ -124,7 +124,7 @@ fn add_or_keep(
     }
 }
 
-// The same, with the code last. Where memory is refused some of the block may stay with all but the code.
+// The same, with the code last. If memory runs out, some of the block may stay with all but the code.
 fn add_parts(
     heap: &Heap,
     block: &[Definition],
@@ -162,7 +162,7 @@ fn add_entry(entries: &mut Entries, alloc: Global, block: &[Definition]) -> Resu
     entries.add(copy)
 }
 
-/// Adds these to the known ones, the last one newest. Where memory is refused some may stay in front of those that were there.
+/// Adds these to the known ones, the last one newest. If memory runs out, some may stay in front of those that were there.
 pub(crate) fn add_known(known: &mut Known, formulas: &[Ref]) -> Result<(), Memory>
     ensures added { OnOk result (known.new ≡ reverse formulas.now ++ known.old) }
     ensures kept { EndsWith known.new known.old }
@@ -193,7 +193,7 @@ fn sizes_of(arity: &Arity, entries: &Entries, known: &Known) -> Sizes
     }
 }
 
-// Keeps the oldest, so many of each.
+// Keeps the oldest of each, as many as are given.
 fn cut_back(had: Sizes, arity: &mut Arity, entries: &mut Entries, known: &mut Known)
     requires functions { had.functions ≤ length arity.old }
     requires blocks { had.blocks ≤ length entries.old }

@@ -32,7 +32,7 @@ pub fn admit(heap: &mut Heap, drafts: Drafts, arity: &Arity) -> Admitted
     }
 }
 
-/// Tests these functions for an event that has proofs for at most so many obligations: as `admit`, but for the last test, that no more are
+/// Tests these functions for an event that has proofs for at most this number of obligations: as `admit`, but for the last test, that no more are
 /// owed, whose refusal is Count. Once there is one too many, no further ones are made.
 pub fn admit_within(heap: &mut Heap, drafts: Drafts, arity: &Arity, most: u64) -> Admitted
     requires { AreWithin heap.old.objects drafts }

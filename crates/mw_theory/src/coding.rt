@@ -10,7 +10,7 @@ use mw_code::Table;
 use mw_heap::{Heap, Memory, Ref};
 use mw_preamble::Definition;
 
-/// Adds a block to the code. Where memory is refused the table stands for what it stood for.
+/// Adds a block to the code. If memory runs out, the table stands for what it stood for.
 pub(crate) fn add_code(table: &mut Table, heap: &Heap, block: &[Definition]) -> Result<(), Memory>
     requires block { (D : Definitions) × (B : Block) × MayBeAdded heap.now.objects table.old D block.now B }
     ensures added { (D : Definitions) (B : Block) → MayBeAdded heap.now.objects table.old D block.now B → OnOk result (StandsFor heap.now.objects table.new (with_block B D)) }

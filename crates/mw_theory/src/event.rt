@@ -94,7 +94,7 @@ fn event_with(heap: &Heap, word: Word, members: Ref) -> Option<Event>
     }
 }
 
-/// The event that an object is, by its word and as many members as that has; nothing of what is none.
+/// The event that an object is, by its word and the number of its members; None if it is not an event.
 pub fn event_of(heap: &Heap, x: Ref) -> Option<Event>
     requires { IsIn heap.now.objects x }
     ensures event { MatchOption result (event_word (object_at heap.now.objects x) ≡ None) (IsEvent heap.now.objects x) }

@@ -23,7 +23,7 @@ pub trait Judge {
     ghost judges: { Self → List Object → Judges };
 
     /// Why the object is refused as a proof of the formula at the theory, where it is. The marks, which are under the theory's arity
-    /// table, are extended. The one error is that memory is refused.
+    /// table, are extended. The one error is out of memory.
     fn refusal(
         &mut self,
         heap: &mut Heap,

@@ -36,7 +36,7 @@ fn count_formals(heap: &Heap, formals: Ref) -> Result<u64, Memory>
     }
 }
 
-/// Adds these to the arity table, the last one newest. Where memory is refused some may stay in front of those that were there.
+/// Adds these to the arity table, the last one newest. If memory runs out, some may stay in front of those that were there.
 pub(crate) fn add_pairs(arity: &mut Arity, heap: &Heap, pairs: &[(Ref, u64)]) -> Result<(), Memory>
     requires symbols { ArePairsOfSymbols heap.now.objects pairs.now }
     requires new { AreNew heap.now.objects arity.old pairs.now }

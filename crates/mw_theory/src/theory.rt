@@ -39,7 +39,7 @@ pub struct Theory {
 }
 
 impl Theory {
-    /// Puts a theorem in front of the others. Where memory is refused the theory stays.
+    /// Puts a theorem in front of the others. If memory runs out, the theory stays.
     pub fn add_theorem(&mut self, heap: &mut Heap, formula: Ref) -> Result<(), Memory>
         requires held { IsHeld heap.old.objects self.old }
         requires within { IsIn heap.old.objects formula }
@@ -58,7 +58,7 @@ impl Theory {
         Ok(())
     }
 
-    /// Adds a block of definitions with the list of its axioms; the watch is left to be settled. Where memory is refused the theory stays; its
+    /// Adds a block of definitions with the list of its axioms; the watch is left to be settled. If memory runs out, the theory stays; its
     /// code may be laid out anew.
     pub fn add_definitions(
         &mut self,

@@ -1,4 +1,4 @@
--- Terms that are made where a function takes so many arguments.
+-- Terms that are made if a function takes as many arguments as are given.
 use Rattle.std.specs.Prelude.{◌≡◌, ℕ, zero, suc, Bool, false, ◌&&◌, ◌||◌, not, eqb, cond, List, length, Option, Some, None}
 use Rattle.mw_model.specs.Terms.Object.{Name, Object, Symbol, Pair, named, symbol, same_name, same_object, list2, list3, NIL}
 use Rattle.mw_model.specs.Terms.Term.{Term, ArityTable, arity_of, has_arity, are_formals, is_closed}

@@ -6,7 +6,7 @@ ghost use Rattle.mw_heap.specs.Words.{word_object};
 
 use mw_heap::{Heap, Memory, Ref, Word};
 
-/// Makes the list (a). The one error is that memory is refused.
+/// Makes the list (a). The one error is out of memory.
 pub fn list_of_one(heap: &mut Heap, a: Ref) -> Result<Ref, Memory>
     requires { IsIn heap.old.objects a }
     ensures grows { Grows heap.old.objects heap.new.objects }
@@ -16,7 +16,7 @@ pub fn list_of_one(heap: &mut Heap, a: Ref) -> Result<Ref, Memory>
     heap.cons(a, nil)
 }
 
-/// Makes the list (a b). The one error is that memory is refused.
+/// Makes the list (a b). The one error is out of memory.
 pub fn list_of_two(heap: &mut Heap, a: Ref, b: Ref) -> Result<Ref, Memory>
     requires first_in { IsIn heap.old.objects a }
     requires second_in { IsIn heap.old.objects b }
@@ -49,7 +49,7 @@ fn headed(heap: &mut Heap, word: Word, members: Ref) -> Result<Ref, Memory>
     heap.cons(head, members)
 }
 
-/// Makes (WORD a). The one error is that memory is refused.
+/// Makes (WORD a). The one error is out of memory.
 pub fn call_of_one(heap: &mut Heap, word: Word, a: Ref) -> Result<Ref, Memory>
     requires { IsIn heap.old.objects a }
     ensures grows { Grows heap.old.objects heap.new.objects }
@@ -59,7 +59,7 @@ pub fn call_of_one(heap: &mut Heap, word: Word, a: Ref) -> Result<Ref, Memory>
     headed(heap, word, members)
 }
 
-/// Makes (WORD a b). The one error is that memory is refused.
+/// Makes (WORD a b). The one error is out of memory.
 pub fn call_of_two(heap: &mut Heap, word: Word, a: Ref, b: Ref) -> Result<Ref, Memory>
     requires first_in { IsIn heap.old.objects a }
     requires second_in { IsIn heap.old.objects b }
@@ -82,7 +82,7 @@ pub(crate) fn if_of(heap: &mut Heap, a: Ref, b: Ref, c: Ref) -> Result<Ref, Memo
     headed(heap, Word::If, members)
 }
 
-/// Makes (QUOTE WORD). The one error is that memory is refused.
+/// Makes (QUOTE WORD). The one error is out of memory.
 pub fn quoted_symbol(heap: &mut Heap, word: Word) -> Result<Ref, Memory>
     ensures grows { Grows heap.old.objects heap.new.objects }
     ensures made { IfOk result (λ r. IsIn heap.new.objects r × (object_at heap.new.objects r ≡ list2 (symbol "QUOTE") (word_object word))) }

@@ -21,7 +21,7 @@ use crate::table::takes;
 use mw_heap::{Heap, Memory, Ref, View, Word};
 use mw_term::{Arity, Formals, take_searches};
 
-// Whether a function may be called with so many actuals. IF takes three, whatever else a table says of it.
+// Whether a function may be called with this many actuals. IF takes three, whatever else a table says of it.
 fn is_call(heap: &Heap, newer: &Arity, older: &Arity, function: Ref, count: u64) -> bool
     requires within { IsIn heap.now.objects function }
     requires symbol { is_symbol (object_at heap.now.objects function) ≡ true }
@@ -31,7 +31,7 @@ fn is_call(heap: &Heap, newer: &Arity, older: &Arity, function: Ref, count: u64)
         && (!heap.is_word(Some(function), Word::If) || count == 3)
 }
 
-// (head . actuals), where the function may be called with so many.
+// (head . actuals), if the function may be called with this many.
 fn checked_call(
     heap: &mut Heap,
     newer: &Arity,

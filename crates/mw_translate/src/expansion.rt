@@ -8,7 +8,7 @@ use crate::walk::walk;
 use mw_heap::{Heap, Memory, Ref};
 use mw_term::Arity;
 
-/// What a raw term expands to: the object of a term under the arity table, or nothing that is one; or memory was refused first.
+/// What a raw term expands to: the object of a term under the arity table, or no term; or out of memory.
 #[derive(Clone, Copy, Debug, PartialEq, Eq)]
 pub enum Expanded {
     Term(Ref),
@@ -33,8 +33,8 @@ pub fn expand_under(heap: &mut Heap, raw: Ref, newer: &Arity, older: &Arity) -> 
     }
 }
 
-/// Makes the arity table of these functions, the last one newest. Each is given by its name, a symbol, and by how many arguments it
-/// takes. The one error is that memory is refused.
+/// Makes the arity table of these functions, the last one newest. Each is given by its name, a symbol, and by how many arguments it takes.
+/// The one error is out of memory.
 pub fn arities_of(heap: &Heap, new: &[(Ref, u64)]) -> Result<Arity, Memory>
     requires symbols { ArePairsOfSymbols heap.now.objects new.now }
     requires distinct { are_distinct (pair_names heap.now.objects new.now) ≡ true }

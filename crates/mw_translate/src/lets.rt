@@ -48,7 +48,7 @@ fn other_variables(
     Ok(others)
 }
 
-/// Makes the list that begins with these, in order, and goes on as another. The one error is that memory is refused.
+/// Makes the list that begins with these, in order, and goes on as another. The one error is out of memory.
 pub fn put_before(heap: &mut Heap, front: Vec<Ref>, back: Ref) -> Result<Ref, Memory>
     requires front_in { AreAllIn heap.old.objects front.items }
     requires back_in { IsIn heap.old.objects back }
@@ -124,7 +124,7 @@ const CELLS_FOR_A_BINDING: u64 = 2;
 // The list of the body, the head with its formals, the call, the lists of a name and a value in a LET*, NIL and LAMBDA.
 const CELLS_FOR_A_CALL: u64 = 8;
 
-// The searches that the cells of a LET count as, of so many bindings and other variables.
+// The searches that the cells of a LET count as, by the numbers of its bindings and of other variables.
 fn searches_for_cells(bindings: usize, others: usize) -> u64 {
     (bindings as u64)
         .saturating_mul(CELLS_FOR_A_BINDING)

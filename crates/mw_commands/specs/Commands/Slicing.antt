@@ -14,7 +14,7 @@ use Rattle.mw_commands.specs.Commands.Slice.{event_at, target, IsSlice}
 abbrev pub accepted_events : List Object → ℕ → List Object
 accepted_events es N = map (λ s. s.event) (filter is_acceptance (course (λ t e. happens t N e) es))
 
--- so many of the book's events
+-- the first events of the book, of this number
 abbrev pub of_events : ℕ → List Object → List ℕ
 of_events k es = spaced (numeral k) (spaced (codes "of") (numeral (length es)))
 

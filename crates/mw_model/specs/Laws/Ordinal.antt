@@ -3,7 +3,7 @@ use Rattle.std.specs.Prelude.{ℕ, Bool, true, false, cond, not, ◌&&◌, ltb}
 use Rattle.mw_model.specs.Terms.Object.{Object, Natural, Symbol, Pair, NIL, same_object, car, cdr}
 use Rattle.mw_model.specs.Values.Primitive.{number, is_natural}
 
--- what is no pair and has the number n, against an object
+-- an object that is not a pair and has the number n, against an object
 abbrev pub is_atom_below : ℕ → Object → Bool
 is_atom_below n (Pair q s) = true
 is_atom_below n (Natural m) = ltb n m
@@ -19,7 +19,7 @@ is_pair_below e_below e c rest_below (Pair q s) =
     in_turn (same_object e (car q)) (e_below (car q)) (same_object c (cdr q)) (ltb (number c) (number (cdr q))) (rest_below s)
 is_pair_below e_below e c rest_below _ = false
 
--- The order, on all objects: what is no pair is below each pair; pairs compare by car of car, cdr of car and cdr;
+-- The order, on all objects: an object that is not a pair is below each pair; pairs compare by car of car, cdr of car and cdr;
 -- others compare as numbers.
 abbrev pub is_below : Object → Object → Bool
 is_below (Natural n) y = is_atom_below n y

@@ -5,7 +5,7 @@ use Rattle.mw_model.specs.Terms.Object.{Name}
 pub data Request : Type 0 where
   -- judge the book, with this step limit
   Check : (steps : ℕ) → Request
-  -- judge the trial book of so many events, with this step limit
+  -- judge the trial book with this number of events, with this step limit
   Trial : (events steps : ℕ) → Request
   -- prove the formulas of the book that are tautologies
   Taut : Request

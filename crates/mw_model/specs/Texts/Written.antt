@@ -15,7 +15,7 @@ labels_begun [] = []
 labels_begun (Mark o n ∷ r) = n ∷ labels_begun r
 labels_begun (_ ∷ r) = labels_begun r
 
--- so many numbers from the first one on
+-- this count of numbers, from the first one on
 abbrev pub upwards : ℕ → ℕ → List ℕ
 upwards first zero = []
 upwards first (suc k) = first ∷ upwards (suc first) k

@@ -76,7 +76,7 @@ abbrev pub is_natural : Object → Bool
 is_natural (Natural n) = true
 is_natural _ = false
 
--- what is no natural counts as 0, what is no symbol as NIL
+-- an object that is not a natural counts as 0, one that is not a symbol as NIL
 abbrev pub number : Object → ℕ
 number (Natural n) = n
 number _ = 0

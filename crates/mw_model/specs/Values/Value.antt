@@ -25,7 +25,7 @@ abbrev pub OnCall : Calls → Option Primitive → Name → List Object → Obje
 OnCall C None f vs v = C f vs v
 OnCall C (Some p) f vs v = v ≡ apply p vs
 
--- HasValue P C e t v: the term t has the value v at e, where the calls of what is no primitive have the values of C.
+-- HasValue P C e t v: the term t has the value v at e, where calls of functions that are not primitives have the values of C.
 abbrev mutual
   pub HasValue : Profile → Calls → Environment → Term → Object → Type 0
   HasValue P C e (Variable x) v = v ≡ lookup e x
