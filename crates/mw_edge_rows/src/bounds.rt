@@ -1,11 +1,11 @@
-//! Books at the bounds of instructions and of code: one within them gives the expected answer, and one past them ends out of memory.
+//! Books at the bounds of turns and of code: one within them gives the expected answer, and one past them ends out of memory.
 use mw_answers::{Answer, answer_of_check, answer_of_command};
 use mw_book::Status;
 use std::alloc::{AllocError, Global};
 use std::test::Fail;
 
-// A term of the given number of tests within one another by labels, each of the one before it, twice: of X it runs 3 * 2^times - 1 - times instructions,
-// where that is no NIL, and takes no unit. It takes 5 * 2^times - 4 jobs to lay it out.
+// A term of the given number of tests within one another by labels, each of the one before it, twice: of X, if that is not NIL, it runs
+// 5 * 2^(times - 1) - 2 - times entries of code, and takes no unit. It takes 5 * 2^times - 4 jobs to lay it out.
 fn tested_term(alloc: Global, times: usize) -> Result<String, AllocError> {
     let mut term = String::from_str(alloc, "#1=x")?;
     for k in 1..times.saturating_add(1) {
@@ -16,8 +16,8 @@ fn tested_term(alloc: Global, times: usize) -> Result<String, AllocError> {
 }
 
 // An EVAL of 2^13 calls of a function of twelve tests: with those that lead to them 2^14 - 1 calls, which take a unit each. It runs
-// 2^13 * (3 * 2^12 - 10) - 1 = 100,581,375 instructions, which are counted as 392,896 rounds of 256. That is a round more than 2^26 and
-// 64 for each of 523,004 units.
+// 2^13 * (5 * 2^11 - 11) - 1 = 83,795,967 entries of code, which are counted as 327,328 rounds of 256. That is a round more than 2^26 and
+// 64 for each of 260,732 units.
 fn book_of_calls(alloc: Global) -> Result<String, AllocError> {
     let term = tested_term(alloc, 12)?;
     let mut book = format!(in alloc; "(define f0 (x) {term} nil ())")?;
@@ -49,8 +49,8 @@ fn ends_out_of_memory(alloc: Global, steps: &str) -> Result<bool, AllocError> {
 
 #[test]
 fn a_run_has_turns_for_the_units_of_its_limit(rt: HostRuntime) -> Result<(), Fail> {
-    assert!(rt; gives_a_value(rt.alloc(), "523004")?);
-    assert!(rt; ends_out_of_memory(rt.alloc(), "523003")?);
+    assert!(rt; gives_a_value(rt.alloc(), "260732")?);
+    assert!(rt; ends_out_of_memory(rt.alloc(), "260731")?);
     Ok(())
 }
 
