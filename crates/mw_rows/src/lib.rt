@@ -1,14 +1,22 @@
-//! Worked books with the expected reports, as tests of the whole program: the first book, the books of the guide, the axioms,
-//! switches; and that a wrong row is told.
+//! What the program answers to books in memory, and the books that several crates of rows use.
 #![tactic(auto)]
 
-#[cfg(test)]
-mod axioms;
-#[cfg(test)]
-mod books;
-#[cfg(test)]
-mod first;
-#[cfg(test)]
-mod switches;
-#[cfg(test)]
-mod told;
+mod app;
+mod never;
+mod ranks;
+mod row;
+mod shared_proof;
+mod shorthand;
+mod wrap;
+
+pub use app::{app_book, app_lines};
+pub use never::{NEVER, OF_NEVER, other_answer_on_never};
+pub use ranks::{other_report_after_ranks, ranks_book};
+pub use row::{
+    Answer, NEXT_ROW, WRITTEN, answer_of_check, answer_of_command, answer_with_faults, due_after,
+    expect_empty, limited_parts, other_answer, other_answer_with_faults, other_report,
+    other_reports, wrong_answers,
+};
+pub use shared_proof::book_of_the_proof;
+pub use shorthand::{shorthand_book, shorthand_lines};
+pub use wrap::{wrap_book, wrap_lines};

@@ -8,6 +8,7 @@ mod PartSet
 pub mod Gathered
 pub mod FormalList
 pub mod Heads
+pub mod FunctionNames
 mod Gathering
 mod HeldBodies
 pub mod TermOccurrences

@@ -1,9 +1,0 @@
--- A new table has no functions.
-use Rattle.std.proofs.Common.{sym, ◌∙◌, subst}
-use Rattle.mw_machine_tests.specs.Tested.{IsPlain}
-use Rattle.mw_machine_tests.proofs.bench.answer_for.Goals as goal
-
-pub answer_in-requires : goal.answer_in-requires
-answer_in-requires c =
-    let os = c.deref_mut.result.now.objects in
-    subst (IsPlain os) (sym (c.deref_mut-2.ensures.value ∙ c.in_ok-table.ensures.ok)) (c.new-3.ensures os)

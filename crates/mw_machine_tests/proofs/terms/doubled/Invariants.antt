@@ -1,7 +1,0 @@
--- What was made so far is a term.
-use Rattle.mw_heap.specs.Objects.{Grows}
-use Rattle.mw_machine_tests.specs.Tested.{IsSomeTerm}
-use Rattle.mw_machine_tests.proofs.terms.doubled.Given as goal
-
-abbrev pub invariant-loop : goal.invariant-loop
-invariant-loop l = Grows l.fn.heap.objects l.heap.objects × IsSomeTerm l.heap.objects l.term

@@ -1,0 +1,111 @@
+//! Books at the bounds of turns and of code: one within them gives the expected answer, and one past them ends out of memory.
+use mw_rows::{Answer, answer_of_check, answer_of_command};
+use mw_book::Status;
+use std::alloc::{AllocError, Global};
+use std::test::Fail;
+
+// A term of the given number of tests within one another by labels, each of the one before it, twice: of X, if that is not NIL, it runs
+// 5 * 2^(times - 1) - 2 - times entries of code, and takes no unit. It takes 5 * 2^times - 4 jobs to lay it out.
+fn tested_term(alloc: Global, times: usize) -> Result<String, AllocError> {
+    let mut term = String::from_str(alloc, "#1=x")?;
+    for k in 1..times.saturating_add(1) {
+        let next = k.saturating_add(1);
+        term = format!(in alloc; "#{next}=(if {term} #{k}# x)")?;
+    }
+    Ok(term)
+}
+
+// An EVAL of 2^13 calls of a function of twelve tests: with those that lead to them 2^14 - 1 calls, which take a unit each. It runs
+// 2^13 * (5 * 2^11 - 11) - 1 = 83,795,967 entries of code, which are counted as 327,328 rounds of 256. That is a round more than 2^26 and
+// 64 for each of 260,732 units.
+fn book_of_calls(alloc: Global) -> Result<String, AllocError> {
+    let term = tested_term(alloc, 12)?;
+    let mut book = format!(in alloc; "(define f0 (x) {term} nil ())")?;
+    for before in 0..13 {
+        let k = before + 1;
+        write!(book, "(define f{k} (x) (f{before} (f{before} x)) nil ())")?;
+    }
+    book.push_str("(eval (f13 1))")?;
+    Ok(book)
+}
+
+// What the program answers on that book at this step limit.
+fn answer_on_calls(alloc: Global, steps: &str) -> Result<Answer, AllocError> {
+    let book = book_of_calls(alloc)?;
+    answer_of_command(alloc, &["check", "--steps", steps], book.as_str(), 4096)
+}
+
+// Whether the book ends with the expected answer at this step limit.
+fn gives_a_value(alloc: Global, steps: &str) -> Result<bool, AllocError> {
+    let answer = answer_on_calls(alloc, steps)?;
+    let due = "15 EVAL - accepted 1\nevents 15 accepted 15 refused 0 level 1\n";
+    Ok(answer.status == Status::Done && answer.report.as_str().ends_with(due))
+}
+
+fn ends_out_of_memory(alloc: Global, steps: &str) -> Result<bool, AllocError> {
+    let answer = answer_on_calls(alloc, steps)?;
+    Ok(answer.status == Status::Memory)
+}
+
+#[test]
+fn a_run_has_turns_for_the_units_of_its_limit(rt: HostRuntime) -> Result<(), Fail> {
+    assert!(rt; gives_a_value(rt.alloc(), "260732")?);
+    assert!(rt; ends_out_of_memory(rt.alloc(), "260731")?);
+    Ok(())
+}
+
+// A definition whose code takes ten million jobs, a small one, and an EVAL of that; then, where there is another text, that.
+fn book_of_code(alloc: Global, after: &str) -> Result<String, AllocError> {
+    let term = tested_term(alloc, 21)?;
+    format!(in alloc;
+        "(define large (x) {term} nil ())(define small (x) x nil ())(eval (small 7)){after}"
+    )
+}
+
+const OF_THE_CODE: &str = "\
+1 DEFINE LARGE accepted
+2 DEFINE SMALL accepted
+3 EVAL - accepted 7
+events 3 accepted 3 refused 0 level 1
+";
+
+// Whether a small definition is accepted after a large one.
+fn accepts_a_small_one(alloc: Global) -> Result<bool, AllocError> {
+    let book = book_of_code(alloc, "")?;
+    let answer = answer_of_check(alloc, book.as_str(), 4096)?;
+    Ok(answer.is_due(0, OF_THE_CODE))
+}
+
+// Whether the program ends out of memory at a second large one.
+fn refuses_a_large_one(alloc: Global) -> Result<bool, AllocError> {
+    let term = tested_term(alloc, 21)?;
+    let after = format!(in alloc; "(define another (x) {term} nil ())")?;
+    let book = book_of_code(alloc, after.as_str())?;
+    let answer = answer_of_check(alloc, book.as_str(), 4096)?;
+    Ok(answer.status == Status::Memory)
+}
+
+// Whether the program ends out of memory at a block of functions that share one body, of five million jobs each.
+fn refuses_a_block(alloc: Global) -> Result<bool, AllocError> {
+    let term = tested_term(alloc, 20)?;
+    let mut book = format!(in alloc; "(define-all ((f0 (x) {term} nil)")?;
+    for k in 1..4 {
+        write!(book, "(f{k} (x) #21# nil)")?;
+    }
+    book.push_str(") ())")?;
+    let answer = answer_of_check(alloc, book.as_str(), 4096)?;
+    Ok(answer.status == Status::Memory)
+}
+
+#[test]
+fn code_is_counted_for_its_definition(rt: HostRuntime) -> Result<(), Fail> {
+    assert!(rt; accepts_a_small_one(rt.alloc())?);
+    assert!(rt; refuses_a_large_one(rt.alloc())?);
+    Ok(())
+}
+
+#[test]
+fn the_code_of_a_block_is_counted_together(rt: HostRuntime) -> Result<(), Fail> {
+    assert!(rt; refuses_a_block(rt.alloc())?);
+    Ok(())
+}
