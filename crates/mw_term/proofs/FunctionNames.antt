@@ -1,9 +1,9 @@
 -- A symbol that is none of the words is the name of a function.
-use Rattle.std.proofs.Common.{◌≡◌, Bool, true, false, ◌||◌, ◌&&◌, not, refl, ap}
-use Rattle.mw_model.specs.Terms.Object.{Name, Object, Natural, Symbol, Pair, named, nil_name, same_object, same_name, name_of_bytes}
+use Rattle.std.proofs.Common.{◌≡◌, Bool, true, false, ◌||◌, ◌&&◌, not, refl}
+use Rattle.mw_model.specs.Terms.Object.{Name, Object, Natural, Symbol, Pair, same_object}
 use Rattle.mw_model.specs.Terms.Term.{is_among, other_words, abbreviation_words, is_function_name}
 use Rattle.mw_model.specs.Values.Primitive.{is_symbol, name_of}
-use Rattle.mw_heap.specs.Words.{word_object, word_bytes}
+use Rattle.mw_heap.specs.Words.{word_object}
 use Rattle.mw_heap.specs.declared.vocabulary.word.Word.{Word}
 use Rattle.mw_heap.specs.declared.vocabulary.word.Word.TheVariants as word
 
@@ -13,7 +13,7 @@ neither a b p q = cc
 both_no : (a b : Bool) → a ≡ false → b ≡ false → (not a && not b) ≡ true
 both_no a b p q = cc
 
-IsNoWord : Name → Type 0
+abbrev IsNoWord : Name → Type 0
 IsNoWord f = (w : Word) → same_object (Symbol f) (word_object w) ≡ false
 
 no_other : (f : Name) → IsNoWord f → is_among f other_words ≡ false
@@ -28,6 +28,3 @@ pub no_word : (x : Object) → is_symbol x ≡ true → ((w : Word) → same_obj
 no_word (Symbol f) s h = both_no _ _ (no_other f h) (no_abbreviation f h)
 no_word (Natural n) s h = cc
 no_word (Pair a b) s h = cc
-
-pub name_of_word : (x : Object) (w : Word) → x ≡ word_object w → name_of x ≡ name_of_bytes (word_bytes w)
-name_of_word x w e = ap name_of e
