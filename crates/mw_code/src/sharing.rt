@@ -9,14 +9,14 @@ use indexmap::IndexMap;
 use mw_heap::{Heap, Memory, Ref};
 
 /// The jobs that the blocks of a table share, for code that labels make of few cells: as many as one term may take, so that what all
-/// definitions keep beyond what their cells pay for is 160 megabytes at most.
+/// definitions keep beyond what their cells pay for, code and the entries beside it, is 320 megabytes at most.
 pub(crate) const SHARED_JOBS: u64 = 1 << 24;
 
 // The jobs for which each distinct cell of a block's bodies pays: a body that is written out has one or two.
 const JOBS_FOR_A_CELL: u64 = 64;
 
 // Bodies whose texts have at most this many bytes together are not counted: a term has no more jobs than its text has bytes,
-// so that each keeps some 40 kilobytes at most.
+// so that each keeps some 80 kilobytes at most.
 const SHORT: u64 = 4096;
 
 /// What is left of the jobs that blocks share once this block took those for which its own cells do not pay. The error is that fewer were
