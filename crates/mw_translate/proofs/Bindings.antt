@@ -32,9 +32,6 @@ append-one [] p ys = refl
 append-one (x ∷ xs) p ys = ap (λ l. x ∷ l) (append-one xs p ys)
 
 module _ (os : List Object) (read : List Two) (ps : List (Name × Term)) where
-  pub split-start : read ≡ [] → (names values : Object) → names ≡ names_object (bound_names ps) → values ≡ terms_object (values_of ps) → AreSplit os read names values ps
-  split-start e names values n v = record { before = []; left = ps; split = refl; are = subst (λ l. AreBindings os l []) (sym e) tt; names_left = n; values_left = v }
-
   pub split-more : (r : Two) (others more : Object) → AreSplit os read (Pair (object_at os r.first) others) (Pair (object_at os r.second) more) ps → AreSplit os (read ++ r ∷ []) others more ps
   split-more r others more h = go h.left h.split h.names_left h.values_left
     where

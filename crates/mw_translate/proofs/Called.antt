@@ -21,41 +21,34 @@ other m n h = go (eqb m n) refl
     go true e = absurd (h (eqb-true m n e))
     go false e = refl
 
+and_false : (b : Bool) → (b && false) ≡ false
+and_false true = refl
+and_false false = refl
+
 module _ (A : ArityTable) where
   abbrev pub call_one : Name → Meaning → Option Meaning
   call_one f m = call_made A f m.0 m.1
 
   module _ (f : Name) (no_quote : same_name f (named "QUOTE") ≡ false) where
-    -- a call of other than three actuals is none of IF
-    plain : (ts : Terms) → (count ts ≡ 3 → ⊥) → of_term A (Some (Call f ts)) ≡ combine1 (call_one f) (of_terms A (Some ts))
+    -- a call of another function than IF, or with another number of actuals than three
+    plain : (ts : Terms) → (same_name f (named "IF") && eqb (count ts) 3) ≡ false → of_term A (Some (Call f ts)) ≡ combine1 (call_one f) (of_terms A (Some ts))
     plain ts h =
-        go (same_name f (named "QUOTE")) (same_name f (named "IF")) (eqb (count ts) 3) (takes A f (count ts)) (are_terms A ts) no_quote (other (count ts) 3 h)
-        ∙ sym (combine1-cond (call_one f) (are_terms A ts) (terms_object ts, count ts))
-      where
-        go : (q i e k t : Bool) → q ≡ false → e ≡ false → cond ((not q && not i) && (k && t)) (Some (Pair (Symbol f) (terms_object ts), 0)) None ≡ cond t (given (k && (not i || e)) (Pair (Symbol f) (terms_object ts))) None
-        go true i e k t p r = cc
-        go false i true k t p r = cc
-        go false true false k false p r = refl
-        go false true false true true p r = refl
-        go false true false false true p r = refl
-        go false false false true true p r = refl
-        go false false false true false p r = refl
-        go false false false false true p r = refl
-        go false false false false false p r = refl
-
-    -- nor is one of another name
-    apart : (ts : Terms) → same_name f (named "IF") ≡ false → of_term A (Some (Call f ts)) ≡ combine1 (call_one f) (of_terms A (Some ts))
-    apart ts h =
         go (same_name f (named "QUOTE")) (same_name f (named "IF")) (eqb (count ts) 3) (takes A f (count ts)) (are_terms A ts) no_quote h
         ∙ sym (combine1-cond (call_one f) (are_terms A ts) (terms_object ts, count ts))
       where
-        go : (q i e k t : Bool) → q ≡ false → i ≡ false → cond ((not q && not i) && (k && t)) (Some (Pair (Symbol f) (terms_object ts), 0)) None ≡ cond t (given (k && (not i || e)) (Pair (Symbol f) (terms_object ts))) None
+        go : (q i e k t : Bool) → q ≡ false → (i && e) ≡ false → cond ((not q && not i) && (k && t)) (Some (Pair (Symbol f) (terms_object ts), 0)) None ≡ cond t (given (k && (not i || e)) (Pair (Symbol f) (terms_object ts))) None
         go true i e k t p r = cc
-        go false true e k t p r = cc
+        go false true true k t p r = cc
+        go false true false k false p r = refl
+        go false true false true true p r = refl
+        go false true false false true p r = refl
         go false false e true true p r = refl
         go false false e true false p r = refl
         go false false e false true p r = refl
         go false false e false false p r = refl
+
+    not_three : (ts : Terms) → (count ts ≡ 3 → ⊥) → of_term A (Some (Call f ts)) ≡ combine1 (call_one f) (of_terms A (Some ts))
+    not_three ts h = plain ts (ap (λ e. same_name f (named "IF") && e) (other (count ts) 3 h) ∙ and_false (same_name f (named "IF")))
 
     -- a call of three actuals
     module _ (a b c : Term) where
@@ -74,15 +67,15 @@ module _ (A : ArityTable) where
 
       by_name : (i : Bool) → same_name f (named "IF") ≡ i → of_term A (Some (cond (same_name f (named "IF")) (If a b c) (Call f (More a (More b (More c NoTerms)))))) ≡ combine1 (call_one f) (of_terms A (Some (More a (More b (More c NoTerms)))))
       by_name true e = ap (λ t. of_term A (Some (cond t (If a b c) (Call f (More a (More b (More c NoTerms))))))) e ∙ is_if (same_name-eq f (named "IF") e)
-      by_name false e = ap (λ t. of_term A (Some (cond t (If a b c) (Call f (More a (More b (More c NoTerms))))))) e ∙ apart (More a (More b (More c NoTerms))) e
+      by_name false e = ap (λ t. of_term A (Some (cond t (If a b c) (Call f (More a (More b (More c NoTerms))))))) e ∙ plain (More a (More b (More c NoTerms))) (ap (λ i. i && true) e)
 
     of_call : (p : Option Terms) → of_term A (option_and_then (form Other f) p) ≡ combine1 (call_one f) (of_terms A p)
     of_call None = refl
-    of_call (Some NoTerms) = plain NoTerms (λ e. absurd (omega (arith, e)))
-    of_call (Some (More a NoTerms)) = plain (More a NoTerms) (λ e. absurd (omega (arith, e)))
-    of_call (Some (More a (More b NoTerms))) = plain (More a (More b NoTerms)) (λ e. absurd (omega (arith, e)))
+    of_call (Some NoTerms) = not_three NoTerms (λ e. absurd (omega (arith, e)))
+    of_call (Some (More a NoTerms)) = not_three (More a NoTerms) (λ e. absurd (omega (arith, e)))
+    of_call (Some (More a (More b NoTerms))) = not_three (More a (More b NoTerms)) (λ e. absurd (omega (arith, e)))
     of_call (Some (More a (More b (More c NoTerms)))) = by_name a b c (same_name f (named "IF")) refl
-    of_call (Some (More a (More b (More c (More d ts))))) = plain (More a (More b (More c (More d ts)))) (λ e. absurd (omega (arith, e)))
+    of_call (Some (More a (More b (More c (More d ts))))) = not_three (More a (More b (More c (More d ts)))) (λ e. absurd (omega (arith, e)))
 
     pub call-terms : (r : Object) → of_term A (option_and_then (form Other f) (expanded_each r)) ≡ combine1 (call_one f) (meaning A kind.Terms r)
     call-terms r = of_call (expanded_each r)
@@ -188,31 +181,6 @@ module _ (A : ArityTable) where
   lambda-call (Pair l (Pair xs (Natural n))) r e = refl
   lambda-call (Pair l (Pair xs (Symbol s))) r e = refl
   lambda-call (Pair l (Pair xs (Pair b z))) r e = of_lambda (same_object l (symbol "LAMBDA") && same_object z NIL) (names_of xs) (expanded b) (expanded_each r)
-
-  -- a head of another shape
-  pub head-shape : (l m : Object) → has_members 2 m ≡ false → head_meaning A (Pair l m) ≡ None
-  head-shape l (Natural n) h = refl
-  head-shape l (Symbol s) h = refl
-  head-shape l (Pair xs (Natural n)) h = refl
-  head-shape l (Pair xs (Symbol s)) h = refl
-  head-shape l (Pair xs (Pair b (Natural n))) h = never (same_object l (symbol "LAMBDA")) (of_head A (names_of xs) (expanded b))
-    where
-      never : (w : Bool) (o : Option Meaning) → when (w && false) o ≡ None
-      never true o = refl
-      never false o = refl
-  head-shape l (Pair xs (Pair b (Symbol s))) h = ap (λ t. when (same_object l (symbol "LAMBDA") && t) (of_head A (names_of xs) (expanded b))) h ∙ never (same_object l (symbol "LAMBDA")) (of_head A (names_of xs) (expanded b))
-    where
-      never : (w : Bool) (o : Option Meaning) → when (w && false) o ≡ None
-      never true o = refl
-      never false o = refl
-  head-shape l (Pair xs (Pair b (Pair a z))) h = never (same_object l (symbol "LAMBDA")) (of_head A (names_of xs) (expanded b))
-    where
-      never : (w : Bool) (o : Option Meaning) → when (w && false) o ≡ None
-      never true o = refl
-      never false o = refl
-
-  pub head-word : (l xs b : Object) → same_object l (symbol "LAMBDA") ≡ false → head_meaning A (Pair l (list2 xs b)) ≡ None
-  head-word l xs b h = ap (λ w. when (w && true) (of_head A (names_of xs) (expanded b))) h
 
   -- a term that was made
   pub body_of : (o : Option Term) (m : Meaning) → of_term A o ≡ Some m → (t : Term) × (o ≡ Some t) × (is_term A t ≡ true) × (term_object t ≡ m.0) × (m.1 ≡ 0)

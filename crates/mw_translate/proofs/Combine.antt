@@ -19,12 +19,9 @@ use Rattle.mw_translate.specs.contracts.part.KindPartialEq.TheImpl as kinds
 use Rattle.mw_translate.specs.Meaning.{Meaning, meaning, of_term}
 use Rattle.mw_translate.specs.declared.progress.Progress.{Progress}
 use Rattle.mw_translate.specs.declared.progress.Progress.TheVariants as progress
+use Rattle.mw_translate.specs.Parts.{part_at}
 use Rattle.mw_translate.specs.Memo.{Entries, found, meaning_at, AreMade, IsForward, IsStep}
 use Rattle.mw_translate.specs.Checked.{IsMade}
-
--- a part by its kind and cell
-abbrev pub at : Kind → ℕ → Part
-at k x = record { kind = k; cell = x }
 
 abbrev pub combine1 : (Meaning → Option Meaning) → Option Meaning → Option Meaning
 combine1 f (Some a) = f a
@@ -81,7 +78,7 @@ part-same p = and_from (kinds.ghosts.eq p.kind p.kind) (eqb p.cell p.cell) (kind
 pub part-eq : (p q : Part) → ghosts.eq p q ≡ true → p ≡ q
 part-eq p q h =
     let e = and_parts (kinds.ghosts.eq p.kind q.kind) (eqb p.cell q.cell) h in
-    ap₂ (λ j x. at j x) (kind-eq p.kind q.kind e.0) (eqb-true p.cell q.cell e.1)
+    ap₂ part_at (kind-eq p.kind q.kind e.0) (eqb-true p.cell q.cell e.1)
 
 -- what was made of a part
 module _ (A : ArityTable) (os : List Object) where
@@ -106,36 +103,51 @@ abbrev pub IsWanted : ArityTable → List Object → Entries → Option Meaning 
 IsWanted A os es goal cell w = (w.cell < cell) × (found es w ≡ None) × (meaning_at A os w ≡ None → goal ≡ None)
 
 module _ (A : ArityTable) (os : List Object) (es : Entries) (goal : Option Meaning) (cell : ℕ) where
-  pub one-wanted : (f : Meaning → Option Meaning) (p : Part) → goal ≡ combine1 f (meaning_at A os p) → p.cell < cell → found es p ≡ None → IsWanted A os es goal cell p
-  one-wanted f p e less none = (less, none, λ h. e ∙ ap (combine1 f) h)
+  pub one-needed : {k : Kind} {x : ℕ} {w : Part} → w ≡ part_at k x → x < cell → found es w ≡ None → (meaning A k (object_at os x) ≡ None → goal ≡ None) → IsWanted A os es goal cell w
+  one-needed i less none needed = (subst (λ p. p.cell < cell) (sym i) less, none, λ n. needed (sym (ap (meaning_at A os) i) ∙ n))
 
-  pub both-wanted : (f : Meaning → Meaning → Option Meaning) (p q w : Part) → goal ≡ combine2 f (meaning_at A os p) (meaning_at A os q) → p.cell < cell → q.cell < cell → (found es w ≡ None) × ((w ≡ p) ⊎ (w ≡ q)) → IsWanted A os es goal cell w
-  both-wanted f p q w e first second h =
+  pub one-wanted : {k : Kind} {x : ℕ} {p : Part} (f : Meaning → Option Meaning) → p ≡ part_at k x → goal ≡ combine1 f (meaning A k (object_at os x)) → x < cell → found es p ≡ None → IsWanted A os es goal cell p
+  one-wanted f i e less none = one-needed i less none (λ n. e ∙ ap (combine1 f) n)
+
+  pub both-wanted : {j k : Kind} {x y : ℕ} {p q w : Part} (f : Meaning → Meaning → Option Meaning) → p ≡ part_at j x → q ≡ part_at k y → goal ≡ combine2 f (meaning A j (object_at os x)) (meaning A k (object_at os y)) → x < cell → y < cell → (found es w ≡ None) × ((w ≡ p) ⊎ (w ≡ q)) → IsWanted A os es goal cell w
+  both-wanted {j} {k} {x} {y} f a b e first second h =
       elim h.1 [
-        | inl i ↦ subst (IsWanted A os es goal cell) (sym i) (first, subst (λ v. found es v ≡ None) i h.0, λ n. e ∙ ap (λ o. combine2 f o (meaning_at A os q)) n)
-        | inr i ↦ subst (IsWanted A os es goal cell) (sym i) (second, subst (λ v. found es v ≡ None) i h.0, λ n. e ∙ (ap (combine2 f (meaning_at A os p)) n ∙ combine2-none f (meaning_at A os p)))
+        | inl i ↦ one-needed (i ∙ a) first h.0 (λ n. e ∙ ap (λ o. combine2 f o (meaning A k (object_at os y))) n)
+        | inr i ↦ one-needed (i ∙ b) second h.0 (λ n. e ∙ (ap (combine2 f (meaning A j (object_at os x))) n ∙ combine2-none f (meaning A j (object_at os x))))
       ]
 
-  pub three-wanted : (f : Meaning → Meaning → Meaning → Option Meaning) (p q r w : Part) → goal ≡ combine3 f (meaning_at A os p) (meaning_at A os q) (meaning_at A os r) → p.cell < cell → q.cell < cell → r.cell < cell → (found es w ≡ None) × ((w ≡ p) ⊎ ((w ≡ q) ⊎ (w ≡ r))) → IsWanted A os es goal cell w
-  three-wanted f p q r w e first second third h =
-      elim h.1 [
-        | inl i ↦ subst (IsWanted A os es goal cell) (sym i) (first, subst (λ v. found es v ≡ None) i h.0, λ n. e ∙ ap (λ o. combine3 f o (meaning_at A os q) (meaning_at A os r)) n)
-        | inr k ↦
-            elim k [
-              | inl i ↦ subst (IsWanted A os es goal cell) (sym i) (second, subst (λ v. found es v ≡ None) i h.0, λ n. e ∙ (ap (λ o. combine3 f (meaning_at A os p) o (meaning_at A os r)) n ∙ combine3-second f (meaning_at A os p) (meaning_at A os r)))
-              | inr i ↦ subst (IsWanted A os es goal cell) (sym i) (third, subst (λ v. found es v ≡ None) i h.0, λ n. e ∙ (ap (combine3 f (meaning_at A os p) (meaning_at A os q)) n ∙ combine3-third f (meaning_at A os p) (meaning_at A os q)))
-            ]
+  -- one of three parts is wanted, without each of which there is no meaning
+  pub one-of-three : {i j k : Kind} {x y z : ℕ} {p q r w : Part} → p ≡ part_at i x → q ≡ part_at j y → r ≡ part_at k z → x < cell → y < cell → z < cell → (meaning A i (object_at os x) ≡ None → goal ≡ None) → (meaning A j (object_at os y) ≡ None → goal ≡ None) → (meaning A k (object_at os z) ≡ None → goal ≡ None) → (found es w ≡ None) × ((w ≡ p) ⊎ ((w ≡ q) ⊎ (w ≡ r))) → IsWanted A os es goal cell w
+  one-of-three a b c first second third f g h wanted =
+      elim wanted.1 [
+        | inl e ↦ one-needed (e ∙ a) first wanted.0 f
+        | inr d ↦ elim d [ inl e ↦ one-needed (e ∙ b) second wanted.0 g | inr e ↦ one-needed (e ∙ c) third wanted.0 h ]
       ]
+
+  pub three-wanted : {i j k : Kind} {x y z : ℕ} {p q r w : Part} (f : Meaning → Meaning → Meaning → Option Meaning) → p ≡ part_at i x → q ≡ part_at j y → r ≡ part_at k z → goal ≡ combine3 f (meaning A i (object_at os x)) (meaning A j (object_at os y)) (meaning A k (object_at os z)) → x < cell → y < cell → z < cell → (found es w ≡ None) × ((w ≡ p) ⊎ ((w ≡ q) ⊎ (w ≡ r))) → IsWanted A os es goal cell w
+  three-wanted {i} {j} {k} {x} {y} {z} f a b c e first second third h =
+      let o = meaning A i (object_at os x) in
+      let p = meaning A j (object_at os y) in
+      let q = meaning A k (object_at os z) in
+      one-of-three a b c first second third
+      (λ n. e ∙ ap (λ m. combine3 f m p q) n)
+      (λ n. e ∙ (ap (λ m. combine3 f o m q) n ∙ combine3-second f o q))
+      (λ n. e ∙ (ap (combine3 f o p) n ∙ combine3-third f o p)) h
 
   module _ (made : AreMade A os es) where
-    pub one-made : (f : Meaning → Option Meaning) (p : Part) (a : Made) → goal ≡ combine1 f (meaning_at A os p) → found es p ≡ Some a → goal ≡ f (object_at os a.object, a.count)
-    one-made f p a e h = e ∙ ap (combine1 f) (made_found A os es p a made h).is
+    pub made-at : {k : Kind} {x : ℕ} {p : Part} {m : Made} → p ≡ part_at k x → found es p ≡ Some m → meaning A k (object_at os x) ≡ Some (object_at os m.object, m.count)
+    made-at {k} {x} {p} {m} i h = sym (ap (meaning_at A os) i) ∙ (made_found A os es p m made h).is
 
-    pub both-made : (f : Meaning → Meaning → Option Meaning) (p q : Part) (a b : Made) → goal ≡ combine2 f (meaning_at A os p) (meaning_at A os q) → found es p ≡ Some a → found es q ≡ Some b → goal ≡ f (object_at os a.object, a.count) (object_at os b.object, b.count)
-    both-made f p q a b e h k = e ∙ ap₂ (combine2 f) (made_found A os es p a made h).is (made_found A os es q b made k).is
+    pub one-made : {k : Kind} {x : ℕ} {p : Part} {a : Made} (f : Meaning → Option Meaning) → p ≡ part_at k x → goal ≡ combine1 f (meaning A k (object_at os x)) → found es p ≡ Some a → goal ≡ f (object_at os a.object, a.count)
+    one-made f i e h = e ∙ ap (combine1 f) (made-at i h)
 
-    pub three-made : (f : Meaning → Meaning → Meaning → Option Meaning) (p q r : Part) (a b c : Made) → goal ≡ combine3 f (meaning_at A os p) (meaning_at A os q) (meaning_at A os r) → found es p ≡ Some a → found es q ≡ Some b → found es r ≡ Some c → goal ≡ f (object_at os a.object, a.count) (object_at os b.object, b.count) (object_at os c.object, c.count)
-    three-made f p q r a b c e h k l = e ∙ (ap₂ (λ x y. combine3 f x y (meaning_at A os r)) (made_found A os es p a made h).is (made_found A os es q b made k).is ∙ ap (combine1 (f (object_at os a.object, a.count) (object_at os b.object, b.count))) (made_found A os es r c made l).is)
+    pub both-made : {j k : Kind} {x y : ℕ} {p q : Part} {a b : Made} (f : Meaning → Meaning → Option Meaning) → p ≡ part_at j x → q ≡ part_at k y → goal ≡ combine2 f (meaning A j (object_at os x)) (meaning A k (object_at os y)) → found es p ≡ Some a → found es q ≡ Some b → goal ≡ f (object_at os a.object, a.count) (object_at os b.object, b.count)
+    both-made f i j e h k = e ∙ ap₂ (combine2 f) (made-at i h) (made-at j k)
+
+    pub three-made : {i j k : Kind} {x y z : ℕ} {p q r : Part} {a b c : Made} (f : Meaning → Meaning → Meaning → Option Meaning) → p ≡ part_at i x → q ≡ part_at j y → r ≡ part_at k z → goal ≡ combine3 f (meaning A i (object_at os x)) (meaning A j (object_at os y)) (meaning A k (object_at os z)) → found es p ≡ Some a → found es q ≡ Some b → found es r ≡ Some c → goal ≡ f (object_at os a.object, a.count) (object_at os b.object, b.count) (object_at os c.object, c.count)
+    three-made {k = k} {z = z} {a = a} {b = b} f s t u e g h l =
+        e ∙ (ap₂ (λ m n. combine3 f m n (meaning A k (object_at os z))) (made-at s g) (made-at t h)
+        ∙ ap (combine1 (f (object_at os a.object, a.count) (object_at os b.object, b.count))) (made-at u l))
 
 -- what was made of an equal meaning, and what goes on as a part of this meaning
 module _ (A : ArityTable) (old new : List Object) (es : Entries) where
@@ -158,18 +170,10 @@ module _ (A : ArityTable) (old new : List Object) (es : Entries) where
   result_same goal same cell later (Ok s) e l h = step_same goal same cell later s e l h
   result_same goal same cell later (Err x) e l h = h
 
-pub forward-step : (A : ArityTable) (os : List Object) (es : Entries) (goal : Option Meaning) (cell : ℕ) (p : Part) (s : Progress) → AreMade A os es → goal ≡ meaning_at A os p → p.cell < cell → IsForward es p s → IsStep A os os es goal cell s
-forward-step A os es goal cell p (progress.Made m) made e less h = let f = made_found A os es p m made h in (f.object_in, e ∙ f.is)
-forward-step A os es goal cell p (progress.Wants q) made e less h = subst (IsWanted A os es goal cell) (sym h.1) (less, h.0, λ n. e ∙ n)
-forward-step A os es goal cell p progress.Fails made e less h = absurd h
-
--- one of three parts is wanted, without each of which there is no meaning
-pub one-of-three : (A : ArityTable) (os : List Object) (es : Entries) (goal : Option Meaning) (cell : ℕ) (p q r w : Part) → p.cell < cell → q.cell < cell → r.cell < cell → (meaning_at A os p ≡ None → goal ≡ None) → (meaning_at A os q ≡ None → goal ≡ None) → (meaning_at A os r ≡ None → goal ≡ None) → (found es w ≡ None) × ((w ≡ p) ⊎ ((w ≡ q) ⊎ (w ≡ r))) → IsWanted A os es goal cell w
-one-of-three A os es goal cell p q r w i j k f g h wanted =
-    elim wanted.1 [
-      | inl e ↦ subst (IsWanted A os es goal cell) (sym e) (i, subst (λ v. found es v ≡ None) e wanted.0, f)
-      | inr d ↦ elim d [ inl e ↦ subst (IsWanted A os es goal cell) (sym e) (j, subst (λ v. found es v ≡ None) e wanted.0, g) | inr e ↦ subst (IsWanted A os es goal cell) (sym e) (k, subst (λ v. found es v ≡ None) e wanted.0, h) ]
-    ]
+pub forward-step : (A : ArityTable) (os : List Object) (es : Entries) (goal : Option Meaning) (cell : ℕ) {k : Kind} {x : ℕ} {p : Part} → p ≡ part_at k x → (s : Progress) → AreMade A os es → goal ≡ meaning A k (object_at os x) → x < cell → IsForward es p s → IsStep A os os es goal cell s
+forward-step A os es goal cell {p = p} i (progress.Made m) made e less h = let f = made_found A os es p m made h in (f.object_in, e ∙ (sym (ap (meaning_at A os) i) ∙ f.is))
+forward-step A os es goal cell i (progress.Wants q) made e less h = subst (IsWanted A os es goal cell) (sym (h.1 ∙ i)) (less, subst (λ p. found es p ≡ None) i h.0, λ n. e ∙ n)
+forward-step A os es goal cell i progress.Fails made e less h = absurd h
 
 -- no meaning and a meaning, as an expansion
 pub expand-none : (A : ArityTable) (x : Object) → meaning A kind.Term x ≡ None → expand A x ≡ None

@@ -3,10 +3,10 @@ use Rattle.std.proofs.Common.{◌≡◌, ℕ, Bool, true, false, ◌&&◌, ◌||
 use Rattle.mw_model.specs.Terms.Object.{Name, Object, Natural, Symbol, Pair, named, symbol, same_name, same_object, nil_name, NIL, T, list2, has_members}
 use Rattle.mw_model.specs.Terms.Term.{Term, Terms, Constant, Variable, NoTerms, ArityTable, More}
 use Rattle.mw_model.specs.Terms.Reading.{constant_of, when, map2}
-use Rattle.mw_model.specs.Events.Expansion.{Abbreviation, AND, OR, COND, LIST, LET, LETSTAR, FIRST, SECOND, THIRD, FOURTH, FIFTH, QUOTE, Other, abbreviation_of, expanded, expanded_each, form, clause, clauses, cond_term, bindings, let_star, and_term, or_term, list_term, let_term}
+use Rattle.mw_model.specs.Events.Expansion.{Abbreviation, AND, OR, COND, LIST, LET, LETSTAR, FIRST, SECOND, THIRD, FOURTH, FIFTH, QUOTE, Other, abbreviation_of, expanded, expanded_each, form, clause, clauses, cond_term, bindings, let_star, let_term}
 use Rattle.mw_model.proofs.Names.{same_name-eq}
 use Rattle.mw_translate.specs.Meaning.{Meaning, of_term, meaning}
-use Rattle.mw_translate.specs.Forms.{with_terms, place_of, let_form, let_star_form}
+use Rattle.mw_translate.specs.Forms.{with_terms, let_form, let_star_form}
 use Rattle.mw_heap.specs.Objects.{object_at, IsIn}
 use Rattle.mw_translate.specs.Memo.{Entries, IsStep}
 use Rattle.mw_translate.specs.Terms.{IsAtom, IsQuoted}
@@ -20,54 +20,35 @@ by_word COND f r = clauses r
 by_word LET f r = let_form r
 by_word LETSTAR f r = let_star_form r
 by_word QUOTE f r = constant_of r
-by_word AND f r = option_and_then (form AND f) (expanded_each r)
-by_word OR f r = option_and_then (form OR f) (expanded_each r)
-by_word LIST f r = option_and_then (form LIST f) (expanded_each r)
-by_word FIRST f r = option_and_then (form FIRST f) (expanded_each r)
-by_word SECOND f r = option_and_then (form SECOND f) (expanded_each r)
-by_word THIRD f r = option_and_then (form THIRD f) (expanded_each r)
-by_word FOURTH f r = option_and_then (form FOURTH f) (expanded_each r)
-by_word FIFTH f r = option_and_then (form FIFTH f) (expanded_each r)
-by_word Other f r = option_and_then (form Other f) (expanded_each r)
+by_word w f r = option_and_then (form w f) (expanded_each r)
 
-no_more : (o : Option Term) → map2 More o None ≡ None
-no_more None = refl
-no_more (Some t) = refl
+no_first : (o : Option (Term × Term)) → cond_term o None ≡ None
+no_first None = refl
+no_first (Some p) = refl
 
 more_false : (w : Abbreviation) (f : Name) (o : Option Term) → option_and_then (form w f) (map2 More o None) ≡ None
 more_false w f None = refl
 more_false w f (Some t) = refl
 
+-- LET, LET* and QUOTE make nothing of a list of terms
+no_form : (w : Abbreviation) (f : Name) → ((ts : Terms) → form w f ts ≡ None) → (p : Option Terms) → option_and_then (form w f) p ≡ None
+no_form w f h None = refl
+no_form w f h (Some ts) = h ts
+
 module _ (f : Name) where
   none_true : (w v : Abbreviation) (s : Name) → w ≡ v → same_name s nil_name ≡ true → (elim w [ COND ↦ Some (Constant NIL) | _ ↦ form v f NoTerms ]) ≡ by_word w f (Symbol s)
   none_true COND v s e h = ap (λ b. cond b (Some (Constant NIL)) None) (sym h)
-  none_true LET v s e h = ap (λ z. form z f NoTerms) (sym e) ∙ (refl)
-  none_true LETSTAR v s e h = ap (λ z. form z f NoTerms) (sym e) ∙ (refl)
-  none_true QUOTE v s e h = ap (λ z. form z f NoTerms) (sym e) ∙ (refl)
-  none_true AND v s e h = ap (λ z. form z f NoTerms) (sym e) ∙ (ap (λ b. option_and_then (form AND f) (cond b (Some NoTerms) None)) (sym h))
-  none_true OR v s e h = ap (λ z. form z f NoTerms) (sym e) ∙ (ap (λ b. option_and_then (form OR f) (cond b (Some NoTerms) None)) (sym h))
-  none_true LIST v s e h = ap (λ z. form z f NoTerms) (sym e) ∙ (ap (λ b. option_and_then (form LIST f) (cond b (Some NoTerms) None)) (sym h))
-  none_true FIRST v s e h = ap (λ z. form z f NoTerms) (sym e) ∙ (ap (λ b. option_and_then (form FIRST f) (cond b (Some NoTerms) None)) (sym h))
-  none_true SECOND v s e h = ap (λ z. form z f NoTerms) (sym e) ∙ (ap (λ b. option_and_then (form SECOND f) (cond b (Some NoTerms) None)) (sym h))
-  none_true THIRD v s e h = ap (λ z. form z f NoTerms) (sym e) ∙ (ap (λ b. option_and_then (form THIRD f) (cond b (Some NoTerms) None)) (sym h))
-  none_true FOURTH v s e h = ap (λ z. form z f NoTerms) (sym e) ∙ (ap (λ b. option_and_then (form FOURTH f) (cond b (Some NoTerms) None)) (sym h))
-  none_true FIFTH v s e h = ap (λ z. form z f NoTerms) (sym e) ∙ (ap (λ b. option_and_then (form FIFTH f) (cond b (Some NoTerms) None)) (sym h))
-  none_true Other v s e h = ap (λ z. form z f NoTerms) (sym e) ∙ (ap (λ b. option_and_then (form Other f) (cond b (Some NoTerms) None)) (sym h))
+  none_true LET v s e h = ap (λ z. form z f NoTerms) (sym e)
+  none_true LETSTAR v s e h = ap (λ z. form z f NoTerms) (sym e)
+  none_true QUOTE v s e h = ap (λ z. form z f NoTerms) (sym e)
+  none_true w v s e h = ap (λ z. form z f NoTerms) (sym e) ∙ ap (λ b. option_and_then (form w f) (cond b (Some NoTerms) None)) (sym h)
 
   none_false : (w : Abbreviation) (s : Name) → same_name s nil_name ≡ false → None ≡ by_word w f (Symbol s)
   none_false COND s h = ap (λ b. cond {A = Option Term} b (Some (Constant NIL)) None) (sym h)
   none_false LET s h = refl
   none_false LETSTAR s h = refl
   none_false QUOTE s h = refl
-  none_false AND s h = ap (λ b. option_and_then (form AND f) (cond b (Some NoTerms) None)) (sym h)
-  none_false OR s h = ap (λ b. option_and_then (form OR f) (cond b (Some NoTerms) None)) (sym h)
-  none_false LIST s h = ap (λ b. option_and_then (form LIST f) (cond b (Some NoTerms) None)) (sym h)
-  none_false FIRST s h = ap (λ b. option_and_then (form FIRST f) (cond b (Some NoTerms) None)) (sym h)
-  none_false SECOND s h = ap (λ b. option_and_then (form SECOND f) (cond b (Some NoTerms) None)) (sym h)
-  none_false THIRD s h = ap (λ b. option_and_then (form THIRD f) (cond b (Some NoTerms) None)) (sym h)
-  none_false FOURTH s h = ap (λ b. option_and_then (form FOURTH f) (cond b (Some NoTerms) None)) (sym h)
-  none_false FIFTH s h = ap (λ b. option_and_then (form FIFTH f) (cond b (Some NoTerms) None)) (sym h)
-  none_false Other s h = ap (λ b. option_and_then (form Other f) (cond b (Some NoTerms) None)) (sym h)
+  none_false w s h = ap (λ b. option_and_then (form w f) (cond b (Some NoTerms) None)) (sym h)
 
   no_members : (w v : Abbreviation) (s : Name) (b : Bool) → w ≡ v → same_name s nil_name ≡ b → when b (elim w [ COND ↦ Some (Constant NIL) | _ ↦ form v f NoTerms ]) ≡ by_word w f (Symbol s)
   no_members w v s true e h = none_true w v s e h
@@ -75,45 +56,19 @@ module _ (f : Name) where
 
   one_true : (w v : Abbreviation) (a : Object) (s : Name) → w ≡ v → same_name s nil_name ≡ true → (elim w [ QUOTE ↦ Some (Constant a) | COND ↦ cond_term (clause a) (Some (Constant NIL)) | _ ↦ option_and_then (form v f) (map2 More (expanded a) (Some NoTerms)) ]) ≡ by_word w f (Pair a (Symbol s))
   one_true COND v a s e h = ap (λ b. cond_term (clause a) (cond b (Some (Constant NIL)) None)) (sym h)
-  one_true LET v a s e h = ap (λ z. option_and_then (form z f) (map2 More (expanded a) (Some NoTerms))) (sym e) ∙ no_let (map2 More (expanded a) (Some NoTerms))
-    where
-      no_let : (p : Option Terms) → option_and_then (form LET f) p ≡ None
-      no_let None = refl
-      no_let (Some ts) = refl
-  one_true LETSTAR v a s e h = ap (λ z. option_and_then (form z f) (map2 More (expanded a) (Some NoTerms))) (sym e) ∙ no_let (map2 More (expanded a) (Some NoTerms))
-    where
-      no_let : (p : Option Terms) → option_and_then (form LETSTAR f) p ≡ None
-      no_let None = refl
-      no_let (Some ts) = refl
+  one_true LET v a s e h = no_form v f (λ ts. ap (λ z. form z f ts) (sym e)) (map2 More (expanded a) (Some NoTerms))
+  one_true LETSTAR v a s e h = no_form v f (λ ts. ap (λ z. form z f ts) (sym e)) (map2 More (expanded a) (Some NoTerms))
   one_true QUOTE v a s e h = ap (λ b. cond b (Some (Constant a)) None) (sym h)
-  one_true AND v a s e h = ap (λ z. option_and_then (form z f) (map2 More (expanded a) (Some NoTerms))) (sym e) ∙ (ap (λ b. option_and_then (form AND f) (map2 More (expanded a) (cond b (Some NoTerms) None))) (sym h))
-  one_true OR v a s e h = ap (λ z. option_and_then (form z f) (map2 More (expanded a) (Some NoTerms))) (sym e) ∙ (ap (λ b. option_and_then (form OR f) (map2 More (expanded a) (cond b (Some NoTerms) None))) (sym h))
-  one_true LIST v a s e h = ap (λ z. option_and_then (form z f) (map2 More (expanded a) (Some NoTerms))) (sym e) ∙ (ap (λ b. option_and_then (form LIST f) (map2 More (expanded a) (cond b (Some NoTerms) None))) (sym h))
-  one_true FIRST v a s e h = ap (λ z. option_and_then (form z f) (map2 More (expanded a) (Some NoTerms))) (sym e) ∙ (ap (λ b. option_and_then (form FIRST f) (map2 More (expanded a) (cond b (Some NoTerms) None))) (sym h))
-  one_true SECOND v a s e h = ap (λ z. option_and_then (form z f) (map2 More (expanded a) (Some NoTerms))) (sym e) ∙ (ap (λ b. option_and_then (form SECOND f) (map2 More (expanded a) (cond b (Some NoTerms) None))) (sym h))
-  one_true THIRD v a s e h = ap (λ z. option_and_then (form z f) (map2 More (expanded a) (Some NoTerms))) (sym e) ∙ (ap (λ b. option_and_then (form THIRD f) (map2 More (expanded a) (cond b (Some NoTerms) None))) (sym h))
-  one_true FOURTH v a s e h = ap (λ z. option_and_then (form z f) (map2 More (expanded a) (Some NoTerms))) (sym e) ∙ (ap (λ b. option_and_then (form FOURTH f) (map2 More (expanded a) (cond b (Some NoTerms) None))) (sym h))
-  one_true FIFTH v a s e h = ap (λ z. option_and_then (form z f) (map2 More (expanded a) (Some NoTerms))) (sym e) ∙ (ap (λ b. option_and_then (form FIFTH f) (map2 More (expanded a) (cond b (Some NoTerms) None))) (sym h))
-  one_true Other v a s e h = ap (λ z. option_and_then (form z f) (map2 More (expanded a) (Some NoTerms))) (sym e) ∙ (ap (λ b. option_and_then (form Other f) (map2 More (expanded a) (cond b (Some NoTerms) None))) (sym h))
+  one_true w v a s e h =
+      ap (λ z. option_and_then (form z f) (map2 More (expanded a) (Some NoTerms))) (sym e)
+      ∙ ap (λ b. option_and_then (form w f) (map2 More (expanded a) (cond b (Some NoTerms) None))) (sym h)
 
   one_false : (w : Abbreviation) (a : Object) (s : Name) → same_name s nil_name ≡ false → None ≡ by_word w f (Pair a (Symbol s))
-  one_false COND a s h = sym (ap (λ b. cond_term (clause a) (cond b (Some (Constant NIL)) None)) h ∙ no_rest (clause a))
-    where
-      no_rest : (o : Option (Term × Term)) → cond_term o None ≡ None
-      no_rest None = refl
-      no_rest (Some p) = refl
+  one_false COND a s h = sym (ap (λ b. cond_term (clause a) (cond b (Some (Constant NIL)) None)) h ∙ no_first (clause a))
   one_false LET a s h = refl
   one_false LETSTAR a s h = refl
   one_false QUOTE a s h = ap (λ b. cond {A = Option Term} b (Some (Constant a)) None) (sym h)
-  one_false AND a s h = sym (ap (λ b. option_and_then (form AND f) (map2 More (expanded a) (cond b (Some NoTerms) None))) h ∙ more_false AND f (expanded a))
-  one_false OR a s h = sym (ap (λ b. option_and_then (form OR f) (map2 More (expanded a) (cond b (Some NoTerms) None))) h ∙ more_false OR f (expanded a))
-  one_false LIST a s h = sym (ap (λ b. option_and_then (form LIST f) (map2 More (expanded a) (cond b (Some NoTerms) None))) h ∙ more_false LIST f (expanded a))
-  one_false FIRST a s h = sym (ap (λ b. option_and_then (form FIRST f) (map2 More (expanded a) (cond b (Some NoTerms) None))) h ∙ more_false FIRST f (expanded a))
-  one_false SECOND a s h = sym (ap (λ b. option_and_then (form SECOND f) (map2 More (expanded a) (cond b (Some NoTerms) None))) h ∙ more_false SECOND f (expanded a))
-  one_false THIRD a s h = sym (ap (λ b. option_and_then (form THIRD f) (map2 More (expanded a) (cond b (Some NoTerms) None))) h ∙ more_false THIRD f (expanded a))
-  one_false FOURTH a s h = sym (ap (λ b. option_and_then (form FOURTH f) (map2 More (expanded a) (cond b (Some NoTerms) None))) h ∙ more_false FOURTH f (expanded a))
-  one_false FIFTH a s h = sym (ap (λ b. option_and_then (form FIFTH f) (map2 More (expanded a) (cond b (Some NoTerms) None))) h ∙ more_false FIFTH f (expanded a))
-  one_false Other a s h = sym (ap (λ b. option_and_then (form Other f) (map2 More (expanded a) (cond b (Some NoTerms) None))) h ∙ more_false Other f (expanded a))
+  one_false w a s h = sym (ap (λ b. option_and_then (form w f) (map2 More (expanded a) (cond b (Some NoTerms) None))) h ∙ more_false w f (expanded a))
 
   one_member : (w v : Abbreviation) (a : Object) (s : Name) (b : Bool) → w ≡ v → same_name s nil_name ≡ b → when b (elim w [ QUOTE ↦ Some (Constant a) | COND ↦ cond_term (clause a) (Some (Constant NIL)) | _ ↦ option_and_then (form v f) (map2 More (expanded a) (Some NoTerms)) ]) ≡ by_word w f (Pair a (Symbol s))
   one_member w v a s true e h = one_true w v a s e h
@@ -123,54 +78,22 @@ module _ (f : Name) where
   more_members COND v a b z e = refl
   more_members LET v a b z e = refl
   more_members LETSTAR v a b z e = refl
-  more_members QUOTE v a b z e = ap (λ u. option_and_then (form u f) (map2 More (expanded a) (map2 More (expanded b) (expanded_each z)))) (sym e) ∙ go (map2 More (expanded a) (map2 More (expanded b) (expanded_each z)))
-    where
-      go : (p : Option Terms) → option_and_then (form QUOTE f) p ≡ None
-      go None = refl
-      go (Some ts) = refl
-  more_members AND v a b z e = ap (λ u. option_and_then (form u f) (map2 More (expanded a) (map2 More (expanded b) (expanded_each z)))) (sym e)
-  more_members OR v a b z e = ap (λ u. option_and_then (form u f) (map2 More (expanded a) (map2 More (expanded b) (expanded_each z)))) (sym e)
-  more_members LIST v a b z e = ap (λ u. option_and_then (form u f) (map2 More (expanded a) (map2 More (expanded b) (expanded_each z)))) (sym e)
-  more_members FIRST v a b z e = ap (λ u. option_and_then (form u f) (map2 More (expanded a) (map2 More (expanded b) (expanded_each z)))) (sym e)
-  more_members SECOND v a b z e = ap (λ u. option_and_then (form u f) (map2 More (expanded a) (map2 More (expanded b) (expanded_each z)))) (sym e)
-  more_members THIRD v a b z e = ap (λ u. option_and_then (form u f) (map2 More (expanded a) (map2 More (expanded b) (expanded_each z)))) (sym e)
-  more_members FOURTH v a b z e = ap (λ u. option_and_then (form u f) (map2 More (expanded a) (map2 More (expanded b) (expanded_each z)))) (sym e)
-  more_members FIFTH v a b z e = ap (λ u. option_and_then (form u f) (map2 More (expanded a) (map2 More (expanded b) (expanded_each z)))) (sym e)
-  more_members Other v a b z e = ap (λ u. option_and_then (form u f) (map2 More (expanded a) (map2 More (expanded b) (expanded_each z)))) (sym e)
+  more_members QUOTE v a b z e = no_form v f (λ ts. ap (λ u. form u f ts) (sym e)) (map2 More (expanded a) (map2 More (expanded b) (expanded_each z)))
+  more_members w v a b z e = ap (λ u. option_and_then (form u f) (map2 More (expanded a) (map2 More (expanded b) (expanded_each z)))) (sym e)
 
   number_end : (w : Abbreviation) (n : ℕ) → None ≡ by_word w f (Natural n)
   number_end COND n = refl
   number_end LET n = refl
   number_end LETSTAR n = refl
   number_end QUOTE n = refl
-  number_end AND n = refl
-  number_end OR n = refl
-  number_end LIST n = refl
-  number_end FIRST n = refl
-  number_end SECOND n = refl
-  number_end THIRD n = refl
-  number_end FOURTH n = refl
-  number_end FIFTH n = refl
-  number_end Other n = refl
+  number_end w n = refl
 
   number_second : (w : Abbreviation) (a : Object) (n : ℕ) → None ≡ by_word w f (Pair a (Natural n))
-  number_second COND a n = sym (no_rest (clause a))
-    where
-      no_rest : (o : Option (Term × Term)) → cond_term o None ≡ None
-      no_rest None = refl
-      no_rest (Some p) = refl
+  number_second COND a n = sym (no_first (clause a))
   number_second LET a n = refl
   number_second LETSTAR a n = refl
   number_second QUOTE a n = refl
-  number_second AND a n = sym (more_false AND f (expanded a))
-  number_second OR a n = sym (more_false OR f (expanded a))
-  number_second LIST a n = sym (more_false LIST f (expanded a))
-  number_second FIRST a n = sym (more_false FIRST f (expanded a))
-  number_second SECOND a n = sym (more_false SECOND f (expanded a))
-  number_second THIRD a n = sym (more_false THIRD f (expanded a))
-  number_second FOURTH a n = sym (more_false FOURTH f (expanded a))
-  number_second FIFTH a n = sym (more_false FIFTH f (expanded a))
-  number_second Other a n = sym (more_false Other f (expanded a))
+  number_second w a n = sym (more_false w f (expanded a))
 
   pub form_word : (r : Object) → expanded (Pair (Symbol f) r) ≡ by_word (abbreviation_of f) f r
   form_word (Natural n) = number_end (abbreviation_of f) n
@@ -184,63 +107,21 @@ module _ (A : ArityTable) (x f r : Object) (name : Name) (named_is : f ≡ Symbo
   pub form_meaning : (w : Abbreviation) → abbreviation_of name ≡ w → meaning A kind.Term x ≡ of_term A (by_word w name r)
   form_meaning w h = ap (λ y. of_term A (expanded y)) (shape ∙ ap (λ g. Pair g r) named_is) ∙ (ap (of_term A) (form_word name r) ∙ ap (λ v. of_term A (by_word v name r)) h)
 
--- the same meanings as those of parts
-module _ (A : ArityTable) (f : Name) (r : Object) where
-  pub and_part : of_term A (by_word AND f r) ≡ meaning A kind.And r
-  and_part = ap (of_term A) (go (expanded_each r))
+-- the same meanings as those of parts, where a form makes this of its terms
+module _ (A : ArityTable) (w : Abbreviation) (f : Name) (r : Object) where
+  pub all_part : (make : Terms → Term) → ((ts : Terms) → form w f ts ≡ Some (make ts)) → of_term A (option_and_then (form w f) (expanded_each r)) ≡ of_term A (option_map make (expanded_each r))
+  all_part make h = ap (of_term A) (go (expanded_each r))
     where
-      go : (p : Option Terms) → option_and_then (form AND f) p ≡ option_map and_term p
+      go : (p : Option Terms) → option_and_then (form w f) p ≡ option_map make p
       go None = refl
-      go (Some ts) = refl
+      go (Some ts) = h ts
 
-  pub or_part : of_term A (by_word OR f r) ≡ meaning A kind.Or r
-  or_part = ap (of_term A) (go (expanded_each r))
+  pub some_part : (make : Terms → Option Term) → ((ts : Terms) → form w f ts ≡ make ts) → of_term A (option_and_then (form w f) (expanded_each r)) ≡ of_term A (with_terms make (expanded_each r))
+  some_part make h = ap (of_term A) (go (expanded_each r))
     where
-      go : (p : Option Terms) → option_and_then (form OR f) p ≡ option_map or_term p
+      go : (p : Option Terms) → option_and_then (form w f) p ≡ with_terms make p
       go None = refl
-      go (Some ts) = refl
-
-  pub list_part : of_term A (by_word LIST f r) ≡ meaning A kind.List r
-  list_part = ap (of_term A) (go (expanded_each r))
-    where
-      go : (p : Option Terms) → option_and_then (form LIST f) p ≡ option_map list_term p
-      go None = refl
-      go (Some ts) = refl
-
-  pub first_part : of_term A (by_word FIRST f r) ≡ of_term A (with_terms (place_of 0) (expanded_each r))
-  first_part = ap (of_term A) (go (expanded_each r))
-    where
-      go : (p : Option Terms) → option_and_then (form FIRST f) p ≡ with_terms (place_of 0) p
-      go None = refl
-      go (Some ts) = refl
-
-  pub second_part : of_term A (by_word SECOND f r) ≡ of_term A (with_terms (place_of 1) (expanded_each r))
-  second_part = ap (of_term A) (go (expanded_each r))
-    where
-      go : (p : Option Terms) → option_and_then (form SECOND f) p ≡ with_terms (place_of 1) p
-      go None = refl
-      go (Some ts) = refl
-
-  pub third_part : of_term A (by_word THIRD f r) ≡ of_term A (with_terms (place_of 2) (expanded_each r))
-  third_part = ap (of_term A) (go (expanded_each r))
-    where
-      go : (p : Option Terms) → option_and_then (form THIRD f) p ≡ with_terms (place_of 2) p
-      go None = refl
-      go (Some ts) = refl
-
-  pub fourth_part : of_term A (by_word FOURTH f r) ≡ of_term A (with_terms (place_of 3) (expanded_each r))
-  fourth_part = ap (of_term A) (go (expanded_each r))
-    where
-      go : (p : Option Terms) → option_and_then (form FOURTH f) p ≡ with_terms (place_of 3) p
-      go None = refl
-      go (Some ts) = refl
-
-  pub fifth_part : of_term A (by_word FIFTH f r) ≡ of_term A (with_terms (place_of 4) (expanded_each r))
-  fifth_part = ap (of_term A) (go (expanded_each r))
-    where
-      go : (p : Option Terms) → option_and_then (form FIFTH f) p ≡ with_terms (place_of 4) p
-      go None = refl
-      go (Some ts) = refl
+      go (Some ts) = h ts
 
 -- of another word than QUOTE
 pub no_quote : (f : Name) → abbreviation_of f ≡ Other → same_name f (named "QUOTE") ≡ false

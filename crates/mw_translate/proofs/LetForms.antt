@@ -1,7 +1,7 @@
 -- LET and LET* from what was made of their bindings and their body.
-use Rattle.std.proofs.Common.{◌≡◌, ℕ, arith, length, Bool, true, false, ◌&&◌, cond, List, [], ◌∷◌, ◌++◌, Option, Some, None, option_map, refl, sym, ap, ap₂, ◌∙◌, subst}
+use Rattle.std.proofs.Common.{◌≡◌, ℕ, arith, length, Bool, true, false, ◌&&◌, cond, List, [], ◌∷◌, ◌++◌, Option, Some, None, Result, Ok, Err, IfOk, option_map, refl, sym, ap, ap₂, ◌∙◌, subst}
 use Rattle.std.proofs.lemmas.Bool.{and_parts, and_from}
-use Rattle.mw_model.specs.Terms.Object.{Name, Object, Natural, Symbol, Pair, same_name, nil_name, list2, has_members}
+use Rattle.mw_model.specs.Terms.Object.{Name, Object, Natural, Symbol, Pair, same_name, nil_name, list2}
 use Rattle.mw_model.specs.Terms.Term.{Term, NoTerms, More, ArityTable, count, names_object, term_object, terms_object, are_formals, is_term, are_terms}
 use Rattle.mw_model.specs.Terms.Reading.{and_more, when, map2}
 use Rattle.mw_model.specs.Events.Expansion.{expanded, binding, bindings, bound_names, let_term, let_star}
@@ -12,10 +12,16 @@ use Rattle.mw_translate.specs.declared.progress.Progress.{Progress}
 use Rattle.mw_translate.specs.declared.progress.Progress.TheVariants as progress
 use Rattle.mw_translate.specs.declared.shape.Two.{Two}
 use Rattle.mw_translate.specs.Checked.{IsMade}
-use Rattle.mw_translate.specs.Forms.{let_form, let_star_form}
-use Rattle.mw_translate.specs.Lets.{let_stars, AreBindings, ArePairsIn, IsCall, IsLet, IsLetStar}
+use Rattle.mw_translate.specs.declared.let_forms.Order.{Order}
+use Rattle.mw_translate.specs.declared.let_forms.Order.TheVariants as order
+use Rattle.mw_translate.specs.Bound.{bound_form, bound_term, IsBound}
+use Rattle.mw_translate.specs.Lets.{let_stars, AreBindings, ArePairsIn, IsCall, IsLet}
 use Rattle.mw_translate.specs.Meaning.{Meaning, of_term, of_terms, of_names, binding_names, values_of}
 use Rattle.mw_translate.proofs.Letting.{let_is, let_term-term}
+
+and_false : (b : Bool) → (b && false) ≡ false
+and_false true = refl
+and_false false = refl
 
 -- the names of bindings that were read
 names-bound : (x : Object) (ps : List (Name × Term)) → bindings x ≡ Some ps → binding_names x ≡ Some (bound_names ps)
@@ -59,34 +65,6 @@ module _ (A : ArityTable) where
   let-false : (ps : List (Name × Term)) (b : Term) (f t v : Bool) → are_formals (bound_names ps) ≡ f → is_term A b ≡ t → are_terms A (values_of ps) ≡ v → is_term A (let_term ps b) ≡ (f && (t && v))
   let-false ps b f t v p q r = let_term-term A ps b ∙ (ap₂ (λ x y. x && (y && are_terms A (values_of ps))) p q ∙ ap (λ z. f && (t && z)) r)
 
-  -- there is no LET where a part is missing
-  no_let : (o : Option (List (Name × Term))) (p : Option Term) → (of_terms A (option_map values_of o) ≡ None) → of_term A (map2 let_term o p) ≡ None
-  no_let None p h = refl
-  no_let (Some ps) None h = refl
-  no_let (Some ps) (Some b) h = go (are_terms A (values_of ps)) refl h
-    where
-      both_false : (x y : Bool) → (x && (y && false)) ≡ false
-      both_false true true = refl
-      both_false true false = refl
-      both_false false y = refl
-
-      go : (v : Bool) → are_terms A (values_of ps) ≡ v → cond {A = Option Meaning} v (Some (terms_object (values_of ps), count (values_of ps))) None ≡ None → cond {A = Option Meaning} (is_term A (let_term ps b)) (Some (term_object (let_term ps b), 0)) None ≡ None
-      go true e k = cc
-      go false e k = ap (λ t. cond t (Some (term_object (let_term ps b), 0)) None) (let-false ps b (are_formals (bound_names ps)) (is_term A b) false refl refl e ∙ both_false (are_formals (bound_names ps)) (is_term A b))
-
-  no_body : (o : Option (List (Name × Term))) (p : Option Term) → of_term A p ≡ None → of_term A (map2 let_term o p) ≡ None
-  no_body None p h = refl
-  no_body (Some ps) None h = refl
-  no_body (Some ps) (Some b) h = go (is_term A b) refl h
-    where
-      any_false : (x v : Bool) → (x && (false && v)) ≡ false
-      any_false true v = refl
-      any_false false v = refl
-
-      go : (t : Bool) → is_term A b ≡ t → cond {A = Option Meaning} t (Some (term_object b, 0)) None ≡ None → cond {A = Option Meaning} (is_term A (let_term ps b)) (Some (term_object (let_term ps b), 0)) None ≡ None
-      go true e k = cc
-      go false e k = ap (λ t. cond t (Some (term_object (let_term ps b), 0)) None) (let-false ps b (are_formals (bound_names ps)) false (are_terms A (values_of ps)) refl e refl ∙ any_false (are_formals (bound_names ps)) (are_terms A (values_of ps)))
-
   no_names : (x : Object) → of_names A (binding_names x) ≡ None → bindings x ≡ None
   no_names x h = go (bindings x) refl
     where
@@ -94,57 +72,15 @@ module _ (A : ArityTable) where
       go None e = refl
       go (Some ps) e = absurd (none_some (names_object (bound_names ps), 0) (sym h ∙ ap (of_names A) (names-bound x ps e)))
 
-  pub let-names : (bs b : Object) → of_names A (binding_names bs) ≡ None → of_term A (let_form (list2 bs b)) ≡ None
-  let-names bs b h = ap (λ o. of_term A (map2 let_term o (expanded b))) (no_names bs h)
-
-  pub let-values : (bs b : Object) → of_terms A (option_map values_of (bindings bs)) ≡ None → of_term A (let_form (list2 bs b)) ≡ None
-  let-values bs b h = no_let (bindings bs) (expanded b) h
-
-  pub let-body : (bs b : Object) → of_term A (expanded b) ≡ None → of_term A (let_form (list2 bs b)) ≡ None
-  let-body bs b h = no_body (bindings bs) (expanded b) h
-
-  -- what was made of the call of a LET
-  pub let-made : (os : List Object) (bs b : Object) (ps : List (Name × Term)) (t : Term) (o : Option ℕ) (s : Progress) → bindings bs ≡ Some ps → expanded b ≡ Some t → is_term A t ≡ true → are_terms A (values_of ps) ≡ true → IsLet os (bound_names ps) (values_of ps) t o → IsCall o s → IsMade os (of_term A (let_form (list2 bs b))) s
-  let-made os bs b ps t None progress.Fails p q r v h k =
-      ap₂ (λ x y. of_term A (map2 let_term x y)) p q ∙ ap (λ z. cond z (Some (term_object (let_term ps t), 0)) None) (let-false ps t false true true h r v)
-  let-made os bs b ps t (Some n) (progress.Made m) p q r v h k =
-      let e : object_at os m.object ≡ term_object (let_term ps t) = ap (object_at os) k.0 ∙ (h.2 ∙ ap term_object (sym (let_is ps t))) in (
-        subst (IsIn os) (sym k.0) h.1,
-        ap₂ (λ x y. of_term A (map2 let_term x y)) p q ∙ (ap (λ z. cond z (Some (term_object (let_term ps t), 0)) None) (let-false ps t true true true h.0 r v) ∙ ap₂ (λ z n. Some (z, n)) (sym e) (sym k.1)),
-      )
-  let-made os bs b ps t None (progress.Made m) p q r v h k = absurd k
-  let-made os bs b ps t None (progress.Wants w) p q r v h k = absurd k
-  let-made os bs b ps t (Some n) (progress.Wants w) p q r v h k = absurd k
-  let-made os bs b ps t (Some n) progress.Fails p q r v h k = absurd k
-
-  -- a form of another shape
-  pub let-shape : (r : Object) → has_members 2 r ≡ false → of_term A (let_form r) ≡ None
-  let-shape (Natural n) h = refl
-  let-shape (Symbol s) h = refl
-  let-shape (Pair bs (Natural n)) h = refl
-  let-shape (Pair bs (Symbol s)) h = refl
-  let-shape (Pair bs (Pair b (Natural n))) h = refl
-  let-shape (Pair bs (Pair b (Symbol s))) h = ap (λ t. of_term A (when t (map2 let_term (bindings bs) (expanded b)))) h
-  let-shape (Pair bs (Pair b (Pair a z))) h = refl
-
-  pub let_star-shape : (r : Object) → has_members 2 r ≡ false → of_term A (let_star_form r) ≡ None
-  let_star-shape (Natural n) h = refl
-  let_star-shape (Symbol s) h = refl
-  let_star-shape (Pair bs (Natural n)) h = refl
-  let_star-shape (Pair bs (Symbol s)) h = refl
-  let_star-shape (Pair bs (Pair b (Natural n))) h = refl
-  let_star-shape (Pair bs (Pair b (Symbol s))) h = ap (λ t. of_term A (when t (let_star bs (expanded b)))) h
-  let_star-shape (Pair bs (Pair b (Pair a z))) h = refl
-
 -- LET* by its bindings
-star-all : (A : ArityTable) (x : Object) (ps : List (Name × Term)) (t : Term) → bindings x ≡ Some ps → let_star x (Some t) ≡ Some (let_stars ps t)
-star-all A (Natural n) ps t h = cc
-star-all A (Symbol s) ps t h = go (same_name s nil_name) h
+star-all : (x : Object) (ps : List (Name × Term)) (t : Term) → bindings x ≡ Some ps → let_star x (Some t) ≡ Some (let_stars ps t)
+star-all (Natural n) ps t h = cc
+star-all (Symbol s) ps t h = go (same_name s nil_name) h
   where
     go : (b : Bool) → cond b (Some []) None ≡ Some ps → when b (Some t) ≡ Some (let_stars ps t)
     go true e = ap (λ l. Some (let_stars l t)) (some_one e)
     go false e = cc
-star-all A (Pair a r) ps t h = go (binding a) (bindings r) refl h (λ qs k. star-all A r qs t k)
+star-all (Pair a r) ps t h = go (binding a) (bindings r) refl h (λ qs k. star-all r qs t k)
   where
     go : (o : Option (Name × Term)) (p : Option (List (Name × Term))) → bindings r ≡ p → and_more o p ≡ Some ps → ((qs : List (Name × Term)) → bindings r ≡ Some qs → let_star r (Some t) ≡ Some (let_stars qs t)) → map2 (λ p c. let_term (p ∷ []) c) o (let_star r (Some t)) ≡ Some (let_stars ps t)
     go None p k e rest = cc
@@ -184,11 +120,7 @@ module _ (A : ArityTable) where
   -- without a term inside there is none outside
   stars-body : (ps : List (Name × Term)) (b : Term) → is_term A b ≡ false → is_term A (let_stars ps b) ≡ false
   stars-body [] b h = h
-  stars-body (p ∷ ps) b h = let_term-term A (p ∷ []) (let_stars ps b) ∙ (ap (λ t. are_formals (p.0 ∷ []) && (t && (is_term A p.1 && true))) (stars-body ps b h) ∙ any_false (are_formals (p.0 ∷ [])))
-    where
-      any_false : (x : Bool) → (x && false) ≡ false
-      any_false true = refl
-      any_false false = refl
+  stars-body (p ∷ ps) b h = let_term-term A (p ∷ []) (let_stars ps b) ∙ (ap (λ t. are_formals (p.0 ∷ []) && (t && (is_term A p.1 && true))) (stars-body ps b h) ∙ and_false (are_formals (p.0 ∷ [])))
 
   stars-values : (ps : List (Name × Term)) (b : Term) → are_terms A (values_of ps) ≡ false → is_term A (let_stars ps b) ≡ false
   stars-values [] b h = cc
@@ -201,49 +133,88 @@ module _ (A : ArityTable) where
       go true true true true e q k rest = cc
       go true true true false e q k rest = let z : is_term A (let_stars ps b) ≡ false = rest q in cc
 
-  star-made : (bs b : Object) (ps : List (Name × Term)) (t : Term) → bindings bs ≡ Some ps → expanded b ≡ Some t → let_star_form (list2 bs b) ≡ Some (let_stars ps t)
-  star-made bs b ps t p q = ap (let_star bs) q ∙ star-all A bs ps t p
-
-  -- there is no LET* where a part is missing
-  pub star-names : (bs b : Object) → of_names A (binding_names bs) ≡ None → of_term A (let_star_form (list2 bs b)) ≡ None
-  star-names bs b h = ap (of_term A) (star-unbound bs (expanded b) (no_names A bs h))
-
-  pub star-values : (bs b : Object) → of_terms A (option_map values_of (bindings bs)) ≡ None → of_term A (let_star_form (list2 bs b)) ≡ None
-  star-values bs b h = go (bindings bs) (expanded b) refl refl h
+-- a LET or a LET*, by its bindings and its body
+module _ (o : Order) (bs b : Object) where
+  unbound : bindings bs ≡ None → bound_form o (list2 bs b) ≡ None
+  unbound h = go o
     where
-      go : (o : Option (List (Name × Term))) (p : Option Term) → bindings bs ≡ o → expanded b ≡ p → of_terms A (option_map values_of o) ≡ None → of_term A (let_star bs (expanded b)) ≡ None
-      go None p e f k = ap (of_term A) (star-unbound bs (expanded b) e)
-      go (Some ps) None e f k = ap (of_term A) (ap (let_star bs) f ∙ star-none bs)
-      go (Some ps) (Some t) e f k = ap (of_term A) (star-made bs b ps t e f) ∙ by (are_terms A (values_of ps)) refl k
-        where
-          by : (v : Bool) → are_terms A (values_of ps) ≡ v → cond {A = Option Meaning} v (Some (terms_object (values_of ps), count (values_of ps))) None ≡ None → of_term A (Some (let_stars ps t)) ≡ None
-          by true g l = cc
-          by false g l = ap (λ z. cond {A = Option Meaning} z (Some (term_object (let_stars ps t), 0)) None) (stars-values ps t g)
+      go : (o : Order) → bound_form o (list2 bs b) ≡ None
+      go order.Parallel = ap (λ p. map2 let_term p (expanded b)) h
+      go order.Sequential = star-unbound bs (expanded b) h
 
-  pub star-body : (bs b : Object) → of_term A (expanded b) ≡ None → of_term A (let_star_form (list2 bs b)) ≡ None
-  star-body bs b h = go (bindings bs) (expanded b) refl refl h
+  no_body : expanded b ≡ None → bound_form o (list2 bs b) ≡ None
+  no_body h = go o
     where
-      go : (o : Option (List (Name × Term))) (p : Option Term) → bindings bs ≡ o → expanded b ≡ p → of_term A p ≡ None → of_term A (let_star bs (expanded b)) ≡ None
-      go None p e f k = ap (of_term A) (star-unbound bs (expanded b) e)
-      go (Some ps) None e f k = ap (of_term A) (ap (let_star bs) f ∙ star-none bs)
-      go (Some ps) (Some t) e f k = ap (of_term A) (star-made bs b ps t e f) ∙ by (is_term A t) refl k
-        where
-          by : (v : Bool) → is_term A t ≡ v → cond {A = Option Meaning} v (Some (term_object t, 0)) None ≡ None → of_term A (Some (let_stars ps t)) ≡ None
-          by true g l = cc
-          by false g l = ap (λ z. cond {A = Option Meaning} z (Some (term_object (let_stars ps t), 0)) None) (stars-body ps t g)
+      none : (p : Option (List (Name × Term))) → map2 let_term p None ≡ None
+      none None = refl
+      none (Some ps) = refl
 
-  -- what was made of the calls of a LET*
-  pub stars-made : (os : List Object) (bs b : Object) (ps : List (Name × Term)) (t : Term) (o : Option ℕ) (s : Progress) → bindings bs ≡ Some ps → expanded b ≡ Some t → IsLetStar A os ps t o → IsCall o s → IsMade os (of_term A (let_star_form (list2 bs b))) s
-  stars-made os bs b ps t None progress.Fails p q h k = ap (of_term A) (star-made bs b ps t p q) ∙ ap (λ z. cond {A = Option Meaning} z (Some (term_object (let_stars ps t), 0)) None) h
-  stars-made os bs b ps t (Some n) (progress.Made m) p q h k =
-      let e : object_at os m.object ≡ term_object (let_stars ps t) = ap (object_at os) k.0 ∙ h.2 in (
-        subst (IsIn os) (sym k.0) h.1,
-        ap (of_term A) (star-made bs b ps t p q) ∙ (ap (λ z. cond {A = Option Meaning} z (Some (term_object (let_stars ps t), 0)) None) h.0 ∙ ap₂ (λ z n. Some (z, n)) (sym e) (sym k.1)),
-      )
-  stars-made os bs b ps t None (progress.Made m) p q h k = absurd k
-  stars-made os bs b ps t None (progress.Wants w) p q h k = absurd k
-  stars-made os bs b ps t (Some n) (progress.Wants w) p q h k = absurd k
-  stars-made os bs b ps t (Some n) progress.Fails p q h k = absurd k
+      go : (o : Order) → bound_form o (list2 bs b) ≡ None
+      go order.Parallel = ap (map2 let_term (bindings bs)) h ∙ none (bindings bs)
+      go order.Sequential = ap (let_star bs) h ∙ star-none bs
+
+  bound : (ps : List (Name × Term)) (t : Term) → bindings bs ≡ Some ps → expanded b ≡ Some t → bound_form o (list2 bs b) ≡ Some (bound_term o ps t)
+  bound ps t p q = go o
+    where
+      go : (o : Order) → bound_form o (list2 bs b) ≡ Some (bound_term o ps t)
+      go order.Parallel = ap₂ (map2 let_term) p q
+      go order.Sequential = ap (let_star bs) q ∙ star-all bs ps t p
+
+module _ (A : ArityTable) where
+  -- there is no term where a part is none
+  body-needed : (o : Order) (ps : List (Name × Term)) (t : Term) → is_term A t ≡ false → is_term A (bound_term o ps t) ≡ false
+  body-needed order.Parallel ps t h = let-false A ps t (are_formals (bound_names ps)) false (are_terms A (values_of ps)) refl h refl ∙ and_false (are_formals (bound_names ps))
+  body-needed order.Sequential ps t h = stars-body A ps t h
+
+  values-needed : (o : Order) (ps : List (Name × Term)) (t : Term) → are_terms A (values_of ps) ≡ false → is_term A (bound_term o ps t) ≡ false
+  values-needed order.Parallel ps t h = let-false A ps t (are_formals (bound_names ps)) (is_term A t) false refl refl h ∙ (ap (λ b. are_formals (bound_names ps) && b) (and_false (is_term A t)) ∙ and_false (are_formals (bound_names ps)))
+  values-needed order.Sequential ps t h = stars-values A ps t h
+
+  -- a meaning that is none under a test
+  none_given : (b : Bool) (m : Meaning) → cond b (Some m) None ≡ None → b ≡ false
+  none_given true m e = cc
+  none_given false m e = refl
+
+  no_term : (t : Term) → is_term A t ≡ false → of_term A (Some t) ≡ None
+  no_term t h = ap (λ b. cond {A = Option Meaning} b (Some (term_object t, 0)) None) h
+
+  module _ (o : Order) (bs b : Object) where
+    pub bound-names : of_names A (binding_names bs) ≡ None → of_term A (bound_form o (list2 bs b)) ≡ None
+    bound-names h = ap (of_term A) (unbound o bs b (no_names A bs h))
+
+    -- where the bindings and the body are none or make no term, there is none
+    missing : ((ps : List (Name × Term)) (t : Term) → bindings bs ≡ Some ps → expanded b ≡ Some t → is_term A (bound_term o ps t) ≡ false) → of_term A (bound_form o (list2 bs b)) ≡ None
+    missing h = go (bindings bs) (expanded b) refl refl
+      where
+        go : (p : Option (List (Name × Term))) (q : Option Term) → bindings bs ≡ p → expanded b ≡ q → of_term A (bound_form o (list2 bs b)) ≡ None
+        go None q e f = ap (of_term A) (unbound o bs b e)
+        go (Some ps) None e f = ap (of_term A) (no_body o bs b f)
+        go (Some ps) (Some t) e f = ap (of_term A) (bound o bs b ps t e f) ∙ no_term (bound_term o ps t) (h ps t e f)
+
+    pub bound-values : of_terms A (option_map values_of (bindings bs)) ≡ None → of_term A (bound_form o (list2 bs b)) ≡ None
+    bound-values h = missing (λ ps t e f. values-needed o ps t (none_given (are_terms A (values_of ps)) (terms_object (values_of ps), count (values_of ps)) (sym (ap (λ p. of_terms A (option_map values_of p)) e) ∙ h)))
+
+    pub bound-body : of_term A (expanded b) ≡ None → of_term A (bound_form o (list2 bs b)) ≡ None
+    bound-body h = missing (λ ps t e f. body-needed o ps t (none_given (is_term A t) (term_object t, 0) (sym (ap (of_term A) f) ∙ h)))
+
+    -- what was made of the call, or of the calls
+    pub bound-made : (os : List Object) (ps : List (Name × Term)) (t : Term) (call : Option ℕ) (s : Progress) → bindings bs ≡ Some ps → expanded b ≡ Some t → IsBound A os o ps t call → IsCall call s → IsMade os (of_term A (bound_form o (list2 bs b))) s
+    bound-made os ps t None progress.Fails p q h k = ap (of_term A) (bound o bs b ps t p q) ∙ no_term (bound_term o ps t) h
+    bound-made os ps t (Some n) (progress.Made m) p q h k =
+        let e : object_at os m.object ≡ term_object (bound_term o ps t) = ap (object_at os) k.0 ∙ h.2 in (
+          subst (IsIn os) (sym k.0) h.1,
+          ap (of_term A) (bound o bs b ps t p q) ∙ (ap (λ z. cond {A = Option Meaning} z (Some (term_object (bound_term o ps t), 0)) None) h.0 ∙ ap₂ (λ z n. Some (z, n)) (sym e) (sym k.1)),
+        )
+    bound-made os ps t None (progress.Made m) p q h k = absurd k
+    bound-made os ps t None (progress.Wants w) p q h k = absurd k
+    bound-made os ps t (Some n) (progress.Wants w) p q h k = absurd k
+    bound-made os ps t (Some n) progress.Fails p q h k = absurd k
+
+  -- the call of a LET
+  pub let-bound : {E : Type 0} (os : List Object) (ps : List (Name × Term)) (t : Term) (r : Result (Option ℕ) E) → is_term A t ≡ true → are_terms A (values_of ps) ≡ true → IfOk r (IsLet os (bound_names ps) (values_of ps) t) → IfOk r (IsBound A os order.Parallel ps t)
+  let-bound os ps t (Ok None) h v l = let-false A ps t false true true l h v
+  let-bound os ps t (Ok (Some r)) h v l = (let-false A ps t true true true l.0 h v, l.1, l.2 ∙ ap term_object (sym (let_is ps t)))
+  let-bound os ps t (Err e) h v l = l
 
 -- the last binding
 let_stars-push : (ps : List (Name × Term)) (p : Name × Term) (b : Term) → let_stars (ps ++ p ∷ []) b ≡ let_stars ps (let_term (p ∷ []) b)
@@ -322,10 +293,10 @@ module _ (A : ArityTable) (first : List Object) (given : List (Name × Term)) (b
   inside-start left made are object term values = record { bindings = given; inside = body; are = are; object = object; term = term; values = values; same = refl }
 
   -- none is left to be made
-  pub inside-end : (os : List Object) (left : List Two) (made : ℕ) → length left ≡ 0 → IsIn os made → IsInside os left made → IsLetStar A os given body (Some made)
+  pub inside-end : (os : List Object) (left : List Two) (made : ℕ) → length left ≡ 0 → IsIn os made → IsInside os left made → IsBound A os order.Sequential given body (Some made)
   inside-end os (r ∷ left) made e i h = absurd (omega (arith, e))
   inside-end os [] made e i h = go h.bindings h.are h.same
     where
-      go : (qs : List (Name × Term)) → AreBindings first [] qs → let_stars given body ≡ let_stars qs h.inside → IsLetStar A os given body (Some made)
+      go : (qs : List (Name × Term)) → AreBindings first [] qs → let_stars given body ≡ let_stars qs h.inside → IsBound A os order.Sequential given body (Some made)
       go [] k s = (ap (is_term A) s ∙ h.term, i, h.object ∙ ap term_object (sym s))
       go (q ∷ qs) k s = absurd k

@@ -1,12 +1,18 @@
 -- Lists of terms, and of the names and values of bindings, by their first and the rest.
-use Rattle.std.proofs.Common.{◌≡◌, suc, ◌+◌, Bool, true, false, ◌&&◌, cond, List, [], Option, Some, None, option_map, refl, sym, ap, add-one}
+use Rattle.std.proofs.Common.{◌≡◌, ℕ, suc, ◌+◌, Bool, true, false, ◌&&◌, cond, List, [], Option, Some, None, option_map, refl, sym, ap, ap₂, ◌∙◌, subst, add-one}
 use Rattle.mw_model.specs.Terms.Object.{Name, Object, Natural, Symbol, Pair, same_object, NIL, list1, has_members}
-use Rattle.mw_model.specs.Terms.Term.{Term, Terms, NoTerms, ArityTable, count, term_object, terms_object, is_term, are_terms, More}
+use Rattle.mw_model.specs.Terms.Term.{Term, Terms, ArityTable, count, term_object, terms_object, is_term, are_terms, More}
 use Rattle.mw_model.specs.Terms.Reading.{and_more, when, map2}
 use Rattle.mw_model.specs.Values.Primitive.{is_symbol}
 use Rattle.mw_model.specs.Events.Expansion.{expanded, expanded_each, bindings}
 use Rattle.mw_translate.specs.Meaning.{Meaning, of_term, of_terms, of_names, binding_names, values_of, meaning}
+use Rattle.mw_heap.specs.Objects.{object_at, IsIn}
+use Rattle.mw_translate.specs.Lists.{IsEnd, IsNoBinding}
+use Rattle.mw_translate.specs.Memo.{Entries, IsStepOf}
 use Rattle.mw_translate.specs.Shapes.{is_headed_by_symbol}
+use Rattle.mw_translate.specs.declared.progress.Progress.{Progress}
+use Rattle.mw_translate.specs.declared.progress.Progress.TheVariants as progress
+use Rattle.mw_translate.specs.declared.part.Kind.{Kind}
 use Rattle.mw_translate.specs.declared.part.Kind.TheVariants as kind
 use Rattle.mw_translate.proofs.Combine.{combine1, combine2}
 
@@ -50,21 +56,6 @@ module _ (A : ArityTable) where
       given (Some t) None = more-put (Some t) None
       given (Some t) (Some ps) = more-put (Some t) (Some (values_of ps))
 
-  -- where a binding has another shape there are no values
-  pub values-unnamed : (b r : Object) → is_headed_by_symbol b ≡ false → meaning A kind.Values (Pair b r) ≡ None
-  values-unnamed (Natural n) r h = refl
-  values-unnamed (Symbol s) r h = refl
-  values-unnamed (Pair (Natural n) z) r h = refl
-  values-unnamed (Pair (Symbol s) z) r h = cc
-  values-unnamed (Pair (Pair a b) z) r h = refl
-
-  pub names-unnamed : (b r : Object) → is_headed_by_symbol b ≡ false → meaning A kind.Names (Pair b r) ≡ None
-  names-unnamed (Natural n) r h = refl
-  names-unnamed (Symbol s) r h = refl
-  names-unnamed (Pair (Natural n) z) r h = refl
-  names-unnamed (Pair (Symbol s) z) r h = cc
-  names-unnamed (Pair (Pair a b) z) r h = refl
-
   pub values-long : (x : Name) (z r : Object) → has_members 1 z ≡ false → meaning A kind.Values (Pair (Pair (Symbol x) z) r) ≡ None
   values-long x (Natural n) r h = refl
   values-long x (Symbol s) r h = refl
@@ -72,18 +63,27 @@ module _ (A : ArityTable) where
   values-long x (Pair e (Symbol s)) r h = ap (λ t. of_terms A (option_map values_of (and_more (when t (option_map (λ t. (x, t)) (expanded e))) (bindings r)))) h
   values-long x (Pair e (Pair a b)) r h = refl
 
-  -- a symbol that is not NIL ends no list
-  pub terms-end : (x : Object) → is_symbol x ≡ true → same_object x NIL ≡ false → meaning A kind.Terms x ≡ None
-  terms-end (Natural n) h e = refl
-  terms-end (Symbol s) h e = ap (λ t. of_terms A (cond t (Some NoTerms) None)) e
-  terms-end (Pair a b) h e = cc
+-- a binding of another shape, and an end that is not NIL
+pub unnamed : (b r : Object) → is_headed_by_symbol b ≡ false → (binding_names (Pair b r) ≡ None) × (bindings (Pair b r) ≡ None)
+unnamed (Natural n) r h = (refl, refl)
+unnamed (Symbol s) r h = (refl, refl)
+unnamed (Pair (Natural n) z) r h = (refl, refl)
+unnamed (Pair (Symbol s) z) r h = cc
+unnamed (Pair (Pair a b) z) r h = (refl, refl)
 
-  pub names-end : (x : Object) → is_symbol x ≡ true → same_object x NIL ≡ false → meaning A kind.Names x ≡ None
-  names-end (Natural n) h e = refl
-  names-end (Symbol s) h e = ap (λ t. of_names A (cond t (Some []) None)) e
-  names-end (Pair a b) h e = cc
+pub no_end : (x : Object) → is_symbol x ≡ true → same_object x NIL ≡ false → (binding_names x ≡ None) × (bindings x ≡ None)
+no_end (Natural n) h e = (refl, refl)
+no_end (Symbol s) h e = (ap (λ t. cond t (Some []) None) e, ap (λ t. cond t (Some []) None) e)
+no_end (Pair a b) h e = cc
 
-  pub values-end : (x : Object) → is_symbol x ≡ true → same_object x NIL ≡ false → meaning A kind.Values x ≡ None
-  values-end (Natural n) h e = refl
-  values-end (Symbol s) h e = ap (λ t. of_terms A (option_map values_of (cond t (Some []) None))) e
-  values-end (Pair a b) h e = cc
+pub end-unbound : (os : List Object) (x : ℕ) (s : Progress) → is_symbol (object_at os x) ≡ true → IsEnd os x s → IsNoBinding os x s
+end-unbound os x (progress.Made m) h e = e
+end-unbound os x (progress.Wants p) h e = e
+end-unbound os x progress.Fails h e = no_end (object_at os x) h e
+
+-- where no binding begins, a list of names or of values is empty, or there is none
+pub unbound-step : (A : ArityTable) (os : List Object) (es : Entries) (x : ℕ) (k : Kind) (s : Progress) → IsIn os x → meaning A k NIL ≡ Some (NIL, 0) → ((o : Object) → binding_names o ≡ None → bindings o ≡ None → meaning A k o ≡ None) → IsNoBinding os x s → IsStepOf A os os es k x s
+unbound-step A os es x k (progress.Made m) within nil none h =
+    (subst (IsIn os) (sym h.1) within, ap (meaning A k) h.0 ∙ (nil ∙ ap₂ (λ o n. Some (o, n)) (sym (ap (object_at os) h.1 ∙ h.0)) (sym h.2)))
+unbound-step A os es x k (progress.Wants p) within nil none h = absurd h
+unbound-step A os es x k progress.Fails within nil none h = none (object_at os x) h.0 h.1

@@ -19,7 +19,8 @@ use Rattle.mw_translate.specs.declared.part.Kind.TheVariants as kind
 use Rattle.mw_translate.specs.declared.made.Made.{Made}
 use Rattle.mw_translate.specs.contracts.part.PartPartialEq.TheImpl.{ghosts}
 use Rattle.mw_translate.specs.Meaning.{meaning}
-use Rattle.mw_translate.specs.Memo.{Entries, found, part_at, AreUnique, AreMade, meaning_at}
+use Rattle.mw_translate.specs.Parts.{part_at}
+use Rattle.mw_translate.specs.Memo.{Entries, found, AreUnique, AreMade, meaning_at}
 use Rattle.mw_translate.proofs.Combine.{part-eq, part-same}
 
 -- a part as a number: nine for each cell

@@ -1,7 +1,7 @@
 -- Calls of lambdas whose formals are some names and the other variables of their body, which stand for themselves.
 use Rattle.std.specs.Prelude.{◌≡◌, ℕ, true, false, cond, List, [], ◌∷◌, ◌++◌, Option, Some, None}
 use Rattle.mw_model.specs.Terms.Object.{Name, Object, Symbol, Pair, symbol, list3}
-use Rattle.mw_model.specs.Terms.Term.{Term, Terms, Lambda, NoTerms, More, ArityTable, variables, is_among, are_formals, is_term, term_object}
+use Rattle.mw_model.specs.Terms.Term.{Term, Terms, Lambda, NoTerms, More, variables, is_among, are_formals, term_object}
 use Rattle.mw_model.specs.Values.Definition.{variable_terms}
 use Rattle.mw_model.specs.Events.Expansion.{without, let_term}
 use Rattle.mw_model.specs.Values.Primitive.{name_of}
@@ -45,11 +45,6 @@ abbrev pub AreBindings : List Object → List Two → List (Name × Term) → Ty
 AreBindings os [] [] = Unit {0}
 AreBindings os (r ∷ rs) (p ∷ ps) = ((object_at os r.first ≡ Symbol p.0) × (object_at os r.second ≡ term_object p.1)) × AreBindings os rs ps
 AreBindings os _ _ = ⊥
-
--- the calls were made, or they are no term
-abbrev pub IsLetStar : ArityTable → List Object → List (Name × Term) → Term → Option ℕ → Type 0
-IsLetStar A os ps b None = is_term A (let_stars ps b) ≡ false
-IsLetStar A os ps b (Some r) = (is_term A (let_stars ps b) ≡ true) × IsIn os r × (object_at os r ≡ term_object (let_stars ps b))
 
 -- the same on objects, with a list of the other variables
 abbrev pub extended_object : Object → Object → Object → Object → Object

@@ -39,7 +39,7 @@ pub(crate) fn list_of_three(heap: &mut Heap, a: Ref, b: Ref, c: Ref) -> Result<R
     heap.cons(a, rest)
 }
 
-// Makes the list with the word in front.
+// Makes the list with the word in front of these members.
 fn headed(heap: &mut Heap, word: Word, members: Ref) -> Result<Ref, Memory>
     requires { IsIn heap.old.objects members }
     ensures grows { Grows heap.old.objects heap.new.objects }

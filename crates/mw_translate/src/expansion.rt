@@ -8,7 +8,7 @@ use crate::walk::walk;
 use mw_heap::{Heap, Memory, Ref};
 use mw_term::Arity;
 
-/// What a raw term expands to: the object of a term under the arity table, or no term; or out of memory.
+/// What a raw term expands to: the object of a term under the arity table, or no term; or that memory ran out.
 #[derive(Clone, Copy, Debug, PartialEq, Eq)]
 pub enum Expanded {
     Term(Ref),
@@ -16,11 +16,11 @@ pub enum Expanded {
     Memory,
 }
 
-/// Expands a raw term under two arity tables, the newer one in front. It takes time and memory in proportion to the distinct objects
-/// that make up the raw term and its expansion, but that each LET copies its names and values and looks for the variables of its
-/// expanded body anew, and each head of a lambda call for those of its body: what several of them share counts once for each. What is
-/// looked at takes looks from those that the heap allows, and what is made eight times as many, those of a LET before it is made; where none
-/// is left the answer is out of memory.
+/// Expands a raw term under two arity tables, the newer one in front. Time and memory are in proportion to the distinct objects of the
+/// raw term and of its expansion, with two exceptions: each LET copies its names and values and looks for the variables of its expanded
+/// body, and each head of a lambda call looks for those of its body, so what several of them share counts once for each. Each object that
+/// is looked at takes one of the looks that the heap allows, and each cell that is made takes eight, those of a LET before it is made. The
+/// answer is out of memory if no looks are left.
 pub fn expand_under(heap: &mut Heap, raw: Ref, newer: &Arity, older: &Arity) -> Expanded
     requires { IsIn heap.old.objects raw }
     ensures grows { Grows heap.old.objects heap.new.objects }

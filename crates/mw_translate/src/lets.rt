@@ -13,7 +13,7 @@ use crate::build::{call_of_two, list_of_one};
 use mw_heap::{Heap, Memory, Ref, Word};
 use mw_term::{Formals, take_searches, vars_counted};
 
-// Adds the variable x where it is no formal.
+// Adds the variable x, unless it is a formal.
 fn add_other(heap: &Heap, formals: &Formals, others: &mut Vec<Ref>, x: Ref) -> Result<(), Memory>
     requires within { IsIn heap.now.objects x }
     requires symbol { is_symbol (object_at heap.now.objects x) ≡ true }
@@ -28,7 +28,7 @@ fn add_other(heap: &Heap, formals: &Formals, others: &mut Vec<Ref>, x: Ref) -> R
     Ok(())
 }
 
-// The free variables of a term that are no formals. Each cell that is looked at takes a look.
+// The free variables of a term other than the formals. Each cell that is looked at takes a look.
 fn other_variables(
     heap: &Heap,
     formals: &Formals,
@@ -48,7 +48,7 @@ fn other_variables(
     Ok(others)
 }
 
-/// Makes the list that begins with these, in order, and goes on as another. The one error is out of memory.
+/// Makes the list of these members, in order, followed by those of another list. The one error is out of memory.
 pub fn put_before(heap: &mut Heap, front: Vec<Ref>, back: Ref) -> Result<Ref, Memory>
     requires front_in { AreAllIn heap.old.objects front.items }
     requires back_in { IsIn heap.old.objects back }
@@ -63,7 +63,7 @@ pub fn put_before(heap: &mut Heap, front: Vec<Ref>, back: Ref) -> Result<Ref, Me
     Ok(list)
 }
 
-// The members of one list, and then another list.
+// The list of the members of one list, followed by those of another.
 fn append(heap: &mut Heap, front: Ref, back: Ref) -> Result<Ref, Memory>
     requires front_in { IsIn heap.old.objects front }
     requires back_in { IsIn heap.old.objects back }
@@ -74,7 +74,7 @@ fn append(heap: &mut Heap, front: Ref, back: Ref) -> Result<Ref, Memory>
     put_before(heap, members, back)
 }
 
-// The call of a lambda with these formals and actuals, and the others after both.
+// The call of a lambda with these formals and actuals, each followed by the others.
 fn joined_call(
     heap: &mut Heap,
     names: Ref,
@@ -95,7 +95,7 @@ fn joined_call(
     heap.cons(head, actuals)
 }
 
-// The call of a lambda with these formals and actuals, and other variables that stand for themselves.
+// The call of a lambda with these formals and actuals, and further formals whose actuals are themselves.
 fn extended_call(
     heap: &mut Heap,
     names: Ref,
@@ -133,8 +133,8 @@ fn searches_for_cells(bindings: usize, others: usize) -> u64 {
         .saturating_mul(SEARCHES_FOR_A_CELL)
 }
 
-// The free variables of a term that are no formals. The heap's looks pay for what was looked at, here and for the formals, and for all cells
-// that the LET makes after this.
+// The free variables of a term other than the formals. Takes from the heap's looks what was looked at, here and for the formals, and what
+// all cells count as that the LET makes after this.
 fn counted_others(
     heap: &mut Heap,
     formals: &Formals,
@@ -155,8 +155,8 @@ fn counted_others(
     Ok(others)
 }
 
-// The free variables of the body besides the names, where these are formals. Many calls may share their names or their body, which are
-// walked for each.
+// The free variables of the body besides the names; None if these are not formals. Names and bodies that several calls share are walked
+// once for each call.
 fn variables_besides(heap: &mut Heap, names: Ref, body: Ref) -> Result<Option<Vec<Ref>>, Memory>
     requires names_in { IsIn heap.old.objects names }
     requires body_in { IsIn heap.old.objects body }
@@ -171,7 +171,7 @@ fn variables_besides(heap: &mut Heap, names: Ref, body: Ref) -> Result<Option<Ve
     Ok(Some(counted_others(heap, &formals, body, looks_left)?))
 }
 
-// The call of a lambda whose formals are the names, and the other variables of the body, where the names are formals.
+// The call of a lambda whose formals are the names and the other variables of the body; None if the names are not formals.
 pub(crate) fn let_call(
     heap: &mut Heap,
     names: Ref,

@@ -4,6 +4,7 @@
 mod abbreviation;
 mod build;
 mod calls;
+mod context;
 mod expansion;
 mod folds;
 mod let_forms;

@@ -1,6 +1,7 @@
 //! What was made so far.
 ghost use Rattle.std.specs.Prelude.{◌≡◌, ◌⊎◌, ◌++◌, ◌∷◌, [], OnOk, IfOk, IfErr, Some, None};
-ghost use Rattle.mw_translate.specs.Memo.{found, part_at, AreUnique, IsForward};
+ghost use Rattle.mw_translate.specs.Memo.{found, AreUnique, IsForward};
+ghost use Rattle.mw_translate.specs.Parts.{part_at};
 
 use crate::made::Made;
 use crate::part::{Kind, Part};
@@ -31,7 +32,7 @@ impl Memo {
         self.made.get(part).copied()
     }
 
-    // Goes on with what was made of a part; or that part is wanted.
+    // What was made of a part; or that part is wanted.
     pub fn forward(&self, part: &Part) -> Progress
         ensures { IsForward self.now.made.entries part.now result }
     {
@@ -41,7 +42,7 @@ impl Memo {
         }
     }
 
-    // The same of the part of this kind that a cell is.
+    // What was made of a cell as a part of this kind; or that part is wanted.
     pub fn forward_to(&self, kind: Kind, cell: Ref) -> Progress
         ensures { IsForward self.now.made.entries (part_at kind cell) result }
     {
@@ -72,19 +73,14 @@ impl Memo {
         ensures three { IfOk result (λ m. (found self.now.made.entries first.now ≡ Some m.0) × (found self.now.made.entries second.now ≡ Some m.1) × (found self.now.made.entries third.now ≡ Some m.2)) }
         ensures wanted { IfErr result (λ p. (found self.now.made.entries p ≡ None) × ((p ≡ first.now) ⊎ ((p ≡ second.now) ⊎ (p ≡ third.now)))) }
     {
-        let Some(one) = self.find(first) else {
-            return Err(*first);
-        };
-        let Some(two) = self.find(second) else {
-            return Err(*second);
-        };
-        let Some(three) = self.find(third) else {
-            return Err(*third);
-        };
-        Ok((one, two, three))
+        let (one, two) = self.find_both(first, second)?;
+        match self.find(third) {
+            Some(three) => Ok((one, two, three)),
+            None => Err(*third),
+        }
     }
 
-    // Keeps what was made of a new part.
+    // Adds what was made of a part that has no entry.
     pub fn add(&mut self, part: Part, made: Made) -> Result<(), Memory>
         requires new { found self.old.made.entries part ≡ None }
         requires unique { AreUnique self.old.made.entries }

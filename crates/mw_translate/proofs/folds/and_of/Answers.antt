@@ -1,7 +1,8 @@
 -- The constant, and then the call.
-use Rattle.std.proofs.Common.{◌++◌, IfOk, ap, ap₂, ◌∙◌, subst}
+use Rattle.std.proofs.Common.{IfOk, ap, ap₂, ◌∙◌, subst}
 use Rattle.mw_heap.specs.Objects.{object_at}
 use Rattle.mw_heap.proofs.Objects.{object_at-Grows, IsIn-Grows, Grows-trans}
+use Rattle.mw_translate.specs.Contexts.{arities}
 use Rattle.mw_translate.specs.Checked.{IsMade, if_made}
 use Rattle.mw_translate.proofs.folds.and_of.Goals as goal
 
@@ -18,7 +19,7 @@ pub returns-clause-made : goal.returns-clause-made
 returns-clause-made c =
     let os = c.args.heap.now.objects in
     let h1 = c.quoted_symbol.new.heap.objects in
-    let A = c.args.newer.now ++ c.args.older.now in
+    let A = arities c.args.context.now in
     let g = c.in_ok-nil.ensures.grows in
     let same =
     ap₂ (λ x y. if_made A x y (object_at h1 c.in_ok-nil.nil)) (object_at-Grows os h1 g c.args.a c.requires.first_in) (object_at-Grows os h1 g c.args.b c.requires.second_in)

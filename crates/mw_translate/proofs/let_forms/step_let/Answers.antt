@@ -1,46 +1,51 @@
--- The call of a LET, from its names, its values and its body.
+-- From the names, the values and the body.
 use Rattle.std.proofs.Common.{◌+◌, sym, ap, ◌∙◌, arith}
 use Rattle.mw_model.specs.Terms.Object.{list2}
-use Rattle.mw_model.specs.Events.Expansion.{expanded, bindings, bound_names}
+use Rattle.mw_model.specs.Events.Expansion.{expanded, bindings}
 use Rattle.mw_heap.specs.Objects.{object_at}
-use Rattle.mw_translate.specs.Forms.{let_form}
-use Rattle.mw_translate.specs.Meaning.{of_term, values_of}
-use Rattle.mw_translate.specs.declared.part.Kind.TheVariants as kind
-use Rattle.mw_translate.proofs.Combine.{at, made_found, step_made, one-of-three}
+use Rattle.mw_translate.specs.Bound.{bound_form}
+use Rattle.mw_translate.specs.Contexts.{arities, entries}
+use Rattle.mw_translate.specs.Meaning.{of_term}
+use Rattle.mw_translate.proofs.Combine.{made_found, made-at, step_made, one-of-three}
 use Rattle.mw_translate.proofs.Called.{body_of}
-use Rattle.mw_translate.proofs.LetForms.{values_made, names_made, let-names, let-values, let-body, let-made}
+use Rattle.mw_translate.proofs.LetForms.{values_made, names_made, bound-names, bound-values, bound-body, bound-made}
 use Rattle.mw_translate.proofs.let_forms.step_let.Goals as goal
 
-pub let_call-requires-clause-names_in : goal.let_call-requires-clause-names_in
-let_call-requires-clause-names_in c = (made_found c.requires.made.0 c.args.heap.now.objects c.args.memo.now.made.entries (at kind.Names c.in-Some.two.0) c.in-Ok.a c.requires.made.1 c.in-Ok.ensures.three.0).object_in
+pub bound_call-requires-clause-names_in : goal.bound_call-requires-clause-names_in
+bound_call-requires-clause-names_in c = (made_found (arities c.args.context.now) c.args.heap.now.objects (entries c.args.context.now) c.new-names.result c.in-Ok.a c.requires.made c.in-Ok.ensures.three.0).object_in
 
-pub let_call-requires-clause-values_in : goal.let_call-requires-clause-values_in
-let_call-requires-clause-values_in c = (made_found c.requires.made.0 c.args.heap.now.objects c.args.memo.now.made.entries (at kind.Values c.in-Some.two.0) c.in-Ok.b c.requires.made.1 c.in-Ok.ensures.three.1).object_in
+pub bound_call-requires-clause-values_in : goal.bound_call-requires-clause-values_in
+bound_call-requires-clause-values_in c = (made_found (arities c.args.context.now) c.args.heap.now.objects (entries c.args.context.now) c.new-values.result c.in-Ok.b c.requires.made c.in-Ok.ensures.three.1).object_in
 
-pub let_call-requires-clause-body_in : goal.let_call-requires-clause-body_in
-let_call-requires-clause-body_in c = (made_found c.requires.made.0 c.args.heap.now.objects c.args.memo.now.made.entries (at kind.Term c.in-Some.two.1) c.in-Ok.c c.requires.made.1 c.in-Ok.ensures.three.2).object_in
+pub bound_call-requires-clause-body_in : goal.bound_call-requires-clause-body_in
+bound_call-requires-clause-body_in c = (made_found (arities c.args.context.now) c.args.heap.now.objects (entries c.args.context.now) c.new-body.result c.in-Ok.c c.requires.made c.in-Ok.ensures.three.2).object_in
 
 pub returns-in-Err-clause-step : goal.returns-in-Err-clause-step
-returns-in-Err-clause-step c = λ A made.
+returns-in-Err-clause-step c =
+    let A = arities c.args.context.now in
     let os = c.args.heap.now.objects in
-    let es = c.args.memo.now.made.entries in
+    let o = c.args.order in
     let bs = object_at os c.in-Some.two.0 in
     let b = object_at os c.in-Some.two.1 in
-    let shape = ap (λ r. of_term A (let_form r)) c.in-Some.ensures.0 in
-    one-of-three A os es (of_term A (let_form (object_at os c.args.rest))) (c.args.rest + 1) (at kind.Names c.in-Some.two.0) (at kind.Values c.in-Some.two.0) (at kind.Term c.in-Some.two.1) c.in-Err.wanted
+    let shape = ap (λ r. of_term A (bound_form o r)) c.in-Some.ensures.0 in
+    one-of-three A os (entries c.args.context.now) (of_term A (bound_form o (object_at os c.args.rest))) (c.args.rest + 1) c.new-names.ensures c.new-values.ensures c.new-body.ensures
     (omega (arith, c.in-Some.ensures.1)) (omega (arith, c.in-Some.ensures.1)) (omega (arith, c.in-Some.ensures.2))
-    (λ n. shape ∙ let-names A bs b n) (λ n. shape ∙ let-values A bs b n) (λ n. shape ∙ let-body A bs b n) c.in-Err.ensures.wanted
+    (λ n. shape ∙ bound-names A o bs b n) (λ n. shape ∙ bound-values A o bs b n) (λ n. shape ∙ bound-body A o bs b n) c.in-Err.ensures.wanted
 
-pub returns-in_ok-let_call-in-Ok-clause-step : goal.returns-in_ok-let_call-in-Ok-clause-step
-returns-in_ok-let_call-in-Ok-clause-step c = λ A made.
+pub returns-in_ok-call-in-Ok-clause-step : goal.returns-in_ok-call-in-Ok-clause-step
+returns-in_ok-call-in-Ok-clause-step c =
+    let A = arities c.args.context.now in
     let os = c.args.heap.now.objects in
-    let es = c.args.memo.now.made.entries in
+    let es = entries c.args.context.now in
+    let o = c.args.order in
+    let new = c.bound_call.new.heap.objects in
     let bs = object_at os c.in-Some.two.0 in
     let b = object_at os c.in-Some.two.1 in
-    let n = (made_found A os es (at kind.Names c.in-Some.two.0) c.in-Ok.a made c.in-Ok.ensures.three.0).is in
-    let v = values_made A (bindings bs) (object_at os c.in-Ok.b.object, c.in-Ok.b.count) (made_found A os es (at kind.Values c.in-Some.two.0) c.in-Ok.b made c.in-Ok.ensures.three.1).is in
-    let t = body_of A (expanded b) (object_at os c.in-Ok.c.object, c.in-Ok.c.count) (made_found A os es (at kind.Term c.in-Some.two.1) c.in-Ok.c made c.in-Ok.ensures.three.2).is in
+    let goal = of_term A (bound_form o (object_at os c.args.rest)) in
+    let n = made-at A os es goal (c.args.rest + 1) c.requires.made c.new-names.ensures c.in-Ok.ensures.three.0 in
+    let v = values_made A (bindings bs) (object_at os c.in-Ok.b.object, c.in-Ok.b.count) (made-at A os es goal (c.args.rest + 1) c.requires.made c.new-values.ensures c.in-Ok.ensures.three.1) in
+    let t = body_of A (expanded b) (object_at os c.in-Ok.c.object, c.in-Ok.c.count) (made-at A os es goal (c.args.rest + 1) c.requires.made c.new-body.ensures c.in-Ok.ensures.three.2) in
     let names = names_made A bs v.0 (object_at os c.in-Ok.a.object, c.in-Ok.a.count) v.1 n in
-    let call = c.in_ok-let_call-in-Ok.ensures.made A (bound_names v.0) (values_of v.0) t.0 (sym names) (sym v.3) (sym t.3) t.2 in
-    step_made A os c.let_call.new.heap.objects es (of_term A (let_form (object_at os c.args.rest))) (of_term A (let_form (list2 bs b))) (c.args.rest + 1) c.made_or_fails.result (ap (λ r. of_term A (let_form r)) c.in-Some.ensures.0)
-    (let-made A c.let_call.new.heap.objects bs b v.0 t.0 c.in_ok-let_call-in-Ok.field-0 c.made_or_fails.result v.1 t.1 t.2 v.2 call c.made_or_fails.ensures)
+    let call = c.in_ok-call-in-Ok.ensures.made A v.0 t.0 (sym names) (sym v.3) (sym t.3) t.2 v.2 in
+    step_made A os new es goal (of_term A (bound_form o (list2 bs b))) (c.args.rest + 1) c.made_or_fails.result (ap (λ r. of_term A (bound_form o r)) c.in-Some.ensures.0)
+    (bound-made A o bs b new v.0 t.0 c.in_ok-call-in-Ok.call c.made_or_fails.result v.1 t.1 call c.made_or_fails.ensures)

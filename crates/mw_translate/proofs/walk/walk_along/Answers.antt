@@ -1,15 +1,16 @@
 -- Each part is made after the parts that it wants.
-use Rattle.std.proofs.Common.{◌++◌, ◌∷◌, [], inl, inr, sym, ap, ap₂, ◌∙◌, subst, append_assoc, arith}
+use Rattle.std.proofs.Common.{◌++◌, ◌∷◌, [], sym, ap, ◌∙◌, subst, arith}
 use Rattle.mw_model.specs.Events.Expansion.{expanded}
 use Rattle.mw_heap.specs.Objects.{object_at, IsIn}
-use Rattle.mw_heap.proofs.Objects.{Grows-refl, Grows-trans, object_at-Grows, length-Grows}
+use Rattle.mw_heap.proofs.Objects.{Grows-refl, Grows-trans, object_at-Grows}
 use Rattle.mw_translate.specs.Meaning.{meaning}
-use Rattle.mw_translate.specs.Memo.{part_at, AreUnique}
+use Rattle.mw_translate.specs.Parts.{part_at}
 use Rattle.mw_translate.specs.Walk.{Advances}
 use Rattle.mw_translate.specs.declared.part.Kind.TheVariants as kind
 use Rattle.mw_translate.proofs.Combine.{made_found, expand-none, expand-some}
 use Rattle.mw_translate.proofs.Called.{body_of}
-use Rattle.mw_translate.proofs.Path.{IsPath, path-start, left, last_below, last_needed, path-wants, path-made, left-made, left-wants}
+use Rattle.mw_translate.proofs.Path.{IsPath, path-start, left, last_below, last_needed}
+use Rattle.mw_translate.proofs.PathSteps.{path-advances, left-advances}
 use Rattle.mw_translate.proofs.walk.walk_along.Goals as goal
 
 pub loop-part-init : goal.loop-part-init
@@ -21,59 +22,21 @@ pub loop-part-preserved : goal.loop-part-preserved
 loop-part-preserved c =
     let h0 = c.args.heap.now.objects in
     let h = c.loop-part.heap.objects in
-    let new = c.advance.new.heap.objects in
     let A = c.args.newer.now ++ c.args.older.now in
-    let x = c.args.raw in
-    let es = c.loop-part.memo.made.entries in
-    let more = c.advance.new.memo.made.entries in
-    let longer = c.advance.new.path.items in
-    let rest = c.pop.new.self.items in
-    let part = c.in-Some.part in
-    let path = subst (IsPath A h0 h x es) c.in-Some.ensures.items c.loop-part.invariant in
-    let small = last_below A h0 h new x es rest part path in
-    let g = c.in_ok-advance.ensures.grows in
-    let within : IsIn h part.cell = omega (arith, small, c.requires.within, length-Grows h0 h path.grows) in
-    let advances = subst (Advances A h new es more rest longer part) c.if-not-branch.false c.in_ok-advance.ensures.advanced in
-    elim advances [
-      | inl m ↦
-          subst (λ l. IsPath A h0 new x l longer) (sym m.3)
-          (subst (IsPath A h0 new x (es ++ (part, m.0) ∷ [])) (sym m.4)
-          (path-made A h0 h new x es rest part path m.0 g within m.1 m.2 (subst AreUnique m.3 c.in_ok-advance.ensures.unique)))
-      | inr w ↦
-          let inner = w.0 in
-          let inner_in : IsIn h0 inner.cell = omega (arith, w.1, small, c.requires.within) in
-          let part_in : IsIn h0 part.cell = omega (arith, small, c.requires.within) in
-          subst (λ l. IsPath A h0 new x l longer) (sym w.4)
-          (subst (IsPath A h0 new x es) (append_assoc rest (part ∷ []) (inner ∷ []) ∙ sym w.5)
-          (path-wants A h0 h new x es rest part path inner g w.1 w.2
-          (λ n. ap (meaning A part.kind) (sym (object_at-Grows h0 h path.grows part.cell part_in)) ∙ w.3 (ap (meaning A inner.kind) (object_at-Grows h0 h path.grows inner.cell inner_in) ∙ n))))
-    ]
+    let path = subst (IsPath A h0 h c.args.raw c.loop-part.memo.made.entries) c.in-Some.ensures.items c.loop-part.invariant in
+    path-advances A h0 h c.advance.new.heap.objects c.args.raw c.loop-part.memo.made.entries c.advance.new.memo.made.entries c.pop.new.self.items c.advance.new.path.items c.in-Some.part path c.in_ok-advance.ensures.unique
+    (subst (Advances A h c.advance.new.heap.objects c.loop-part.memo.made.entries c.advance.new.memo.made.entries c.pop.new.self.items c.advance.new.path.items c.in-Some.part) c.if-not-branch.false c.in_ok-advance.ensures.advanced)
+    c.in_ok-advance.ensures.grows c.requires.within
 
 pub loop-part-smaller : goal.loop-part-smaller
 loop-part-smaller c =
     let h0 = c.args.heap.now.objects in
     let h = c.loop-part.heap.objects in
-    let new = c.advance.new.heap.objects in
     let A = c.args.newer.now ++ c.args.older.now in
-    let x = c.args.raw in
-    let es = c.loop-part.memo.made.entries in
-    let more = c.advance.new.memo.made.entries in
-    let longer = c.advance.new.path.items in
-    let rest = c.pop.new.self.items in
-    let part = c.in-Some.part in
-    let path = subst (IsPath A h0 h x es) c.in-Some.ensures.items c.loop-part.invariant in
-    let old = ap (left x es) c.in-Some.ensures.items in
-    let advances = subst (Advances A h new es more rest longer part) c.if-not-branch.false c.in_ok-advance.ensures.advanced in
-    elim advances [
-      | inl m ↦
-          let less = left-made A h0 h new x es rest part path m.0 (subst AreUnique m.3 c.in_ok-advance.ensures.unique) in
-          let now = ap₂ (left x) m.3 m.4 in
-          omega (arith, less, old, now)
-      | inr w ↦
-          let less = left-wants A h0 h new x es rest part path w.0 w.1 in
-          let now = ap₂ (left x) w.4 (w.5 ∙ sym (append_assoc rest (part ∷ []) (w.0 ∷ []))) in
-          omega (arith, less, old, now)
-    ]
+    let path = subst (IsPath A h0 h c.args.raw c.loop-part.memo.made.entries) c.in-Some.ensures.items c.loop-part.invariant in
+    let less = left-advances A h0 h c.advance.new.heap.objects c.args.raw c.loop-part.memo.made.entries c.advance.new.memo.made.entries c.pop.new.self.items c.advance.new.path.items c.in-Some.part path c.in_ok-advance.ensures.unique
+    (subst (Advances A h c.advance.new.heap.objects c.loop-part.memo.made.entries c.advance.new.memo.made.entries c.pop.new.self.items c.advance.new.path.items c.in-Some.part) c.if-not-branch.false c.in_ok-advance.ensures.advanced) in
+    omega (arith, less, ap (left c.args.raw c.loop-part.memo.made.entries) c.in-Some.ensures.items)
 
 pub returns-then-not-branch-clause-answer : goal.returns-then-not-branch-clause-answer
 returns-then-not-branch-clause-answer c =
