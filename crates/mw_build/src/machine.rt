@@ -102,7 +102,7 @@ fn apply(
         return heap.nil();
     }
     let pieces = pieces_at(rules, number);
-    let mut stack = Vec::new(heap.alloc());
+    let mut stack = Vec::with_capacity(heap.alloc(), pieces.len())?;
     run(heap, rules, depth - 1, given, &mut stack, pieces)?;
     newest(heap, &mut stack)
 }

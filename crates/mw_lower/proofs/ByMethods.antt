@@ -1,14 +1,14 @@
--- Steps of proof by the methods that the schemes use, as objects.
+-- Steps of proof by the methods that the rules of the table use, as objects.
 use Rattle.std.proofs.Common.{List, [], ◌∷◌, refl}
 use Rattle.std.proofs.lemmas.Bool.{and_parts, and_from}
 use Rattle.mw_model.specs.Terms.Object.{Object, Symbol, Pair, named, symbol, NIL, list1, list2, list3, list4}
 use Rattle.mw_model.specs.Terms.Term.{Term, Formula, Equal, Not, Or, term_object, formula_object, is_term, is_formula, IsTerm, IsFormula}
 use Rattle.mw_model.specs.Terms.Substitution.{substitution_object}
-use Rattle.mw_model.specs.Proofs.Proof.{four, Method, Axiom, PropositionalSchema, Expansion, Contraction, Cut, Instantiation, method_name, Follows, by_axiom, by_schema, by_expansion, by_contraction, by_cut, by_instantiation, proof, ProveEach, no_proofs, more_proofs}
+use Rattle.mw_model.specs.Proofs.Proof.{four, Method, Axiom, PropositionalSchema, FunctionalEquality, Expansion, Contraction, Cut, Instantiation, method_name, Follows, by_axiom, by_schema, by_expansion, by_contraction, by_cut, by_instantiation, proof, ProveEach, no_proofs, more_proofs}
 use Rattle.mw_model.specs.Proofs.Axioms.{axiom_1, axiom_2}
 use Rattle.mw_model.proofs.Judging.{good_judge}
 use Rattle.mw_proof.specs.Judging.{Basis}
-use Rattle.mw_lower.specs.Schemes.{IsProof, HasEquality}
+use Rattle.mw_lower.specs.Proofs.{IsProof, HasEquality}
 
 abbrev pub or_of : Object → Object → Object
 or_of f g = list3 (symbol "POR*") f g
@@ -40,6 +40,9 @@ commuted_of f g p = cut_of g f p (schema_of f)
 abbrev pub detached_of : Object → Object → Object → Object → Object
 detached_of f g p q = contraction_of g (cut_of g g (commuted_of g f (expansion_of f g p)) q)
 
+abbrev pub functional_of : Object → Object
+functional_of f = step_of FunctionalEquality f NIL NIL
+
 abbrev pub axiom_of : Object → Object
 axiom_of c = step_of Axiom c NIL NIL
 
@@ -69,7 +72,7 @@ module _ (b : Basis) where
   two : (p q : Object) (F G : Formula) → IsProof b p F → IsProof b q G → Each (list2 p q) (F ∷ G ∷ [])
   two p q F G h k = more_proofs p (list1 q) F (G ∷ []) h (one q G k)
 
-  or_formed : (F G : Formula) → IsFormula b.table (Or F G) → IsFormula b.table F × IsFormula b.table G
+  pub or_formed : (F G : Formula) → IsFormula b.table (Or F G) → IsFormula b.table F × IsFormula b.table G
   or_formed F G h = and_parts (is_formula b.table F) (is_formula b.table G) h
 
   schema : (F : Formula) → IsFormula b.table F → IsProof b (schema_of (formula_object F)) (Or (Not F) F)

@@ -1,8 +1,5 @@
-mod Gathers
-mod OneMore
-mod Results
 mod ByMethods
-mod SchemesProve
+mod RulesProve
 mod StepTests
 mod Premises
 mod Replaced

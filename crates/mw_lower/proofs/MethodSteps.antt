@@ -1,8 +1,9 @@
 -- Steps by the methods of proof: the conclusions are formulas, and the step that is made.
-use Rattle.std.proofs.Common.{◌≡◌, ℕ, Bool, true, List, inl, inr, sym, ap, ap₂, ◌∙◌, is_some}
+use Rattle.std.proofs.Common.{◌≡◌, ℕ, Bool, true, false, List, Option, None, inl, inr, sym, ap, ap₂, ◌∙◌, is_some}
 use Rattle.std.specs.List.{All}
 use Rattle.mw_model.specs.Terms.Object.{Object, list4}
 use Rattle.mw_model.specs.Terms.Term.{ArityTable}
+use Rattle.mw_model.specs.Proofs.Proof.{Method}
 use Rattle.mw_model.specs.Proofs.Judgment.{methods, method_among}
 use Rattle.mw_model.specs.Laws.Rules.{is_formula_object}
 use Rattle.mw_model.proofs.Judging.{goods_judge}
@@ -32,9 +33,13 @@ with_grows os new g p m i j k l n ps all q (inr h) =
       h.1 ∙ (ap (λ z. list4 (object_at new m.method) (object_at new m.conclusion) z (object_at new m.extras)) (list_object-grows os new g ps all) ∙ made_step os new g m j k n (list_object os ps)),
     )
 
+-- a symbol that names no method
+pub no_method_follows : (b : Basis) (os : List Object) (m : Members) (qs : Object) → method_among methods (object_at os m.method) ≡ None → method_follows b os m qs ≡ false
+no_method_follows b os m qs none = ap (λ o. rule_holds b.axioms b.theorems b.table b.profile o (object_at os m.conclusion) (conclusions_object qs) (object_at os m.extras)) none
+
 -- the rule on the conclusions that were read is that on the proofs
-pub follows_by : (b : Basis) (os : List Object) (m : Members) (qs : Object) (read rs : List ℕ) (t : Bool) → read ≡ rs → list_object os rs ≡ conclusions_object qs → t ≡ rule_holds b.axioms b.theorems b.table b.profile (method_among methods (object_at os m.method)) (object_at os m.conclusion) (list_object os read) (object_at os m.extras) → method_follows b os m qs ≡ t
-follows_by b os m qs read rs t e is answer = ap (λ cs. rule_holds b.axioms b.theorems b.table b.profile (method_among methods (object_at os m.method)) (object_at os m.conclusion) cs (object_at os m.extras)) (sym (ap (list_object os) e ∙ is)) ∙ sym answer
+pub follows_by : (b : Basis) (os : List Object) (m : Members) (qs : Object) (read rs : List ℕ) (o : Option Method) (t : Bool) → read ≡ rs → list_object os rs ≡ conclusions_object qs → o ≡ method_among methods (object_at os m.method) → t ≡ rule_holds b.axioms b.theorems b.table b.profile o (object_at os m.conclusion) (list_object os read) (object_at os m.extras) → method_follows b os m qs ≡ t
+follows_by b os m qs read rs o t e is named answer = ap₂ (λ o cs. rule_holds b.axioms b.theorems b.table b.profile o (object_at os m.conclusion) cs (object_at os m.extras)) (sym named) (sym (ap (list_object os) e ∙ is)) ∙ sym answer
 
 -- proofs have formulas as conclusions
 pub conclusions_formed : (b : Basis) (os : List Object) (ps read rs : List ℕ) → ProvesSome b (list_object os ps) → read ≡ rs → list_object os rs ≡ conclusions_object (list_object os ps) → All (λ r. (A : ArityTable) × (is_formula_object A (object_at os r) ≡ true)) read

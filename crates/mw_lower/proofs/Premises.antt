@@ -11,7 +11,7 @@ use Rattle.mw_heap.specs.Objects.{object_at, IsIn}
 use Rattle.mw_proof.specs.Step.{conclusions_object}
 use Rattle.mw_heap.specs.Lists.{list_object}
 use Rattle.mw_proof.specs.Judging.{Basis}
-use Rattle.mw_lower.specs.Schemes.{IsProof}
+use Rattle.mw_lower.specs.Proofs.{IsProof}
 use Rattle.mw_lower.specs.Methods.{ProvesSome}
 use Rattle.mw_lower.proofs.StepTests.{no_object}
 use Rattle.mw_lower.specs.Unless.{unless_all, MakesUnless, DetachesOne, DetachesAll}

@@ -15,11 +15,12 @@ use Rattle.mw_model.proofs.EqualityExact.{object_is_functional_equality-exact}
 use Rattle.mw_commands.specs.Commands.Derivation.{equalities}
 use Rattle.mw_commands.specs.Commands.DerivationTest.{is_replaced}
 use Rattle.mw_proof.specs.Judging.{Basis}
-use Rattle.mw_lower.specs.declared.scheme.TheConstants.{FUNCTIONAL}
-use Rattle.mw_lower.specs.Pieces.{made_of}
-use Rattle.mw_lower.specs.Schemes.{IsProof}
+use Rattle.mw_lower.specs.declared.rules.TheConstants.{FUNCTIONAL}
+use Rattle.mw_lower.specs.Rules.{rule_made}
+use Rattle.mw_lower.specs.Proofs.{IsProof}
 use Rattle.mw_lower.specs.Unless.{unless_all}
-use Rattle.mw_lower.proofs.ByMethods.{step}
+use Rattle.mw_lower.proofs.ByMethods.{step, functional_of}
+use Rattle.mw_lower.proofs.RulesProve.{functional_made}
 
 -- the premises are those equalities
 same_unless : (l r : Term) (Fs : List Formula) (ts us : Terms) → same_formula (unless_all Fs (Equal l r)) (unless_equal ts us (Equal l r)) ≡ same_formulas Fs (equalities ts us)
@@ -72,9 +73,9 @@ module _ (b : Basis) (Fs : List Formula) (ps : Object) (proofs : ProveEach b.axi
   test_exact (Or F G) c whole i d h e = absurd (true≢false (sym h ∙ ap (λ x. same_object (car x) (symbol "PEQUAL*")) d))
 
   -- the step by functional equality
-  pub functional_proves : (F : Formula) (whole : Object) → IsFormula b.table F → whole ≡ formula_object (unless_all Fs F) → object_is_functional_equality whole ≡ true → IsProof b (made_of FUNCTIONAL (whole ∷ [])) (unless_all Fs F)
-  functional_proves F whole i e h =
+  pub functional_proves : (F : Formula) (whole p : Object) → IsFormula b.table F → p ≡ rule_made FUNCTIONAL (whole ∷ []) → whole ≡ formula_object (unless_all Fs F) → object_is_functional_equality whole ≡ true → IsProof b p (unless_all Fs F)
+  functional_proves F whole p i made e h =
       let G = unless_all Fs F in
       let formed = unless_formed b.table F Fs i formulas in
       let holds : is_functional_equality G (last_disjunct G) ≡ true = sym (object_is_functional_equality-exact b.table G formed) ∙ (ap object_is_functional_equality (sym e) ∙ h) in
-      subst (λ w. IsProof b (made_of FUNCTIONAL (w ∷ [])) G) (sym e) (step b FunctionalEquality G [] NIL NIL (row_is b.axioms b.theorems b.table b.profile FunctionalEquality G [] NIL holds) formed no_proofs)
+      subst (λ z. IsProof b z G) (sym (made ∙ (functional_made whole ∙ ap functional_of e))) (step b FunctionalEquality G [] NIL NIL (row_is b.axioms b.theorems b.table b.profile FunctionalEquality G [] NIL holds) formed no_proofs)

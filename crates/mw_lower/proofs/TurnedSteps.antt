@@ -28,7 +28,7 @@ use Rattle.mw_proof.proofs.StepExact.{is_proof-step, judge_each-conclusions}
 use Rattle.mw_proof.proofs.Deciding.{no_method}
 use Rattle.mw_proof.proofs.Holding.{no_proof}
 use Rattle.mw_lower.specs.declared.further.Further.{Further}
-use Rattle.mw_lower.specs.Schemes.{IsProof, HasEquality}
+use Rattle.mw_lower.specs.Proofs.{IsProof, HasEquality}
 use Rattle.mw_lower.specs.Answers.{AnswersStep}
 use Rattle.mw_lower.specs.Further.{rule_of, further_rules, further_among}
 use Rattle.mw_lower.specs.Methods.{method_follows, IsMethodStep, WithProofs}

@@ -7,7 +7,7 @@ use Rattle.mw_commands.specs.Commands.Derivation.{Rule}
 use Rattle.mw_commands.specs.Commands.DerivationTest.{derives}
 use Rattle.mw_heap.specs.Objects.{object_at, IsIn}
 use Rattle.mw_proof.specs.Judging.{Basis}
-use Rattle.mw_lower.specs.Schemes.{IsProof, HasEquality}
+use Rattle.mw_lower.specs.Proofs.{IsProof, HasEquality}
 
 -- a proof of F, which follows by the rule from Fs with the extras x; or nothing, and it does not follow
 abbrev pub AnswersWith : Basis → Rule → Formula → List Formula → Object → List Object → Option ℕ → Type 0

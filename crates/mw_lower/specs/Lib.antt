@@ -1,7 +1,5 @@
-pub mod Pieces
-pub mod Lines
-pub mod Schemes
-pub mod Replacements
+pub mod Rules
+pub mod Proofs
 pub mod Answers
 pub mod Further
 pub mod Methods

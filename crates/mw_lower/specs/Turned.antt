@@ -9,7 +9,7 @@ use Rattle.mw_heap.specs.Objects.{object_at, IsIn}
 use Rattle.mw_proof.specs.Step.{has_proof_shape, subproofs_of}
 use Rattle.mw_heap.specs.Lists.{list_object}
 use Rattle.mw_proof.specs.Judging.{Basis, is_proof_on, are_proofs_on}
-use Rattle.mw_lower.specs.Schemes.{IsProof}
+use Rattle.mw_lower.specs.Proofs.{IsProof}
 
 -- what is derived from a basis
 abbrev pub derived_on : Basis → Object → Option Formula

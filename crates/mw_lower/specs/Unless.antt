@@ -4,7 +4,7 @@ use Rattle.mw_model.specs.Terms.Object.{Object}
 use Rattle.mw_model.specs.Terms.Term.{Formula, Not, Or, formula_object}
 use Rattle.mw_model.specs.Proofs.Proof.{ProveEach}
 use Rattle.mw_proof.specs.Judging.{Basis}
-use Rattle.mw_lower.specs.Schemes.{IsProof}
+use Rattle.mw_lower.specs.Proofs.{IsProof}
 
 -- not G1 or .. or not Gn or F
 abbrev pub unless_all : List Formula → Formula → Formula

@@ -4,11 +4,12 @@ ghost use Rattle.mw_heap.specs.Objects.{object_at, IsIn, Grows};
 ghost use Rattle.mw_heap.specs.Variants.{profile_of};
 ghost use Rattle.mw_term.specs.Marking.{AreMarks};
 ghost use Rattle.mw_proof.specs.Judging.{basis};
-ghost use Rattle.mw_lower.specs.Schemes.{HasEquality};
+ghost use Rattle.mw_lower.specs.Proofs.{HasEquality};
 ghost use Rattle.mw_lower.specs.Turned.{IsTurned};
 
 use crate::parts::parts;
 use crate::walk::turn_all;
+use indexmap::IndexMap;
 use mw_heap::{Heap, Memory, Profile, Ref};
 use mw_proof::{Rewriter, Rewritten};
 use mw_rules::Known;
@@ -69,10 +70,12 @@ fn turned(
     let Some(parts) = parts(heap, proof, marks)? else {
         return Ok(None);
     };
+    let mut known = IndexMap::new(heap.alloc());
     turn_all(
         heap,
         proof,
         parts.as_slice(),
+        &mut known,
         axioms,
         theorems,
         profile,

@@ -6,9 +6,7 @@ ghost use Rattle.mw_heap.specs.Lists.{list_object};
 ghost use Rattle.mw_lower.specs.Answers.{AnswersAll};
 ghost use Rattle.mw_lower.specs.Unless.{MakesUnless, DetachesOne, DetachesAll};
 
-use crate::machine::make;
-use crate::rules::detached;
-use crate::scheme::{FUNCTIONAL, IMPLICATION};
+use crate::rules::{DETACHED, FUNCTIONAL, IMPLICATION, apply};
 use mw_equal::functional_equality;
 use mw_heap::{Heap, Memory, Ref};
 
@@ -26,7 +24,7 @@ pub(crate) fn replace(heap: &mut Heap, c: Ref, proofs: &[Ref]) -> Result<Option<
     if !functional_equality(heap, whole) {
         return Ok(None);
     }
-    let step = make(heap, &FUNCTIONAL, &[whole])?;
+    let step = apply(heap, FUNCTIONAL, &[whole])?;
     Ok(Some(detach_all(heap, whole, step, proofs)?))
 }
 
@@ -43,7 +41,7 @@ fn unless(heap: &mut Heap, c: Ref, proofs: &[Ref]) -> Result<Ref, Memory>
     while left > 0 {
         left -= 1;
         if let Some(premise) = heap.second_of(proofs[left]) {
-            whole = make(heap, &IMPLICATION, &[premise, whole])?;
+            whole = apply(heap, IMPLICATION, &[premise, whole])?;
         }
     }
     Ok(whole)
@@ -83,6 +81,6 @@ fn detach_one(heap: &mut Heap, whole: Ref, step: Ref, p: Ref) -> Result<(Ref, Re
     let Some(rest) = heap.third_of(whole) else {
         return Ok((whole, step));
     };
-    let next = detached(heap, premise, rest, p, step)?;
+    let next = apply(heap, DETACHED, &[premise, rest, p, step])?;
     Ok((rest, next))
 }

@@ -6,7 +6,7 @@ ghost use Rattle.mw_heap.specs.Objects.{object_at, IsIn, Grows};
 ghost use Rattle.mw_heap.specs.Words.{word_object};
 ghost use Rattle.mw_lower.specs.Answers.{AnswersOne, AnswersTwo, HasParts};
 
-use crate::rules::{chained, commuted, detached, turned};
+use crate::rules::{CHAINED, COMMUTED, DETACHED, TURNED, apply};
 use mw_heap::{Heap, Memory, Ref, Word};
 
 // The parts of the conclusion of a proof, after this head.
@@ -30,7 +30,7 @@ pub(crate) fn commute(heap: &mut Heap, conclusion: Ref, p: Ref) -> Result<Option
     if !heap.is_or(Some(conclusion), Some(g), Some(f)) {
         return Ok(None);
     }
-    Ok(Some(commuted(heap, f, g, p)?))
+    Ok(Some(apply(heap, COMMUTED, &[f, g, p])?))
 }
 
 /// A proof of the conclusion by SYMMETRY from what p proves.
@@ -46,7 +46,7 @@ pub(crate) fn turn_round(heap: &mut Heap, conclusion: Ref, p: Ref) -> Result<Opt
     if !heap.is_equal(Some(conclusion), Some(b), Some(a)) {
         return Ok(None);
     }
-    Ok(Some(turned(heap, a, b, p)?))
+    Ok(Some(apply(heap, TURNED, &[a, b, p])?))
 }
 
 /// A proof of the conclusion by MODUS-PONENS from what p and q prove.
@@ -71,7 +71,7 @@ pub(crate) fn detach(
     if !heap.is_not(Some(negation), Some(f)) || !heap.same(g, conclusion) {
         return Ok(None);
     }
-    Ok(Some(detached(heap, f, g, p, q)?))
+    Ok(Some(apply(heap, DETACHED, &[f, g, p, q])?))
 }
 
 /// A proof of the conclusion by TRANSITIVITY from what p and q prove.
@@ -91,5 +91,5 @@ pub(crate) fn chain(heap: &mut Heap, conclusion: Ref, p: Ref, q: Ref) -> Result<
     if !heap.same(b, middle) || !heap.is_equal(Some(conclusion), Some(a), Some(c)) {
         return Ok(None);
     }
-    Ok(Some(chained(heap, a, b, c, p, q)?))
+    Ok(Some(apply(heap, CHAINED, &[a, b, c, p, q])?))
 }

@@ -5,7 +5,7 @@ ghost use Rattle.mw_heap.specs.Variants.{profile_of};
 ghost use Rattle.mw_term.specs.Marking.{AreMarks};
 ghost use Rattle.mw_model.specs.Terms.Term.{ArityTable};
 ghost use Rattle.mw_proof.specs.Judging.{basis};
-ghost use Rattle.mw_lower.specs.Schemes.{HasEquality};
+ghost use Rattle.mw_lower.specs.Proofs.{HasEquality};
 ghost use Rattle.mw_lower.specs.Turned.{AreSubproofsTurned, IsTurned};
 
 use crate::further::further_of;

@@ -6,7 +6,7 @@ ghost use Rattle.mw_term.specs.Marking.{AreMarks};
 ghost use Rattle.mw_model.specs.Terms.Term.{ArityTable};
 ghost use Rattle.mw_proof.specs.Judging.{basis};
 ghost use Rattle.mw_lower.specs.Parts.{AreParts};
-ghost use Rattle.mw_lower.specs.Schemes.{HasEquality};
+ghost use Rattle.mw_lower.specs.Proofs.{HasEquality};
 ghost use Rattle.mw_lower.specs.Turned.{IsTurned};
 
 use crate::turn::turn;
@@ -15,40 +15,9 @@ use mw_heap::{Heap, Memory, Profile, Ref};
 use mw_rules::Known;
 use mw_term::Marks;
 
-/// What a derivation becomes, from what it is made of. It ends at the first part that is no derivation: then the whole is none.
+/// What a derivation becomes, from what it is made of; what each part becomes is noted in a map. It ends at the first part that is no
+/// derivation: then the whole is none.
 pub(crate) fn turn_all(
-    heap: &mut Heap,
-    proof: Ref,
-    parts: &[Ref],
-    axioms: &Known,
-    theorems: &Known,
-    profile: Profile,
-    marks: &Marks,
-) -> Result<Option<Ref>, Memory>
-    requires marks { (A : ArityTable) × AreMarks A heap.old.objects marks.now }
-    requires all { length marks.now ≡ length heap.old.objects }
-    requires parts { AreParts heap.old.objects proof parts.now }
-    requires axioms { All (IsIn heap.old.objects) axioms.now }
-    requires theorems { All (IsIn heap.old.objects) theorems.now }
-    requires equality { (A : ArityTable) → HasEquality (basis heap.old.objects A axioms.now theorems.now (profile_of profile)) }
-    ensures grows { Grows heap.old.objects heap.new.objects }
-    ensures turned { IfOk result (λ o. (A : ArityTable) → AreMarks A heap.old.objects marks.now → IsTurned (basis heap.old.objects A axioms.now theorems.now (profile_of profile)) heap.new.objects o (object_at heap.old.objects proof)) }
-{
-    let mut turned = IndexMap::new(heap.alloc());
-    turn_each(
-        heap,
-        proof,
-        parts,
-        &mut turned,
-        axioms,
-        theorems,
-        profile,
-        marks,
-    )
-}
-
-// The same, with what each of the parts becomes noted in a map.
-fn turn_each(
     heap: &mut Heap,
     proof: Ref,
     parts: &[Ref],

@@ -1,6 +1,6 @@
 -- What is given to a rule, in a heap that grows.
-use Rattle.std.proofs.Common.{◌≡◌, ℕ, List, [], ◌∷◌, map, Option, Some, None, refl, ap, ap₂}
-use Rattle.std.specs.Prelude.{All, IfSome, option_map}
+use Rattle.std.proofs.Common.{◌≡◌, ℕ, List, [], ◌∷◌, map, refl, ap₂}
+use Rattle.std.specs.Prelude.{All}
 use Rattle.std.proofs.lemmas.List.Elements.{All-cons, All-nil}
 use Rattle.mw_model.specs.Terms.Object.{Object}
 use Rattle.mw_model.specs.Values.Truth.{Each}
@@ -19,11 +19,3 @@ module _ (old new : List Object) (grows : Grows old new) where
   pub given_same : (rs : List ℕ) → Each (IsIn old) rs → map (object_at new) rs ≡ map (object_at old) rs
   given_same [] h = refl
   given_same (r ∷ rs) h = ap₂ ◌∷◌ (object_at-Grows old new grows r h.0) (given_same rs h.1)
-
-  pub denied_grows : (o : Option ℕ) → IfSome o (IsIn old) → IfSome o (IsIn new)
-  denied_grows None h = tt
-  denied_grows (Some r) h = IsIn-Grows old new grows r h
-
-  pub denied_same : (o : Option ℕ) → IfSome o (IsIn old) → option_map (object_at new) o ≡ option_map (object_at old) o
-  denied_same None h = refl
-  denied_same (Some r) h = ap Some (object_at-Grows old new grows r h)

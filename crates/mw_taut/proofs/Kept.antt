@@ -8,12 +8,16 @@ use Rattle.mw_taut.specs.declared.reduced.Change.{Change}
 use Rattle.mw_taut.specs.declared.reduced.Reduced.{Reduced}
 use Rattle.mw_taut.specs.declared.reduced.Reduced.TheVariants.{Fixed as FixedAt, Kept as KeptAt, Changed as ChangedAt}
 use Rattle.mw_taut.specs.declared.table.Table.{Table}
+use Rattle.mw_taut.specs.declared.case.Question.{Question}
 use Rattle.mw_taut.specs.Reducing.{Fixed, Changed, other_at, form_at, each_at, IsOtherIn, IsFormIn}
-use Rattle.mw_taut.specs.Cases.{IsTableIn}
+use Rattle.mw_taut.specs.Cases.{IsQuestionIn, IsTableIn}
 
 module _ (old new : List Object) (grows : Grows old new) where
   pub in_kept : (rs : List ℕ) → All (IsIn old) rs → All (IsIn new) rs
   in_kept rs h = λ k d l. IsIn-Grows old new grows _ (h k d l)
+
+  pub question_kept : (q : Question) → IsQuestionIn old q → IsQuestionIn new q
+  question_kept q h = record { formula = IsIn-Grows old new grows q.formula h.formula; equations = in_kept q.equations.now h.equations }
 
   pub map_kept : (rs : List ℕ) → All (IsIn old) rs → map (object_at new) rs ≡ map (object_at old) rs
   map_kept [] h = refl

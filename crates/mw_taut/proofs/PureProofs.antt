@@ -11,7 +11,7 @@ use Rattle.mw_commands.specs.Commands.Tautology.{Choice, Many, Holds, IsTautolog
 use Rattle.mw_commands.specs.Commands.TautologyBook.{IsPureProof}
 use Rattle.mw_commands.proofs.Tautologies.{tautology_exact}
 use Rattle.mw_taut.proofs.Elements.{each_parts}
-use Rattle.mw_taut.specs.Steps.{schema, inserted, appended, resolved, doubled, left, right, neither}
+use Rattle.mw_taut.specs.Steps.{schema, inserted, appended, resolved, doubled, neither}
 use Rattle.mw_taut.specs.Reducing.{literal_law}
 use Rattle.mw_taut.specs.Meaning.{literal, among}
 use Rattle.mw_taut.proofs.Proved.{Good, left_part, right_part, schema-good, inserted-good, appended-good, resolved-good, doubled-good, left-good, right-good, neither-good}
@@ -82,31 +82,20 @@ module _ (A : ArityTable) (X : Type 0) where
       }
   denied C false G h = h
 
+  either_has : (C G K : Formula) (p : Object) → Good A p (Or (Or G K) C) → (X → Fits p) → (X → FormulaFits G) → (X → FormulaFits K) → (X → FormulaFits C) → Has (Or (Or G K) C)
+  either_has C G K p good fits g k c = record { proof = p; good = good; fits = fits; shown = λ x. or-fits _ (formula_object C) (or-fits (formula_object G) (formula_object K) (g x) (k x)) (c x) }
+
   first_true : (C G K : Formula) → Has (Or G C) → is_formula A K ≡ true → (X → FormulaFits K) → Has (Or (Or G K) C)
   first_true C G K h formed fit =
       let parts : X → FormulaFits G × FormulaFits C = λ x. both_fit G C (h.shown x) in
-      let g = formula_object G in
-      let k = formula_object K in
-      let c = formula_object C in
-      record {
-        proof = left g k c h.proof;
-        good = left-good A G K C h.proof formed h.good;
-        fits = λ x. left-fits g k c h.proof (parts x).0 (fit x) (parts x).1 (h.fits x);
-        shown = λ x. or-fits _ c (or-fits g k (parts x).0 (fit x)) (parts x).1;
-      }
+      let good = left-good A G K C h.proof formed h.good in
+      either_has C G K _ good (λ x. left-fits _ _ _ h.proof (parts x).0 (fit x) (parts x).1 (h.fits x)) (λ x. (parts x).0) fit (λ x. (parts x).1)
 
   second_true : (C G K : Formula) → Has (Or K C) → is_formula A G ≡ true → (X → FormulaFits G) → Has (Or (Or G K) C)
   second_true C G K h formed fit =
       let parts : X → FormulaFits K × FormulaFits C = λ x. both_fit K C (h.shown x) in
-      let g = formula_object G in
-      let k = formula_object K in
-      let c = formula_object C in
-      record {
-        proof = right g k c h.proof;
-        good = right-good A G K C h.proof formed h.good;
-        fits = λ x. right-fits g k c h.proof (fit x) (parts x).0 (parts x).1 (h.fits x);
-        shown = λ x. or-fits _ c (or-fits g k (fit x) (parts x).0) (parts x).1;
-      }
+      let good = right-good A G K C h.proof formed h.good in
+      either_has C G K _ good (λ x. right-fits _ _ _ h.proof (fit x) (parts x).0 (parts x).1 (h.fits x)) fit (λ x. (parts x).0) (λ x. (parts x).1)
 
   both_false : (C G K : Formula) → Holds_in C false G → Holds_in C false K → Holds_in C false (Or G K)
   both_false C G K h i =

@@ -1,17 +1,17 @@
 -- The rules of the table make what they should.
-use Rattle.std.proofs.Common.{◌≡◌, [], ◌∷◌, Option, Some, None, refl}
+use Rattle.std.proofs.Common.{◌≡◌, true, [], ◌∷◌, Option, Some, None, refl}
 use Rattle.mw_model.specs.Terms.Object.{Object}
 use Rattle.mw_taut.specs.Steps.{added_after, added_before, appended, commuted, detached, doubled, exchanged, exposed, gained_left, gained_right, gathered, grouped, inserted, left, neither, not_object, or_object, owed_alone, owed_left, owed_right, placed, replaced, resolved, right, schema, turned, turned_twice, without_first, without_second}
-use Rattle.mw_taut.specs.Reducing.{alone_end, both_from, both_from_end, both_from_start, both_to, both_to_end, both_to_middle, both_to_start, denial, denied_from, denied_to, either_both, either_first, either_first_kept, either_second, either_second_kept, first_from, first_kept_from, first_kept_to, first_to, first_to_start, from_end, kept, kept_from, kept_from_end, kept_from_start, kept_to, kept_to_end, kept_to_middle, kept_to_start, second_from, second_kept_from, second_kept_to, second_to, second_to_end, second_to_start, to_end, undenied, undenied_from, undenied_to, undoubled}
+use Rattle.mw_taut.specs.Reducing.{alone_end, both_from, both_from_end, both_from_start, both_to, both_to_end, both_to_middle, both_to_start, denial, denied_from, denied_to, either_both, either_first, either_first_kept, either_second, either_second_kept, first_from, first_kept_from, first_kept_to, first_to, first_to_start, from_end, kept, kept_from, kept_from_end, kept_from_start, kept_to, kept_to_end, kept_to_middle, kept_to_start, literal_law, second_from, second_kept_from, second_kept_to, second_to, second_to_end, second_to_start, to_end, undenied, undenied_from, undenied_to, undoubled}
 use Rattle.mw_taut.specs.Rules.{rule_made, change_of}
 
 pub not_made : (a : Object) → rule_made 42 (a ∷ []) ≡ not_object a
 unfolding rule_made
 not_made a = refl
 
-pub or_made : (a b : Object) → rule_made 43 (a ∷ b ∷ []) ≡ or_object a b
-unfolding rule_made
-or_made a b = refl
+pub law_made : (a : Object) → rule_made 43 (a ∷ []) ≡ literal_law a true
+unfolding rule_made commuted
+law_made a = refl
 
 pub schema_made : (a : Object) → rule_made 0 (a ∷ []) ≡ schema a
 unfolding rule_made
@@ -25,9 +25,9 @@ pub resolved_made : (c p q : Object) → rule_made 8 (c ∷ p ∷ q ∷ []) ≡ 
 unfolding rule_made resolved
 resolved_made c p q = refl
 
-pub detached_made : (a c p q : Object) → rule_made 14 (a ∷ c ∷ p ∷ q ∷ []) ≡ detached a c p q
+pub carried_made : (x d y p q : Object) → rule_made 68 (x ∷ d ∷ y ∷ p ∷ q ∷ []) ≡ commuted x d (detached y (or_object x d) p q)
 unfolding rule_made detached resolved commuted
-detached_made a c p q = refl
+carried_made x d y p q = refl
 
 pub doubled_made : (a c p : Object) → rule_made 9 (a ∷ c ∷ p ∷ []) ≡ doubled a c p
 unfolding rule_made doubled commuted

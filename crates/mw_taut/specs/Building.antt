@@ -29,11 +29,15 @@ IsPartOf os keys x y =
     ⊎ ((z i : ℕ) × IsIn os z × IsAt keys i z × (object_at os x ≡ or_object (object_at os z) (object_at os y))))
 
 abbrev pub IsMade : List Object → List ℕ → ℕ → ℕ → Node → Type 0
-IsMade os keys n x (Equation k) = (k ≡ n) × ((a : Object) → same_object (object_at os x) (not_object a) ≡ false) × ((a b : Object) → same_object (object_at os x) (or_object a b) ≡ false)
+IsMade os keys n x (Equation k) =
+    (k ≡ n) × ((a : Object) → same_object (object_at os x) (not_object a) ≡ false)
+    × ((a b : Object) → same_object (object_at os x) (or_object a b) ≡ false)
 IsMade os keys n x (Not i) = (y : ℕ) × IsIn os y × IsAt keys i y × (object_at os x ≡ not_object (object_at os y))
-IsMade os keys n x (Or i j) = (y z : ℕ) × IsIn os y × IsIn os z × IsAt keys i y × IsAt keys j z × (object_at os x ≡ or_object (object_at os y) (object_at os z))
+IsMade os keys n x (Or i j) =
+    (y z : ℕ) × IsIn os y × IsIn os z × IsAt keys i y × IsAt keys j z
+    × (object_at os x ≡ or_object (object_at os y) (object_at os z))
 
--- what was seen of x, where the table has these parts and so many equations
+-- what was seen of x, where the table has these parts and n equations
 abbrev pub IsProgress : List Object → List ℕ → ℕ → ℕ → Progress → Type 0
 IsProgress os keys n x (Made node) = IsMade os keys n x node
 IsProgress os keys n x (Wants y) = IsIn os y × IsNew keys y × IsPartOf os keys x y

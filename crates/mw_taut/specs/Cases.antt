@@ -9,6 +9,7 @@ use Rattle.mw_commands.specs.Commands.Tautology.{Choice, IsTautology, choices, c
 use Rattle.mw_heap.specs.Objects.{object_at, IsIn}
 use Rattle.indexmap.specs.IndexMap.{IndexMap, get}
 use Rattle.mw_taut.specs.declared.table.Table.{Table}
+use Rattle.mw_taut.specs.declared.case.Question.{Question}
 use Rattle.mw_taut.specs.declared.case.Outcome.{Outcome}
 use Rattle.mw_taut.specs.declared.case.Outcome.TheVariants.{Proof, Against}
 use Rattle.mw_taut.specs.declared.case.Follow.{Follow}
@@ -127,6 +128,10 @@ abbrev pub IsEnteredIn : List Object → Entered → Type 0
 IsEnteredIn os (Ended o) = IsOutcomeIn os o
 IsEnteredIn os (Goes s) = IsFollowIn os s
 
+pub record IsQuestionIn (os : List Object) (q : Question) : Type 0 where
+  pub formula : IsIn os q.formula
+  pub equations : All (IsIn os) q.equations.now
+
 -- the formula F of f is left to decide, where the equations before have these values
 pub record IsPosed (A : ArityTable) (os : List Object) (equations : List ℕ) (chosen : List Bool) (f : ℕ) (F : Formula) (before rest : List Formula) : Type 0 where
   pub object : object_at os f ≡ formula_object F
@@ -140,7 +145,9 @@ pub record IsPosed (A : ArityTable) (os : List Object) (equations : List ℕ) (c
 
 -- f is a formula that is true whatever is chosen, and p is a proof of it
 abbrev pub IsProvedAt : ArityTable → List Object → ℕ → ℕ → Type 0
-IsProvedAt A os f p = IsIn os f × IsIn os p × ((F : Formula) → object_at os f ≡ formula_object F → is_formula A F ≡ true → Proves NIL NIL A One (object_at os p) F × IsTautology F)
+IsProvedAt A os f p =
+    IsIn os f × IsIn os p
+    × ((F : Formula) → object_at os f ≡ formula_object F → is_formula A F ≡ true → Proves NIL NIL A One (object_at os p) F × IsTautology F)
 
 abbrev pub AreProved : {S : Type 0} → ArityTable → List Object → IndexMap ℕ ℕ S → Type 0
 AreProved A os m = (f p : ℕ) → get nat_eq m f ≡ Some p → IsProvedAt A os f p

@@ -1,4 +1,4 @@
--- What is owed for a formula's decision, and for its table.
+-- What the decision on a formula has to be, and its table.
 use Rattle.std.specs.Prelude.{◌≡◌, false, List, [], Some, map, slice_get}
 use Rattle.mw_model.specs.Terms.Object.{Object}
 use Rattle.mw_model.specs.Terms.Term.{Formula, formula_object, ArityTable}

@@ -1,4 +1,4 @@
--- The references of a name and a formula that a datum is a list of.
+-- A datum that is a list of a name and a formula, by their references.
 use Rattle.std.specs.Prelude.{◌≡◌, ℕ, true, false, List}
 use Rattle.mw_model.specs.Terms.Object.{Object, list2}
 use Rattle.mw_model.specs.Values.Primitive.{is_symbol}

@@ -3,7 +3,7 @@ use Rattle.std.specs.Prelude.{ℕ, suc, ◌<◌, List, [], ◌∷◌}
 use Rattle.mw_taut.specs.declared.node.Node.{Node}
 use Rattle.mw_taut.specs.declared.node.Node.TheVariants.{Equation, Not, Or}
 
--- the node names equations among so many, and earlier parts among so many
+-- the node names one of these equations, or earlier parts, by their number
 abbrev pub IsNode : ℕ → ℕ → Node → Type 0
 IsNode equations parts (Equation k) = k < equations
 IsNode equations parts (Not a) = a < parts

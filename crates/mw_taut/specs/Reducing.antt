@@ -1,9 +1,10 @@
 -- What the parts of a formula come to where an equation has a value: a truth value, or a formula without the equation; with proofs, in the
 -- context of the value's denial. A part in which the equation does not occur comes to itself, and there is nothing to prove.
-use Rattle.std.specs.Prelude.{Bool, true, false, cond, List, [], ◌∷◌, ◌++◌, length, map, get_or, option_map, Option, Some, None, IfSome}
+use Rattle.std.specs.Prelude.{Bool, true, false, cond, List, [], ◌∷◌, ◌++◌, length, map, get_or, option_map, Option, Some, None, IfSome, All}
 use Rattle.mw_model.specs.Terms.Object.{Object, NIL, same_object}
 use Rattle.mw_heap.specs.Objects.{object_at, IsIn}
-use Rattle.mw_taut.specs.declared.settled.Settled.{Settled}
+use Rattle.mw_taut.specs.declared.reduced.Assumption.{Assumption}
+use Rattle.mw_taut.specs.declared.reduced.Settled.{Settled}
 use Rattle.mw_taut.specs.declared.reduced.Change.{Change}
 use Rattle.mw_taut.specs.declared.reduced.Reduced.{Reduced}
 use Rattle.mw_taut.specs.declared.reduced.Reduced.TheVariants.{Fixed as FixedAt, Kept as KeptAt, Changed as ChangedAt}
@@ -296,6 +297,11 @@ form_at os (ChangedAt s) = Changed (other_at os s)
 
 abbrev pub each_at : List Object → List Reduced → List Form
 each_at os rs = map (form_at os) rs
+
+pub record IsAssumptionIn (os : List Object) (a : Assumption) : Type 0 where
+  pub formulas : All (IsIn os) a.formulas.now
+  pub equation : IsIn os a.equation
+  pub context : IsIn os a.context
 
 pub record IsOtherIn (os : List Object) (s : Change) : Type 0 where
   pub formula : IsIn os s.formula

@@ -12,8 +12,12 @@ use Rattle.mw_taut.specs.declared.verdict.Verdict.TheVariants.{Shape, Many, Fail
 abbrev pub IsVerdict : List Object → Object → Verdict → Type 0
 IsVerdict os x Shape = formula_given x ≡ None
 IsVerdict os x Many = (F : Formula) × (formula_given x ≡ Some F) × (decision F ≡ HasMany)
-IsVerdict os x (Fails r) = (F : Formula) × (c : Choice) × (formula_given x ≡ Some F) × (decision F ≡ FailsUnder c) × IsIn os r × (object_at os r ≡ choice_object c)
-IsVerdict os x (Theorem r) = (F : Formula) × (p : Object) × (formula_given x ≡ Some F) × (decision F ≡ Holds) × IsPureProof initial_arities p F × IsIn os r × (object_at os r ≡ list4 (symbol "VERIFY") (car x) (second_of x) p)
+IsVerdict os x (Fails r) =
+    (F : Formula) × (c : Choice) × (formula_given x ≡ Some F) × (decision F ≡ FailsUnder c)
+    × IsIn os r × (object_at os r ≡ choice_object c)
+IsVerdict os x (Theorem r) =
+    (F : Formula) × (p : Object) × (formula_given x ≡ Some F) × (decision F ≡ Holds) × IsPureProof initial_arities p F
+    × IsIn os r × (object_at os r ≡ list4 (symbol "VERIFY") (car x) (second_of x) p)
 
 abbrev pub is_theorem : Verdict → Bool
 is_theorem (Theorem r) = true

@@ -1,5 +1,5 @@
-//! The lines of the answers to a book of formulas. Each goes after what is there already. The error is out of memory: then a part of it
-//! may stand.
+//! The lines of the answers to a book of formulas. Each is appended to what is there. The error is out of memory: then a part of the line
+//! may have been written.
 ghost use Rattle.std.specs.Prelude.{◌≡◌, ◌≤◌, ◌-◌, ◌++◌, ◌∷◌, [], List, ℕ, OnOk, codes};
 ghost use Rattle.mw_model.specs.Terms.Object.{Object};
 ghost use Rattle.mw_model.specs.Texts.Printing.{numeral};
@@ -51,8 +51,7 @@ fn write_choice(
     write_line(lines, heap, choice)
 }
 
-/// Writes the piece that is owed for a datum of this number, of which this was found. The word is the text that is shown of its first
-/// member.
+/// Writes the answer to the datum of this number, by what was found of it. The word is the text that is shown of its first member.
 pub fn write_answer(
     lines: &mut Vec<u8>,
     heap: &Heap,

@@ -1,16 +1,17 @@
 //! The proof by cases.
-ghost use Rattle.std.specs.Prelude.{◌≡◌, nat_eq, List, ◌∷◌, All, IfOk, OnOk};
+ghost use Rattle.std.specs.Prelude.{◌≡◌, nat_eq, List, ◌∷◌, IfOk, OnOk};
 ghost use Rattle.mw_model.specs.Terms.Term.{Formula};
 ghost use Rattle.mw_heap.specs.Objects.{object_at, IsIn, Grows};
 ghost use Rattle.indexmap.specs.IndexMap.{get};
-ghost use Rattle.mw_taut.specs.Cases.{choice_of, carried, joined, answer_at, IsOutcomeIn, IsFollowIn, IsPosed, AreProved, Keeps, Decides, DecidesWhere};
+ghost use Rattle.mw_taut.specs.Cases.{choice_of, carried, joined, answer_at, IsQuestionIn, IsOutcomeIn, IsFollowIn, IsPosed, AreProved, Keeps, Decides, DecidesWhere};
 ghost use Rattle.mw_taut.specs.Decided.{IsTableOf};
 
-use crate::case::{Entered, Follow, Outcome};
+use crate::apply::apply;
+use crate::case::{Entered, Follow, Outcome, Question};
 use crate::choice::with_value;
 use crate::compile::table_of;
-use crate::derived::{commuted, detached, or, resolved};
 use crate::enter::enter;
+use crate::rule::{CARRIED, RESOLVED};
 use crate::table::Table;
 use indexmap::IndexMap;
 use mw_heap::{Heap, Memory, Ref};
@@ -28,9 +29,7 @@ fn carried(heap: &mut Heap, f: Ref, s: Follow, outcome: Outcome) -> Result<Outco
     let Outcome::Proof(p) = outcome else {
         return Ok(outcome);
     };
-    let whole = or(heap, f, s.context)?;
-    let proof = detached(heap, s.formula, whole, p, s.from)?;
-    let proof = commuted(heap, f, s.context, proof)?;
+    let proof = apply(heap, CARRIED, &[f, s.context, s.formula, p, s.from])?;
     Ok(Outcome::Proof(proof))
 }
 
@@ -46,7 +45,7 @@ fn joined(heap: &mut Heap, f: Ref, p: Ref, with: Outcome) -> Result<Outcome, Mem
     let Outcome::Proof(q) = with else {
         return Ok(with);
     };
-    let proof = resolved(heap, f, p, q)?;
+    let proof = apply(heap, RESOLVED, &[f, p, q])?;
     Ok(Outcome::Proof(proof))
 }
 
@@ -71,89 +70,85 @@ fn keep(proved: &mut IndexMap<Ref, Ref>, f: Ref, outcome: Outcome) -> Result<Out
     }
 }
 
-// What comes of the case in which the next equation has the value, of the formula f with this table.
+// What comes of the case in which the next equation has the value, of the formula with this table.
 #[cycle(cases)]
 fn branch(
     heap: &mut Heap,
     proved: &mut IndexMap<Ref, Ref>,
-    equations: &[Ref],
-    chosen: &[bool],
-    f: Ref,
+    at: &Question<'_>,
     table: &Table,
     value: bool,
     arity: &Arity,
 ) -> Result<Outcome, Memory>
-    requires f_in { IsIn heap.old.objects f }
-    requires equations_in { All (IsIn heap.old.objects) equations.now }
+    requires at_in { IsQuestionIn heap.old.objects at.now }
     requires proved { AreProved arity.now heap.old.objects proved.old }
-    requires posed { (F : Formula) × (before : List Formula) × (E : Formula) × (rest : List Formula) × IsPosed arity.now heap.old.objects equations.now chosen.now f F before (E ∷ rest) × IsTableOf heap.old.objects F table.now }
+    requires posed { (F : Formula) × (before : List Formula) × (E : Formula) × (rest : List Formula) × IsPosed arity.now heap.old.objects at.now.equations.now at.now.chosen.now at.now.formula F before (E ∷ rest) × IsTableOf heap.old.objects F table.now }
     ensures grows { Grows heap.old.objects heap.new.objects }
     ensures within { IfOk result (λ o. IsOutcomeIn heap.new.objects o) }
     ensures proved { OnOk result (AreProved arity.now heap.new.objects proved.new) }
-    ensures decides { IfOk result (λ o. (F : Formula) (before : List Formula) (E : Formula) (rest : List Formula) → IsPosed arity.now heap.old.objects equations.now chosen.now f F before (E ∷ rest) → IsTableOf heap.old.objects F table.now → DecidesWhere arity.now (choice_of before chosen.now) E value rest F (answer_at heap.new.objects o)) }
+    ensures decides { IfOk result (λ o. (F : Formula) (before : List Formula) (E : Formula) (rest : List Formula) → IsPosed arity.now heap.old.objects at.now.equations.now at.now.chosen.now at.now.formula F before (E ∷ rest) → IsTableOf heap.old.objects F table.now → DecidesWhere arity.now (choice_of before at.now.chosen.now) E value rest F (answer_at heap.new.objects o)) }
 {
-    match enter(heap, equations, chosen, f, table, value)? {
+    match enter(heap, at, table, value)? {
         Entered::Ended(outcome) => Ok(outcome),
         Entered::Goes(s) => {
-            let longer = with_value(heap, chosen, value)?;
-            let outcome = by_cases(heap, proved, equations, longer.as_slice(), s.formula, arity)?;
-            carried(heap, f, s, outcome)
+            let longer = with_value(heap, at.chosen, value)?;
+            let next = Question {
+                equations: at.equations,
+                chosen: longer.as_slice(),
+                formula: s.formula,
+            };
+            let outcome = by_cases(heap, proved, &next, arity)?;
+            carried(heap, at.formula, s, outcome)
         }
     }
 }
 
-/// What comes of the formula f, where the first equations are chosen: a proof that is known, or else by both values of the next equation. There
-/// are twelve equations at most, and so deep the calls go. The error is out of memory.
+/// What comes of the formula, where the first equations are chosen: a proof that is known, or else by both values of the next equation.
+/// The calls go as deep as there are equations, which are twelve at most. The error is out of memory.
 #[cycle(cases)]
 pub(crate) fn by_cases(
     heap: &mut Heap,
     proved: &mut IndexMap<Ref, Ref>,
-    equations: &[Ref],
-    chosen: &[bool],
-    f: Ref,
+    at: &Question<'_>,
     arity: &Arity,
 ) -> Result<Outcome, Memory>
-    requires f_in { IsIn heap.old.objects f }
-    requires equations_in { All (IsIn heap.old.objects) equations.now }
+    requires at_in { IsQuestionIn heap.old.objects at.now }
     requires proved { AreProved arity.now heap.old.objects proved.old }
-    requires posed { (F : Formula) × (before : List Formula) × (rest : List Formula) × IsPosed arity.now heap.old.objects equations.now chosen.now f F before rest }
+    requires posed { (F : Formula) × (before : List Formula) × (rest : List Formula) × IsPosed arity.now heap.old.objects at.now.equations.now at.now.chosen.now at.now.formula F before rest }
     ensures grows { Grows heap.old.objects heap.new.objects }
     ensures within { IfOk result (λ o. IsOutcomeIn heap.new.objects o) }
     ensures proved { OnOk result (AreProved arity.now heap.new.objects proved.new) }
-    ensures decides { IfOk result (λ o. (F : Formula) (before rest : List Formula) → IsPosed arity.now heap.old.objects equations.now chosen.now f F before rest → Decides arity.now (choice_of before chosen.now) rest F (answer_at heap.new.objects o)) }
+    ensures decides { IfOk result (λ o. (F : Formula) (before rest : List Formula) → IsPosed arity.now heap.old.objects at.now.equations.now at.now.chosen.now at.now.formula F before rest → Decides arity.now (choice_of before at.now.chosen.now) rest F (answer_at heap.new.objects o)) }
 {
-    if let Some(p) = proof_of(proved, f) {
+    if let Some(p) = proof_of(proved, at.formula) {
         return Ok(Outcome::Proof(p));
     }
-    let table = table_of(heap, f)?;
-    let outcome = by_both(heap, proved, equations, chosen, f, &table, arity)?;
-    keep(proved, f, outcome)
+    let table = table_of(heap, at.formula)?;
+    let outcome = by_both(heap, proved, at, &table, arity)?;
+    keep(proved, at.formula, outcome)
 }
 
-// What comes of the formula f, with this table, by both values of the next equation.
+// What comes of the formula, with this table, by both values of the next equation.
 #[cycle(cases)]
 fn by_both(
     heap: &mut Heap,
     proved: &mut IndexMap<Ref, Ref>,
-    equations: &[Ref],
-    chosen: &[bool],
-    f: Ref,
+    at: &Question<'_>,
     table: &Table,
     arity: &Arity,
 ) -> Result<Outcome, Memory>
-    requires f_in { IsIn heap.old.objects f }
-    requires equations_in { All (IsIn heap.old.objects) equations.now }
+    requires at_in { IsQuestionIn heap.old.objects at.now }
     requires proved { AreProved arity.now heap.old.objects proved.old }
-    requires posed { (F : Formula) × (before : List Formula) × (E : Formula) × (rest : List Formula) × IsPosed arity.now heap.old.objects equations.now chosen.now f F before (E ∷ rest) × IsTableOf heap.old.objects F table.now }
+    requires posed { (F : Formula) × (before : List Formula) × (E : Formula) × (rest : List Formula) × IsPosed arity.now heap.old.objects at.now.equations.now at.now.chosen.now at.now.formula F before (E ∷ rest) × IsTableOf heap.old.objects F table.now }
     ensures grows { Grows heap.old.objects heap.new.objects }
     ensures within { IfOk result (λ o. IsOutcomeIn heap.new.objects o) }
     ensures proved { OnOk result (AreProved arity.now heap.new.objects proved.new) }
-    ensures decides { IfOk result (λ o. (F : Formula) (before : List Formula) (E : Formula) (rest : List Formula) → IsPosed arity.now heap.old.objects equations.now chosen.now f F before (E ∷ rest) → IsTableOf heap.old.objects F table.now → Decides arity.now (choice_of before chosen.now) (E ∷ rest) F (answer_at heap.new.objects o)) }
+    ensures decides { IfOk result (λ o. (F : Formula) (before : List Formula) (E : Formula) (rest : List Formula) → IsPosed arity.now heap.old.objects at.now.equations.now at.now.chosen.now at.now.formula F before (E ∷ rest) → IsTableOf heap.old.objects F table.now → Decides arity.now (choice_of before at.now.chosen.now) (E ∷ rest) F (answer_at heap.new.objects o)) }
 {
-    let without = branch(heap, proved, equations, chosen, f, table, false, arity)?;
+    let without = branch(heap, proved, at, table, false, arity)?;
     let Outcome::Proof(without) = without else {
         return Ok(without);
     };
-    let with = branch(heap, proved, equations, chosen, f, table, true, arity)?;
-    joined(heap, f, without, with)
+    let with = branch(heap, proved, at, table, true, arity)?;
+    joined(heap, at.formula, without, with)
 }

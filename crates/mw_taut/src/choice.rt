@@ -42,7 +42,7 @@ fn is_true(chosen: &[bool], k: usize) -> bool
     }
 }
 
-/// The choice as a list of pairs (equation . value): of equations that are not chosen yet the value is false.
+/// The choice as a list of pairs (equation . value). The value of an equation that has not been chosen is false.
 pub(crate) fn choice_list(
     heap: &mut Heap,
     equations: &[Ref],

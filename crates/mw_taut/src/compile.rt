@@ -61,7 +61,7 @@ fn put_equation(equations: &mut Vec<Ref>, x: Ref, node: Node) -> Result<(), Memo
     Ok(())
 }
 
-// Looks at a part that waits: it goes back with what it wants first on top, or into the table.
+// Looks at a part that waits: it goes into the table, or back on the path with the first part that it needs on top of it.
 fn advance(
     heap: &Heap,
     parts: &mut IndexSet<Ref>,
@@ -91,7 +91,7 @@ fn advance(
     Ok(())
 }
 
-/// The table of the formula. Each part is looked at three times at most: a part that waits for another stays on the path below it.
+/// The table of the formula. Each part is looked at three times at most: a part that waits for another stays below it on the path.
 pub(crate) fn table_of(heap: &Heap, f: Ref) -> Result<Table, Memory>
     requires within { IsIn heap.now.objects f }
     requires formula { (A : ArityTable) × (F : Formula) × (object_at heap.now.objects f ≡ formula_object F) × (is_formula A F ≡ true) }
@@ -104,7 +104,7 @@ pub(crate) fn table_of(heap: &Heap, f: Ref) -> Result<Table, Memory>
     table_with(heap, &parts, nodes, equations)
 }
 
-// Puts the parts of the formula into the table, where there are none yet.
+// Puts the parts of the formula into an empty table.
 fn put_parts(
     heap: &Heap,
     f: Ref,

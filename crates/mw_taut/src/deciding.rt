@@ -8,7 +8,7 @@ ghost use Rattle.mw_heap.specs.Objects.{object_at, IsIn, Grows};
 ghost use Rattle.mw_taut.specs.Cases.{Decides, answer_at, IsOutcomeIn};
 ghost use Rattle.mw_taut.specs.Decided.{IsTableOf, IsDecision, decision_of, IsInRange};
 
-use crate::case::Outcome;
+use crate::case::{Outcome, Question};
 use crate::cases::by_cases;
 use crate::compile::table_of;
 use crate::table::Table;
@@ -21,7 +21,7 @@ use mw_term::Arity;
 pub enum Decision {
     /// It is a tautology, by this proof, from no axioms and no theorems.
     Proof(Ref),
-    /// It is none: the first choice that makes it false, as a list of pairs (equation . value).
+    /// It is not a tautology: the first choice that makes it false, as a list of pairs (equation . value).
     Choice(Ref),
     /// It has more than twelve equations.
     Many,
@@ -29,7 +29,7 @@ pub enum Decision {
     Memory,
 }
 
-// Formulas with more equations than this are not decided, as the definition of the command says: twelve have 4,096 choices of values.
+// A formula with more equations is not decided, as the definition of the command says: twelve have 4,096 choices of values.
 const MOST_EQUATIONS: usize = 12;
 
 // What comes of the proof by cases.
@@ -41,11 +41,15 @@ fn outcome(heap: &mut Heap, f: Ref, table: &Table, arity: &Arity) -> Result<Outc
     ensures decides { IfOk result (λ o. (F : Formula) → object_at heap.old.objects f ≡ formula_object F → is_formula arity.now F ≡ true → IsTableOf heap.old.objects F table.now → Decides arity.now [] (equations F) F (answer_at heap.new.objects o)) }
 {
     let mut proved = IndexMap::new(heap.alloc());
-    let equations = table.equations.as_slice();
-    by_cases(heap, &mut proved, equations, &[], f, arity)
+    let whole = Question {
+        equations: table.equations.as_slice(),
+        chosen: &[],
+        formula: f,
+    };
+    by_cases(heap, &mut proved, &whole, arity)
 }
 
-// The answer for an outcome. That all objects of the heap are in range is seen at the proof.
+// The answer for an outcome. That a proof holds no natural out of range is known of every object of the heap.
 fn answer(heap: &Heap, outcome: Outcome) -> Decision
     requires { IsOutcomeIn heap.now.objects outcome }
     ensures answer { result ≡ decision_of outcome }
@@ -60,7 +64,7 @@ fn answer(heap: &Heap, outcome: Outcome) -> Decision
     }
 }
 
-// The decision, where memory suffices. The looks that it takes are allowed by the number of the formula's distinct parts.
+// The decision. How many looks it may take depends on the number of the formula's distinct parts. The error is out of memory.
 fn decided(heap: &mut Heap, f: Ref, arity: &Arity) -> Result<Decision, Memory>
     requires within { IsIn heap.old.objects f }
     requires formula { (F : Formula) × (object_at heap.old.objects f ≡ formula_object F) × (is_formula arity.now F ≡ true) }
@@ -76,10 +80,10 @@ fn decided(heap: &mut Heap, f: Ref, arity: &Arity) -> Result<Decision, Memory>
     Ok(answer(heap, outcome))
 }
 
-/// Whether a formula of these arities is a tautology. It answers that there are many equations exactly when there are more than twelve;
-/// else a proof from no axioms and no theorems under profile one, which holds no natural past the range, exactly when the formula
-/// is a tautology; else the first choice against it; but where that takes more looks than 2^24, and 64 for each distinct part of the
-/// formula, it is out of memory. What the heap gets more is not cut back.
+/// Decides whether a formula of these arities is a tautology. The answer is `Many` exactly when the formula has more than twelve
+/// equations. Otherwise it is a proof exactly when the formula is a tautology: from no axioms and no theorems, under profile one, and with
+/// no natural out of range. Otherwise it is the first choice against the formula. If that takes more than 2^24 looks, and 64 more
+/// for each distinct part of the formula, the answer is out of memory. The heap is not cut back.
 pub fn decide(heap: &mut Heap, f: Ref, arity: &Arity) -> Decision
     requires within { IsIn heap.old.objects f }
     requires formula { is_formula_object arity.now (object_at heap.old.objects f) ≡ true }

@@ -3,10 +3,9 @@ ghost use Rattle.std.specs.Prelude.{◌≡◌, IfOk};
 ghost use Rattle.mw_heap.specs.Objects.{object_at, IsIn, Grows};
 ghost use Rattle.mw_taut.specs.Reducing.{Fixed, Changed, settled_at, other_at, form_at, IsOtherIn, IsFormIn, deny_value, deny_other, deny};
 
-use crate::change::{denial, undenied};
-use crate::derived::doubled;
-use crate::reduced::{Change, Reduced};
-use crate::settled::Settled;
+use crate::change::{changed, fixed};
+use crate::reduced::{Change, Reduced, Settled};
+use crate::rule::{DENIAL, DOUBLED, UNDENIED};
 use mw_heap::{Heap, Memory, Ref};
 
 // Where the value of x is fixed.
@@ -18,16 +17,12 @@ fn deny_value(heap: &mut Heap, d: Ref, x: Ref, s: Settled) -> Result<Reduced, Me
     ensures within { IfOk result (λ r. IsFormIn heap.new.objects r) }
     ensures made { IfOk result (λ r. form_at heap.new.objects r ≡ Fixed (deny_value (object_at heap.old.objects d) (object_at heap.old.objects x) (settled_at heap.old.objects s))) }
 {
-    if !s.value {
-        return Ok(Reduced::Fixed(Settled {
-            value: true,
-            proof: s.proof,
-        }));
+    if s.value {
+        return fixed(heap, false, DOUBLED, &[x, d, s.proof]);
     }
-    let proof = doubled(heap, x, d, s.proof)?;
     Ok(Reduced::Fixed(Settled {
-        value: false,
-        proof,
+        value: true,
+        proof: s.proof,
     }))
 }
 
@@ -41,8 +36,11 @@ fn deny_other(heap: &mut Heap, d: Ref, x: Ref, s: Change) -> Result<Reduced, Mem
     ensures made { IfOk result (λ r. form_at heap.new.objects r ≡ Changed (deny_other (object_at heap.old.objects d) (object_at heap.old.objects x) (other_at heap.old.objects s) (other_at heap.old.objects s).denied)) }
 {
     match s.denied {
-        Some(z) => undenied(heap, d, x, z, s),
-        None => denial(heap, d, x, s),
+        Some(z) => changed(heap, UNDENIED, None, &[d, x, s.formula, s.from, s.to, z]),
+        None => {
+            let given = [d, x, s.formula, s.from, s.to];
+            changed(heap, DENIAL, Some(s.formula), &given)
+        }
     }
 }
 

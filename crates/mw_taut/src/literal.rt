@@ -3,7 +3,8 @@ ghost use Rattle.std.specs.Prelude.{◌≡◌, IfOk};
 ghost use Rattle.mw_heap.specs.Objects.{object_at, IsIn, Grows};
 ghost use Rattle.mw_taut.specs.Reducing.{literal_object, literal_law};
 
-use crate::derived::{commuted, not, schema};
+use crate::apply::apply;
+use crate::rule::{LAW, NOT, SCHEMA};
 use mw_heap::{Heap, Memory, Ref};
 
 /// The equation where it is taken to be true, and else its denial.
@@ -16,7 +17,7 @@ pub(crate) fn literal(heap: &mut Heap, equation: Ref, value: bool) -> Result<Ref
     if value {
         Ok(equation)
     } else {
-        not(heap, equation)
+        apply(heap, NOT, &[equation])
     }
 }
 
@@ -27,10 +28,9 @@ pub(crate) fn literal_law(heap: &mut Heap, equation: Ref, value: bool) -> Result
     ensures within { IfOk result (λ r. IsIn heap.new.objects r) }
     ensures made { IfOk result (λ r. object_at heap.new.objects r ≡ literal_law (object_at heap.old.objects equation) value) }
 {
-    let law = schema(heap, equation)?;
-    if !value {
-        return Ok(law);
+    if value {
+        apply(heap, LAW, &[equation])
+    } else {
+        apply(heap, SCHEMA, &[equation])
     }
-    let denial = not(heap, equation)?;
-    commuted(heap, denial, equation, law)
 }

@@ -2,28 +2,27 @@
 ghost use Rattle.std.specs.Prelude.{◌≡◌, ℕ, ◌<◌, ◌≤◌, [], All, length, map, IfOk, OnOk};
 ghost use Rattle.mw_heap.specs.Objects.{object_at, IsIn, Grows};
 ghost use Rattle.mw_taut.specs.Nodes.{IsNode, AreNodes};
-ghost use Rattle.mw_taut.specs.Reducing.{reduce_equation, reduce, reduce_all, form_at, each_at, IsFormIn};
+ghost use Rattle.mw_taut.specs.Reducing.{reduce_equation, reduce, reduce_all, form_at, each_at, IsFormIn, IsAssumptionIn};
 
 use crate::deny::deny;
 use crate::either::either;
 use crate::literal::literal_law;
 use crate::node::Node;
-use crate::reduced::Reduced;
-use crate::settled::Settled;
+use crate::reduced::{Assumption, Reduced, Settled};
 use mw_heap::{Heap, Mark, Memory, Ref};
 use mw_term::take_searches;
 
-// The looks of a part that is kept: it is looked up as a table is made.
+// The looks of a part that is kept: it was looked up when the table was made.
 const LOOKS_FOR_A_KEPT_PART: u64 = 4;
 
-// The looks of any other part: the cells of its steps are looked up, though they may all stand in the heap already.
+// The looks of any other part: the cells of its steps are looked up, even if they are all in the heap already.
 const LOOKS_FOR_A_CHANGED_PART: u64 = 128;
 
-// The looks of each cell that is made for a part: half as many as in other work, since that the parities of twelve equations in two orders
-// are the same takes 2.6 million cells and more.
+// The looks of each cell that is made for a part: half as many as in other work, since the proof that the parities of twelve equations in
+// two orders are equal takes more than 2.6 million cells.
 const LOOKS_FOR_A_NEW_CELL: u64 = 4;
 
-// Takes the looks of a part that came to this, and those of the cells that were made for it, which came after the mark.
+// Takes the looks of a part that came to this, and those of the cells that were made for it after the mark.
 fn take_looks_at(heap: &mut Heap, had: Mark, reduced: &Reduced) -> Result<(), Memory>
     ensures { heap.new.objects ≡ heap.old.objects }
 {
@@ -54,79 +53,70 @@ fn reduce_equation(heap: &mut Heap, e: Ref, value: bool, x: Ref) -> Result<Reduc
 // One node.
 fn reduce(
     heap: &mut Heap,
-    d: Ref,
-    e: Ref,
-    value: bool,
-    formulas: &[Ref],
+    at: &Assumption<'_>,
     done: &[Reduced],
     node: Node,
 ) -> Result<Reduced, Memory>
-    requires d_in { IsIn heap.old.objects d }
-    requires e_in { IsIn heap.old.objects e }
-    requires formulas_in { All (IsIn heap.old.objects) formulas.now }
+    requires at_in { IsAssumptionIn heap.old.objects at.now }
     requires done_in { All (IsFormIn heap.old.objects) done.now }
-    requires node { (m : ℕ) × IsNode m (length done.now) node }
-    requires parts { length done.now < length formulas.now }
+    requires node { (m : ℕ) × IsNode m (length done.now) node × (length done.now < length at.now.formulas.now) }
     ensures grows { Grows heap.old.objects heap.new.objects }
     ensures within { IfOk result (λ r. IsFormIn heap.new.objects r) }
-    ensures made { IfOk result (λ r. form_at heap.new.objects r ≡ reduce (object_at heap.old.objects d) (object_at heap.old.objects e) value (map (object_at heap.old.objects) formulas.now) (each_at heap.old.objects done.now) node) }
+    ensures made { IfOk result (λ r. form_at heap.new.objects r ≡ reduce (object_at heap.old.objects at.now.context) (object_at heap.old.objects at.now.equation) at.now.value (map (object_at heap.old.objects) at.now.formulas.now) (each_at heap.old.objects done.now) node) }
 {
     match node {
-        Node::Equation(_) => reduce_equation(heap, e, value, formulas[done.len()]),
-        Node::Not(i) => deny(heap, d, formulas[i], done[i]),
-        Node::Or(i, j) => either(heap, d, formulas[i], formulas[j], done[i], done[j]),
+        Node::Equation(_) => {
+            reduce_equation(heap, at.equation, at.value, at.formulas[done.len()])
+        }
+        Node::Not(i) => deny(heap, at.context, at.formulas[i], done[i]),
+        Node::Or(i, j) => {
+            either(
+                heap,
+                at.context,
+                at.formulas[i],
+                at.formulas[j],
+                done[i],
+                done[j],
+            )
+        }
     }
 }
 
-/// What each node comes to where the equation e has the value, whose denial is d, in order. The error is out of memory, or that
-/// the looks that the heap allows are used up.
+/// What each node comes to under an assumption, in order. The error is out of memory, or that the looks that the heap allows are
+/// used up.
 pub(crate) fn reduce_all(
     heap: &mut Heap,
-    d: Ref,
-    e: Ref,
-    value: bool,
-    formulas: &[Ref],
+    at: &Assumption<'_>,
     nodes: &[Node],
 ) -> Result<Vec<Reduced>, Memory>
-    requires d_in { IsIn heap.old.objects d }
-    requires e_in { IsIn heap.old.objects e }
-    requires formulas_in { All (IsIn heap.old.objects) formulas.now }
-    requires nodes { (m : ℕ) × AreNodes m 0 nodes.now }
-    requires parts { length nodes.now ≤ length formulas.now }
+    requires at_in { IsAssumptionIn heap.old.objects at.now }
+    requires nodes { (m : ℕ) × AreNodes m 0 nodes.now × (length nodes.now ≤ length at.now.formulas.now) }
     ensures grows { Grows heap.old.objects heap.new.objects }
-    ensures within { IfOk result (λ v. All (IsFormIn heap.new.objects) v.items) }
-    ensures all { IfOk result (λ v. length v.items ≡ length nodes.now) }
-    ensures made { IfOk result (λ v. each_at heap.new.objects v.items ≡ reduce_all (object_at heap.old.objects d) (object_at heap.old.objects e) value (map (object_at heap.old.objects) formulas.now) [] nodes.now) }
+    ensures within { IfOk result (λ v. All (IsFormIn heap.new.objects) v.items × (length v.items ≡ length nodes.now)) }
+    ensures made { IfOk result (λ v. each_at heap.new.objects v.items ≡ reduce_all (object_at heap.old.objects at.now.context) (object_at heap.old.objects at.now.equation) at.now.value (map (object_at heap.old.objects) at.now.formulas.now) [] nodes.now) }
 {
     let mut done = Vec::new(heap.alloc());
-    reduce_each(heap, d, e, value, formulas, nodes, &mut done)?;
+    reduce_each(heap, at, nodes, &mut done)?;
     Ok(done)
 }
 
-// Adds what each node comes to, in order, where none is done yet.
+// Adds what each node comes to, in order, to an empty list.
 fn reduce_each(
     heap: &mut Heap,
-    d: Ref,
-    e: Ref,
-    value: bool,
-    formulas: &[Ref],
+    at: &Assumption<'_>,
     nodes: &[Node],
     done: &mut Vec<Reduced>,
 ) -> Result<(), Memory>
-    requires d_in { IsIn heap.old.objects d }
-    requires e_in { IsIn heap.old.objects e }
-    requires formulas_in { All (IsIn heap.old.objects) formulas.now }
-    requires nodes { (m : ℕ) × AreNodes m 0 nodes.now }
-    requires parts { length nodes.now ≤ length formulas.now }
+    requires at_in { IsAssumptionIn heap.old.objects at.now }
+    requires nodes { (m : ℕ) × AreNodes m 0 nodes.now × (length nodes.now ≤ length at.now.formulas.now) }
     requires none { done.old.items ≡ [] }
     ensures grows { Grows heap.old.objects heap.new.objects }
-    ensures within { OnOk result (All (IsFormIn heap.new.objects) done.new.items) }
-    ensures all { OnOk result (length done.new.items ≡ length nodes.now) }
-    ensures made { OnOk result (each_at heap.new.objects done.new.items ≡ reduce_all (object_at heap.old.objects d) (object_at heap.old.objects e) value (map (object_at heap.old.objects) formulas.now) [] nodes.now) }
+    ensures within { OnOk result (All (IsFormIn heap.new.objects) done.new.items × (length done.new.items ≡ length nodes.now)) }
+    ensures made { OnOk result (each_at heap.new.objects done.new.items ≡ reduce_all (object_at heap.old.objects at.now.context) (object_at heap.old.objects at.now.equation) at.now.value (map (object_at heap.old.objects) at.now.formulas.now) [] nodes.now) }
 {
     for node in nodes {
         let had = heap.mark();
-        let reduced = reduce(heap, d, e, value, formulas, done.as_slice(), *node)?;
+        let reduced = reduce(heap, at, done.as_slice(), *node)?;
         take_looks_at(heap, had, &reduced)?;
         done.push(reduced)?;
     }

@@ -1,6 +1,21 @@
 //! What a formula comes to where an equation has a value.
-use crate::settled::Settled;
 use mw_heap::Ref;
+
+/// The parts of a formula, and that an equation has a value. The context is the denial of that, as a formula.
+#[derive(Clone, Copy)]
+pub(crate) struct Assumption<'a> {
+    pub formulas: &'a [Ref],
+    pub equation: Ref,
+    pub value: bool,
+    pub context: Ref,
+}
+
+/// A formula's value in a case, and a proof of the formula where it is true, or else of its denial, or the context of the case.
+#[derive(Clone, Copy)]
+pub(crate) struct Settled {
+    pub value: bool,
+    pub proof: Ref,
+}
 
 /// Another formula, and of what it is the denial, if it is one. The first proof is of its denial, or the whole or the context, and the other
 /// of the whole's denial, or the context or the other formula.

@@ -12,17 +12,17 @@ pub(crate) const LEFT: usize = 10;
 
 pub(crate) const RIGHT: usize = 11;
 
-pub(crate) const DETACHED: usize = 14;
-
 pub(crate) const NEITHER: usize = 21;
 
 pub(crate) const NOT: usize = 42;
 
-pub(crate) const OR: usize = 43;
+pub(crate) const LAW: usize = 43;
 
 pub(crate) const KEPT_FROM: usize = 45;
 
-// The first of three rules: for another formula that a part comes to, for the proof from it, and for the proof of it.
+pub(crate) const CARRIED: usize = 68;
+
+// These are each the first of three rules: one makes the formula that a part comes to, the next the proof from it, the last the proof of it.
 pub(crate) const KEPT: u8 = 44;
 
 pub(crate) const DENIAL: u8 = 47;

@@ -1,5 +1,5 @@
-//! The rules of proofs, as a table of pieces: the parts of each list stand before it, and what a rule is given before the rule. So
-//! `A, B, OR` is (por* a b), and `C, A, B, D, TURN` is what the rule of turning makes of the given objects C, A, B and D.
+//! The rules for making proofs, as a table of pieces in postfix order: the parts of a list come before it, and what a rule is given comes
+//! before the rule. So `A, B, OR` is (por* a b), and `C, A, B, D, TURN` is what the rule TURN makes of the objects C, A, B and D.
 use mw_build::Piece::{self, Form, Given, List, Rule};
 use mw_heap::Word;
 
@@ -63,6 +63,8 @@ const TURN: Piece = Rule(12, 4);
 
 const TURN_TWICE: Piece = Rule(13, 4);
 
+const DETACH: Piece = Rule(14, 4);
+
 const REPLACE: Piece = Rule(15, 6);
 
 const GATHER: Piece = Rule(16, 3);
@@ -116,7 +118,7 @@ const KEEP_TO: Piece = Rule(40, 5);
 const ALONE_END: Piece = Rule(41, 4);
 
 // What each rule makes, and of proofs of what, by the letters that stand for them.
-pub(crate) static RULES: [&[Piece]; 68] = [
+pub(crate) static RULES: [&[Piece]; 69] = [
     // 0: not A or A
     &[A, NOT, A, OR, BY_SCHEMA],
     // 1: A or B, of B by C
@@ -244,8 +246,8 @@ pub(crate) static RULES: [&[Piece]; 68] = [
     &[B, A, C, OR, A, A, C, OR, B, OR, C, D, OWE_ALONE, GATHER],
     // 42: not A
     &[A, NOT],
-    // 43: A or B
-    &[A, B, OR],
+    // 43: A or not A
+    &[A, NOT, A, A, SCHEMA, COMMUTE],
     // 44: B
     &[B],
     // 45: not B or (B or A)
@@ -318,4 +320,6 @@ pub(crate) static RULES: [&[Piece]; 68] = [
     &[
         A, B, B, C, OR, NOT, D, C, A, B, C, B, C, OR, NOT, D, TO_KEPT, F, TO_OTHER,
     ],
+    // 68: B or A, of C by D and not C or (A or B) by E
+    &[A, B, C, A, B, OR, D, E, DETACH, COMMUTE],
 ];

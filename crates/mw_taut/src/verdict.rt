@@ -34,8 +34,8 @@ impl Verdict {
     }
 }
 
-// The name and the formula, where it is a list of two whose first member is a symbol. That the heap holds no natural past the range is
-// seen at the view.
+// The name and the formula, if it is a list of two whose first member is a symbol. That it holds no natural out of range is known from
+// the view.
 fn members_of(heap: &Heap, x: Ref) -> Option<(Ref, Ref)>
     requires { IsIn heap.now.objects x }
     ensures { MatchOption result (formula_given (object_at heap.now.objects x) ≡ None) (λ m. IsNamed heap.now.objects (object_at heap.now.objects x) m.0 m.1) }
@@ -88,8 +88,8 @@ fn decided(heap: &mut Heap, arity: &Arity, name: Ref, formula: Ref) -> Result<Ve
     }
 }
 
-/// What is found of a datum. The objects that have no marks yet get them, but not those that are made. Beside that it takes the
-/// time of `decide`. It is out of memory where that is, or where its own parts are: the heap may have grown then too.
+/// What is found of a datum. Objects that have no marks yet get them, except those that are made here. Besides that it takes the
+/// time of `decide`. The error is out of memory, also where `decide` answers so; the heap may have grown then.
 pub fn verdict_on(
     heap: &mut Heap,
     arity: &Arity,

@@ -21,7 +21,7 @@ apply-returns-clause-made t c =
     let given = map (object_at os) c.args.given.now in
     let more : 0 < c.args.depth = omega (arith, c.if-depth-eq0.false) in
     let made = made_by rules (c.args.depth - 1) in
-    let start : run made given (stack_of os c.new-stack.result.items) c.pieces_at-pieces.result.now ≡ run made given [] (get_or rules c.args.number []) = λ i. run made given (stack_of os (c.new-stack.ensures.items i)) (c.pieces_at-pieces.ensures i) in
+    let start : run made given (stack_of os c.in_ok-stack.stack.items) c.pieces_at-pieces.result.now ≡ run made given [] (get_or rules c.args.number []) = λ i. run made given (stack_of os (c.in_ok-stack.ensures.items i)) (c.pieces_at-pieces.ensures i) in
     IfOk-weaker c.newest.result _ _ (λ r m. (m.0, m.1 ∙ (ap newest (c.in_ok-run.ensures.made ∙ start) ∙ one_deeper rules c.args.depth c.args.number given more))) c.newest.ensures.made
 
 pub make_piece-returns-in-List-clause-made : goal.make_piece-returns-in-List-clause-made

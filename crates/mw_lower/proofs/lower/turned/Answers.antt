@@ -1,14 +1,14 @@
 -- By the marks as they are then, in the heap that is the same.
 use Rattle.std.proofs.Common.{◌≡◌, None, MatchOption, sym, subst, All}
+use Rattle.std.proofs.lemmas.Result.{IfOk-weaker}
 use Rattle.mw_heap.specs.Objects.{object_at, IsIn, Grows}
 use Rattle.mw_heap.specs.Variants.{profile_of}
 use Rattle.mw_term.specs.Marking.{AreMarks}
 use Rattle.mw_term.proofs.CallerLemmas.{AreMarks-grows}
 use Rattle.mw_proof.specs.Judging.{Basis, basis}
 use Rattle.mw_lower.specs.Parts.{AreParts}
-use Rattle.mw_lower.specs.Schemes.{HasEquality}
+use Rattle.mw_lower.specs.Proofs.{HasEquality}
 use Rattle.mw_lower.specs.Turned.{derived_on, IsTurned}
-use Rattle.mw_lower.proofs.Results.{IfOk-map}
 use Rattle.mw_lower.proofs.lower.turned.Goals as goal
 
 pub returns-clause-marked : goal.returns-clause-marked
@@ -43,4 +43,4 @@ returns-clause-turned c =
     let A = c.args.arity.now in
     let same = c.parts.ensures.same in
     let marked = subst (λ os. AreMarks A os c.extend.new.self) (sym same) c.in_ok-extend.ensures.marked in
-    IfOk-map c.turn_all.result _ _ (λ o h. subst (λ os. IsTurned (basis os A c.args.axioms.now c.args.theorems.now (profile_of c.args.profile)) c.turn_all.new.heap.objects o (object_at os c.args.proof)) same (h A marked)) c.turn_all.ensures.turned
+    IfOk-weaker c.turn_all.result _ _ (λ o h. subst (λ os. IsTurned (basis os A c.args.axioms.now c.args.theorems.now (profile_of c.args.profile)) c.turn_all.new.heap.objects o (object_at os c.args.proof)) same (h A marked)) c.turn_all.ensures.turned

@@ -1,12 +1,12 @@
 -- The step itself, or one that is made.
 use Rattle.std.proofs.Common.{[], ◌∷◌, inl, inr, sym, ap, ◌∙◌}
 use Rattle.std.proofs.lemmas.Bool.{true≢false}
-use Rattle.std.proofs.lemmas.List.Elements.{All-cons, All-nil}
+use Rattle.std.proofs.lemmas.List.Elements.{All-from_recursion}
+use Rattle.std.proofs.lemmas.Result.{IfOk-weaker}
 use Rattle.mw_model.specs.Terms.Object.{list4}
 use Rattle.mw_model.proofs.Names.{same_object-eq, same_object-from}
 use Rattle.mw_heap.specs.Objects.{object_at, IsIn}
 use Rattle.mw_heap.proofs.Objects.{IsIn-Grows, object_at-Grows, Grows-trans}
-use Rattle.mw_lower.proofs.Results.{IfOk-map}
 use Rattle.mw_lower.proofs.MethodSteps.{made_step}
 use Rattle.mw_lower.proofs.method.with_proofs.Goals as goal
 
@@ -24,27 +24,22 @@ returns-clause-made c =
     let list = c.in_ok-list.ensures.made in
     let grows = c.in_ok-list.ensures.grows in
     let step = c.args.step in
-    IfOk-map c.make.result _ _ (λ q m. (
+    IfOk-weaker c.list_of-2.result _ _ (λ q m. (
       m.0,
       inr (
         λ e. true≢false (sym (same_object-from _ _ (list.1 ∙ (e ∙ sym (object_at-Grows os mid grows step.subproofs c.requires.subproofs)))) ∙ (sym c.same.ensures.same ∙ c.if-same.false)),
         m.1 ∙ (ap (λ z. list4 (object_at mid step.method) (object_at mid step.conclusion) z (object_at mid step.extras)) list.1 ∙ made_step os mid grows step c.requires.method c.requires.conclusion c.requires.extras _),
       ),
-    )) c.make.ensures.made
+    )) c.list_of-2.ensures.made
 
 pub same-requires-clause-second_in : goal.same-requires-clause-second_in
 same-requires-clause-second_in c = IsIn-Grows _ _ c.in_ok-list.ensures.grows _ c.requires.subproofs
 
-pub make-requires : goal.make-requires
-make-requires c =
-    let P = IsIn c.list_of.new.heap.objects in
+pub list_of-requires-2 : goal.list_of-requires-2
+list_of-requires-2 c =
     let grows = c.in_ok-list.ensures.grows in
     let step = c.args.step in
-    let list = c.in_ok-list.list in
-    All-cons P step.method (step.conclusion ∷ list ∷ step.extras ∷ []) (IsIn-Grows _ _ grows _ c.requires.method)
-    (All-cons P step.conclusion (list ∷ step.extras ∷ []) (IsIn-Grows _ _ grows _ c.requires.conclusion)
-    (All-cons P list (step.extras ∷ []) c.in_ok-list.ensures.made.0
-    (All-cons P step.extras [] (IsIn-Grows _ _ grows _ c.requires.extras) (All-nil P))))
+    All-from_recursion (IsIn c.list_of.new.heap.objects) (step.method ∷ step.conclusion ∷ c.in_ok-list.list ∷ step.extras ∷ []) (IsIn-Grows _ _ grows _ c.requires.method, (IsIn-Grows _ _ grows _ c.requires.conclusion, (c.in_ok-list.ensures.made.0, (IsIn-Grows _ _ grows _ c.requires.extras, tt))))
 
 pub returns-clause-grows : goal.returns-clause-grows
-returns-clause-grows c = Grows-trans _ _ _ c.in_ok-list.ensures.grows c.make.ensures.grows
+returns-clause-grows c = Grows-trans _ _ _ c.in_ok-list.ensures.grows c.list_of-2.ensures.grows

@@ -3,6 +3,7 @@ use Rattle.std.proofs.Common.{ap, ◌∙◌}
 use Rattle.mw_model.specs.Terms.Object.{third_of}
 use Rattle.mw_commands.proofs.LogAccepted.{conclusion_is}
 use Rattle.mw_heap.proofs.Objects.{object_at-Grows}
+use Rattle.mw_lower.proofs.RulesProve.{detaches}
 use Rattle.mw_lower.proofs.StepTests.{no_object}
 use Rattle.mw_lower.proofs.replace.detach_one.Goals as goal
 
@@ -16,4 +17,4 @@ pub returns-clause-made : goal.returns-clause-made
 returns-clause-made c = λ b G H w h k.
     let first = c.in-Some.ensures.value ∙ conclusion_is b.axioms b.theorems b.table b.profile _ G k in
     let rest = c.in-Some-third_of.ensures.value ∙ ap third_of w in
-    (object_at-Grows _ _ c.in_ok-next.ensures.grows _ c.in-Some-third_of.ensures.within ∙ rest, c.in_ok-next.ensures.made b G H first rest k h)
+    (object_at-Grows _ _ c.in_ok-next.ensures.grows _ c.in-Some-third_of.ensures.within ∙ rest, detaches b G H _ _ _ _ _ c.in_ok-next.ensures.made.1 first rest k h)

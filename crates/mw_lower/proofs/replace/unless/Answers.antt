@@ -6,6 +6,7 @@ use Rattle.mw_heap.proofs.Objects.{Grows-refl, Grows-trans, object_at-Grows}
 use Rattle.mw_heap.specs.Lists.{list_object}
 use Rattle.mw_lower.specs.Unless.{MakesUnless}
 use Rattle.mw_lower.proofs.Premises.{MakesUnless-first, MakesUnless-more, MakesUnless-none, MakesUnless-at, nothing_left}
+use Rattle.mw_lower.proofs.RulesProve.{implied_made}
 use Rattle.mw_lower.proofs.replace.unless.Goals as goal
 
 pub loop-left-init : goal.loop-left-init
@@ -38,7 +39,7 @@ loop-left-preserved-in-Some c =
       some = omega (arith, before.some);
       within = made.0;
       grows = Grows-trans _ _ _ before.grows c.in_ok-whole.ensures.grows;
-      made = MakesUnless-at os ps i d whole_of _ below (MakesUnless-more whole_of _ _ _ _ _ (subst (λ n. MakesUnless whole_of (list_object os (drop n ps)) (object_at c.loop-left.heap.objects c.loop-left.whole)) (sym e) before.made) (c.in-Some.ensures.value ∙ ap second_of same) made.1);
+      made = MakesUnless-at os ps i d whole_of _ below (MakesUnless-more whole_of _ _ _ _ _ (subst (λ n. MakesUnless whole_of (list_object os (drop n ps)) (object_at c.loop-left.heap.objects c.loop-left.whole)) (sym e) before.made) (c.in-Some.ensures.value ∙ ap second_of same) (made.1 ∙ implied_made _ _));
     }
 
 pub loop-left-preserved : goal.loop-left-preserved

@@ -8,8 +8,9 @@ use Rattle.mw_model.proofs.SameTerms.{same_term-eq, same_formula-eq}
 use Rattle.mw_commands.specs.Commands.DerivationTest.{is_chained}
 use Rattle.mw_commands.proofs.LogAccepted.{conclusion_is}
 use Rattle.mw_heap.specs.Objects.{object_at}
-use Rattle.mw_lower.specs.Schemes.{IsProof}
+use Rattle.mw_lower.specs.Proofs.{IsProof}
 use Rattle.mw_lower.proofs.ByMethods.{formed}
+use Rattle.mw_lower.proofs.RulesProve.{chains}
 use Rattle.mw_lower.proofs.StepTests.{equal_parts, chained_none, chained_second_none, same_by_objects, same_by_terms, equal_formed}
 use Rattle.mw_lower.proofs.steps.chain.Goals as goal
 use Rattle.mw_lower.proofs.steps.chain.Goals.{then-not-same-via-then-not-same, then-not-same-via-else-not-same+then-not-is_equal}
@@ -46,5 +47,5 @@ returns-clause-answer c = λ b F G H has i e h k.
     let meet = sym (same_by_terms b p.right q.left _ _ i1.1 i2.0 p.right_is q.left_is) ∙ (sym c.same.ensures.same ∙ c.if-not-same.false) in
     let ends = sym (same_by_objects b F (Equal p.left q.right) (at c.args.conclusion) _ i (and_from _ _ i1.0 i2.1) e (ap₂ (list3 (symbol "PEQUAL*")) p.left_is q.right_is)) ∙ (sym c.is_equal.ensures ∙ c.if-not-is_equal.false) in
     let second = q.is ∙ ap (λ t. Equal t q.right) (sym (same_term-eq p.right q.left meet)) in
-    let made = c.in_ok-chained.ensures.made b p.left p.right q.right has p.left_is p.right_is q.right_is (subst (IsProof b (at c.args.p)) p.is h) (subst (IsProof b (at c.args.q)) second k) in
-    (ap₂ (is_chained F) p.is q.is ∙ and_from _ _ meet ends, c.in_ok-chained.ensures.within, subst (IsProof b _) (sym (same_formula-eq F (Equal p.left q.right) ends)) made)
+    let made = chains b p.left p.right q.right _ _ _ _ _ _ has c.in_ok-apply.ensures.made.1 p.left_is p.right_is q.right_is (subst (IsProof b (at c.args.p)) p.is h) (subst (IsProof b (at c.args.q)) second k) in
+    (ap₂ (is_chained F) p.is q.is ∙ and_from _ _ meet ends, c.in_ok-apply.ensures.made.0, subst (IsProof b _) (sym (same_formula-eq F (Equal p.left q.right) ends)) made)

@@ -8,8 +8,9 @@ use Rattle.mw_model.proofs.SameTerms.{same_formula-eq}
 use Rattle.mw_commands.specs.Commands.DerivationTest.{is_detached}
 use Rattle.mw_commands.proofs.LogAccepted.{conclusion_is}
 use Rattle.mw_heap.specs.Objects.{object_at}
-use Rattle.mw_lower.specs.Schemes.{IsProof}
+use Rattle.mw_lower.specs.Proofs.{IsProof}
 use Rattle.mw_lower.proofs.ByMethods.{formed}
+use Rattle.mw_lower.proofs.RulesProve.{detaches}
 use Rattle.mw_lower.proofs.StepTests.{no_object, or_parts, detached_none, same_by_objects, or_formed}
 use Rattle.mw_lower.proofs.steps.detach.Goals as goal
 use Rattle.mw_lower.proofs.steps.detach.Goals.{then-not-is_not-via-then-not-is_not, then-not-is_not-via-else-not-is_not+then-not-same}
@@ -45,4 +46,4 @@ returns-clause-answer c = λ b F G H has i e h k.
     let rest = sym (same_by_objects b p.right F _ (at c.args.conclusion) j.1 i p.right_is e) ∙ (sym c.same.ensures.same ∙ c.if-not-same.false) in
     let right = same_formula-eq p.right F rest in
     let whole = p.is ∙ ap₂ Or (same_formula-eq p.left (Not G) negation) right in
-    (ap (is_detached F G) p.is ∙ and_from _ _ negation rest, c.in_ok-detached.ensures.within, c.in_ok-detached.ensures.made b G F first (p.right_is ∙ ap formula_object right) h (subst (IsProof b (at c.args.q)) whole k))
+    (ap (is_detached F G) p.is ∙ and_from _ _ negation rest, c.in_ok-apply.ensures.made.0, detaches b G F _ _ _ _ _ c.in_ok-apply.ensures.made.1 first (p.right_is ∙ ap formula_object right) h (subst (IsProof b (at c.args.q)) whole k))

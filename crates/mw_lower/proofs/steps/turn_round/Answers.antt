@@ -7,8 +7,9 @@ use Rattle.mw_model.proofs.SameTerms.{same_formula-eq}
 use Rattle.mw_commands.specs.Commands.DerivationTest.{is_turned}
 use Rattle.mw_commands.proofs.LogAccepted.{conclusion_is}
 use Rattle.mw_heap.specs.Objects.{object_at}
-use Rattle.mw_lower.specs.Schemes.{IsProof}
+use Rattle.mw_lower.specs.Proofs.{IsProof}
 use Rattle.mw_lower.proofs.ByMethods.{formed}
+use Rattle.mw_lower.proofs.RulesProve.{turns_round}
 use Rattle.mw_lower.proofs.StepTests.{equal_parts, turned_none, same_by_objects, equal_formed}
 use Rattle.mw_lower.proofs.steps.turn_round.Goals as goal
 
@@ -30,5 +31,5 @@ returns-clause-answer c = λ b F G has i e h.
     let j = equal_formed b G p.left p.right p.is (formed b _ G h) in
     let same = same_by_objects b F (Equal p.right p.left) (at c.args.conclusion) _ i (and_from _ _ j.1 j.0) e (ap₂ (list3 (symbol "PEQUAL*")) p.right_is p.left_is) in
     let holds = sym same ∙ (sym c.is_equal.ensures ∙ c.if-not-is_equal.false) in
-    let made = c.in_ok-turned.ensures.made b p.left p.right has p.left_is p.right_is (subst (IsProof b (at c.args.p)) p.is h) in
-    (ap (is_turned F) p.is ∙ holds, c.in_ok-turned.ensures.within, subst (IsProof b _) (sym (same_formula-eq F (Equal p.right p.left) holds)) made)
+    let made = turns_round b p.left p.right _ _ _ _ has c.in_ok-apply.ensures.made.1 p.left_is p.right_is (subst (IsProof b (at c.args.p)) p.is h) in
+    (ap (is_turned F) p.is ∙ holds, c.in_ok-apply.ensures.made.0, subst (IsProof b _) (sym (same_formula-eq F (Equal p.right p.left) holds)) made)

@@ -1,6 +1,7 @@
 -- By its members and its rule.
 use Rattle.std.proofs.Common.{IfSome, sym, ◌∙◌, subst}
 use Rattle.std.specs.List.{All}
+use Rattle.std.proofs.lemmas.Result.{IfOk-weaker}
 use Rattle.mw_model.specs.Proofs.Proof.{ProveEach}
 use Rattle.mw_heap.specs.Objects.{object_at, IsIn}
 use Rattle.mw_heap.specs.Lists.{list_object}
@@ -9,7 +10,6 @@ use Rattle.mw_proof.specs.Judging.{basis}
 use Rattle.mw_lower.specs.Answers.{AnswersStep}
 use Rattle.mw_lower.specs.Further.{rule_of}
 use Rattle.mw_lower.specs.Methods.{IsMethodStep}
-use Rattle.mw_lower.proofs.Results.{IfOk-map}
 use Rattle.mw_lower.proofs.DerivationSteps.{stands_for, no_shape_derived, no_formula, no_subproofs}
 use Rattle.mw_lower.proofs.Members.{members_turned, list_replaced, no_list_replaced}
 use Rattle.mw_lower.proofs.TurnedSteps.{further_turned, method_turned}
@@ -42,7 +42,7 @@ further_step-requires-clause-proofs c =
     subst (All (IsIn os)) (sym c.as_slice.ensures.value) (subst (λ o. IfSome o (λ v. All (IsIn os) v.items)) c.in-Some-2.is (c.in_ok-proofs.ensures.within b known))
 
 pub returns-in-Some-further_of-clause-turned : goal.returns-in-Some-further_of-clause-turned
-returns-in-Some-further_of-clause-turned c = IfOk-map c.further_step.result _ _ (λ o h A k.
+returns-in-Some-further_of-clause-turned c = IfOk-weaker c.further_step.result _ _ (λ o h A k.
     let os = c.args.heap.now.objects in
     let new = c.further_step.new.heap.objects in
     let b = basis os A c.args.axioms.now c.args.theorems.now (profile_of c.args.profile) in
@@ -77,7 +77,7 @@ method_step-requires-clause-proofs c = λ A k.
     (replaced.formulas, subst (λ rs. ProveEach b.axioms b.theorems b.table b.profile (list_object os rs) replaced.formulas) (sym c.as_slice-in-None.ensures.value) replaced.proved)
 
 pub returns-clause-turned : goal.returns-clause-turned
-returns-clause-turned c = IfOk-map c.method_step.result _ _ (λ o h A k.
+returns-clause-turned c = IfOk-weaker c.method_step.result _ _ (λ o h A k.
     let os = c.args.heap.now.objects in
     let new = c.method_step.new.heap.objects in
     let b = basis os A c.args.axioms.now c.args.theorems.now (profile_of c.args.profile) in

@@ -2,7 +2,8 @@
 use Rattle.std.proofs.Common.{◌∙◌, ◌+◌, ap}
 use Rattle.mw_heap.proofs.Objects.{IsIn-Grows, object_at-Grows, Grows-trans}
 use Rattle.mw_taut.specs.Rules.{rule_made}
-use Rattle.mw_taut.proofs.Given.{given_grows, given_same, denied_grows, denied_same}
+use Rattle.mw_taut.proofs.Given.{given_grows, given_same}
+use Rattle.mw_taut.proofs.Kept.{denied_in_kept, denied_kept}
 use Rattle.mw_taut.proofs.change.change.Goals as goal
 
 pub apply-requires-2 : goal.apply-requires-2
@@ -25,7 +26,7 @@ returns-clause-within c =
     let after = Grows-trans _ _ _ c.apply-2.ensures.grows c.apply-3.ensures.grows in
     record {
       formula = IsIn-Grows _ _ after _ c.in_ok-formula.ensures.within;
-      denied = denied_grows _ _ (Grows-trans _ _ _ c.apply.ensures.grows after) _ c.requires.denied_in;
+      denied = denied_in_kept _ _ (Grows-trans _ _ _ c.apply.ensures.grows after) _ c.requires.denied_in;
       from = IsIn-Grows _ _ c.apply-3.ensures.grows _ c.in_ok-from.ensures.within;
       to = c.in_ok-to.ensures.within;
     }
@@ -39,7 +40,7 @@ returns-clause-made c =
     let to = c.in_ok-to.ensures.made ∙ ap (rule_made (c.args.rule + 2)) (given_same _ _ to_to _ c.requires.given_in) in
     λ i. record {
       formula = (object_at-Grows _ _ after _ c.in_ok-formula.ensures.within ∙ c.in_ok-formula.ensures.made) i;
-      denied = denied_same _ _ (Grows-trans _ _ _ to_from after) _ c.requires.denied_in i;
+      denied = denied_kept _ _ (Grows-trans _ _ _ to_from after) _ c.requires.denied_in i;
       from = (object_at-Grows _ _ c.apply-3.ensures.grows _ c.in_ok-from.ensures.within ∙ from) i;
       to = to i;
     }

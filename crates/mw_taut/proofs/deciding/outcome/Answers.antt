@@ -15,10 +15,9 @@ by_cases-requires c =
     let os = c.args.heap.now.objects in
     let t = c.args.table.now in
     let w = c.requires.formula in
-    let same = sym c.as_slice-equations.ensures.value in
+    let same = sym c.as_slice.ensures.value in
     record {
-      f_in = c.requires.within;
-      equations_in = subst (All (IsIn os)) same w.3.inside.equations;
+      at_in = record { formula = c.requires.within; equations = subst (All (IsIn os)) same w.3.inside.equations };
       proved = none_proved A os c.new-proved.result c.new-proved.ensures.empty;
       posed = (w.0, [], equations w.0, subst (λ es. IsPosed A os es [] c.args.f w.0 [] (equations w.0)) same (first_posed A os c.args.f w.0 t w.1 w.2 w.3));
     }
@@ -27,5 +26,5 @@ pub returns-clause-decides : goal.returns-clause-decides
 returns-clause-decides c =
     let A = c.args.arity.now in
     let os = c.args.heap.now.objects in
-    let same = sym c.as_slice-equations.ensures.value in
+    let same = sym c.as_slice.ensures.value in
     if_ok _ _ c.by_cases.result c.by_cases.ensures.decides (λ o h F e f t. h F [] (equations F) (subst (λ es. IsPosed A os es [] c.args.f F [] (equations F)) same (first_posed A os c.args.f F c.args.table.now e f t)))

@@ -3,4 +3,4 @@ use Rattle.mw_taut.proofs.ReducingAll.{IsReducing}
 use Rattle.mw_taut.proofs.reduce.reduce_each.Given as goal
 
 abbrev pub invariant-loop-node : goal.invariant-loop-node
-invariant-loop-node l = IsReducing l.fn.heap.objects l.d l.e l.value l.formulas l.nodes l.heap.objects l.done.items l.node-index
+invariant-loop-node l = IsReducing l.fn.heap.objects l.at.context l.at.equation l.at.value l.at.formulas.now l.nodes l.heap.objects l.done.items l.node-index

@@ -8,9 +8,6 @@ use Rattle.mw_taut.specs.Decided.{IsDecision}
 use Rattle.mw_taut.proofs.Verdicts.{present, proof_holds, theorem_found, choice_found, many_found}
 use Rattle.mw_taut.proofs.verdict.decided.Goals as goal
 
-pub decide-requires-clause-within : goal.decide-requires-clause-within
-decide-requires-clause-within c = c.requires.named.1.formula_in
-
 pub returns-in_err-theorem_of-in-Proof-clause-grows : goal.returns-in_err-theorem_of-in-Proof-clause-grows
 returns-in_err-theorem_of-in-Proof-clause-grows c = Grows-trans _ _ _ c.decide.ensures.grows c.theorem_of.ensures.grows
 

@@ -1,17 +1,11 @@
 -- What is found of the formula is found of the datum.
-use Rattle.std.proofs.Common.{Result, Ok, Err, OnOk, sym, ◌∙◌}
+use Rattle.std.proofs.Common.{sym, ◌∙◌}
 use Rattle.std.proofs.lemmas.Result.{IfOk-weaker}
 use Rattle.mw_heap.specs.Objects.{object_at}
 use Rattle.mw_term.proofs.CallerLemmas.{AreMarks-grows}
+use Rattle.mw_taut.proofs.Posed.{on_ok}
 use Rattle.mw_taut.proofs.Verdicts.{no_formula_given}
 use Rattle.mw_taut.proofs.verdict.verdict_on.Goals as goal
-
-ok_has : {X E : Type 0} (r : Result X E) (P : Type 0) → P → OnOk r P
-ok_has (Ok x) P p = p
-ok_has (Err e) P p = tt
-
-pub is_marked_formula-requires-clause-within : goal.is_marked_formula-requires-clause-within
-is_marked_formula-requires-clause-within c = c.in-Some.ensures.formula_in
 
 pub returns-then-not-branch-clause-verdict : goal.returns-then-not-branch-clause-verdict
 returns-then-not-branch-clause-verdict c =
@@ -25,7 +19,7 @@ pub decided-requires-clause-formula : goal.decided-requires-clause-formula
 decided-requires-clause-formula c = sym c.in_ok-is_marked_formula.ensures.formula ∙ c.if-not-branch.false
 
 pub returns-clause-marked : goal.returns-clause-marked
-returns-clause-marked c = ok_has c.decided.result _ (AreMarks-grows _ _ _ _ c.decided.ensures.grows c.in_ok-is_marked_formula.ensures.marked)
+returns-clause-marked c = on_ok c.decided.result (AreMarks-grows _ _ _ _ c.decided.ensures.grows c.in_ok-is_marked_formula.ensures.marked)
 
 pub returns-clause-verdict : goal.returns-clause-verdict
 returns-clause-verdict c = IfOk-weaker c.decided.result _ _ (λ v f. f (object_at c.args.heap.now.objects c.args.x) c.in-Some.ensures) c.decided.ensures.verdict
