@@ -9,6 +9,7 @@ pub mod Disjunctions
 pub mod Sides
 pub mod FormTests
 pub mod PremisesPut
+pub mod CasesKept
 pub mod EqualCalls
 pub mod ComputedValues
 pub mod Meaning

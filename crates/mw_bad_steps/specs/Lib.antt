@@ -4,3 +4,4 @@ pub mod Members
 pub mod Candidates
 pub mod Forms
 pub mod Premises
+pub mod Cases

@@ -6,14 +6,15 @@ ghost use Rattle.mw_heap.specs.Lists.{list_object};
 ghost use Rattle.mw_heap.specs.Variants.{profile_of};
 ghost use Rattle.mw_term.specs.Marking.{AreMarks};
 ghost use Rattle.mw_proof.specs.Step.{is_proof};
-ghost use Rattle.mw_proof.specs.Judging.{basis, is_proof_on};
+ghost use Rattle.mw_rules.specs.Basis.{IsBasisIn};
+ghost use Rattle.mw_proof.specs.Judging.{basis_over, is_proof_on};
 ghost use Rattle.mw_commands.specs.Commands.ExplanationSteps.{first_bad};
 ghost use Rattle.mw_bad_steps.specs.BadStep.{IsOpen, IsUnopened, Advances, number_of, Finds, placed_in};
 
 use indexmap::IndexSet;
 use mw_heap::{Heap, Memory, Profile, Ref, View};
 use mw_proof::decide;
-use mw_rules::Known;
+use mw_rules::{Basis, Known};
 use mw_term::{Arity, Marks};
 
 /// A step of a proof, and the numbers of the subproofs that lead to it, from 1 on: none for the proof itself.
@@ -88,9 +89,7 @@ fn place_of(heap: &Heap, path: &[Open]) -> Result<Vec<u64>, Memory>
 fn find(
     heap: &mut Heap,
     proof: Ref,
-    axioms: &Known,
-    theorems: &Known,
-    profile: Profile,
+    basis: &Basis,
     marks: &Marks,
     good: &mut IndexSet<Ref>,
     found: &mut IndexSet<Ref>,
@@ -99,23 +98,32 @@ fn find(
     requires marks { (A : ArityTable) × AreMarks A heap.old.objects marks.now }
     requires all { length marks.now ≡ length heap.old.objects }
     requires within { IsIn heap.old.objects proof }
-    requires axioms { All (IsIn heap.old.objects) axioms.now }
-    requires theorems { All (IsIn heap.old.objects) theorems.now }
+    requires basis { IsBasisIn heap.old.objects basis.now }
     requires none_good { good.old.keys ≡ [] }
     requires none_found { found.old.keys ≡ [] }
     requires none_open { path.old.items ≡ [] }
     ensures grows { Grows heap.old.objects heap.new.objects }
-    ensures found { IfOk result (λ o. (A : ArityTable) → AreMarks A heap.old.objects marks.now → Finds (is_proof_on (basis heap.old.objects A axioms.now theorems.now (profile_of profile))) heap.old.objects proof path.new.items o) }
+    ensures found { IfOk result (λ o. (A : ArityTable) → AreMarks A heap.old.objects marks.now → Finds (is_proof_on (basis_over heap.old.objects A basis.now)) heap.old.objects proof path.new.items o) }
 {
     path.push(unopened(heap, proof))?;
     while let Some(last) = path.pop() {
+        let step = last.proof;
         if advance(heap, last, good, path)? {
             continue;
         }
-        if !decide(heap, last.proof, found, axioms, theorems, profile, marks)? {
-            return Ok(Some(last.proof));
+        let holds = decide(
+            heap,
+            step,
+            found,
+            basis.axioms,
+            basis.theorems,
+            basis.profile,
+            marks,
+        )?;
+        if !holds {
+            return Ok(Some(step));
         }
-        good.insert(last.proof)?;
+        good.insert(step)?;
     }
     Ok(None)
 }
@@ -124,26 +132,21 @@ fn find(
 fn look(
     heap: &mut Heap,
     proof: Ref,
-    axioms: &Known,
-    theorems: &Known,
-    profile: Profile,
+    basis: &Basis,
     marks: &Marks,
 ) -> Result<Option<BadStep>, Memory>
     requires marks { (A : ArityTable) × AreMarks A heap.old.objects marks.now }
     requires all { length marks.now ≡ length heap.old.objects }
     requires within { IsIn heap.old.objects proof }
-    requires axioms { All (IsIn heap.old.objects) axioms.now }
-    requires theorems { All (IsIn heap.old.objects) theorems.now }
+    requires basis { IsBasisIn heap.old.objects basis.now }
     ensures grows { Grows heap.old.objects heap.new.objects }
     ensures within { IfOk result (λ o. IfSome o (λ b. IsIn heap.old.objects b.step)) }
-    ensures bad { IfOk result (λ o. (A : ArityTable) → AreMarks A heap.old.objects marks.now → first_bad (is_proof_on (basis heap.old.objects A axioms.now theorems.now (profile_of profile))) (object_at heap.old.objects proof) ≡ placed_in heap.old.objects o) }
+    ensures bad { IfOk result (λ o. (A : ArityTable) → AreMarks A heap.old.objects marks.now → first_bad (is_proof_on (basis_over heap.old.objects A basis.now)) (object_at heap.old.objects proof) ≡ placed_in heap.old.objects o) }
 {
     let mut good = Box::new(heap.alloc(), IndexSet::new(heap.alloc()))?;
     let mut found = Box::new(heap.alloc(), IndexSet::new(heap.alloc()))?;
     let mut path = Vec::new(heap.alloc());
-    let step = find(
-        heap, proof, axioms, theorems, profile, marks, &mut good, &mut found, &mut path,
-    )?;
+    let step = find(heap, proof, basis, marks, &mut good, &mut found, &mut path)?;
     match step {
         None => Ok(None),
         Some(step) => {
@@ -176,5 +179,10 @@ pub fn first_bad_step(
 {
     let below = heap.mark();
     marks.extend(heap, arity, below)?;
-    look(heap, proof, axioms, theorems, profile, marks)
+    let basis = Basis {
+        axioms,
+        theorems,
+        profile,
+    };
+    look(heap, proof, &basis, marks)
 }

@@ -5,10 +5,12 @@ ghost use Rattle.mw_model.specs.Laws.Rules.{substitute_object};
 ghost use Rattle.mw_model.specs.Laws.RulesInduction.{true_object, ordinal_object, fall_object, falls_object, all_falls_object};
 ghost use Rattle.mw_heap.specs.Objects.{object_at, IsIn, Grows};
 ghost use Rattle.mw_subst.specs.Pairs.{is_list_of_pairs};
-ghost use Rattle.mw_induct.specs.Pairs.{are_lists_of_pairs, are_cases_of_pairs};
+ghost use Rattle.mw_induct.specs.Pairs.{are_lists_of_pairs};
+ghost use Rattle.mw_bad_steps.specs.Cases.{AreCases};
 ghost use Rattle.mw_bad_steps.specs.Members.{members_in};
 ghost use Rattle.mw_bad_steps.specs.Premises.{PutsObjects};
 
+use crate::cases::Cases;
 use crate::conclusions::first_and_rest;
 use crate::formulas::{equal, not, or, quoted};
 use crate::instance::instance;
@@ -95,28 +97,23 @@ fn put_falls(
 fn put_all_falls(
     heap: &mut Heap,
     measure: Ref,
-    conditions: Ref,
-    cases: Ref,
-    nil: Ref,
+    cases: &Cases,
     premises: &mut Vec<Ref>,
 ) -> Result<(), Memory>
     requires within { IsIn heap.old.objects measure }
-    requires conditions { IsIn heap.old.objects conditions }
-    requires cases { IsIn heap.old.objects cases }
-    requires nil_in { IsIn heap.old.objects nil }
-    requires nil { object_at heap.old.objects nil ≡ NIL }
-    requires pairs { are_cases_of_pairs (object_at heap.old.objects cases) ≡ true }
+    requires cases { AreCases heap.old.objects cases.now }
     requires premises { All (IsIn heap.old.objects) premises.old.items }
     ensures grows { Grows heap.old.objects heap.new.objects }
-    ensures put { OnOk result (PutsObjects heap.old.objects heap.new.objects premises.old.items premises.new.items (members_in (all_falls_object (object_at heap.old.objects measure) (object_at heap.old.objects conditions) (object_at heap.old.objects cases)))) }
+    ensures put { OnOk result (PutsObjects heap.old.objects heap.new.objects premises.old.items premises.new.items (members_in (all_falls_object (object_at heap.old.objects measure) (object_at heap.old.objects cases.now.conditions) (object_at heap.old.objects cases.now.substitutions)))) }
 {
-    let mut conditions = conditions;
-    let mut cases = cases;
+    let nil = cases.nil;
+    let mut conditions = cases.conditions;
+    let mut left = cases.substitutions;
     while let View::Pair(condition, more) = heap.view(conditions) {
-        let (substitutions, others) = first_and_rest(heap, cases, nil);
+        let (substitutions, others) = first_and_rest(heap, left, nil);
         put_falls(heap, measure, condition, substitutions, premises)?;
         conditions = more;
-        cases = others;
+        left = others;
     }
     Ok(())
 }
@@ -125,22 +122,16 @@ fn put_all_falls(
 pub(crate) fn put_measured(
     heap: &mut Heap,
     measure: Ref,
-    conditions: Ref,
-    cases: Ref,
-    nil: Ref,
+    cases: &Cases,
     premises: &mut Vec<Ref>,
 ) -> Result<(), Memory>
     requires within { IsIn heap.old.objects measure }
-    requires conditions { IsIn heap.old.objects conditions }
-    requires cases { IsIn heap.old.objects cases }
-    requires nil_in { IsIn heap.old.objects nil }
-    requires nil { object_at heap.old.objects nil ≡ NIL }
-    requires pairs { are_cases_of_pairs (object_at heap.old.objects cases) ≡ true }
+    requires cases { AreCases heap.old.objects cases.now }
     requires premises { All (IsIn heap.old.objects) premises.old.items }
     ensures grows { Grows heap.old.objects heap.new.objects }
-    ensures put { OnOk result (PutsObjects heap.old.objects heap.new.objects premises.old.items premises.new.items (ordinal_object (object_at heap.old.objects measure) ∷ members_in (all_falls_object (object_at heap.old.objects measure) (object_at heap.old.objects conditions) (object_at heap.old.objects cases)))) }
+    ensures put { OnOk result (PutsObjects heap.old.objects heap.new.objects premises.old.items premises.new.items (ordinal_object (object_at heap.old.objects measure) ∷ members_in (all_falls_object (object_at heap.old.objects measure) (object_at heap.old.objects cases.now.conditions) (object_at heap.old.objects cases.now.substitutions)))) }
 {
     let first = ordinal(heap, measure)?;
     premises.push(first)?;
-    put_all_falls(heap, measure, conditions, cases, nil, premises)
+    put_all_falls(heap, measure, cases, premises)
 }

@@ -5,6 +5,7 @@
 mod bad_step;
 mod candidate;
 mod candidates;
+mod cases;
 mod computed;
 mod conclusions;
 mod disjunction;

@@ -13,7 +13,8 @@ ghost use Rattle.mw_heap.specs.Variants.{profile_of};
 ghost use Rattle.mw_term.specs.Marking.{AreMarks};
 ghost use Rattle.mw_rules.specs.Methods.{method_of_logic};
 ghost use Rattle.mw_proof.specs.Step.{has_proof_shape};
-ghost use Rattle.mw_proof.specs.Judging.{basis, is_step_on};
+ghost use Rattle.mw_rules.specs.Basis.{IsBasisIn};
+ghost use Rattle.mw_proof.specs.Judging.{basis_over, is_step_on};
 ghost use Rattle.mw_commands.specs.Commands.ExplanationSteps.{are_extras, mended};
 ghost use Rattle.mw_bad_steps.specs.Members.{conclusions_in};
 ghost use Rattle.mw_bad_steps.specs.Candidates.{IsCandidate, IsMended, meant_of};
@@ -23,50 +24,47 @@ use crate::conclusions::conclusions_shown;
 use indexmap::IndexSet;
 use mw_heap::{Heap, Memory, Profile, Ref, list_of};
 use mw_proof::{Members, decide, members_of};
-use mw_rules::{Known, Method};
+use mw_rules::{Basis, Known, Method};
 use mw_term::{Arity, Marks};
 
 // Whether all holds of an object that must hold of a proof, but that its subproofs are proofs.
-fn decide_alone(
-    heap: &mut Heap,
-    step: Ref,
-    axioms: &Known,
-    theorems: &Known,
-    profile: Profile,
-    marks: &Marks,
-) -> Result<bool, Memory>
+fn decide_alone(heap: &mut Heap, step: Ref, basis: &Basis, marks: &Marks) -> Result<bool, Memory>
     requires marks { (A : ArityTable) × AreMarks A heap.old.objects marks.now }
     requires within { step < length marks.now }
-    requires axioms { All (IsIn heap.old.objects) axioms.now }
-    requires theorems { All (IsIn heap.old.objects) theorems.now }
+    requires basis { IsBasisIn heap.old.objects basis.now }
     ensures grows { Grows heap.old.objects heap.new.objects }
-    ensures answer { IfOk result (λ b. (A : ArityTable) → AreMarks A heap.old.objects marks.now → b ≡ is_step_on (basis heap.old.objects A axioms.now theorems.now (profile_of profile)) (object_at heap.old.objects step)) }
+    ensures answer { IfOk result (λ b. (A : ArityTable) → AreMarks A heap.old.objects marks.now → b ≡ is_step_on (basis_over heap.old.objects A basis.now) (object_at heap.old.objects step)) }
 {
     let mut found = Box::new(heap.alloc(), IndexSet::new(heap.alloc()))?;
-    decide(heap, step, &mut found, axioms, theorems, profile, marks)
+    decide(
+        heap,
+        step,
+        &mut found,
+        basis.axioms,
+        basis.theorems,
+        basis.profile,
+        marks,
+    )
 }
 
 // The same, with the marks extended to it.
 fn is_step(
     heap: &mut Heap,
     step: Ref,
-    axioms: &Known,
-    theorems: &Known,
+    basis: &Basis,
     arity: &Arity,
-    profile: Profile,
     marks: &mut Marks,
 ) -> Result<bool, Memory>
     requires within { IsIn heap.old.objects step }
-    requires axioms { All (IsIn heap.old.objects) axioms.now }
-    requires theorems { All (IsIn heap.old.objects) theorems.now }
+    requires basis { IsBasisIn heap.old.objects basis.now }
     requires marked { AreMarks arity.now heap.old.objects marks.old }
     ensures grows { Grows heap.old.objects heap.new.objects }
     ensures marked { AreMarks arity.now heap.new.objects marks.new }
-    ensures answer { IfOk result (λ b. b ≡ is_step_on (basis heap.old.objects arity.now axioms.now theorems.now (profile_of profile)) (object_at heap.old.objects step)) }
+    ensures answer { IfOk result (λ b. b ≡ is_step_on (basis_over heap.old.objects arity.now basis.now) (object_at heap.old.objects step)) }
 {
     let below = heap.mark();
     marks.extend(heap, arity, below)?;
-    decide_alone(heap, step, axioms, theorems, profile, marks)
+    decide_alone(heap, step, basis, marks)
 }
 
 // The conclusion that may be meant by a step.
@@ -150,7 +148,12 @@ pub fn mended(
     };
     heap.in_range(conclusion);
     let made = step_with(heap, &members, conclusion)?;
-    if !is_step(heap, made, axioms, theorems, arity, profile, marks)? {
+    let basis = Basis {
+        axioms,
+        theorems,
+        profile,
+    };
+    if !is_step(heap, made, &basis, arity, marks)? {
         return Ok(None);
     }
     Ok(Some(conclusion))

@@ -6,9 +6,11 @@ ghost use Rattle.mw_model.specs.Laws.RulesInduction.{disjunction_object, hypothe
 ghost use Rattle.mw_heap.specs.Objects.{object_at, IsIn, Grows};
 ghost use Rattle.mw_subst.specs.Pairs.{is_list_of_pairs};
 ghost use Rattle.mw_induct.specs.Pairs.{are_lists_of_pairs, are_cases_of_pairs, IsLikeFormula};
+ghost use Rattle.mw_bad_steps.specs.Cases.{AreCases};
 ghost use Rattle.mw_bad_steps.specs.Members.{members_in};
 ghost use Rattle.mw_bad_steps.specs.Premises.{PutsObjects};
 
+use crate::cases::Cases;
 use crate::conclusions::first_and_rest;
 use crate::disjunction::disjunction;
 use crate::falls::put_measured;
@@ -102,60 +104,39 @@ fn step(heap: &mut Heap, a: Ref, condition: Ref, substitutions: Ref) -> Result<R
 }
 
 // Puts the premise of each case.
-fn put_steps(
-    heap: &mut Heap,
-    a: Ref,
-    conditions: Ref,
-    cases: Ref,
-    nil: Ref,
-    premises: &mut Vec<Ref>,
-) -> Result<(), Memory>
+fn put_steps(heap: &mut Heap, a: Ref, cases: &Cases, premises: &mut Vec<Ref>) -> Result<(), Memory>
     requires within { IsIn heap.old.objects a }
-    requires conditions { IsIn heap.old.objects conditions }
-    requires cases { IsIn heap.old.objects cases }
-    requires nil_in { IsIn heap.old.objects nil }
-    requires nil { object_at heap.old.objects nil ≡ NIL }
-    requires pairs { are_cases_of_pairs (object_at heap.old.objects cases) ≡ true }
+    requires cases { AreCases heap.old.objects cases.now }
     requires formula { IsLikeFormula (object_at heap.old.objects a) }
     requires premises { All (IsIn heap.old.objects) premises.old.items }
     ensures grows { Grows heap.old.objects heap.new.objects }
-    ensures put { OnOk result (PutsObjects heap.old.objects heap.new.objects premises.old.items premises.new.items (members_in (steps_object (object_at heap.old.objects a) (object_at heap.old.objects conditions) (object_at heap.old.objects cases) NIL))) }
+    ensures put { OnOk result (PutsObjects heap.old.objects heap.new.objects premises.old.items premises.new.items (members_in (steps_object (object_at heap.old.objects a) (object_at heap.old.objects cases.now.conditions) (object_at heap.old.objects cases.now.substitutions) NIL))) }
 {
-    let mut conditions = conditions;
-    let mut cases = cases;
+    let nil = cases.nil;
+    let mut conditions = cases.conditions;
+    let mut left = cases.substitutions;
     while let View::Pair(condition, more) = heap.view(conditions) {
-        let (substitutions, others) = first_and_rest(heap, cases, nil);
+        let (substitutions, others) = first_and_rest(heap, left, nil);
         let made = step(heap, a, condition, substitutions)?;
         premises.push(made)?;
         conditions = more;
-        cases = others;
+        left = others;
     }
     Ok(())
 }
 
 // Puts the first premise and those of the cases.
-fn put_based(
-    heap: &mut Heap,
-    a: Ref,
-    conditions: Ref,
-    cases: Ref,
-    nil: Ref,
-    premises: &mut Vec<Ref>,
-) -> Result<(), Memory>
+fn put_based(heap: &mut Heap, a: Ref, cases: &Cases, premises: &mut Vec<Ref>) -> Result<(), Memory>
     requires within { IsIn heap.old.objects a }
-    requires conditions { IsIn heap.old.objects conditions }
-    requires cases { IsIn heap.old.objects cases }
-    requires nil_in { IsIn heap.old.objects nil }
-    requires nil { object_at heap.old.objects nil ≡ NIL }
-    requires pairs { are_cases_of_pairs (object_at heap.old.objects cases) ≡ true }
+    requires cases { AreCases heap.old.objects cases.now }
     requires formula { IsLikeFormula (object_at heap.old.objects a) }
     requires premises { All (IsIn heap.old.objects) premises.old.items }
     ensures grows { Grows heap.old.objects heap.new.objects }
-    ensures put { OnOk result (PutsObjects heap.old.objects heap.new.objects premises.old.items premises.new.items (disjunction_object (Pair (object_at heap.old.objects a) (object_at heap.old.objects conditions)) ∷ members_in (steps_object (object_at heap.old.objects a) (object_at heap.old.objects conditions) (object_at heap.old.objects cases) NIL))) }
+    ensures put { OnOk result (PutsObjects heap.old.objects heap.new.objects premises.old.items premises.new.items (disjunction_object (Pair (object_at heap.old.objects a) (object_at heap.old.objects cases.now.conditions)) ∷ members_in (steps_object (object_at heap.old.objects a) (object_at heap.old.objects cases.now.conditions) (object_at heap.old.objects cases.now.substitutions) NIL))) }
 {
-    let first = base(heap, a, conditions)?;
+    let first = base(heap, a, cases.conditions)?;
     premises.push(first)?;
-    put_steps(heap, a, conditions, cases, nil, premises)
+    put_steps(heap, a, cases, premises)
 }
 
 /// The list of the premises of an induction that concludes the formula A, by a measure, conditions, and for each condition a list of
@@ -178,8 +159,13 @@ pub fn premises_of_induction(
     ensures made { IfOk result (λ r. object_at heap.new.objects r ≡ premises_object (object_at heap.old.objects a) (object_at heap.old.objects measure) (object_at heap.old.objects conditions) (object_at heap.old.objects cases)) }
 {
     let nil = heap.nil()?;
+    let all = Cases {
+        conditions,
+        substitutions: cases,
+        nil,
+    };
     let mut premises = Vec::new(heap.alloc());
-    put_based(heap, a, conditions, cases, nil, &mut premises)?;
-    put_measured(heap, measure, conditions, cases, nil, &mut premises)?;
+    put_based(heap, a, &all, &mut premises)?;
+    put_measured(heap, measure, &all, &mut premises)?;
     list_of(heap, &premises)
 }

@@ -60,6 +60,13 @@ module _ (os : List Object) where
   pairs-symbols (d ∷ ds) [] h s = absurd h
   pairs-symbols (d ∷ ds) (p ∷ ps) h s = (subst (λ q. IsIn os q.0 × (is_symbol (object_at os q.0) ≡ true)) (sym h.0.2) (s.0, s.1), pairs-symbols ds ps h.1 s.2)
 
+  -- the pairs of drafts whose names are new and distinct
+  pub new-symbols : (A : ArityTable) (ds : List Given) (rs : List ℕ) (ps : List (ℕ × ℕ)) → AreNames A os ds rs → Each2 (IsCounted os) ds ps → ArePairsOfSymbols os ps
+  new-symbols A ds rs ps n h = pairs-symbols ds ps h (subst (AreSymbols os) n.refs n.symbols)
+
+  pub new-distinct : (A : ArityTable) (ds : List Given) (rs : List ℕ) (ps : List (ℕ × ℕ)) → AreNames A os ds rs → Each2 (IsCounted os) ds ps → are_distinct (pair_names os ps) ≡ true
+  new-distinct A ds rs ps n h = ap are_distinct ((counted ds ps h).names ∙ ap (names_at os) (sym n.refs)) ∙ n.distinct
+
 -- where a body or a measure has no expansion
 no-both : {X Y : Type 0} (o : Option X) → option_zip {U = Y} o None ≡ None
 no-both None = refl

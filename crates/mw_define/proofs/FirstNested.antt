@@ -1,5 +1,5 @@
 -- Looking for the first call of a block that has one among its actuals.
-use Rattle.std.proofs.Common.{◌≡◌, ℕ, suc, ◌+◌, ◌<◌, ◌≤◌, length, drop, get_or, Bool, true, false, cond, List, [], ◌∷◌, ◌++◌, Option, Some, None, find, refl, sym, ap, ap₂, ◌∙◌, subst, add-one}
+use Rattle.std.proofs.Common.{◌≡◌, ℕ, suc, ◌+◌, ◌<◌, ◌≤◌, length, drop, get_or, Bool, true, false, cond, List, [], ◌∷◌, ◌++◌, Option, Some, None, find, refl, sym, ap, ◌∙◌, subst, add-one}
 use Rattle.std.proofs.lemmas.List.{drop_more, drop_all}
 use Rattle.mw_model.specs.Terms.Object.{Name, Object, Symbol, same_name}
 use Rattle.mw_model.specs.Terms.Term.{terms_object}
@@ -8,7 +8,7 @@ use Rattle.mw_model.specs.Values.Definition.{Function, function_named}
 use Rattle.mw_model.specs.Events.Obligation.{RecursiveCall, any_mentions, recursive_calls}
 use Rattle.mw_model.proofs.Names.{same_name-eq}
 use Rattle.mw_model.proofs.ReadBack.{some_one, terms_back}
-use Rattle.mw_heap.specs.Objects.{object_at, IsIn, Grows}
+use Rattle.mw_heap.specs.Objects.{object_at, Grows}
 use Rattle.mw_heap.proofs.Objects.{IsIn-Grows, object_at-Grows}
 use Rattle.mw_term.proofs.Symbols.{symbol_is}
 use Rattle.mw_define.specs.declared.draft.Draft.{Draft as Given}
@@ -18,7 +18,7 @@ use Rattle.mw_define.specs.declared.piece.Piece.TheVariants as piece
 use Rattle.mw_define.specs.Blocks.{function_at, functions_at}
 use Rattle.mw_define.specs.Collecting.{the_terms, found_calls, IsPartOf, AreFoundCalls, HasNames}
 use Rattle.mw_define.specs.Mentioning.{piece_mentions, IsPiece}
-use Rattle.mw_define.specs.NestedCall.{nests, numbered, first_nested, IsCallOf, IsFirstFound, IsFirstNested}
+use Rattle.mw_define.specs.NestedCall.{nests, numbered, first_nested, IsCallOf, IsFirstFound}
 use Rattle.mw_define.proofs.NestedCalls.{IsOneCall, one-call}
 
 -- a function is found by its own name

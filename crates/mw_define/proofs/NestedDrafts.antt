@@ -1,15 +1,14 @@
 -- The nested calls of drafts are those of the functions that they expand to.
-use Rattle.std.proofs.Common.{◌≡◌, ℕ, Bool, true, false, ◌&&◌, List, [], ◌∷◌, ◌++◌, length, get_or, take, take_all, map, Option, Some, None, is_some, unwrap_or, inl, inr, refl, sym, ap, ap₂, ◌∙◌, subst, ◌<◌, ◌≤◌, ◌+◌}
+use Rattle.std.proofs.Common.{◌≡◌, ℕ, true, ◌&&◌, List, [], ◌∷◌, ◌++◌, length, get_or, take, take_all, map, Option, Some, None, is_some, unwrap_or, inl, inr, refl, sym, ap, ap₂, ◌∙◌, subst, ◌<◌, ◌≤◌, ◌+◌}
 use Rattle.std.proofs.lemmas.Bool.{and_parts}
 use Rattle.std.proofs.lemmas.List.{take_more}
-use Rattle.mw_model.specs.Terms.Object.{Name, Object, NIL}
+use Rattle.mw_model.specs.Terms.Object.{Name, Object}
 use Rattle.mw_model.specs.Terms.Term.{Term, ArityTable}
 use Rattle.mw_model.specs.Terms.Reading.{and_more}
-use Rattle.mw_model.specs.Values.Definition.{Function}
 use Rattle.mw_model.specs.Events.Expansion.{expand}
 use Rattle.mw_model.specs.Events.Admission.{Draft, all_of, new_names, formals_of, add_names, functions}
 use Rattle.mw_model.proofs.ReadBack.{some_one}
-use Rattle.mw_heap.specs.Objects.{object_at, IsIn, Grows}
+use Rattle.mw_heap.specs.Objects.{object_at, Grows}
 use Rattle.mw_heap.proofs.Objects.{IsIn-Grows, object_at-Grows}
 use Rattle.mw_term.specs.Parts.{names_at, AreSymbols}
 use Rattle.mw_translate.specs.Expands.{with_pairs}

@@ -33,27 +33,17 @@ pub(crate) fn equal_nil(heap: &mut Heap, x: Ref) -> Result<Ref, Memory>
     call_of_two(heap, Word::Pequal, x, nil)
 }
 
-// not (the body where the witness stands for the bound variable) = 'nil.
-fn chosen_holds(
-    heap: &mut Heap,
-    name: Ref,
-    formals: Ref,
-    free: Ref,
-    body: Ref,
-) -> Result<Ref, Memory>
-    requires name_in { IsIn heap.old.objects name }
-    requires formals_in { IsIn heap.old.objects formals }
-    requires free_in { IsIn heap.old.objects free }
-    requires body_in { IsIn heap.old.objects body }
+// not x = 'nil.
+fn not_nil(heap: &mut Heap, x: Ref) -> Result<Ref, Memory>
+    requires { IsIn heap.old.objects x }
     ensures grows { Grows heap.old.objects heap.new.objects }
-    ensures made { IfOk result (λ r. IsIn heap.new.objects r × (object_at heap.new.objects r ≡ not_object (equal_object (chosen_object (object_at heap.old.objects name) (object_at heap.old.objects formals) (object_at heap.old.objects free) (object_at heap.old.objects body)) quoted_nil))) }
+    ensures made { IfOk result (λ r. IsIn heap.new.objects r × (object_at heap.new.objects r ≡ not_object (equal_object (object_at heap.old.objects x) quoted_nil))) }
 {
-    let call = chosen(heap, name, formals, free, body)?;
-    let fails = equal_nil(heap, call)?;
+    let fails = equal_nil(heap, x)?;
     call_of_one(heap, Word::Pnot, fails)
 }
 
-// body = 'nil or not (the body where the witness stands for the bound variable) = 'nil.
+// body = 'nil or not (the body with the witness for the bound variable) = 'nil.
 pub(crate) fn choice_axiom(
     heap: &mut Heap,
     name: Ref,
@@ -68,7 +58,8 @@ pub(crate) fn choice_axiom(
     ensures grows { Grows heap.old.objects heap.new.objects }
     ensures made { IfOk result (λ r. IsIn heap.new.objects r × (object_at heap.new.objects r ≡ choice_object (object_at heap.old.objects name) (object_at heap.old.objects formals) (object_at heap.old.objects free) (object_at heap.old.objects body))) }
 {
-    let holds = chosen_holds(heap, name, formals, free, body)?;
+    let call = chosen(heap, name, formals, free, body)?;
+    let holds = not_nil(heap, call)?;
     let none = equal_nil(heap, body)?;
     call_of_two(heap, Word::Por, none, holds)
 }

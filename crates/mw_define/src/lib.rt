@@ -9,6 +9,7 @@ mod collect;
 mod descent;
 mod draft;
 mod drafts;
+mod foreseeing;
 mod item;
 mod known;
 mod listed;

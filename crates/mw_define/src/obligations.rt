@@ -33,4 +33,12 @@ impl Obligations {
             None => false,
         }
     }
+
+    // Whether they may be more than the block may owe once this many more are added.
+    pub fn may_be_too_many_with(&self, more: usize) -> bool {
+        match self.most {
+            Some(most) => (self.formulas.len() as u64).saturating_add(more as u64) > most,
+            None => false,
+        }
+    }
 }

@@ -15,6 +15,7 @@ ghost use Rattle.mw_define.specs.declared.item.Part.TheVariants as part;
 use crate::collect::find_calls;
 use crate::descent::{falls, is_ordinal};
 use crate::draft::Draft;
+use crate::foreseeing::foresee;
 use crate::item::FoundCall;
 use crate::known::Known;
 use crate::nested::are_nested;
@@ -60,7 +61,12 @@ fn add_formula(heap: &Heap, owed: &mut Obligations, formula: Ref) -> Result<(), 
 }
 
 // The function of the block that has this name.
-fn function_named(heap: &Heap, names: &IndexSet<Ref>, block: &[Draft], name: Ref) -> Draft
+pub(crate) fn function_named(
+    heap: &Heap,
+    names: &IndexSet<Ref>,
+    block: &[Draft],
+    name: Ref,
+) -> Draft
     requires block { AreBlock heap.now.objects names.now.keys block.now }
     requires within { IsIn heap.now.objects name }
     requires symbol { is_symbol (object_at heap.now.objects name) ≡ true }
@@ -149,7 +155,7 @@ fn owe_ordinal(
     add_formula(heap, owed, formula)
 }
 
-// Adds what a function owes at calls that are not nested: the ordinal first.
+// Adds what a function owes at calls that are not nested: the ordinal first. Where the rest would take far too many looks, it is not begun.
 fn owe_flat(
     heap: &mut Heap,
     block: &[Draft],
@@ -167,6 +173,7 @@ fn owe_flat(
     ensures owed { OnOk result (Adds heap.old.objects heap.new.objects owed.old owed.new (ordinal_formula (measure_of (measures_at heap.old.objects block.now) (name_of (object_at heap.old.objects function.now.name))) ∷ owed_at heap.old.objects block.now function.now (found_calls (functions_at heap.old.objects block.now) heap.old.objects calls.now))) }
 {
     owe_ordinal(heap, block, function, owed)?;
+    foresee(heap, block, calls, owed, known)?;
     owe_calls(heap, block, function, calls, owed, known)
 }
 

@@ -12,8 +12,11 @@ use Rattle.mw_heap.specs.Objects.{object_at, Grows}
 use Rattle.mw_heap.proofs.Objects.{object_at-Grows}
 use Rattle.mw_proof.specs.Step.{has_proof_shape, subproofs_of, step_holds}
 use Rattle.mw_heap.specs.Lists.{list_object}
+use Rattle.mw_heap.specs.Variants.{profile_of}
+use Rattle.mw_rules.specs.Basis.{IsBasisIn}
+use Rattle.mw_rules.specs.declared.basis.Basis as rules
 use Rattle.mw_proof.specs.Gathered.{IsAmong, HasMembers, HasSubproofs, IsMadeOf, itself, subproof}
-use Rattle.mw_proof.specs.Judging.{Basis, basis, is_proof_on, are_proofs_on, is_step_on, have_conclusions}
+use Rattle.mw_proof.specs.Judging.{Basis, basis, basis_over, is_proof_on, are_proofs_on, is_step_on, have_conclusions}
 use Rattle.mw_proof.proofs.StepExact.{is_proof-step}
 
 module _ (os new : List Object) (g : Grows os new) where
@@ -23,6 +26,10 @@ module _ (os new : List Object) (g : Grows os new) where
 
   pub basis-grows : (A : ArityTable) (ax th : List ℕ) (P : Profile) → All (λ r. r < length os) ax → All (λ r. r < length os) th → basis new A ax th P ≡ basis os A ax th P
   basis-grows A ax th P h k = ap₂ (λ a t. record { axioms = a; theorems = t; table = A; profile = P }) (list_object-grows ax h) (list_object-grows th k)
+
+  -- the test of a step over an older heap
+  pub is_step-grows : (A : ArityTable) (b : rules.Basis) → IsBasisIn os b → (p : ℕ) → p < length os → is_step_on (basis_over new A b) (object_at new p) ≡ is_step_on (basis_over os A b) (object_at os p)
+  is_step-grows A b h p i = ap₂ is_step_on (basis-grows A b.axioms.now b.theorems.now (profile_of b.profile) h.axioms h.theorems) (object_at-Grows os new g p i)
 
 module _ (b : Basis) where
   abbrev shape_of : Object → Bool

@@ -8,6 +8,8 @@ use Rattle.mw_model.specs.Laws.RulesInduction.{length_object}
 use Rattle.mw_heap.specs.Objects.{object_at}
 use Rattle.mw_proof.specs.Step.{subproofs_of, conclusions_object, is_proof, are_proofs, is_step}
 use Rattle.mw_heap.specs.Lists.{list_object}
+use Rattle.mw_heap.specs.Variants.{profile_of}
+use Rattle.mw_rules.specs.declared.basis.Basis as rules
 
 -- what a proof may rest on
 pub record Basis : Type 0 where
@@ -19,6 +21,10 @@ pub record Basis : Type 0 where
 -- the objects of known references, and an arity table
 abbrev pub basis : List Object → ArityTable → List ℕ → List ℕ → Profile → Basis
 basis os A axioms theorems P = record { axioms = list_object os axioms; theorems = list_object os theorems; table = A; profile = P }
+
+-- those of a basis in a heap
+abbrev pub basis_over : List Object → ArityTable → rules.Basis → Basis
+basis_over os A b = basis os A b.axioms.now b.theorems.now (profile_of b.profile)
 
 abbrev pub is_proof_on : Basis → Object → Bool
 is_proof_on b p = is_proof b.axioms b.theorems b.table b.profile p

@@ -1,19 +1,19 @@
 //! Judging proofs, each distinct one at most once.
-ghost use Rattle.std.specs.Prelude.{◌≡◌, ◌<◌, ◌≤◌, true, All, length, IfOk, OnOk};
+ghost use Rattle.std.specs.Prelude.{◌≡◌, ◌<◌, true, [], All, length, IfOk};
 ghost use Rattle.mw_heap.specs.Objects.{object_at, IsIn, Grows};
 ghost use Rattle.mw_heap.specs.Variants.{profile_of};
 ghost use Rattle.mw_term.specs.Marking.{AreMarks};
 ghost use Rattle.mw_model.specs.Terms.Term.{ArityTable};
 ghost use Rattle.mw_proof.specs.Step.{is_proof};
 ghost use Rattle.mw_heap.specs.Lists.{list_object};
-ghost use Rattle.mw_proof.specs.Gathered.{HoldsAlone};
-ghost use Rattle.mw_proof.specs.Judging.{basis, is_proof_on};
+ghost use Rattle.mw_rules.specs.Basis.{IsBasisIn};
+ghost use Rattle.mw_proof.specs.Judging.{basis_over, is_proof_on};
 ghost use Rattle.mw_proof.specs.Judgments.{IsJudgment, Reaches, DecidesEach, HasStepForEach, HasStepForSome};
 
 use crate::step::decide;
 use indexmap::IndexSet;
 use mw_heap::{Heap, Memory, Profile, Ref};
-use mw_rules::Known;
+use mw_rules::{Basis, Known};
 use mw_subst::Steps;
 use mw_term::{Arity, Marks};
 use std::marker::Brand;
@@ -50,40 +50,21 @@ pub fn judge_counted<L: Ledger>(
     ensures reaches { Reaches result (length marks.old) (length heap.old.objects) (length marks.new) }
     ensures decided { DecidesEach result heap.old.objects proof steps.old steps.new }
 {
-    match is_good(heap, proof, axioms, theorems, arity, profile, marks, steps) {
+    let below = heap.mark();
+    let Ok(()) = marks.extend(heap, arity, below) else {
+        return Judged::Memory;
+    };
+    let basis = Basis {
+        axioms,
+        theorems,
+        profile,
+    };
+    let mut found = IndexSet::new(heap.alloc());
+    match all_hold(heap, proof, &basis, marks, &mut found, steps) {
         Ok(true) => Judged::Good,
         Ok(false) => Judged::Bad,
         Err(_) => Judged::Memory,
     }
-}
-
-// The same over a ledger that nobody reads.
-fn judge_uncounted<L: Ledger>(
-    heap: &mut Heap,
-    proof: Ref,
-    axioms: &Known,
-    theorems: &Known,
-    arity: &Arity,
-    profile: Profile,
-    marks: &mut Marks,
-    blank: Blank,
-) -> Judged
-    requires within { IsIn heap.old.objects proof }
-    requires axioms { All (IsIn heap.old.objects) axioms.now }
-    requires theorems { All (IsIn heap.old.objects) theorems.now }
-    requires marked { AreMarks arity.now heap.old.objects marks.old }
-    requires name { blank.name ≡ L.name }
-    requires parts { blank.parts ≡ L.parts }
-    requires some { 0 < blank.parts }
-    ensures grows { Grows heap.old.objects heap.new.objects }
-    ensures marked { AreMarks arity.now heap.new.objects marks.new }
-    ensures judged { IsJudgment result (is_proof (list_object heap.old.objects axioms.now) (list_object heap.old.objects theorems.now) arity.now (profile_of profile) (object_at heap.old.objects proof)) }
-    ensures reaches { Reaches result (length marks.old) (length heap.old.objects) (length marks.new) }
-{
-    let mut steps = Steps::<L>::new(blank);
-    judge_counted(
-        heap, proof, axioms, theorems, arity, profile, marks, &mut steps,
-    )
 }
 
 /// Whether `proof` is a proof from these axioms and theorems, under the arity table and in the profile. It extends the marks, which
@@ -106,102 +87,83 @@ pub fn judge(
     ensures judged { IsJudgment result (is_proof (list_object heap.old.objects axioms.now) (list_object heap.old.objects theorems.now) arity.now (profile_of profile) (object_at heap.old.objects proof)) }
     ensures reaches { Reaches result (length marks.old) (length heap.old.objects) (length marks.new) }
 {
-    judge_uncounted::<Brand>(
-        heap,
-        proof,
+    let basis = Basis {
         axioms,
         theorems,
-        arity,
         profile,
-        marks,
-        Blank::new(1),
-    )
+    };
+    judge_uncounted::<Brand>(heap, proof, &basis, arity, marks, Blank::new(1))
 }
 
-// Whether it is a proof.
-fn is_good<L: Ledger>(
+// The same over a ledger that nobody reads.
+fn judge_uncounted<L: Ledger>(
     heap: &mut Heap,
     proof: Ref,
-    axioms: &Known,
-    theorems: &Known,
+    basis: &Basis,
     arity: &Arity,
-    profile: Profile,
     marks: &mut Marks,
-    steps: &mut Steps<L>,
-) -> Result<bool, Memory>
+    blank: Blank,
+) -> Judged
     requires within { IsIn heap.old.objects proof }
-    requires axioms { All (IsIn heap.old.objects) axioms.now }
-    requires theorems { All (IsIn heap.old.objects) theorems.now }
+    requires basis { IsBasisIn heap.old.objects basis.now }
     requires marked { AreMarks arity.now heap.old.objects marks.old }
+    requires name { blank.name ≡ L.name }
+    requires parts { blank.parts ≡ L.parts }
+    requires some { 0 < blank.parts }
     ensures grows { Grows heap.old.objects heap.new.objects }
     ensures marked { AreMarks arity.now heap.new.objects marks.new }
-    ensures judged { IfOk result (λ b. b ≡ is_proof (list_object heap.old.objects axioms.now) (list_object heap.old.objects theorems.now) arity.now (profile_of profile) (object_at heap.old.objects proof)) }
-    ensures reaches { OnOk result (length marks.new ≡ length heap.old.objects) }
-    ensures kept { length marks.old ≤ length marks.new }
-    ensures each { IfOk result (λ b. b ≡ true → HasStepForEach heap.old.objects proof steps.old steps.new) }
-    ensures most { HasStepForSome heap.old.objects proof steps.old steps.new }
+    ensures judged { IsJudgment result (is_proof_on (basis_over heap.old.objects arity.now basis.now) (object_at heap.old.objects proof)) }
+    ensures reaches { Reaches result (length marks.old) (length heap.old.objects) (length marks.new) }
 {
-    let below = heap.mark();
-    marks.extend(heap, arity, below)?;
-    all_hold(heap, proof, axioms, theorems, profile, marks, steps)
+    let mut steps = Steps::<L>::new(blank);
+    judge_counted(
+        heap,
+        proof,
+        basis.axioms,
+        basis.theorems,
+        arity,
+        basis.profile,
+        marks,
+        &mut steps,
+    )
 }
 
 // Whether all holds of a proof, its subproofs, theirs and so on that must hold of each, one after another: then each is a proof. It ends
-// at the first of which it does not hold.
+// at the first of which it does not hold. The set of those found is the caller's, and empty at first: each step of the loop costs more to
+// prove where it owns the set.
 fn all_hold<L: Ledger>(
     heap: &mut Heap,
     proof: Ref,
-    axioms: &Known,
-    theorems: &Known,
-    profile: Profile,
+    basis: &Basis,
     marks: &Marks,
-    steps: &mut Steps<L>,
-) -> Result<bool, Memory>
-    requires marks { (A : ArityTable) × AreMarks A heap.old.objects marks.now }
-    requires all { length marks.now ≡ length heap.old.objects }
-    requires within { IsIn heap.old.objects proof }
-    requires axioms { All (IsIn heap.old.objects) axioms.now }
-    requires theorems { All (IsIn heap.old.objects) theorems.now }
-    ensures grows { Grows heap.old.objects heap.new.objects }
-    ensures judged { IfOk result (λ b. (A : ArityTable) → AreMarks A heap.old.objects marks.now → b ≡ is_proof_on (basis heap.old.objects A axioms.now theorems.now (profile_of profile)) (object_at heap.old.objects proof)) }
-    ensures each { IfOk result (λ b. b ≡ true → HasStepForEach heap.old.objects proof steps.old steps.new) }
-    ensures most { HasStepForSome heap.old.objects proof steps.old steps.new }
-{
-    let mut found = IndexSet::new(heap.alloc());
-    found.insert(proof)?;
-    all_found_hold(
-        heap, proof, &mut found, axioms, theorems, profile, marks, steps,
-    )
-}
-
-// The same, where the proof alone was found. It stands apart, since each step of the loop costs more to prove where it owns what was
-// found.
-fn all_found_hold<L: Ledger>(
-    heap: &mut Heap,
-    proof: Ref,
     found: &mut IndexSet<Ref>,
-    axioms: &Known,
-    theorems: &Known,
-    profile: Profile,
-    marks: &Marks,
     steps: &mut Steps<L>,
 ) -> Result<bool, Memory>
     requires marks { (A : ArityTable) × AreMarks A heap.old.objects marks.now }
     requires all { length marks.now ≡ length heap.old.objects }
     requires within { IsIn heap.old.objects proof }
-    requires alone { HoldsAlone found.old.keys proof }
-    requires axioms { All (IsIn heap.old.objects) axioms.now }
-    requires theorems { All (IsIn heap.old.objects) theorems.now }
+    requires basis { IsBasisIn heap.old.objects basis.now }
+    requires none_found { found.old.keys ≡ [] }
     ensures grows { Grows heap.old.objects heap.new.objects }
-    ensures judged { IfOk result (λ b. (A : ArityTable) → AreMarks A heap.old.objects marks.now → b ≡ is_proof_on (basis heap.old.objects A axioms.now theorems.now (profile_of profile)) (object_at heap.old.objects proof)) }
+    ensures judged { IfOk result (λ b. (A : ArityTable) → AreMarks A heap.old.objects marks.now → b ≡ is_proof_on (basis_over heap.old.objects A basis.now) (object_at heap.old.objects proof)) }
     ensures each { IfOk result (λ b. b ≡ true → HasStepForEach heap.old.objects proof steps.old steps.new) }
     ensures most { HasStepForSome heap.old.objects proof steps.old steps.new }
 {
+    found.insert(proof)?;
     let mut next = 0;
     while next < found.len() {
         let p = found.as_slice()[next];
         steps.tick();
-        if !decide(heap, p, found, axioms, theorems, profile, marks)? {
+        let holds = decide(
+            heap,
+            p,
+            found,
+            basis.axioms,
+            basis.theorems,
+            basis.profile,
+            marks,
+        )?;
+        if !holds {
             return Ok(false);
         }
         next += 1;

@@ -11,7 +11,7 @@ use crate::conclusions::conclusions_of;
 use crate::members::members_of;
 use indexmap::IndexSet;
 use mw_heap::{Heap, Memory, Profile, Ref};
-use mw_rules::{Known, Method, follows};
+use mw_rules::{Basis, Known, Method, follows};
 use mw_term::{Marks, is_formula};
 
 /// Whether all holds of an object that must hold of a proof, but that its subproofs are proofs; then these are added to those found. The
@@ -47,15 +47,18 @@ pub fn decide(
     let Some(conclusions) = conclusions_of(heap, members.subproofs, found, marks, most)? else {
         return Ok(false);
     };
+    let basis = Basis {
+        axioms,
+        theorems,
+        profile,
+    };
     follows(
         heap,
         method,
         members.conclusion,
         &conclusions,
         members.extras,
-        axioms,
-        theorems,
-        profile,
+        &basis,
         marks,
     )
 }

@@ -1,21 +1,19 @@
 -- The rules over references.
-use Rattle.std.proofs.Common.{◌≡◌, ◌≢◌, ℕ, ◌==◌, ◌<◌, ◌≤◌, true, false, ◌&&◌, ◌||◌, List, [], ◌∷◌, length, get_or, Some, refl, sym, ap, ap₂, ◌∙◌, arith, ◌⊎◌, inl, inr}
+use Rattle.std.proofs.Common.{◌≡◌, ◌≢◌, ℕ, zero, suc, ◌==◌, Bool, true, false, ◌&&◌, ◌||◌, List, [], ◌∷◌, length, Option, Some, None, refl, sym, ap, ap₂, ◌∙◌, ◌⊎◌, inl, inr}
 use Rattle.std.specs.List.{list_any, All}
 use Rattle.std.proofs.lemmas.Bool.{eq-eqb, ne_eqb, cases_eq}
 use Rattle.std.proofs.lemmas.List.Elements.{All-head, All-tail}
-use Rattle.mw_model.specs.Terms.Object.{Object, Pair, NIL, same_object, is_member, list1, list2}
+use Rattle.mw_model.specs.Terms.Object.{Object, NIL, same_object, has_members, is_member}
 use Rattle.mw_model.specs.Terms.Term.{ArityTable}
-use Rattle.mw_model.specs.Values.Primitive.{Profile}
-use Rattle.mw_model.specs.Proofs.Proof as logic
-use Rattle.mw_model.specs.Laws.Rules.{object_is_instance}
 use Rattle.mw_model.proofs.Names.{object_cases, same_object-from}
 use Rattle.mw_heap.specs.Objects.{object_at, IsIn, AreDistinct}
-use Rattle.mw_rules.specs.declared.method.Method.{Method}
-use Rattle.mw_rules.specs.declared.method.Method.TheVariants.{Instantiation, Induction}
-use Rattle.mw_rules.specs.Step.{rule_holds}
 use Rattle.mw_heap.specs.Lists.{list_object}
+use Rattle.mw_rules.specs.declared.basis.Basis.{Basis}
+use Rattle.mw_rules.specs.declared.method.Method.{Method}
+use Rattle.mw_rules.specs.declared.method.Method.TheVariants.{Axiom, Theorem, PropositionalSchema, FunctionalEquality, BetaReduction, BaseEval, Expansion, Contraction, Associativity, Cut, Instantiation, Induction}
+use Rattle.mw_rules.specs.Basis.{rule_holds_over}
 use Rattle.mw_rules.specs.Methods.{method_of_logic}
-use Rattle.mw_rules.specs.Counted.{rule_of_none, rule_of_one, rule_of_two}
+use Rattle.mw_rules.specs.Counted.{most_subproofs}
 
 same-references : (os : List Object) (x y : ℕ) → AreDistinct os → IsIn os x → IsIn os y → (x == y) ≡ same_object (object_at os x) (object_at os y)
 same-references os x y d i j = go (cases_eq x y) (object_cases (object_at os x) (object_at os y))
@@ -30,65 +28,43 @@ pub known-member : (os : List Object) (k : List ℕ) (x : ℕ) → AreDistinct o
 known-member os [] x d i h = refl
 known-member os (y ∷ k) x d i h = ap₂ (λ a b. a || b) (same-references os x y d i (All-head (IsIn os) y k h)) (known-member os k x d i (All-tail (IsIn os) y k h))
 
--- a rule that takes no extras, by the number of its premises
-module _ (ax th : Object) (A : ArityTable) (P : Profile) (c x : Object) where
-  one_row : (m : Method) → (m ≡ Instantiation → ⊥) → (m ≡ Induction → ⊥) → (a : Object) → rule_holds ax th A P (Some (method_of_logic m)) c (list1 a) x ≡ (same_object x NIL && rule_of_one (method_of_logic m) c a)
-  one_row Instantiation i j a = absurd (i refl)
-  one_row Induction i j a = absurd (j refl)
-  one_row m i j a = refl
+-- a list does not have another number of members
+other_count : (os : List Object) (n : ℕ) (rs : List ℕ) → (length rs ≡ n → ⊥) → has_members n (list_object os rs) ≡ false
+other_count os zero [] h = absurd (h refl)
+other_count os zero (r ∷ rs) h = refl
+other_count os (suc n) [] h = refl
+other_count os (suc n) (r ∷ rs) h = other_count os n rs (λ e. h (ap suc e))
 
-  two_row : (m : Method) → (m ≡ Instantiation → ⊥) → (m ≡ Induction → ⊥) → (a b : Object) → rule_holds ax th A P (Some (method_of_logic m)) c (list2 a b) x ≡ (same_object x NIL && rule_of_two (method_of_logic m) c a b)
-  two_row Instantiation i j a b = absurd (i refl)
-  two_row Induction i j a b = absurd (j refl)
-  two_row m i j a b = refl
+refused : (b t u : Bool) → t ≡ false → false ≡ (b && (t && u))
+refused true t u e = rw e refl
+refused false t u e = refl
 
-  more_row : (m : Method) → (m ≡ Instantiation → ⊥) → (m ≡ Induction → ⊥) → (a b d r : Object) → rule_holds ax th A P (Some (method_of_logic m)) c (Pair a (Pair b (Pair d r))) x ≡ (same_object x NIL && false)
-  more_row Instantiation i j a b d r = absurd (i refl)
-  more_row Induction i j a b d r = absurd (j refl)
-  more_row m i j a b d r = refl
+-- n is not the number of subproofs that a method takes
+abbrev pub IsOther : Option ℕ → ℕ → Type 0
+IsOther None n = ⊥
+IsOther (Some most) n = n ≡ most → ⊥
 
-  none_row : (m : Method) → (m ≡ Instantiation → ⊥) → (m ≡ Induction → ⊥) → rule_holds ax th A P (Some (method_of_logic m)) c NIL x ≡ (same_object x NIL && rule_of_none ax th P (method_of_logic m) c)
-  none_row Instantiation i j = absurd (i refl)
-  none_row Induction i j = absurd (j refl)
-  none_row m i j = refl
+module _ (os : List Object) (b : Basis) (A : ArityTable) (c : ℕ) (rs : List ℕ) (x : ℕ) where
+  -- no row has the method with another number of subproofs
+  no_row : (m : Method) → IsOther (most_subproofs (method_of_logic m)) (length rs) → false ≡ rule_holds_over os b A m c rs x
+  no_row Axiom h = refused _ _ _ (other_count os 0 rs h)
+  no_row Theorem h = refused _ _ _ (other_count os 0 rs h)
+  no_row PropositionalSchema h = refused _ _ _ (other_count os 0 rs h)
+  no_row FunctionalEquality h = refused _ _ _ (other_count os 0 rs h)
+  no_row BetaReduction h = refused _ _ _ (other_count os 0 rs h)
+  no_row BaseEval h = refused _ _ _ (other_count os 0 rs h)
+  no_row Expansion h = refused _ _ _ (other_count os 1 rs h)
+  no_row Contraction h = refused _ _ _ (other_count os 1 rs h)
+  no_row Associativity h = refused _ _ _ (other_count os 1 rs h)
+  no_row Cut h = refused _ _ _ (other_count os 2 rs h)
+  no_row Instantiation h = refused true _ _ (other_count os 1 rs h)
+  no_row Induction h = absurd h
 
-  -- or that is given some
-  pub rule_with_extras : (m : Method) → (m ≡ Instantiation → ⊥) → (m ≡ Induction → ⊥) → same_object x NIL ≡ false → (cs : Object) → false ≡ rule_holds ax th A P (Some (method_of_logic m)) c cs x
-  rule_with_extras Instantiation i j nil cs = absurd (i refl)
-  rule_with_extras Induction i j nil cs = absurd (j refl)
-  rule_with_extras m i j nil cs = rw nil refl
+  pub no_row-of : (m k : Method) → m ≡ k → IsOther (most_subproofs (method_of_logic k)) (length rs) → false ≡ rule_holds_over os b A m c rs x
+  no_row-of m k e h = no_row k h ∙ ap (λ z. rule_holds_over os b A z c rs x) (sym e)
 
-  module _ (os : List Object) where
-    pub instance_of_one : (rs : List ℕ) (a : ℕ) → 1 ≤ length rs → length rs < 2 → a ≡ get_or rs 0 a → object_is_instance A c (object_at os a) x ≡ rule_holds ax th A P (Some logic.Instantiation) c (list_object os rs) x
-    instance_of_one [] a l k e = absurd (omega arith)
-    instance_of_one (y ∷ []) a l k e = ap (λ z. object_is_instance A c (object_at os z) x) e
-    instance_of_one (y ∷ z ∷ rs) a l k e = absurd (omega arith)
-
-    pub instance_of_more : (rs : List ℕ) → 2 ≤ length rs → false ≡ rule_holds ax th A P (Some logic.Instantiation) c (list_object os rs) x
-    instance_of_more [] l = absurd (omega arith)
-    instance_of_more (a ∷ []) l = absurd (omega arith)
-    instance_of_more (a ∷ b ∷ rs) l = refl
-
-    module _ (m : Method) (i : m ≡ Instantiation → ⊥) (j : m ≡ Induction → ⊥) (nil : same_object x NIL ≡ true) where
-      pub rule_of_none-is : (rs : List ℕ) → length rs < 1 → rule_of_none ax th P (method_of_logic m) c ≡ rule_holds ax th A P (Some (method_of_logic m)) c (list_object os rs) x
-      rule_of_none-is [] k = sym (none_row m i j ∙ ap (λ t. t && rule_of_none ax th P (method_of_logic m) c) nil)
-      rule_of_none-is (y ∷ rs) k = absurd (omega arith)
-
-      pub rule_of_one-is : (rs : List ℕ) (a : ℕ) → 1 ≤ length rs → length rs < 2 → a ≡ get_or rs 0 a → rule_of_one (method_of_logic m) c (object_at os a) ≡ rule_holds ax th A P (Some (method_of_logic m)) c (list_object os rs) x
-      rule_of_one-is [] a l k e = absurd (omega arith)
-      rule_of_one-is (y ∷ []) a l k e = sym (one_row m i j (object_at os y) ∙ (ap (λ t. t && rule_of_one (method_of_logic m) c (object_at os y)) nil ∙ ap (λ z. rule_of_one (method_of_logic m) c (object_at os z)) (sym e)))
-      rule_of_one-is (y ∷ z ∷ rs) a l k e = absurd (omega arith)
-
-      pub rule_of_two-is : (rs : List ℕ) (a b : ℕ) → 2 ≤ length rs → length rs < 3 → a ≡ get_or rs 0 a → b ≡ get_or rs 1 b → rule_of_two (method_of_logic m) c (object_at os a) (object_at os b) ≡ rule_holds ax th A P (Some (method_of_logic m)) c (list_object os rs) x
-      rule_of_two-is [] a b l k e f = absurd (omega arith)
-      rule_of_two-is (y ∷ []) a b l k e f = absurd (omega arith)
-      rule_of_two-is (y ∷ z ∷ []) a b l k e f =
-          sym (two_row m i j (object_at os y) (object_at os z) ∙ (ap (λ t. t && rule_of_two (method_of_logic m) c (object_at os y) (object_at os z)) nil
-          ∙ ap₂ (λ u v. rule_of_two (method_of_logic m) c (object_at os u) (object_at os v)) (sym e) (sym f)))
-      rule_of_two-is (y ∷ z ∷ w ∷ rs) a b l k e f = absurd (omega arith)
-
-      pub rule_of_more : (rs : List ℕ) → 3 ≤ length rs → false ≡ rule_holds ax th A P (Some (method_of_logic m)) c (list_object os rs) x
-      rule_of_more [] l = absurd (omega arith)
-      rule_of_more (y ∷ []) l = absurd (omega arith)
-      rule_of_more (y ∷ z ∷ []) l = absurd (omega arith)
-      rule_of_more (y ∷ z ∷ w ∷ rs) l = sym (more_row m i j (object_at os y) (object_at os z) (object_at os w) (list_object os rs) ∙ ap (λ t. t && false) nil)
+  -- nor with extras, but for the methods that take some
+  pub no_row-extras : (m : Method) → (m ≡ Instantiation → ⊥) → (m ≡ Induction → ⊥) → same_object (object_at os x) NIL ≡ false → false ≡ rule_holds_over os b A m c rs x
+  no_row-extras Instantiation i j nil = absurd (i refl)
+  no_row-extras Induction i j nil = absurd (j refl)
+  no_row-extras m i j nil = rw nil refl

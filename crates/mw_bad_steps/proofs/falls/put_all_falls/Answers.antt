@@ -14,7 +14,7 @@ pub put_falls-requires-clause-substitutions : goal.put_falls-requires-clause-sub
 put_falls-requires-clause-substitutions c =
     let os = c.args.heap.now.objects in
     let inv = c.loop-condition.invariant in
-    let in_os = c.first_and_rest-substitutions.ensures.below (length os) inv.cases_in c.requires.nil_in in
+    let in_os = c.first_and_rest-substitutions.ensures.below (length os) inv.cases_in c.requires.cases.nil_in in
     IsIn-Grows os c.loop-condition.heap.objects inv.grows c.first_and_rest-substitutions.result.0 in_os.0
 
 pub loop-condition-preserved : goal.loop-condition-preserved
@@ -25,7 +25,7 @@ loop-condition-preserved c =
     let inv = c.loop-condition.invariant in
     let q = c.in-Pair.condition in
     let more = c.in-Pair.more in
-    let cases = c.loop-condition.cases in
+    let cases = c.loop-condition.left in
     let ss = c.first_and_rest-substitutions.result.0 in
     let others = c.first_and_rest-substitutions.result.1 in
     let m = object_at os c.args.measure in
@@ -34,7 +34,7 @@ loop-condition-preserved c =
     let has = c.put_falls.new.premises.items in
     let part = next_part os cur inv.grows c.loop-condition.conditions q more inv.conditions_in c.in-Pair.ensures.below.0 c.in-Pair.ensures.below.1 c.in-Pair.ensures.shows.2 in
     let here = object_at-Grows os cur inv.grows cases inv.cases_in in
-    let in_os = c.first_and_rest-substitutions.ensures.below _ inv.cases_in c.requires.nil_in in
+    let in_os = c.first_and_rest-substitutions.ensures.below _ inv.cases_in c.requires.cases.nil_in in
     let pairs = case_pairs y inv.pairs in
     let first = c.first_and_rest-substitutions.ensures.first ∙ ap car here in
     let rest = sym (object_at-Grows os cur inv.grows others in_os.1) ∙ (c.first_and_rest-substitutions.ensures.rest ∙ ap cdr here) in

@@ -11,10 +11,10 @@ abbrev pub invariant-loop-condition : goal.invariant-loop-condition
 invariant-loop-condition l = record {
   grows : Grows l.fn.heap.objects l.heap.objects;
   conditions_in : IsIn l.fn.heap.objects l.conditions;
-  cases_in : IsIn l.fn.heap.objects l.cases;
-  pairs : are_cases_of_pairs (object_at l.fn.heap.objects l.cases) ≡ true;
+  cases_in : IsIn l.fn.heap.objects l.left;
+  pairs : are_cases_of_pairs (object_at l.fn.heap.objects l.left) ≡ true;
   within : All (IsIn l.heap.objects) l.premises.items;
-  same : map (object_at l.heap.objects) l.premises.items ++ members_in (steps_object (object_at l.fn.heap.objects l.a) (object_at l.fn.heap.objects l.conditions) (object_at l.fn.heap.objects l.cases) NIL) ≡ map (object_at l.fn.heap.objects) l.fn.premises.items ++ members_in (steps_object (object_at l.fn.heap.objects l.a) (object_at l.fn.heap.objects l.fn.conditions) (object_at l.fn.heap.objects l.fn.cases) NIL);
+  same : map (object_at l.heap.objects) l.premises.items ++ members_in (steps_object (object_at l.fn.heap.objects l.a) (object_at l.fn.heap.objects l.conditions) (object_at l.fn.heap.objects l.left) NIL) ≡ map (object_at l.fn.heap.objects) l.fn.premises.items ++ members_in (steps_object (object_at l.fn.heap.objects l.a) (object_at l.fn.heap.objects l.fn.cases.conditions) (object_at l.fn.heap.objects l.fn.cases.substitutions) NIL);
 }
 
 abbrev pub decreases-loop-condition : goal.decreases-loop-condition

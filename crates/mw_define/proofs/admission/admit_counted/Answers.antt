@@ -1,27 +1,19 @@
 -- The bodies and measures, and then the last tests.
-use Rattle.std.proofs.Common.{sym, ap, ◌∙◌, subst}
+use Rattle.std.proofs.Common.{sym, subst}
 use Rattle.std.proofs.lemmas.Result.{IfOk-weaker}
-use Rattle.mw_model.specs.Terms.Term.{are_distinct}
-use Rattle.mw_term.specs.Parts.{names_at, AreSymbols}
 use Rattle.mw_define.specs.Owed.{AreBlock}
 use Rattle.mw_model.specs.Events.Refusal.{TERM}
 use Rattle.mw_define.specs.BlockTests.{fails, IsExpandedBlock}
-use Rattle.mw_define.proofs.BlockRead.{counted, pairs-symbols}
+use Rattle.mw_define.proofs.BlockRead.{new-symbols, new-distinct}
 use Rattle.mw_define.proofs.BlockTested.{fails-terms, is-block, block-tested}
 use Rattle.mw_heap.proofs.Objects.{Grows-trans}
 use Rattle.mw_define.proofs.admission.admit_counted.Goals as goal
 
 pub expand_all-requires-clause-symbols : goal.expand_all-requires-clause-symbols
-expand_all-requires-clause-symbols c =
-    let os = c.args.heap.now.objects in
-    let n = c.requires.names in
-    pairs-symbols os c.args.drafts.now c.args.pairs.now c.requires.counted (subst (AreSymbols os) n.refs n.symbols)
+expand_all-requires-clause-symbols c = new-symbols c.args.heap.now.objects c.args.arity.now c.args.drafts.now c.args.names.keys c.args.pairs.now c.requires.names c.requires.counted
 
 pub expand_all-requires-clause-distinct : goal.expand_all-requires-clause-distinct
-expand_all-requires-clause-distinct c =
-    let os = c.args.heap.now.objects in
-    let n = c.requires.names in
-    ap are_distinct ((counted os c.args.drafts.now c.args.pairs.now c.requires.counted).names ∙ ap (names_at os) (sym n.refs)) ∙ n.distinct
+expand_all-requires-clause-distinct c = new-distinct c.args.heap.now.objects c.args.arity.now c.args.drafts.now c.args.names.keys c.args.pairs.now c.requires.names c.requires.counted
 
 pub returns-in-None-clause-admitted : goal.returns-in-None-clause-admitted
 returns-in-None-clause-admitted c = fails TERM (fails-terms c.args.arity.now c.args.heap.now.objects c.args.drafts.now c.args.names.keys c.requires.within c.requires.names c.args.pairs.now c.requires.counted (rw c.in-None.is at c.in_ok-block.ensures.expanded))

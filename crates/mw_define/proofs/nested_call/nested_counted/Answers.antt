@@ -1,27 +1,19 @@
 -- The bodies, and then their calls.
-use Rattle.std.proofs.Common.{sym, ap, ◌∙◌, subst}
+use Rattle.std.proofs.Common.{sym, subst}
 use Rattle.std.proofs.lemmas.Result.{IfOk-weaker}
-use Rattle.mw_model.specs.Terms.Term.{are_distinct}
-use Rattle.mw_term.specs.Parts.{names_at, AreSymbols}
 use Rattle.mw_heap.proofs.Objects.{Grows-trans}
 use Rattle.mw_define.specs.Blocks.{functions_at}
 use Rattle.mw_define.specs.Owed.{AreBlock}
 use Rattle.mw_define.specs.NestedCall.{IsFirstNested}
-use Rattle.mw_define.proofs.BlockRead.{counted, pairs-symbols}
+use Rattle.mw_define.proofs.BlockRead.{new-symbols, new-distinct}
 use Rattle.mw_define.proofs.NestedDrafts.{no-terms-nested, nested-block, nested-found}
 use Rattle.mw_define.proofs.nested_call.nested_counted.Goals as goal
 
 pub expand_all-requires-clause-symbols : goal.expand_all-requires-clause-symbols
-expand_all-requires-clause-symbols c =
-    let os = c.args.heap.now.objects in
-    let n = c.requires.names in
-    pairs-symbols os c.args.drafts.now c.args.pairs.now c.requires.counted (subst (AreSymbols os) n.refs n.symbols)
+expand_all-requires-clause-symbols c = new-symbols c.args.heap.now.objects c.args.arity.now c.args.drafts.now c.args.names.keys c.args.pairs.now c.requires.names c.requires.counted
 
 pub expand_all-requires-clause-distinct : goal.expand_all-requires-clause-distinct
-expand_all-requires-clause-distinct c =
-    let os = c.args.heap.now.objects in
-    let n = c.requires.names in
-    ap are_distinct ((counted os c.args.drafts.now c.args.pairs.now c.requires.counted).names ∙ ap (names_at os) (sym n.refs)) ∙ n.distinct
+expand_all-requires-clause-distinct c = new-distinct c.args.heap.now.objects c.args.arity.now c.args.drafts.now c.args.names.keys c.args.pairs.now c.requires.names c.requires.counted
 
 pub find_nested_of-requires : goal.find_nested_of-requires
 find_nested_of-requires c =
