@@ -23,9 +23,9 @@ use Rattle.mw_theory.specs.declared.event.Event.{Event}
 use Rattle.mw_theory.specs.declared.event.Event.TheVariants.{Verify, Define, Skolem, Switch, Eval, Print, DefineAll, Profile}
 use Rattle.mw_theory.specs.Proofs.{by_formula}
 use Rattle.mw_theory.specs.Settling.{refusal_by, by_refusal, verified, defined}
+use Rattle.mw_theory.specs.Settled.{settles}
 use Rattle.mw_theory.specs.Words.{verify_event, event_object}
 use Rattle.mw_flat.specs.Collecting.{by_number, judged_by_number}
-use Rattle.mw_flat.specs.Going.{settles}
 use Rattle.mw_flat.proofs.Settled.{answered, IsOfAdmission, some_admits, define-admits, judged-one, demand-settled}
 
 -- what is under a table
@@ -115,7 +115,7 @@ module _ (os : List Object) (t : Theory) (rs : List ℕ) (Fs : List Formula) (sa
     listed_there b o ns h = (when_some b o ns h).1
 
     -- what the log answers to an event is what comes of it by a judge by numbers
-    pub event-answered : (e : Event) → is_some (entry_of (event_object os e)) ≡ true → logged t steps (event_object os e) ≡ answered (settles os t rs e)
+    pub event-answered : (e : Event) → is_some (entry_of (event_object os e)) ≡ true → logged t steps (event_object os e) ≡ answered (settles (judged_by_number os rs) os t e)
     event-answered (Verify name formula proof) p =
         let x = event_object os (Verify name formula proof) in
         let q = entry_there x fate.Verify refl p in

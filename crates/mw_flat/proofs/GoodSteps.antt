@@ -10,12 +10,13 @@ use Rattle.mw_heap.specs.Objects.{object_at}
 use Rattle.mw_theory.specs.declared.world.World.{World}
 use Rattle.mw_theory.specs.declared.event.Event.{Event}
 use Rattle.mw_theory.specs.Knowledge.{name_read}
+use Rattle.mw_theory.specs.Settled.{settles}
 use Rattle.mw_theory.specs.Words.{IsEvent}
 use Rattle.mw_theory.specs.Worlds.{theory_in}
 use Rattle.mw_theory.proofs.CallerLemmas.{held}
 use Rattle.mw_flat.specs.declared.collected.Collected.{Collected}
-use Rattle.mw_flat.specs.Collecting.{AreConclusions}
-use Rattle.mw_flat.specs.Going.{HasCollected, IsGoing, going_of, settles}
+use Rattle.mw_flat.specs.Collecting.{AreConclusions, judged_by_number}
+use Rattle.mw_flat.specs.Going.{HasCollected, IsGoing, going_of}
 use Rattle.mw_flat.proofs.Conclusions.{conclusions-formulas}
 use Rattle.mw_flat.proofs.ReadableConclusions.{formulas-readable}
 use Rattle.mw_flat.proofs.Settled.{answered}
@@ -30,15 +31,15 @@ module _ (w : World) (c : Collected) (i : IsGoing w c) (good : c.good ≡ true) 
   os = w.heap.objects
 
   abbrev comes : Theory → Type 0
-  comes t = t ≡ (settles os (theory_in w) c.conclusions.items e).1
+  comes t = t ≡ (settles (judged_by_number os c.conclusions.items) os (theory_in w) e).1
 
-  pub logged-settles : (steps : List Object) → HasCollected (going_of w c) steps → logged (theory_in w) steps (object_at os x) ≡ answered (settles os (theory_in w) c.conclusions.items e)
+  pub logged-settles : (steps : List Object) → HasCollected (going_of w c) steps → logged (theory_in w) steps (object_at os x) ≡ answered (settles (judged_by_number os c.conclusions.items) os (theory_in w) e)
   logged-settles steps h = go (conclusions t.axioms t.theorems (arity_table t.definitions) t.definitions.profile steps) refl h.conclusions
     where
       t : Theory
       t = theory_in w
 
-      go : (o : Option (List Formula)) → conclusions t.axioms t.theorems (arity_table t.definitions) t.definitions.profile steps ≡ o → AreConclusions os c.good c.conclusions.items o → logged t steps (object_at os x) ≡ answered (settles os t c.conclusions.items e)
+      go : (o : Option (List Formula)) → conclusions t.axioms t.theorems (arity_table t.definitions) t.definitions.profile steps ≡ o → AreConclusions os c.good c.conclusions.items o → logged t steps (object_at os x) ≡ answered (settles (judged_by_number os c.conclusions.items) os t e)
       go None s k = absurd (true≢false (sym good ∙ k))
       go (Some Fs) s k =
           let A = arity_table t.definitions in
@@ -49,8 +50,8 @@ module _ (w : World) (c : Collected) (i : IsGoing w c) (good : c.good ≡ true) 
     keeps : (steps : List Object) → LoggedKeeps (theory_in w) steps (object_at os x)
     keeps steps = keep (theory_in w) steps (object_at os x) (held _ _ _ _ i.world).sound (ap (name_read os) i.built_in)
 
-    pub settles-sound : IsSound (settles os (theory_in w) c.conclusions.items e).1
+    pub settles-sound : IsSound (settles (judged_by_number os c.conclusions.items) os (theory_in w) e).1
     settles-sound = let k = i.known good in subst IsSound (ap (λ p. p.1) (logged-settles k.0 k.1)) (keeps k.0).sound
 
-    pub settles-built_in : (settles os (theory_in w) c.conclusions.items e).1.checker ≡ None
+    pub settles-built_in : (settles (judged_by_number os c.conclusions.items) os (theory_in w) e).1.checker ≡ None
     settles-built_in = let k = i.known good in sym (ap (λ p. p.1.checker) (logged-settles k.0 k.1)) ∙ (keeps k.0).built_in

@@ -3,23 +3,15 @@ use Rattle.std.specs.Prelude.{◌≡◌, ℕ, Bool, true, false, List, [], ◌�
 use Rattle.mw_model.specs.Terms.Object.{Object, symbol, same_object}
 use Rattle.mw_model.specs.Values.Definition.{arity_table}
 use Rattle.mw_model.specs.Events.Theory.{Theory}
-use Rattle.mw_model.specs.Events.Refusal.{EVENT, Fate, refuse}
-use Rattle.mw_model.specs.Events.Fate.{profile}
 use Rattle.mw_commands.specs.Commands.Log.{Answer, conclusions, is_step, logged}
 use Rattle.mw_heap.specs.Objects.{object_at}
 use Rattle.mw_theory.specs.declared.world.World.{World}
-use Rattle.mw_theory.specs.declared.event.Event.{Event}
-use Rattle.mw_theory.specs.declared.event.Event.TheVariants.{Verify, Define, Skolem, DefineAll, Profile}
-use Rattle.mw_theory.specs.declared.admitting.Drafts.TheVariants.{One, All}
-use Rattle.mw_theory.specs.Admitting.{drafts_given}
-use Rattle.mw_theory.specs.Settling.{verified, defined, skolem_at}
-use Rattle.mw_theory.specs.Words.{profile_event}
 use Rattle.mw_theory.specs.Knowledge.{Parts, parts_of, meant}
 use Rattle.mw_theory.specs.Worlds.{IsWorld}
 use Rattle.mw_flat.specs.declared.collected.Collected.{Collected}
 use Rattle.mw_flat.specs.declared.verdict.Verdict.{Verdict}
 use Rattle.mw_flat.specs.Verdicts.{answer_of}
-use Rattle.mw_flat.specs.Collecting.{AreConclusions, AreFormulasIn, judged_by_number}
+use Rattle.mw_flat.specs.Collecting.{AreConclusions, AreFormulasIn}
 
 -- The objects of the heap, of which the first ones are needed by the theory, what that is read from, and what was collected for the next event.
 pub record Going : Type 0 where
@@ -72,12 +64,3 @@ Comes v old new steps x = ComesBy (is_step x) old new steps x (answer_of v)
 abbrev pub is_step_word : List Object → Option ℕ → Bool
 is_step_word os None = false
 is_step_word os (Some r) = same_object (object_at os r) (symbol "STEP")
-
--- what an event comes to, where a proof of a formula is the number of one of these conclusions
-abbrev pub settles : List Object → Theory → List ℕ → Event → Fate × Theory
-settles os t rs (Verify name formula proof) = verified (judged_by_number os rs) t (object_at os name) (object_at os formula) (object_at os proof)
-settles os t rs (Define name formals body measure proofs) = defined (judged_by_number os rs) t (drafts_given os (One (record { name = name; formals = formals; body = body; measure = measure }))) (object_at os proofs)
-settles os t rs (DefineAll definitions proofs) = defined (judged_by_number os rs) t (drafts_given os (All definitions)) (object_at os proofs)
-settles os t rs (Skolem name bound free body) = skolem_at os t name bound free body
-settles os t rs (Profile n) = profile t (profile_event (object_at os n))
-settles os t rs _ = refuse t EVENT

@@ -14,7 +14,7 @@ ghost use Rattle.mw_flat.specs.Steps.{AreMembers, IsConclusion};
 
 use crate::numbered::listed;
 use mw_heap::{Heap, Memory, Ref, View};
-use mw_rules::{Method, follows};
+use mw_rules::{Basis, Method, follows};
 use mw_term::{Marks, is_formula};
 use mw_theory::Theory;
 
@@ -94,15 +94,18 @@ pub(crate) fn conclusion_of(
     let Some(premises) = listed(heap, conclusions, step.subproofs)? else {
         return Ok(None);
     };
+    let basis = Basis {
+        axioms: &theory.known_axioms,
+        theorems: &theory.known_theorems,
+        profile: theory.profile,
+    };
     let good = follows(
         heap,
         method,
         step.conclusion,
         &premises,
         step.extras,
-        &theory.known_axioms,
-        &theory.known_theorems,
-        theory.profile,
+        &basis,
         marks,
     )?;
     if good {

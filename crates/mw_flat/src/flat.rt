@@ -1,5 +1,5 @@
 //! Going through a log.
-ghost use Rattle.std.specs.Prelude.{◌≡◌, ℕ, ◌+◌, ◌<◌, ◌≤◌, ◌^◌, ◌⊎◌, true, false, List, [], ◌∷◌, ◌++◌, length, map, All, Option, Some, None, IfOk, IfSome, OnOk, OnErr, option_map};
+ghost use Rattle.std.specs.Prelude.{◌≡◌, ℕ, ◌+◌, ◌<◌, ◌≤◌, ◌^◌, ◌⊎◌, true, false, List, [], length, map, Option, Some, None, IfOk, IfSome, OnOk, OnErr, option_map};
 ghost use Rattle.mw_model.specs.Terms.Object.{Object};
 ghost use Rattle.mw_model.specs.Values.Primitive.{One};
 ghost use Rattle.mw_model.specs.Events.Theory.{initial, IsSound};
@@ -13,12 +13,10 @@ ghost use Rattle.mw_read.specs.Feeding.{IsAwaiting, IsReady, Continues};
 ghost use Rattle.mw_model.specs.Events.Fate.{is_out_of_range};
 ghost use Rattle.mw_commands.specs.Commands.Log.{conclusion, is_step, logged};
 ghost use Rattle.mw_heap.specs.Variants.{refusal_of};
-ghost use Rattle.mw_theory.specs.Settling.{fate_by};
-ghost use Rattle.mw_theory.specs.Words.{IsEvent};
 ghost use Rattle.mw_flat.specs.Collecting.{AreFormulasIn};
 ghost use Rattle.mw_flat.specs.Steps.{IsConclusion};
 ghost use Rattle.mw_flat.specs.Verdicts.{answer_of, answer_by};
-ghost use Rattle.mw_flat.specs.Going.{theory_of, HasCollected, IsGoing, going_of, IsNoted, Comes, is_step_word, settles};
+ghost use Rattle.mw_flat.specs.Going.{theory_of, HasCollected, IsGoing, going_of, IsNoted, Comes, is_step_word};
 ghost use Rattle.mw_theory.specs.Worlds.{theory_in, IsWorld};
 
 use crate::collected::Collected;
@@ -26,10 +24,9 @@ use crate::conclusion::conclusion_of;
 use crate::entry::is_entry;
 use crate::verdict::{Objection, Verdict};
 use mw_commands::rechecking::logs_keep;
-use mw_define::Draft;
 use mw_heap::{Heap, Memory, Ref, Refusal, Word};
 use mw_read::{Reader, Step};
-use mw_theory::{Drafts, Event, World, event_of};
+use mw_theory::{World, event_of};
 use std::alloc::Global;
 use std::marker::Model;
 
@@ -213,61 +210,8 @@ fn answer(world: &mut World, collected: &mut Collected, x: Ref) -> Result<Verdic
     if !collected.good {
         return Ok(Verdict::No(Objection::Step));
     }
-    let refused = settle(world, collected, x, event)?;
+    let refused = world.settle(event, collected)?;
     Ok(verdict_of(refused))
-}
-
-// What the event at x comes to, where a proof is the number of a step.
-fn settle(
-    world: &mut World,
-    collected: &mut Collected,
-    x: Ref,
-    event: Event,
-) -> Result<Option<Refusal>, Memory>
-    requires world { IsWorld world.old }
-    requires conclusions { All (IsIn world.old.heap.objects) collected.old.conclusions.items }
-    requires within { IsIn world.old.heap.objects x }
-    requires event { IsEvent world.old.heap.objects x event }
-    requires sound { IsSound (settles world.old.heap.objects (theory_in world.old) collected.old.conclusions.items event).1 }
-    ensures world { IsWorld world.new }
-    ensures fate { IfOk result (λ r. fate_by (option_map refusal_of r) ≡ (settles world.old.heap.objects (theory_in world.old) collected.old.conclusions.items event).0) }
-    ensures theory { OnOk result (theory_in world.new ≡ (settles world.old.heap.objects (theory_in world.old) collected.old.conclusions.items event).1) }
-    ensures err { OnErr result (theory_in world.new ≡ theory_in world.old) }
-{
-    match event {
-        Event::Verify {
-            name,
-            formula,
-            proof,
-        } => world.verify(name, formula, proof, collected),
-        Event::Define {
-            name,
-            formals,
-            body,
-            measure,
-            proofs,
-        } => {
-            let draft = Draft {
-                name,
-                formals,
-                body,
-                measure,
-            };
-            world.define(Drafts::One(draft), proofs, collected)
-        }
-        Event::DefineAll {
-            definitions,
-            proofs,
-        } => world.define(Drafts::All(definitions), proofs, collected),
-        Event::Skolem {
-            name,
-            bound,
-            free,
-            body,
-        } => world.skolem(name, bound, free, body),
-        Event::Profile(number) => world.set_profile(number),
-        Event::Switch(_) | Event::Eval(_) | Event::Print(_) => Ok(Some(Refusal::Event)),
-    }
 }
 
 /// Whether the word of a datum, as the reader shows it, is STEP.

@@ -1,5 +1,5 @@
 -- What happens by an event, whose object is told.
-use Rattle.std.proofs.Common.{◌≡◌, ℕ, Bool, true, false, cond, ltb, List, [], ◌∷◌, length, Option, Some, None, Result, IfOk, OnOk, refl, sym, ap, ◌∙◌, subst}
+use Rattle.std.proofs.Common.{◌≡◌, ℕ, Bool, true, false, cond, ltb, List, [], ◌∷◌, length, Option, Some, None, refl, sym, ap, ◌∙◌, subst}
 use Rattle.mw_model.specs.Terms.Object.{Object, symbol, second_of, car, cdr, has_members}
 use Rattle.mw_model.specs.Terms.Term.{Term, Formula, is_closed}
 use Rattle.mw_model.specs.Terms.Reading.{when}
@@ -14,21 +14,22 @@ use Rattle.std.specs.Option.{option_or}
 use Rattle.mw_model.specs.Events.Admission.{Draft}
 use Rattle.mw_model.proofs.Demands.{by_word as judged_by_word}
 use Rattle.mw_model.specs.Reports.Keeping.{EventKeeps}
-use Rattle.mw_model.specs.Events.Fate.{EventWord, SetProfile, is_out_of_range, event_word, longest, happens, happens_by, fate, next, show, show_outcome, eval, profile}
+use Rattle.mw_model.specs.Events.Fate.{EventWord, SetProfile, is_out_of_range, event_word, longest, happens, happens_by, show, show_outcome, eval}
 use Rattle.mw_model.specs.Events.Fate as word
 use Rattle.mw_model.specs.Events.Demand.{Demand, Denied, Wants, wants_some, define_demand, each_judged, settled}
 use Rattle.mw_heap.specs.Objects.{object_at}
 use Rattle.mw_kernel.specs.Knowledge.{Knowledge, theory_of}
-use Rattle.mw_theory.specs.Words.{event_object, IsEvent, eval_event, profile_event}
+use Rattle.mw_theory.specs.Words.{event_object, IsEvent, eval_event}
 use Rattle.mw_theory.specs.declared.admitting.Drafts.TheVariants.{One, All}
 use Rattle.mw_theory.specs.Admitting.{drafts_given}
 use Rattle.mw_theory.specs.Proofs.{by_formula}
-use Rattle.mw_theory.specs.Settling.{verified, defined, skolem_at}
+use Rattle.mw_theory.specs.Settling.{defined}
+use Rattle.mw_theory.specs.Settled.{settles}
 use Rattle.mw_kernel.specs.Proofs.{judged_for}
 use Rattle.mw_kernel.specs.Switching.{switched}
 use Rattle.mw_theory.specs.declared.event.Event.{Event}
 use Rattle.mw_theory.specs.declared.event.Event.TheVariants.{Verify, Define, Skolem, Switch, Eval, Print, DefineAll, Profile}
-use Rattle.mw_theory.proofs.CallerLemmas.{none_happens, word_happens, IfOk-map, OnOk-map}
+use Rattle.mw_theory.proofs.CallerLemmas.{none_happens, word_happens}
 use Rattle.mw_kernel.proofs.Refusing.{verify_is}
 use Rattle.mw_kernel.proofs.Switching.{switch-is}
 
@@ -80,14 +81,21 @@ word-is os (Profile n) = refl
 
 -- the fate of an event by its members, and the theory after it
 abbrev pub comes_to : List Object → Theory → ℕ → Event → Fate × Theory
-comes_to os t N (Verify name formula proof) = verified (judged_for N) t (object_at os name) (object_at os formula) (object_at os proof)
-comes_to os t N (Define name formals body measure proofs) = defined (judged_for N) t (drafts_given os (One (record { name = name; formals = formals; body = body; measure = measure }))) (object_at os proofs)
-comes_to os t N (Skolem name bound free body) = skolem_at os t name bound free body
 comes_to os t N (Switch name) = switched t (object_at os name)
 comes_to os t N (Eval term) = eval t N (eval_event (object_at os term))
 comes_to os t N (Print x) = show t (text_of (object_at os x))
-comes_to os t N (DefineAll definitions proofs) = defined (judged_for N) t (drafts_given os (All definitions)) (object_at os proofs)
-comes_to os t N (Profile n) = profile t (profile_event (object_at os n))
+comes_to os t N e = settles (judged_for N) os t e
+
+-- of an event of the other kinds
+pub settled-others : (os : List Object) (t : Theory) (N : ℕ) (e : Event) → ((x : ℕ) → e ≡ Eval x → ⊥) → ((x : ℕ) → e ≡ Print x → ⊥) → ((x : ℕ) → e ≡ Switch x → ⊥) → comes_to os t N e ≡ settles (judged_for N) os t e
+settled-others os t N (Eval x) differs _ _ = absurd (differs x refl)
+settled-others os t N (Print x) _ differs _ = absurd (differs x refl)
+settled-others os t N (Switch x) _ _ differs = absurd (differs x refl)
+settled-others os t N (Verify name formula proof) _ _ _ = refl
+settled-others os t N (Define name formals body measure proofs) _ _ _ = refl
+settled-others os t N (Skolem name bound free body) _ _ _ = refl
+settled-others os t N (DefineAll definitions proofs) _ _ _ = refl
+settled-others os t N (Profile n) _ _ _ = refl
 
 -- the theory's checker judges proof by proof
 each-as : (t : Theory) (N : ℕ) (Fs : List Formula) (ps : Object) → each_judged (by_formula (judged_for N)) t 0 Fs ps ≡ each_judged judged_as t N Fs ps
@@ -119,17 +127,11 @@ comes-by os t N (Profile n) = refl
 
 -- what a kernel holds, told of the heap before
 module _ (k old : Knowledge) (is : k ≡ old) (x : ℕ) (in_range : is_out_of_range (object_at k.objects x) ≡ false) where
-  no-event : event_word (object_at k.objects x) ≡ None → refuse (theory_of old) EVENT ≡ happens (theory_of old) old.steps (object_at old.objects x)
+  pub no-event : event_word (object_at k.objects x) ≡ None → refuse (theory_of old) EVENT ≡ happens (theory_of old) old.steps (object_at old.objects x)
   no-event none = subst (λ v. refuse (theory_of v) EVENT ≡ happens (theory_of v) v.steps (object_at v.objects x)) is (none_happens (theory_of k) k.steps (object_at k.objects x) in_range none)
 
-  pub no-event-fate : event_word (object_at k.objects x) ≡ None → (refuse (theory_of old) EVENT).0 ≡ fate (theory_of old) (object_at old.objects x) old.steps
-  no-event-fate none = ap (λ r. r.0) (no-event none)
-
-  pub no-event-theory : event_word (object_at k.objects x) ≡ None → (refuse (theory_of old) EVENT).1 ≡ next (theory_of old) (object_at old.objects x) old.steps
-  no-event-theory none = ap (λ r. r.1) (no-event none)
-
   module _ (e : Event) (event : IsEvent k.objects x e) where
-    event-happens : comes_to old.objects (theory_of old) old.steps e ≡ happens (theory_of old) old.steps (object_at old.objects x)
+    pub event-happens : comes_to old.objects (theory_of old) old.steps e ≡ happens (theory_of old) old.steps (object_at old.objects x)
     event-happens =
         subst (λ v. comes_to v.objects (theory_of v) v.steps e ≡ happens (theory_of v) v.steps (object_at v.objects x)) is
         (comes-by k.objects (theory_of k) k.steps e
@@ -138,11 +140,3 @@ module _ (k old : Knowledge) (is : k ≡ old) (x : ℕ) (in_range : is_out_of_ra
     -- the theory after it is sound
     pub sound-after : EventKeeps (theory_of old) old.steps (object_at old.objects x) → IsSound (comes_to old.objects (theory_of old) old.steps e).1
     sound-after keeps = subst (λ r. IsSound r.1) (sym event-happens) keeps.sound
-
-    -- What a step that brings the event about answers, and the theory that it leaves, are those of the event.
-    module _ {X E : Type 0} (r : Result X E) where
-      pub fate-after : (told : X → Fate) → IfOk r (λ f. told f ≡ (comes_to old.objects (theory_of old) old.steps e).0) → IfOk r (λ f. told f ≡ fate (theory_of old) (object_at old.objects x) old.steps)
-      fate-after told h = IfOk-map r _ _ (λ f is. is ∙ ap (λ o. o.0) event-happens) h
-
-      pub theory-after : (t : Theory) → OnOk r (t ≡ (comes_to old.objects (theory_of old) old.steps e).1) → OnOk r (t ≡ next (theory_of old) (object_at old.objects x) old.steps)
-      theory-after t h = OnOk-map r _ _ (λ is. is ∙ ap (λ o. o.1) event-happens) h

@@ -1,7 +1,7 @@
 -- The objects that there were, by the fate of an event.
-use Rattle.std.proofs.Common.{◌≡◌, ℕ, List, [], Result, Ok, Err, IfOk, OnOk, sym, subst}
+use Rattle.std.proofs.Common.{◌≡◌, ℕ, List, [], length, Result, Ok, Err, IfOk, OnOk, sym, ap, subst, arith}
 use Rattle.mw_model.specs.Terms.Object.{Object}
-use Rattle.mw_model.specs.Events.Refusal.{Refusal, Accepted, Refused}
+use Rattle.mw_model.specs.Events.Refusal.{Refusal, Fate, Accepted, Refused}
 use Rattle.mw_heap.specs.Objects.{Grows}
 use Rattle.mw_kernel.specs.declared.fate.Fate.{Fate as Outcome}
 use Rattle.mw_kernel.specs.declared.fate.Fate.TheVariants as outcome
@@ -23,10 +23,23 @@ module _ (old new : List Object) where
   keeps-result (Ok f) g = keeps-grown f g
   keeps-result (Err e) g = tt
 
--- what is refused keeps the room, where no more is needed
-pub refused-room : (f : Outcome) (r : Refusal) (old new : ℕ) → fate_of f ≡ Refused r → new ≡ old → KeepsRoom f old new
-refused-room (outcome.Refused q) r old new e same = same
-refused-room (outcome.Accepted text) r old new e same = cc
+-- the room, where no more is needed
+module _ (old new : ℕ) where
+  pub room-accepted : (f : Outcome) → fate_of f ≡ Accepted [] → KeepsRoom f old new
+  room-accepted (outcome.Refused r) e = cc
+  room-accepted (outcome.Accepted text) e = λ some. absurd (omega (arith, ap shown e, some))
+    where
+      shown : Fate → ℕ
+      shown (Accepted text) = length text
+      shown (Refused r) = 0
+
+  room-kept : (f : Outcome) → new ≡ old → KeepsRoom f old new
+  room-kept (outcome.Refused r) same = same
+  room-kept (outcome.Accepted text) same = λ some. same
+
+  pub room-result : {E : Type 0} (r : Result Outcome E) → new ≡ old → IfOk r (λ f. KeepsRoom f old new)
+  room-result (Ok f) same = room-kept f same
+  room-result (Err e) same = tt
 
 -- the line of what is refused is what is put for its fate
 pub puts-refused : {E : Type 0} (r : Result Outcome E) (q : Refusal) (k : ℕ) (t : Theory) (N : ℕ) (e : Object) (old new : List ℕ) → IfOk r (λ f. fate_of f ≡ Refused q) → OnOk r (PutsLine (why k q t N e) old new) → IfOk r (λ f. PutsWhy k (fate_of f) t N e old new)

@@ -12,7 +12,9 @@ pub mod EventReasons
 pub mod Showing
 pub mod RefusedProofs
 pub mod KeptObjects
+pub mod Comings
 pub mod ReasonNames
+pub mod BareReasons
 pub mod ReasonsMeant
 pub mod Owing
 pub mod ExplainedEvents

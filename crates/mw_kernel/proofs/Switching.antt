@@ -1,20 +1,20 @@
 -- The tests of a SWITCH, what it comes to, and what is kept of the theory after it.
-use Rattle.std.proofs.Common.{◌≡◌, ℕ, suc, ◌+◌, Bool, true, false, ◌&&◌, cond, eqb, List, length, Option, Some, None, refl, sym, ap, ap₂, ◌∙◌, subst, arith, is_some}
-use Rattle.mw_model.specs.Terms.Object.{Name, Object, Natural, Symbol, Pair, NIL, same_object, is_member}
+use Rattle.std.proofs.Common.{◌≡◌, ℕ, Bool, true, false, cond, eqb, List, length, Option, Some, None, refl, sym, ap, ap₂, ◌∙◌, is_some}
+use Rattle.mw_model.specs.Terms.Object.{Name, Object, Natural, Symbol, Pair, is_member}
 use Rattle.mw_model.specs.Terms.Term.{formula_object}
-use Rattle.mw_model.specs.Values.Primitive.{One, is_symbol, name_of}
+use Rattle.mw_model.specs.Values.Primitive.{is_symbol, name_of}
 use Rattle.mw_model.specs.Terms.Reading.{when}
 use Rattle.mw_model.specs.Values.Definition.{Function}
 use Rattle.mw_model.specs.Events.Evaluation.{code_of}
-use Rattle.mw_model.specs.Events.Theory.{Theory, claim, initial, IsSound}
+use Rattle.mw_model.specs.Events.Theory.{Theory, claim}
 use Rattle.mw_model.specs.Events.Refusal.{CHECKER, CLAIM, accept, need, must}
-use Rattle.mw_model.specs.Events.Fate.{same_blocks, is_one, has_four_formals, checker_named, switch}
+use Rattle.mw_model.specs.Events.Fate.{has_four_formals, checker_named, switch}
 use Rattle.mw_heap.specs.Objects.{object_at, Grows}
 use Rattle.mw_heap.specs.Lists.{list_object}
 use Rattle.mw_theory.specs.declared.theory.Theory.{Theory as Kept}
-use Rattle.mw_theory.specs.Knowledge.{parts_of, definitions_of, theory_with, meant, is_first, IsNameIn, IsHeld}
+use Rattle.mw_theory.specs.Knowledge.{parts_of, meant, with_checker, IsHeld}
 use Rattle.mw_theory.specs.Words.{switch_event}
-use Rattle.mw_kernel.specs.Switching.{claim_refusal, switch_refusal, with_checker, switched_by, switched}
+use Rattle.mw_kernel.specs.Switching.{claim_refusal, switch_refusal, switched_by, switched}
 use Rattle.mw_theory.proofs.CallerLemmas.{known-grow}
 
 module _ (t : Theory) where
@@ -104,46 +104,3 @@ claim-decided os t h name present new grows r r_is known b known_is is_b =
     let same : is_member (formula_object (claim (name_of x))) u.theorems ≡ b =
     ap₂ is_member (sym r_is) (sym (known-grow os new grows t.known_theorems h.each_theorem_in ∙ h.theorems_known)) ∙ (sym known_is ∙ is_b) in
     ap (λ c. cond c None (Some CLAIM)) (sym same) ∙ claim-decides u x present
-
--- a theory with a checker of its own is not the initial one
-fifth_false : (a b c d e : Bool) → (a && (b && (c && (d && (false && e))))) ≡ false
-fifth_false true true true true e = refl
-fifth_false true true true false e = refl
-fifth_false true true false d e = refl
-fifth_false true false c d e = refl
-fifth_false false b c d e = refl
-
-checker-later : (t : Theory) (f : Name) → is_first (with_checker t f) ≡ false
-unfolding is_first
-checker-later t f =
-    let i = initial One in
-    fifth_false (is_one t.definitions.profile) (same_blocks t.definitions.blocks i.definitions.blocks) (same_object t.axioms i.axioms) (same_object t.theorems NIL) (eqb (suc t.level) 1)
-
--- a checker of this name, and the next level
-module _ (os : List Object) (t : Kept) (h : IsHeld os t) (name level : ℕ) (named : IsNameIn os name) (next : level ≡ t.level + 1) where
-  abbrev with_name : Kept
-  with_name = record t { checker = Some name; level = level; is_initial = false }
-
-  pub checker-meant : meant os (parts_of with_name) ≡ with_checker (meant os (parts_of t)) (name_of (object_at os name))
-  checker-meant =
-      let e : level ≡ suc t.level = omega (arith, next) in
-      ap (theory_with (object_at os t.axioms) (object_at os t.theorems) (definitions_of os (parts_of t)) (Some (name_of (object_at os name)))) e
-
-  pub checker-held : IsSound (with_checker (meant os (parts_of t)) (name_of (object_at os name))) → IsHeld os with_name
-  checker-held sound = record {
-    axioms_in = h.axioms_in;
-    theorems_in = h.theorems_in;
-    arity_list_in = h.arity_list_in;
-    each_axiom_in = h.each_axiom_in;
-    each_theorem_in = h.each_theorem_in;
-    axioms_known = h.axioms_known;
-    theorems_known = h.theorems_known;
-    equality = h.equality;
-    arities = h.arities;
-    arities_listed = h.arities_listed;
-    entered = h.entered;
-    coded = h.coded;
-    named = named;
-    first = sym (ap is_first checker-meant ∙ checker-later (meant os (parts_of t)) (name_of (object_at os name)));
-    sound = subst IsSound (sym checker-meant) sound;
-  }

@@ -1,11 +1,12 @@
 -- Why a SWITCH is refused, where it is, and what it comes to.
-use Rattle.std.specs.Prelude.{suc, cond, Option, Some, None}
+use Rattle.std.specs.Prelude.{cond, Option, Some, None}
 use Rattle.mw_model.specs.Terms.Object.{Name, Object, is_member}
 use Rattle.mw_model.specs.Terms.Term.{formula_object}
 use Rattle.mw_model.specs.Values.Primitive.{name_of}
 use Rattle.mw_model.specs.Events.Theory.{Theory, claim}
 use Rattle.mw_model.specs.Events.Refusal.{Refusal, CHECKER, CLAIM, Fate, refuse, accept}
 use Rattle.mw_model.specs.Events.Fate.{checker_named}
+use Rattle.mw_theory.specs.Knowledge.{with_checker}
 
 abbrev pub claim_refusal : Theory → Option Name → Option Refusal
 claim_refusal t None = Some CHECKER
@@ -13,10 +14,6 @@ claim_refusal t (Some f) = cond (is_member (formula_object (claim f)) t.theorems
 
 abbrev pub switch_refusal : Theory → Object → Option Refusal
 switch_refusal t x = claim_refusal t (checker_named t x)
-
--- the theory with that checker
-abbrev pub with_checker : Theory → Name → Theory
-with_checker t f = record t { checker = Some f; level = suc t.level }
 
 -- the fate of a SWITCH to this, and the theory after it
 abbrev pub switched_by : Theory → Object → Option Refusal → Fate × Theory

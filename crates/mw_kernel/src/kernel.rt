@@ -1,12 +1,12 @@
 //! The kernel.
-ghost use Rattle.std.specs.Prelude.{◌≡◌, ℕ, ◌+◌, ◌≤◌, ◌⊎◌, true, List, [], length, option_map, IfOk, IfSome, OnOk, OnErr};
+ghost use Rattle.std.specs.Prelude.{◌≡◌, ℕ, ◌≤◌, ◌⊎◌, true, List, [], length, option_map, IfOk, IfSome, OnOk, OnErr};
 ghost use Rattle.mw_model.specs.Terms.Object.{Object, Symbol};
 ghost use Rattle.mw_model.specs.Terms.Term.{formula_object, table_object};
 ghost use Rattle.mw_model.specs.Values.Primitive.{One, is_symbol, name_of};
 ghost use Rattle.mw_model.specs.Values.Definition.{arity_table};
 ghost use Rattle.mw_model.specs.Events.Theory.{Theory, initial, claim, IsSound};
 ghost use Rattle.mw_model.specs.Events.Refusal.{RANGE, Refused};
-ghost use Rattle.mw_model.specs.Events.Fate.{fate, next, eval, profile};
+ghost use Rattle.mw_model.specs.Events.Fate.{fate, next, happens, eval};
 ghost use Rattle.mw_model.specs.Laws.Rewriting.{IsRewritten};
 ghost use Rattle.mw_heap.specs.Objects.{object_at, IsIn, Grows};
 ghost use Rattle.mw_heap.specs.Variants.{refusal_of};
@@ -14,13 +14,12 @@ ghost use Rattle.mw_read.specs.Standing.{Stands, IsStanding, Follows, Says, IsLa
 ghost use Rattle.mw_read.specs.Feeding.{IsAwaiting, IsReady, Continues};
 ghost use Rattle.mw_kernel.specs.Knowledge.{theory_of};
 ghost use Rattle.mw_kernel.specs.Proofs.{judged_for};
-ghost use Rattle.mw_theory.specs.Admitting.{AreWithin, drafts_given};
-ghost use Rattle.mw_theory.specs.Settling.{defined, skolem_at, verified};
+ghost use Rattle.mw_theory.specs.Settled.{settles};
 ghost use Rattle.mw_commands.specs.Commands.Explanation.{why};
 ghost use Rattle.mw_kernel.specs.Explained.{PutsLine, PutsWhy};
-ghost use Rattle.mw_kernel.specs.Fates.{fate_of, KeepsRoom, KeepsObjects};
-ghost use Rattle.mw_theory.specs.Words.{eval_event, profile_event};
-ghost use Rattle.mw_kernel.specs.Switching.{switched, with_checker};
+ghost use Rattle.mw_kernel.specs.Fates.{fate_of, KeepsRoom, Comes};
+ghost use Rattle.mw_theory.specs.Words.{eval_event, StandsBefore};
+ghost use Rattle.mw_kernel.specs.Switching.{switched};
 
 use crate::Fate;
 use crate::checker::Checker;
@@ -31,14 +30,13 @@ use crate::explaining::why::put_reason;
 use crate::fate::{accepted, fate_after, shown};
 use crate::rewriting::rewritten;
 use crate::switch::refusal_of_switch;
-use mw_define::Draft;
 use mw_heap::{Heap, Memory, Ref, Refusal};
 use mw_machine::Machine;
 use mw_model::theory::refusals;
 use mw_proof::Rewriter;
 use mw_read::{Reader, Step};
 use mw_reflect::reached_sound;
-use mw_theory::{Drafts, Event, World, event_of, later};
+use mw_theory::{Event, World, event_of};
 use mw_truth::soundness::events_keep;
 use std::alloc::Global;
 use std::marker::Model;
@@ -287,12 +285,7 @@ impl Kernel {
     // The fate of the event; what it leaves in the heap is still there.
     fn happens(&mut self, event: Ref) -> Result<Fate, Memory>
         requires { IsIn self.old.objects event }
-        ensures fate { IfOk result (λ f. fate_of f ≡ fate (theory_of self.old) (object_at self.old.objects event) self.old.steps) }
-        ensures theory { OnOk result (theory_of self.new ≡ next (theory_of self.old) (object_at self.old.objects event) self.old.steps) }
-        ensures err { OnErr result (theory_of self.new ≡ theory_of self.old) }
-        ensures steps { self.new.steps ≡ self.old.steps }
-        ensures kept { IfOk result (λ f. KeepsRoom f self.old.needed self.new.needed) }
-        ensures objects { IfOk result (λ f. KeepsObjects f self.old.objects self.new.objects) }
+        ensures { Comes result self.old self.new (happens (theory_of self.old) self.old.steps (object_at self.old.objects event)) }
     {
         events_keep();
         reached_sound();
@@ -300,40 +293,10 @@ impl Kernel {
             return Ok(Fate::Refused(Refusal::Event));
         };
         match members {
-            Event::Verify {
-                name,
-                formula,
-                proof,
-            } => self.verify(name, formula, proof),
             Event::Eval(term) => self.eval(term),
             Event::Print(x) => shown(&self.world.heap, x),
-            Event::Define {
-                name,
-                formals,
-                body,
-                measure,
-                proofs,
-            } => {
-                let draft = Draft {
-                    name,
-                    formals,
-                    body,
-                    measure,
-                };
-                self.define(Drafts::One(draft), proofs)
-            }
-            Event::Skolem {
-                name,
-                bound,
-                free,
-                body,
-            } => self.skolem(name, bound, free, body),
             Event::Switch(name) => self.switch(name),
-            Event::DefineAll {
-                definitions,
-                proofs,
-            } => self.define(Drafts::All(definitions), proofs),
-            Event::Profile(number) => self.set_profile(number),
+            _ => self.settle(members),
         }
     }
 
@@ -345,11 +308,7 @@ impl Kernel {
         out: &mut Vec<u8>,
     ) -> Result<Fate, Memory>
         requires { IsIn self.old.objects event }
-        ensures fate { IfOk result (λ f. fate_of f ≡ fate (theory_of self.old) (object_at self.old.objects event) self.old.steps) }
-        ensures theory { OnOk result (theory_of self.new ≡ next (theory_of self.old) (object_at self.old.objects event) self.old.steps) }
-        ensures err { OnErr result (theory_of self.new ≡ theory_of self.old) }
-        ensures steps { self.new.steps ≡ self.old.steps }
-        ensures kept { IfOk result (λ f. KeepsRoom f self.old.needed self.new.needed) }
+        ensures comes { Comes result self.old self.new (happens (theory_of self.old) self.old.steps (object_at self.old.objects event)) }
         ensures why { IfOk result (λ f. PutsWhy number (fate_of f) (theory_of self.old) self.old.steps (object_at self.old.objects event) out.old.items out.new.items) }
     {
         refusals();
@@ -372,6 +331,7 @@ impl Kernel {
         requires refused { fate (theory_of self.old) (object_at self.old.objects event) self.old.steps ≡ Refused (refusal_of reason) }
         ensures fate { IfOk result (λ f. fate_of f ≡ Refused (refusal_of reason)) }
         ensures theory { theory_of self.new ≡ theory_of self.old }
+        ensures grows { Grows self.old.objects self.new.objects }
         ensures rest { self.new ≡ record self.old { objects = self.new.objects } }
         ensures why { OnOk result (PutsLine (why number (refusal_of reason) (theory_of self.old) self.old.steps (object_at self.old.objects event)) out.old.items out.new.items) }
     {
@@ -387,78 +347,20 @@ impl Kernel {
         Ok(Fate::Refused(reason))
     }
 
-    // The fate of a VERIFY.
-    fn verify(&mut self, name: Ref, formula: Ref, proof: Ref) -> Result<Fate, Memory>
-        requires name { IsIn self.old.objects name }
-        requires formula { IsIn self.old.objects formula }
-        requires proof { IsIn self.old.objects proof }
-        requires sound { IsSound (verified (judged_for self.old.steps) (theory_of self.old) (object_at self.old.objects name) (object_at self.old.objects formula) (object_at self.old.objects proof)).1 }
-        ensures fate { IfOk result (λ f. fate_of f ≡ (verified (judged_for self.old.steps) (theory_of self.old) (object_at self.old.objects name) (object_at self.old.objects formula) (object_at self.old.objects proof)).0) }
-        ensures theory { OnOk result (theory_of self.new ≡ (verified (judged_for self.old.steps) (theory_of self.old) (object_at self.old.objects name) (object_at self.old.objects formula) (object_at self.old.objects proof)).1) }
-        ensures err { OnErr result (theory_of self.new ≡ theory_of self.old) }
-        ensures steps { self.new.steps ≡ self.old.steps }
-        ensures kept { IfOk result (λ f. KeepsRoom f self.old.needed self.new.needed) }
-        ensures objects { IfOk result (λ f. KeepsObjects f self.old.objects self.new.objects) }
+    // The fate of an event whose proofs the theory's checker judges, or that has none.
+    fn settle(&mut self, event: Event) -> Result<Fate, Memory>
+        requires within { StandsBefore (length self.old.objects) event }
+        requires sound { IsSound (settles (judged_for self.old.steps) self.old.objects (theory_of self.old) event).1 }
+        ensures { Comes result self.old self.new (settles (judged_for self.old.steps) self.old.objects (theory_of self.old) event) }
     {
-        let refused = self.world.verify(name, formula, proof, &mut self.checker)?;
-        Ok(fate_after(&self.world.heap, refused))
-    }
-
-    // The fate of a DEFINE or a DEFINE-ALL that gives these functions, with these proofs.
-    fn define(&mut self, drafts: Drafts, proofs: Ref) -> Result<Fate, Memory>
-        requires drafts { AreWithin self.old.objects drafts }
-        requires proofs { IsIn self.old.objects proofs }
-        requires sound { IsSound (defined (judged_for self.old.steps) (theory_of self.old) (drafts_given self.old.objects drafts) (object_at self.old.objects proofs)).1 }
-        ensures fate { IfOk result (λ f. fate_of f ≡ (defined (judged_for self.old.steps) (theory_of self.old) (drafts_given self.old.objects drafts) (object_at self.old.objects proofs)).0) }
-        ensures theory { OnOk result (theory_of self.new ≡ (defined (judged_for self.old.steps) (theory_of self.old) (drafts_given self.old.objects drafts) (object_at self.old.objects proofs)).1) }
-        ensures err { OnErr result (theory_of self.new ≡ theory_of self.old) }
-        ensures steps { self.new.steps ≡ self.old.steps }
-        ensures kept { IfOk result (λ f. KeepsRoom f self.old.needed self.new.needed) }
-        ensures objects { IfOk result (λ f. KeepsObjects f self.old.objects self.new.objects) }
-    {
-        let refused = self.world.define(drafts, proofs, &mut self.checker)?;
-        Ok(fate_after(&self.world.heap, refused))
-    }
-
-    // The fate of a SKOLEM.
-    fn skolem(&mut self, name: Ref, bound: Ref, free: Ref, body: Ref) -> Result<Fate, Memory>
-        requires name { IsIn self.old.objects name }
-        requires bound { IsIn self.old.objects bound }
-        requires free { IsIn self.old.objects free }
-        requires body { IsIn self.old.objects body }
-        requires sound { IsSound (skolem_at self.old.objects (theory_of self.old) name bound free body).1 }
-        ensures fate { IfOk result (λ f. fate_of f ≡ (skolem_at self.old.objects (theory_of self.old) name bound free body).0) }
-        ensures theory { OnOk result (theory_of self.new ≡ (skolem_at self.old.objects (theory_of self.old) name bound free body).1) }
-        ensures err { OnErr result (theory_of self.new ≡ theory_of self.old) }
-        ensures steps { self.new.steps ≡ self.old.steps }
-        ensures kept { IfOk result (λ f. KeepsRoom f self.old.needed self.new.needed) }
-        ensures objects { IfOk result (λ f. KeepsObjects f self.old.objects self.new.objects) }
-    {
-        let refused = self.world.skolem(name, bound, free, body)?;
-        Ok(fate_after(&self.world.heap, refused))
-    }
-
-    // The fate of a PROFILE of this number.
-    fn set_profile(&mut self, number: Ref) -> Result<Fate, Memory>
-        requires { IsIn self.old.objects number }
-        ensures fate { IfOk result (λ f. fate_of f ≡ (profile (theory_of self.old) (profile_event (object_at self.old.objects number))).0) }
-        ensures theory { OnOk result (theory_of self.new ≡ (profile (theory_of self.old) (profile_event (object_at self.old.objects number))).1) }
-        ensures err { OnErr result (theory_of self.new ≡ theory_of self.old) }
-        ensures steps { self.new.steps ≡ self.old.steps }
-        ensures kept { IfOk result (λ f. KeepsRoom f self.old.needed self.new.needed) }
-        ensures objects { IfOk result (λ f. KeepsObjects f self.old.objects self.new.objects) }
-    {
-        let refused = self.world.set_profile(number)?;
+        let refused = self.world.settle(event, &mut self.checker)?;
         Ok(fate_after(&self.world.heap, refused))
     }
 
     // The fate of an EVAL, by which the theory stays.
     fn eval(&mut self, term: Ref) -> Result<Fate, Memory>
         requires { IsIn self.old.objects term }
-        ensures fate { IfOk result (λ f. fate_of f ≡ (eval (theory_of self.old) self.old.steps (eval_event (object_at self.old.objects term))).0) }
-        ensures theory { theory_of self.new ≡ theory_of self.old }
-        ensures grows { Grows self.old.objects self.new.objects }
-        ensures rest { self.new ≡ record self.old { objects = self.new.objects } }
+        ensures { Comes result self.old self.new (eval (theory_of self.old) self.old.steps (eval_event (object_at self.old.objects term))) }
     {
         evaluated(
             &mut self.world.heap,
@@ -474,39 +376,13 @@ impl Kernel {
     fn switch(&mut self, name: Ref) -> Result<Fate, Memory>
         requires name { IsIn self.old.objects name }
         requires sound { IsSound (switched (theory_of self.old) (object_at self.old.objects name)).1 }
-        ensures fate { IfOk result (λ f. fate_of f ≡ (switched (theory_of self.old) (object_at self.old.objects name)).0) }
-        ensures theory { OnOk result (theory_of self.new ≡ (switched (theory_of self.old) (object_at self.old.objects name)).1) }
-        ensures err { OnErr result (theory_of self.new ≡ theory_of self.old) }
-        ensures steps { self.new.steps ≡ self.old.steps }
-        ensures kept { IfOk result (λ f. KeepsRoom f self.old.needed self.new.needed) }
-        ensures objects { IfOk result (λ f. KeepsObjects f self.old.objects self.new.objects) }
+        ensures { Comes result self.old self.new (switched (theory_of self.old) (object_at self.old.objects name)) }
     {
         let refused = refusal_of_switch(&mut self.world.heap, name, &self.world.theory)?;
         if let Some(reason) = refused {
             return Ok(Fate::Refused(reason));
         }
-        let Some(level) = self.world.theory.level.checked_add(1) else {
-            return Err(Memory);
-        };
-        self.switch_to(name, level);
+        self.world.set_checker(name)?;
         Ok(accepted(&self.world.heap))
-    }
-
-    // Makes the function of this name the checker.
-    fn switch_to(&mut self, name: Ref, level: u64)
-        requires name { IsIn self.old.objects name }
-        requires symbol { is_symbol (object_at self.old.objects name) ≡ true }
-        requires level { level ≡ (theory_of self.old).level + 1 }
-        requires sound { IsSound (with_checker (theory_of self.old) (name_of (object_at self.old.objects name))) }
-        ensures theory { theory_of self.new ≡ with_checker (theory_of self.old) (name_of (object_at self.old.objects name)) }
-        ensures steps { self.new.steps ≡ self.old.steps }
-    {
-        let world = &mut self.world;
-        let end = world.heap.mark_after(name);
-        world.cut_to(later(end, world.needed));
-        world.theory.checker = Some(name);
-        world.theory.level = level;
-        world.theory.is_initial = false;
-        world.needed = world.heap.mark();
     }
 }

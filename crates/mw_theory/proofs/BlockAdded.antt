@@ -1,4 +1,4 @@
--- A block that is added to what a kernel holds, as the heap grows.
+-- A block that is added to what is kept of a theory, as the heap grows.
 use Rattle.std.proofs.Common.{◌≡◌, ℕ, List, [], map, sym, ap, ◌∙◌, subst}
 use Rattle.std.proofs.lemmas.List.{append-nil}
 use Rattle.mw_model.specs.Terms.Object.{Object}

@@ -25,7 +25,7 @@ use Rattle.mw_preamble.specs.declared.definition.Definition.TheVariants.{Witness
 use Rattle.mw_preamble.specs.Entries.{AreFunctions, IsBlock}
 use Rattle.mw_theory.specs.declared.theory.Theory.{Theory as Kept}
 use Rattle.mw_theory.specs.declared.world.World.{World}
-use Rattle.mw_theory.specs.Knowledge.{parts_of, meant, IsKernel}
+use Rattle.mw_theory.specs.Knowledge.{parts_of, meant, IsWorldOf}
 use Rattle.mw_theory.specs.Worlds.{theory_in}
 use Rattle.mw_theory.specs.Proofs.{Judge, by_formula, judged_each, judged_all}
 use Rattle.mw_theory.specs.Settling.{fate_by, defined, IsDefined, IsAccepted, skolem_at}
@@ -151,7 +151,7 @@ pub accepted-sound : (J : Judge) (t : Theory) (given : Option (List Draft)) (pro
 accepted-sound J t given proofs d sound = (d.0, d.1, subst (λ r. IsSound r.1) d.1 sound)
 
 -- A world whose heap grew.
-module _ (os : List Object) (n : ℕ) (t : Kept) (marks : List ObjectMark) (h : IsKernel os n t marks) (new : List Object) (grows : Grows os new) where
+module _ (os : List Object) (n : ℕ) (t : Kept) (marks : List ObjectMark) (h : IsWorldOf os n t marks) (new : List Object) (grows : Grows os new) where
   abbrev now : Theory
   now = meant os (parts_of t)
 

@@ -75,7 +75,8 @@ none_named word.DefineAll _ _ _ _ _ _ differs _ = absurd (differs refl)
 none_named word.Profile _ _ _ _ _ _ _ differs = absurd (differs refl)
 none_named _ _ _ _ _ _ _ _ _ = refl
 
-before-later : (m x : ℕ) → m < x → (e : Event) → StandsBefore m e → StandsBefore x e
+-- the members of an event stand before all that comes after its object
+pub before-later : (m x : ℕ) → m < x → (e : Event) → StandsBefore m e → StandsBefore x e
 before-later m x l (event.Verify a b c) h = (omega (arith, l, h.0), omega (arith, l, h.1), omega (arith, l, h.2))
 before-later m x l (event.Define a b c d e) h = (omega (arith, l, h.0), omega (arith, l, h.1), omega (arith, l, h.2), omega (arith, l, h.3), omega (arith, l, h.4))
 before-later m x l (event.Skolem a b c d) h = (omega (arith, l, h.0), omega (arith, l, h.1), omega (arith, l, h.2), omega (arith, l, h.3))

@@ -21,7 +21,7 @@ use Rattle.mw_code.proofs.CallerLemmas.{stands-grows}
 use Rattle.mw_preamble.specs.Entries.{AreEntries}
 use Rattle.mw_preamble.proofs.CallerLemmas.{AreEntries-grows}
 use Rattle.mw_theory.specs.declared.theory.Theory.{Theory as Kept}
-use Rattle.mw_theory.specs.Knowledge.{parts_of, definitions_of, name_read, theory_with, meant, is_first, IsNameIn, HasEquality, IsHeld, IsKernel}
+use Rattle.mw_theory.specs.Knowledge.{parts_of, definitions_of, name_read, theory_with, meant, is_first, IsNameIn, HasEquality, IsHeld, IsWorldOf}
 use Rattle.mw_theory.specs.Defining.{HasOtherCode}
 use Rattle.mw_theory.proofs.Entered.{blocks-read}
 
@@ -75,30 +75,12 @@ module _ (old new : List Object) (grows : Grows old new) where
       sound = subst IsSound (sym meant-grows) h.sound;
     }
 
--- with another code that stands for the same
-pub held-recoded : (os : List Object) (t new : Kept) → IsHeld os t → HasOtherCode t new → IsHeld os new
-held-recoded os t new h c =
-    subst (IsHeld os) (sym c.rest) (record {
-      axioms_in = h.axioms_in;
-      theorems_in = h.theorems_in;
-      arity_list_in = h.arity_list_in;
-      each_axiom_in = h.each_axiom_in;
-      each_theorem_in = h.each_theorem_in;
-      axioms_known = h.axioms_known;
-      theorems_known = h.theorems_known;
-      equality = h.equality;
-      arities = h.arities;
-      arities_listed = h.arities_listed;
-      entered = h.entered;
-      coded = c.stands os (definitions_of os (parts_of t)) h.coded;
-      named = h.named;
-      first = h.first;
-      sound = h.sound;
-    })
+-- with the code, the watch, the checker and the level of another
+abbrev changed : Kept → Kept → Kept
+changed t other = record t { table = other.table; watch = other.watch; checker = other.checker; level = other.level; is_initial = other.is_initial }
 
--- with another watch
-pub held-watched : (os : List Object) (t : Kept) (w : Watch) → IsHeld os t → IsHeld os (record t { watch = w })
-held-watched os t w h = record {
+pub held-changed : (os : List Object) (t other : Kept) → IsHeld os t → StandsFor os other.table.value (definitions_of os (parts_of t)) → IfSome other.checker (IsNameIn os) → other.is_initial ≡ is_first (meant os (parts_of (changed t other))) → IsSound (meant os (parts_of (changed t other))) → IsHeld os (changed t other)
+held-changed os t other h coded named first sound = record {
   axioms_in = h.axioms_in;
   theorems_in = h.theorems_in;
   arity_list_in = h.arity_list_in;
@@ -110,17 +92,26 @@ held-watched os t w h = record {
   arities = h.arities;
   arities_listed = h.arities_listed;
   entered = h.entered;
-  coded = h.coded;
-  named = h.named;
-  first = h.first;
-  sound = h.sound;
+  coded = coded;
+  named = named;
+  first = first;
+  sound = sound;
 }
+
+-- with another code that stands for the same
+pub held-recoded : (os : List Object) (t new : Kept) → IsHeld os t → HasOtherCode t new → IsHeld os new
+held-recoded os t new h c =
+    subst (IsHeld os) (sym c.rest) (held-changed os t (record t { table = new.table }) h (c.stands os (definitions_of os (parts_of t)) h.coded) h.named h.first h.sound)
+
+-- with another watch
+pub held-watched : (os : List Object) (t : Kept) (w : Watch) → IsHeld os t → IsHeld os (record t { watch = w })
+held-watched os t w h = held-changed os t (record t { watch = w }) h h.coded h.named h.first h.sound
 
 kept_same : (n : ℕ) (old new : List Object) → Grows old new → n ≤ length old → take n new ≡ take n old
 kept_same n old new g l = ap (take n) g.1 ∙ take-append-le n old g.0 l
 
--- a kernel that needs the whole heap
-pub needs-all : (os : List Object) (t : Kept) (ms : List ObjectMark) → IsHeld os t → AreMarks t.arity os ms → IsWatch t.arity os t.watch → IsKernel os (length os) t ms
+-- a world that needs the whole heap
+pub needs-all : (os : List Object) (t : Kept) (ms : List ObjectMark) → IsHeld os t → AreMarks t.arity os ms → IsWatch t.arity os t.watch → IsWorldOf os (length os) t ms
 needs-all os t ms h m w = record {
   kept = omega arith;
   held = subst (λ o. IsHeld o t) (sym (take-Grows os os (Grows-refl os))) h;
@@ -128,7 +119,7 @@ needs-all os t ms h m w = record {
   watched = subst (λ o. IsWatch t.arity o t.watch) (sym (take-Grows os os (Grows-refl os))) w;
 }
 
-module _ (os : List Object) (n : ℕ) (t : Kept) (marks : List ObjectMark) (h : IsKernel os n t marks) where
+module _ (os : List Object) (n : ℕ) (t : Kept) (marks : List ObjectMark) (h : IsWorldOf os n t marks) where
   pub held : IsHeld os t
   held = held-grows (take n os) os (Grows-take n os) t h.held
 
@@ -140,7 +131,7 @@ module _ (os : List Object) (n : ℕ) (t : Kept) (marks : List ObjectMark) (h : 
     grown_theory = meant-grows os new grows t held
 
     -- with other marks, and another code that stands for the same
-    pub grown-recoded : (other : Kept) (ms : List ObjectMark) → HasOtherCode t other → AreMarks other.arity new ms → IsKernel new n other ms
+    pub grown-recoded : (other : Kept) (ms : List ObjectMark) → HasOtherCode t other → AreMarks other.arity new ms → IsWorldOf new n other ms
     grown-recoded other ms c m = record {
       kept = omega (arith, h.kept, length-Grows os new grows);
       held = subst (λ o. IsHeld o other) (sym (kept_same n os new grows h.kept)) (held-recoded (take n os) t other h.held c);
@@ -148,11 +139,11 @@ module _ (os : List Object) (n : ℕ) (t : Kept) (marks : List ObjectMark) (h : 
       watched = subst (λ u. IsWatch u.arity (take n new) u.watch) (sym c.rest) (subst (λ o. IsWatch t.arity o t.watch) (sym (kept_same n os new grows h.kept)) h.watched);
     }
 
-    pub grown-other : (other : Kept) → HasOtherCode t other → IsKernel new n other marks
+    pub grown-other : (other : Kept) → HasOtherCode t other → IsWorldOf new n other marks
     grown-other other c = grown-recoded other marks c (subst (λ A. AreMarks A new marks) (sym (ap (λ u. u.arity) c.rest)) (AreMarks-grows t.arity os new marks grows h.marked))
 
     -- with other marks
-    pub grown-marked : (ms : List ObjectMark) → AreMarks t.arity new ms → IsKernel new n t ms
+    pub grown-marked : (ms : List ObjectMark) → AreMarks t.arity new ms → IsWorldOf new n t ms
     grown-marked ms m = record {
       kept = omega (arith, h.kept, length-Grows os new grows);
       held = subst (λ o. IsHeld o t) (sym (kept_same n os new grows h.kept)) h.held;
@@ -160,7 +151,7 @@ module _ (os : List Object) (n : ℕ) (t : Kept) (marks : List ObjectMark) (h : 
       watched = subst (λ o. IsWatch t.arity o t.watch) (sym (kept_same n os new grows h.kept)) h.watched;
     }
 
-    pub grown : IsKernel new n t marks
+    pub grown : IsWorldOf new n t marks
     grown = grown-marked marks (AreMarks-grows t.arity os new marks grows h.marked)
 
   -- cut back to m objects, among which are those needed
@@ -168,7 +159,7 @@ module _ (os : List Object) (n : ℕ) (t : Kept) (marks : List ObjectMark) (h : 
     cut_same : take n (take m os) ≡ take n os
     cut_same = sym (kept_same n (take m os) os (Grows-take m os) (omega (arith, needed, length-take-le m os within)))
 
-    pub cut_back : (ms : List ObjectMark) → length ms ≤ m → AreMarks t.arity os ms → IsKernel (take m os) n t ms
+    pub cut_back : (ms : List ObjectMark) → length ms ≤ m → AreMarks t.arity os ms → IsWorldOf (take m os) n t ms
     cut_back ms few marked = record {
       kept = omega (arith, needed, length-take-le m os within);
       held = subst (λ o. IsHeld o t) (sym cut_same) h.held;

@@ -1,4 +1,4 @@
--- What a kernel begins with: the initial theory of a profile.
+-- What a world begins with: the initial theory of a profile.
 use Rattle.std.proofs.Common.{◌≡◌, ℕ, None, IfSome, List, [], ◌∷◌, ◌++◌, map, reverse, refl, sym, ap, ap₂, ◌∙◌, subst, append_assoc}
 use Rattle.std.specs.List.{All}
 use Rattle.std.proofs.lemmas.List.{map-append, reverse-append}

@@ -2,6 +2,7 @@ pub mod BlockAdded
 pub mod BlockCut
 pub mod BlockPairs
 pub mod CallerLemmas
+pub mod Checkers
 pub mod CutBack
 pub mod Defining
 pub mod Drafting
@@ -20,4 +21,5 @@ mod WokenNames
 pub mod Worlds
 pub mod Defined
 pub mod Refusing
+pub mod Settlings
 pub mod ProofLists

@@ -1,4 +1,4 @@
--- A block that is added to what a kernel holds.
+-- A block that is added to what is kept of a theory.
 use Rattle.std.specs.Prelude.{◌≡◌, ℕ, true, List, [], ◌∷◌, ◌++◌, length, None}
 use Rattle.mw_model.specs.Terms.Object.{Object}
 use Rattle.mw_model.specs.Terms.Term.{ArityTable, arity_of}

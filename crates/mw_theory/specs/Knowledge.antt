@@ -1,5 +1,5 @@
 -- What is kept of a theory, and the theory that is meant.
-use Rattle.std.specs.Prelude.{◌≡◌, ℕ, ◌≤◌, true, Bool, List, [], ◌∷◌, length, take, Option, Some, None, All, IfSome}
+use Rattle.std.specs.Prelude.{◌≡◌, ℕ, suc, ◌≤◌, true, Bool, List, [], ◌∷◌, length, take, Option, Some, None, All, IfSome}
 use Rattle.mw_model.specs.Terms.Object.{Name, Object, Pair, Member}
 use Rattle.mw_model.specs.Terms.Term.{formula_object, table_object}
 use Rattle.mw_model.specs.Values.Primitive.{Profile, is_symbol, name_of}
@@ -51,6 +51,10 @@ meant os p = theory_with (object_at os p.axioms) (object_at os p.theorems) (defi
 abbrev pub with_theorem : Theory → Object → Theory
 with_theorem t x = record t { theorems = Pair x t.theorems }
 
+-- the theory with the function of this name as its checker, at the next level
+abbrev pub with_checker : Theory → Name → Theory
+with_checker t f = record t { checker = Some f; level = suc t.level }
+
 -- these objects in front of a list, the last one foremost
 abbrev pub put_all : List Object → Object → Object
 put_all [] list = list
@@ -89,7 +93,7 @@ pub record IsHeld (os : List Object) (t : Kept) : Type 0 where
 
 -- The objects that the theory needs come first, and all that is kept of it is right over them. The marks are under its arity table, and of
 -- those that it needs is noted what a new name could make other terms and formulas of.
-pub record IsKernel (os : List Object) (needed : ℕ) (t : Kept) (marks : List ObjectMark) : Type 0 where
+pub record IsWorldOf (os : List Object) (needed : ℕ) (t : Kept) (marks : List ObjectMark) : Type 0 where
   pub kept : needed ≤ length os
   pub held : IsHeld (take needed os) t
   pub marked : AreMarks t.arity os marks

@@ -10,3 +10,4 @@ pub mod Waking
 pub mod Worlds
 pub mod Proofs
 pub mod Settling
+pub mod Settled

@@ -87,7 +87,7 @@ fn first_lists(
     })
 }
 
-// Whether it is the profile that a kernel begins with.
+// Whether it is the profile that a world begins with.
 fn is_first(profile: Profile) -> bool
     ensures { result ≡ is_one (profile_of profile) }
 {

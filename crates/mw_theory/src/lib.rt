@@ -24,7 +24,6 @@ mod world;
 pub use admitting::{Drafts, admit};
 pub use event::{Event, event_of};
 pub use judge::Judge;
-pub use mark::later;
 pub use symbol::is_symbol;
 pub use theory::Theory;
 pub use wanted::members_wanted;

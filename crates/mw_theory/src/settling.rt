@@ -1,29 +1,82 @@
 //! Events whose proofs a judge judges, and those without proofs: why they are refused, or the theory with what they add.
-ghost use Rattle.std.specs.Prelude.{◌≡◌, None, IfOk, IfSome, OnOk, OnErr, option_map};
+ghost use Rattle.std.specs.Prelude.{◌≡◌, None, length};
 ghost use Rattle.mw_model.specs.Terms.Object.{Object, NIL};
 ghost use Rattle.mw_model.specs.Events.Theory.{IsSound};
 ghost use Rattle.mw_model.specs.Events.Fate.{profile};
-ghost use Rattle.mw_heap.specs.Objects.{object_at, IsIn, Grows};
-ghost use Rattle.mw_heap.specs.Variants.{refusal_of};
+ghost use Rattle.mw_heap.specs.Objects.{object_at, IsIn};
 ghost use Rattle.mw_theory.specs.Proofs.{Judge as Judges};
 ghost use Rattle.mw_theory.specs.Worlds.{theory_in, IsWorld};
 ghost use Rattle.mw_theory.specs.Admitting.{AreWithin, drafts_given};
-ghost use Rattle.mw_theory.specs.Settling.{defined, IsAccepted, skolem_at, verified, fate_by};
-ghost use Rattle.mw_theory.specs.Words.{profile_event};
+ghost use Rattle.mw_theory.specs.Settling.{defined, IsAccepted, skolem_at, verified};
+ghost use Rattle.mw_theory.specs.Settled.{settles, Settles};
+ghost use Rattle.mw_theory.specs.Words.{profile_event, StandsBefore};
 
 use crate::admitting::{Drafts, admit, admit_within, functions_of, mark_after, witness_of};
 use crate::define::refusal_of_definitions;
+use crate::event::Event;
 use crate::judge::Judge;
 use crate::mark::later;
 use crate::profile::profile_numbered;
 use crate::verify::refusal;
 use crate::world::World;
-use mw_define::{Admitted, admit_witness};
+use mw_define::{Admitted, Draft, admit_witness};
 use mw_heap::{Memory, Profile, Ref, Refusal};
 
 impl World {
-    /// Adds the theorem of a VERIFY, or says why that is refused. After a refusal the heap has what was made for the tests.
-    pub fn verify<J: Judge>(
+    /// Changes the theory by an event, whose proofs the judge judges, or answers why the event is refused. A SWITCH, an EVAL and a PRINT
+    /// change nothing here, and are refused as Event. After a refusal the heap still has what was made for the tests. The one error is
+    /// out of memory: then the theory stays.
+    pub fn settle<J: Judge>(
+        &mut self,
+        event: Event,
+        judge: &mut J,
+    ) -> Result<Option<Refusal>, Memory>
+        requires world { IsWorld self.old }
+        requires ready { J.ready judge.old self.old.heap.objects }
+        requires within { StandsBefore (length self.old.heap.objects) event }
+        requires sound { IsSound (settles (J.judges judge.old self.old.heap.objects) self.old.heap.objects (theory_in self.old) event).1 }
+        ensures settled { Settles result self.old self.new (settles (J.judges judge.old self.old.heap.objects) self.old.heap.objects (theory_in self.old) event) }
+        ensures same { J.judges judge.new ≡ J.judges judge.old }
+        ensures limit { J.limit judge.new ≡ J.limit judge.old }
+    {
+        match event {
+            Event::Verify {
+                name,
+                formula,
+                proof,
+            } => self.verify(name, formula, proof, judge),
+            Event::Define {
+                name,
+                formals,
+                body,
+                measure,
+                proofs,
+            } => {
+                let draft = Draft {
+                    name,
+                    formals,
+                    body,
+                    measure,
+                };
+                self.define(Drafts::One(draft), proofs, judge)
+            }
+            Event::DefineAll {
+                definitions,
+                proofs,
+            } => self.define(Drafts::All(definitions), proofs, judge),
+            Event::Skolem {
+                name,
+                bound,
+                free,
+                body,
+            } => self.skolem(name, bound, free, body),
+            Event::Profile(number) => self.set_profile(number),
+            Event::Switch(_) | Event::Eval(_) | Event::Print(_) => Ok(Some(Refusal::Event)),
+        }
+    }
+
+    // Adds the theorem of a VERIFY, or says why that is refused. After a refusal the heap has what was made for the tests.
+    fn verify<J: Judge>(
         &mut self,
         name: Ref,
         formula: Ref,
@@ -36,12 +89,7 @@ impl World {
         requires formula { IsIn self.old.heap.objects formula }
         requires proof { IsIn self.old.heap.objects proof }
         requires sound { IsSound (verified (J.judges judge.old self.old.heap.objects) (theory_in self.old) (object_at self.old.heap.objects name) (object_at self.old.heap.objects formula) (object_at self.old.heap.objects proof)).1 }
-        ensures world { IsWorld self.new }
-        ensures fate { IfOk result (λ r. fate_by (option_map refusal_of r) ≡ (verified (J.judges judge.old self.old.heap.objects) (theory_in self.old) (object_at self.old.heap.objects name) (object_at self.old.heap.objects formula) (object_at self.old.heap.objects proof)).0) }
-        ensures theory { OnOk result (theory_in self.new ≡ (verified (J.judges judge.old self.old.heap.objects) (theory_in self.old) (object_at self.old.heap.objects name) (object_at self.old.heap.objects formula) (object_at self.old.heap.objects proof)).1) }
-        ensures err { OnErr result (theory_in self.new ≡ theory_in self.old) }
-        ensures kept { IfOk result (λ r. IfSome r (λ q. self.new.needed ≡ self.old.needed)) }
-        ensures grows { IfOk result (λ r. IfSome r (λ q. Grows self.old.heap.objects self.new.heap.objects)) }
+        ensures settled { Settles result self.old self.new (verified (J.judges judge.old self.old.heap.objects) (theory_in self.old) (object_at self.old.heap.objects name) (object_at self.old.heap.objects formula) (object_at self.old.heap.objects proof)) }
         ensures same { J.judges judge.new ≡ J.judges judge.old }
         ensures limit { J.limit judge.new ≡ J.limit judge.old }
     {
@@ -61,9 +109,9 @@ impl World {
         Ok(None)
     }
 
-    /// Adds the functions of a DEFINE or a DEFINE-ALL with these proofs, or says why that is refused. Where they are accepted the proofs are
-    /// dropped before the functions are tested once more and added: the heap keeps nothing that was made for the proofs.
-    pub fn define<J: Judge>(
+    // Adds the functions of a DEFINE or a DEFINE-ALL with these proofs, or says why that is refused. If they are accepted, the proofs are
+    // dropped before the functions are tested once more and added: the heap keeps nothing that was made for the proofs.
+    fn define<J: Judge>(
         &mut self,
         drafts: Drafts,
         proofs: Ref,
@@ -74,12 +122,7 @@ impl World {
         requires drafts { AreWithin self.old.heap.objects drafts }
         requires proofs { IsIn self.old.heap.objects proofs }
         requires sound { IsSound (defined (J.judges judge.old self.old.heap.objects) (theory_in self.old) (drafts_given self.old.heap.objects drafts) (object_at self.old.heap.objects proofs)).1 }
-        ensures world { IsWorld self.new }
-        ensures fate { IfOk result (λ r. fate_by (option_map refusal_of r) ≡ (defined (J.judges judge.old self.old.heap.objects) (theory_in self.old) (drafts_given self.old.heap.objects drafts) (object_at self.old.heap.objects proofs)).0) }
-        ensures theory { OnOk result (theory_in self.new ≡ (defined (J.judges judge.old self.old.heap.objects) (theory_in self.old) (drafts_given self.old.heap.objects drafts) (object_at self.old.heap.objects proofs)).1) }
-        ensures err { OnErr result (theory_in self.new ≡ theory_in self.old) }
-        ensures kept { IfOk result (λ r. IfSome r (λ q. self.new.needed ≡ self.old.needed)) }
-        ensures grows { IfOk result (λ r. IfSome r (λ q. Grows self.old.heap.objects self.new.heap.objects)) }
+        ensures settled { Settles result self.old self.new (defined (J.judges judge.old self.old.heap.objects) (theory_in self.old) (drafts_given self.old.heap.objects drafts) (object_at self.old.heap.objects proofs)) }
         ensures same { J.judges judge.new ≡ J.judges judge.old }
         ensures limit { J.limit judge.new ≡ J.limit judge.old }
     {
@@ -106,12 +149,7 @@ impl World {
         requires world { IsWorld self.old }
         requires drafts { AreWithin self.old.heap.objects drafts }
         requires sound { (J : Judges) × IsSound (defined J (theory_in self.old) (drafts_given self.old.heap.objects drafts) NIL).1 }
-        ensures world { IsWorld self.new }
-        ensures fate { (J : Judges) → IfOk result (λ r. fate_by (option_map refusal_of r) ≡ (defined J (theory_in self.old) (drafts_given self.old.heap.objects drafts) NIL).0) }
-        ensures theory { (J : Judges) → OnOk result (theory_in self.new ≡ (defined J (theory_in self.old) (drafts_given self.old.heap.objects drafts) NIL).1) }
-        ensures err { OnErr result (theory_in self.new ≡ theory_in self.old) }
-        ensures kept { IfOk result (λ r. IfSome r (λ q. self.new.needed ≡ self.old.needed)) }
-        ensures grows { IfOk result (λ r. IfSome r (λ q. Grows self.old.heap.objects self.new.heap.objects)) }
+        ensures { (J : Judges) → Settles result self.old self.new (defined J (theory_in self.old) (drafts_given self.old.heap.objects drafts) NIL) }
     {
         let owed = match admit_within(&mut self.heap, drafts, &self.theory.arity, 0) {
             Admitted::Obligations(owed) => owed,
@@ -141,12 +179,7 @@ impl World {
         requires world { IsWorld self.old }
         requires drafts { AreWithin self.old.heap.objects drafts }
         requires accepted { (J : Judges) × (proofs : Object) × IsAccepted J (theory_in self.old) (drafts_given self.old.heap.objects drafts) proofs }
-        ensures world { IsWorld self.new }
-        ensures fate { (J : Judges) (proofs : Object) → IsAccepted J (theory_in self.old) (drafts_given self.old.heap.objects drafts) proofs → IfOk result (λ r. fate_by (option_map refusal_of r) ≡ (defined J (theory_in self.old) (drafts_given self.old.heap.objects drafts) proofs).0) }
-        ensures theory { (J : Judges) (proofs : Object) → IsAccepted J (theory_in self.old) (drafts_given self.old.heap.objects drafts) proofs → OnOk result (theory_in self.new ≡ (defined J (theory_in self.old) (drafts_given self.old.heap.objects drafts) proofs).1) }
-        ensures err { OnErr result (theory_in self.new ≡ theory_in self.old) }
-        ensures kept { IfOk result (λ r. IfSome r (λ q. self.new.needed ≡ self.old.needed)) }
-        ensures grows { IfOk result (λ r. IfSome r (λ q. Grows self.old.heap.objects self.new.heap.objects)) }
+        ensures { (J : Judges) (proofs : Object) → IsAccepted J (theory_in self.old) (drafts_given self.old.heap.objects drafts) proofs → Settles result self.old self.new (defined J (theory_in self.old) (drafts_given self.old.heap.objects drafts) proofs) }
     {
         let owed = match admit(&mut self.heap, drafts, &self.theory.arity) {
             Admitted::Obligations(owed) => owed,
@@ -158,8 +191,8 @@ impl World {
         Ok(None)
     }
 
-    /// Adds the witness of a SKOLEM, or says why that is refused.
-    pub fn skolem(
+    // Adds the witness of a SKOLEM, or says why that is refused.
+    fn skolem(
         &mut self,
         name: Ref,
         bound: Ref,
@@ -172,12 +205,7 @@ impl World {
         requires free { IsIn self.old.heap.objects free }
         requires body { IsIn self.old.heap.objects body }
         requires sound { IsSound (skolem_at self.old.heap.objects (theory_in self.old) name bound free body).1 }
-        ensures world { IsWorld self.new }
-        ensures fate { IfOk result (λ r. fate_by (option_map refusal_of r) ≡ (skolem_at self.old.heap.objects (theory_in self.old) name bound free body).0) }
-        ensures theory { OnOk result (theory_in self.new ≡ (skolem_at self.old.heap.objects (theory_in self.old) name bound free body).1) }
-        ensures err { OnErr result (theory_in self.new ≡ theory_in self.old) }
-        ensures kept { IfOk result (λ r. IfSome r (λ q. self.new.needed ≡ self.old.needed)) }
-        ensures grows { IfOk result (λ r. IfSome r (λ q. Grows self.old.heap.objects self.new.heap.objects)) }
+        ensures { Settles result self.old self.new (skolem_at self.old.heap.objects (theory_in self.old) name bound free body) }
     {
         let owed = match admit_witness(
             &mut self.heap,
@@ -196,16 +224,11 @@ impl World {
         Ok(None)
     }
 
-    /// Begins the theory of a PROFILE of this number, or says why that is refused.
-    pub fn set_profile(&mut self, number: Ref) -> Result<Option<Refusal>, Memory>
+    // Begins the theory of a PROFILE of this number, or says why that is refused.
+    fn set_profile(&mut self, number: Ref) -> Result<Option<Refusal>, Memory>
         requires world { IsWorld self.old }
         requires number { IsIn self.old.heap.objects number }
-        ensures world { IsWorld self.new }
-        ensures fate { IfOk result (λ r. fate_by (option_map refusal_of r) ≡ (profile (theory_in self.old) (profile_event (object_at self.old.heap.objects number))).0) }
-        ensures theory { OnOk result (theory_in self.new ≡ (profile (theory_in self.old) (profile_event (object_at self.old.heap.objects number))).1) }
-        ensures err { OnErr result (theory_in self.new ≡ theory_in self.old) }
-        ensures kept { IfOk result (λ r. IfSome r (λ q. self.new.needed ≡ self.old.needed)) }
-        ensures grows { IfOk result (λ r. IfSome r (λ q. Grows self.old.heap.objects self.new.heap.objects)) }
+        ensures { Settles result self.old self.new (profile (theory_in self.old) (profile_event (object_at self.old.heap.objects number))) }
     {
         if !self.theory.is_initial {
             return Ok(Some(Refusal::Profile));

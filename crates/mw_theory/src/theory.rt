@@ -23,19 +23,19 @@ pub struct Theory {
     pub known_theorems: Known,
     pub arity: Arity,
     /// What a new name could make other terms and formulas of.
-    pub watch: Watch,
+    pub(crate) watch: Watch,
     // the same as lists in the heap
     pub axioms: Ref,
     pub theorems: Ref,
     pub arity_list: Ref,
-    pub entries: Entries,
+    pub(crate) entries: Entries,
     // It is boxed, so that the proofs of its owners are short.
     pub table: Box<Table>,
     // the name of a function; none for the built-in checker
     pub checker: Option<Ref>,
     pub level: u64,
     // whether it is the initial theory of the first profile
-    pub is_initial: bool,
+    pub(crate) is_initial: bool,
 }
 
 impl Theory {

@@ -2,7 +2,7 @@
 ghost use Rattle.std.specs.Prelude.{◌≡◌, ℕ, ◌≤◌, List, [], length, take, IfOk, OnOk, OnErr};
 ghost use Rattle.mw_model.specs.Terms.Object.{Object};
 ghost use Rattle.mw_model.specs.Terms.Term.{ArityTable};
-ghost use Rattle.mw_model.specs.Values.Primitive.{One, Two};
+ghost use Rattle.mw_model.specs.Values.Primitive.{One, Two, name_of};
 ghost use Rattle.mw_model.specs.Values.Definition.{Block};
 ghost use Rattle.mw_model.specs.Events.Theory.{initial, IsSound};
 ghost use Rattle.mw_model.specs.Events.Admission.{add_to_theory};
@@ -10,7 +10,7 @@ ghost use Rattle.mw_heap.specs.Objects.{object_at, IsIn};
 ghost use Rattle.mw_term.specs.Marking.{AreMarks};
 ghost use Rattle.mw_term.specs.Settling.{IsWatch};
 ghost use Rattle.mw_theory.specs.Worlds.{theory_in, IsWorld};
-ghost use Rattle.mw_theory.specs.Knowledge.{parts_of, meant, with_theorem, IsHeld};
+ghost use Rattle.mw_theory.specs.Knowledge.{parts_of, meant, with_theorem, with_checker, IsNameIn, IsHeld};
 ghost use Rattle.mw_preamble.specs.declared.definition.Definition.{Definition};
 ghost use Rattle.mw_theory.specs.Defining.{IsNewBlockIn};
 
@@ -28,7 +28,7 @@ use std::alloc::Global;
 pub struct World {
     pub heap: Heap,
     /// How much of the heap the theory needs.
-    pub needed: Mark,
+    pub(crate) needed: Mark,
     pub theory: Theory,
     /// Which objects of the heap are terms and formulas under the arity table.
     pub marks: Marks,
@@ -76,7 +76,7 @@ impl World {
     }
 
     /// Adds a theorem. Of the objects that the theory does not need, only those that came before it stay.
-    pub fn add_theorem(&mut self, formula: Ref) -> Result<(), Memory>
+    pub(crate) fn add_theorem(&mut self, formula: Ref) -> Result<(), Memory>
         requires world { IsWorld self.old }
         requires within { IsIn self.old.heap.objects formula }
         requires sound { IsSound (with_theorem (theory_in self.old) (object_at self.old.heap.objects formula)) }
@@ -108,7 +108,11 @@ impl World {
 
     /// Adds a block of definitions with the list of its axioms. Of the objects that the theory does not need, only those that came before
     /// this list stay. The marks that the new names may change are made anew.
-    pub fn add_definitions(&mut self, block: &[Definition], axioms: Ref) -> Result<(), Memory>
+    pub(crate) fn add_definitions(
+        &mut self,
+        block: &[Definition],
+        axioms: Ref,
+    ) -> Result<(), Memory>
         requires world { IsWorld self.old }
         requires block { (B : Block) × IsNewBlockIn self.old block.now axioms B }
         ensures world { IsWorld self.new }
@@ -131,7 +135,7 @@ impl World {
 
     /// Begins the initial theory of the second profile in place of the theory. The objects that were needed stay in the heap: the new theory
     /// has nearly all of them.
-    pub fn begin_second(&mut self) -> Result<(), Memory>
+    pub(crate) fn begin_second(&mut self) -> Result<(), Memory>
         requires world { IsWorld self.old }
         ensures world { IsWorld self.new }
         ensures theory { OnOk result (theory_in self.new ≡ initial Two) }
@@ -139,6 +143,28 @@ impl World {
     {
         let theory = begin(&mut self.heap, Profile::Two)?;
         self.go_on_with(theory);
+        Ok(())
+    }
+
+    /// Makes the function of this name the checker, at the next level. Of the objects that the theory does not need, only those that came
+    /// before the name stay. Past the greatest level that a number of 64 bits holds the answer is out of memory, and the theory stays.
+    pub fn set_checker(&mut self, name: Ref) -> Result<(), Memory>
+        requires world { IsWorld self.old }
+        requires name { IsNameIn self.old.heap.objects name }
+        requires sound { IsSound (with_checker (theory_in self.old) (name_of (object_at self.old.heap.objects name))) }
+        ensures world { IsWorld self.new }
+        ensures theory { OnOk result (theory_in self.new ≡ with_checker (theory_in self.old) (name_of (object_at self.old.heap.objects name))) }
+        ensures err { OnErr result (theory_in self.new ≡ theory_in self.old) }
+    {
+        let Some(level) = self.theory.level.checked_add(1) else {
+            return Err(Memory);
+        };
+        let end = self.heap.mark_after(name);
+        self.cut_to(later(end, self.needed));
+        self.theory.checker = Some(name);
+        self.theory.level = level;
+        self.theory.is_initial = false;
+        self.needed = self.heap.mark();
         Ok(())
     }
 

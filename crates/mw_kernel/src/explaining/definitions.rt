@@ -86,6 +86,9 @@ fn obligations(heap: &mut Heap, drafts: Drafts, arity: &Arity) -> Result<Ref, Me
     }
 }
 
+// Obligations that are made only to be shown leave this many of the looks of the event.
+const LOOKS_KEPT: u64 = 1 << 25;
+
 // These formulas.
 fn obligations_shown(heap: &mut Heap, drafts: Drafts, arity: &Arity) -> Result<Vec<Ref>, Memory>
     requires drafts { AreWithin heap.old.objects drafts }
@@ -93,6 +96,7 @@ fn obligations_shown(heap: &mut Heap, drafts: Drafts, arity: &Arity) -> Result<V
     ensures grows { Grows heap.old.objects heap.new.objects }
     ensures shown { IfOk result (λ v. (Fs : List Formula) → Owe arity.now (drafts_given heap.old.objects drafts) Fs → Shows heap.new.objects v.items (map formula_object Fs)) }
 {
+    heap.take_looks(LOOKS_KEPT)?;
     let owed = obligations(heap, drafts, arity)?;
     heap.list_members(owed)
 }

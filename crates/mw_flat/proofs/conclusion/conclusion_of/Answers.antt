@@ -49,11 +49,8 @@ returns-in_default-2-clause-conclusion c = λ Fs formulas same counted.
 pub follows-requires-clause-marks : goal.follows-requires-clause-marks
 follows-requires-clause-marks c = (c.args.theory.now.arity, c.in_ok-extend.ensures.marked)
 
-pub follows-requires-clause-axioms : goal.follows-requires-clause-axioms
-follows-requires-clause-axioms c = c.requires.held.each_axiom_in
-
-pub follows-requires-clause-theorems : goal.follows-requires-clause-theorems
-follows-requires-clause-theorems c = c.requires.held.each_theorem_in
+pub follows-requires-clause-basis : goal.follows-requires-clause-basis
+follows-requires-clause-basis c = record { axioms = c.requires.held.each_axiom_in; theorems = c.requires.held.each_theorem_in }
 
 pub follows-requires-clause-formula : goal.follows-requires-clause-formula
 follows-requires-clause-formula c =

@@ -2,7 +2,7 @@
 use Rattle.std.proofs.Common.{◌≡◌, All, map, sym, ap, ◌∙◌, subst}
 use Rattle.mw_model.specs.Events.Refusal.{Refused}
 use Rattle.mw_model.specs.Events.Fate.{fate}
-use Rattle.mw_heap.specs.Objects.{object_at, IsIn}
+use Rattle.mw_heap.specs.Objects.{object_at, IsIn, Grows}
 use Rattle.mw_heap.specs.Variants.{refusal_of}
 use Rattle.mw_heap.proofs.Objects.{Grows-trans}
 use Rattle.mw_term.proofs.CallerLemmas.{AreMarks-grows}
@@ -44,6 +44,16 @@ returns-in_err-put_reason-clause-theory c =
 pub returns-clause-theory : goal.returns-clause-theory
 returns-clause-theory c =
     told-theory c.self.inside.world c.self.invariant c.args.self.now c.self.view_is c.put_reason.new.heap.objects (Grows-trans _ _ _ c.parts_shown.ensures.grows c.put_reason.ensures.grows)
+
+pub returns-in_err-parts-clause-grows : goal.returns-in_err-parts-clause-grows
+returns-in_err-parts-clause-grows c = subst (λ v. Grows v.objects c.parts_shown.new.heap.objects) c.self.view_is c.parts_shown.ensures.grows
+
+pub returns-in_err-put_reason-clause-grows : goal.returns-in_err-put_reason-clause-grows
+returns-in_err-put_reason-clause-grows c =
+    subst (λ v. Grows v.objects c.put_reason.new.heap.objects) c.self.view_is (Grows-trans _ _ _ c.parts_shown.ensures.grows c.put_reason.ensures.grows)
+
+pub returns-clause-grows : goal.returns-clause-grows
+returns-clause-grows c = subst (λ v. Grows v.objects c.put_reason.new.heap.objects) c.self.view_is (Grows-trans _ _ _ c.parts_shown.ensures.grows c.put_reason.ensures.grows)
 
 pub returns-clause-why : goal.returns-clause-why
 returns-clause-why c =

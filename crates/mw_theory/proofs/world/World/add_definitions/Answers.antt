@@ -4,7 +4,7 @@ use Rattle.mw_model.specs.Values.Definition.{add_block, is_block, arity_table}
 use Rattle.mw_model.specs.Events.Admission.{add_to_theory}
 use Rattle.mw_term.specs.Settling.{IsWatch}
 use Rattle.mw_term.proofs.CallerLemmas.{AreMarks-grows, IsWatch-grows}
-use Rattle.mw_theory.specs.Knowledge.{parts_of, meant, IsKernel}
+use Rattle.mw_theory.specs.Knowledge.{parts_of, meant, IsWorldOf}
 use Rattle.mw_theory.proofs.Held.{held, watched, held-watched, needs-all, grown-other, grown_theory}
 use Rattle.mw_preamble.proofs.CallerLemmas.{block-grows}
 use Rattle.mw_theory.proofs.Defining.{may_be_added}
@@ -61,7 +61,7 @@ returns-clause-world c =
     let t = c.add_definitions.new.self in
     let w = c.settle.new.watch in
     let ms = c.settle.new.marks in
-    subst (λ n. IsKernel new n (record t { watch = w }) ms) (sym c.mark-self.ensures) (needs-all new (record t { watch = w }) ms (held-watched new t w c.in_ok-add_definitions.ensures.held) c.settle.ensures.marked c.settle.ensures.watch)
+    subst (λ n. IsWorldOf new n (record t { watch = w }) ms) (sym c.mark-self.ensures) (needs-all new (record t { watch = w }) ms (held-watched new t w c.in_ok-add_definitions.ensures.held) c.settle.ensures.marked c.settle.ensures.watch)
 
 pub returns-clause-theory : goal.returns-clause-theory
 returns-clause-theory c = λ B n.

@@ -4,7 +4,7 @@ use Rattle.mw_model.specs.Events.Theory.{IsSound}
 use Rattle.mw_term.specs.Marking.{AreMarks}
 use Rattle.mw_term.specs.Settling.{IsWatch}
 use Rattle.mw_term.proofs.CallerLemmas.{AreMarks-grows, IsWatch-grows}
-use Rattle.mw_theory.specs.Knowledge.{parts_of, meant, with_theorem, IsKernel}
+use Rattle.mw_theory.specs.Knowledge.{parts_of, meant, with_theorem, IsWorldOf}
 use Rattle.mw_theory.proofs.Held.{held, watched, grown, grown_theory, needs-all}
 use Rattle.mw_theory.proofs.Worlds.{in-cut, same-cut, mark-within}
 use Rattle.mw_theory.proofs.Results.{OnErr-from}
@@ -27,7 +27,7 @@ add_theorem-requires-clause-sound c =
 pub returns-in_err-add_theorem-clause-world : goal.returns-in_err-add_theorem-clause-world
 returns-in_err-add_theorem-clause-world c =
     let cut = c.cut_to.new.self in
-    subst (λ t. IsKernel c.add_theorem.new.heap.objects cut.needed t cut.marks) (sym c.in_err-add_theorem.ensures.err) (grown _ _ _ _ c.cut_to.ensures.world c.add_theorem.new.heap.objects c.add_theorem.ensures.grows)
+    subst (λ t. IsWorldOf c.add_theorem.new.heap.objects cut.needed t cut.marks) (sym c.in_err-add_theorem.ensures.err) (grown _ _ _ _ c.cut_to.ensures.world c.add_theorem.new.heap.objects c.add_theorem.ensures.grows)
 
 pub returns-in_err-add_theorem-clause-err : goal.returns-in_err-add_theorem-clause-err
 returns-in_err-add_theorem-clause-err c =
@@ -42,7 +42,7 @@ returns-clause-world c =
     let t = c.add_theorem.new.self in
     let marked = AreMarks-grows cut.theory.arity cut.heap.objects new cut.marks c.add_theorem.ensures.grows c.cut_to.ensures.world.marked in
     let noted = IsWatch-grows cut.theory.arity cut.heap.objects new cut.theory.watch c.add_theorem.ensures.grows (watched _ _ _ _ c.cut_to.ensures.world) in
-    subst (λ n. IsKernel new n t cut.marks) (sym c.mark-self.ensures)
+    subst (λ n. IsWorldOf new n t cut.marks) (sym c.mark-self.ensures)
     (needs-all new t cut.marks c.in_ok-add_theorem.ensures.held (subst (λ A. AreMarks A new cut.marks) (sym c.in_ok-add_theorem.ensures.arity) marked)
     (subst (λ A. IsWatch A new t.watch) (sym c.in_ok-add_theorem.ensures.arity) (subst (IsWatch cut.theory.arity new) (sym c.in_ok-add_theorem.ensures.watch) noted)))
 
