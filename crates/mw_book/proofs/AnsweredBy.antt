@@ -3,19 +3,20 @@ use Rattle.std.proofs.Common.{◌≡◌, ℕ, Bool, nat_lt, List, ◌++◌, Opti
 use Rattle.mw_model.specs.Terms.Object.{Object}
 use Rattle.mw_model.specs.Texts.Lexemes.{Fault}
 use Rattle.mw_model.specs.Reports.Request.{Request}
-use Rattle.mw_book.specs.Answering.{Answers, AnsweredBy}
+use Rattle.mw_book.specs.Answering.{AnsweredBy}
+use Rattle.mw_book.specs.Writing.{Writes}
 use Rattle.mw_book.specs.Statuses.{AreAnswers}
 use Rattle.mw_book.specs.LastTexts.{IsLastText, refused_for}
 
 module _ {P : Type 0} (make : P → Request) where
   -- from one state to another
-  pub answers_by : {A : Type 0} (lines : A → List ℕ) (holds : A → P → List Object → Type 0) (old new : A) (given more : List Object) →
+  pub writes_by : {A : Type 0} (holds : A → P → List Object → Type 0) (old new : A) (given more : List Object) (text : List ℕ) →
       ((p : P) → holds old p given → holds new p more) →
-      ((p : P) → holds old p given → (written : List ℕ) → AreAnswers (make p) given (written ++ lines old) → AreAnswers (make p) more (written ++ lines new)) →
-      Answers lines (λ a. AnsweredBy make (holds a)) old given new more
-  answers_by lines holds old new given more f g = record {
+      ((p : P) → holds old p given → (written : List ℕ) → AreAnswers (make p) given written → AreAnswers (make p) more (written ++ text)) →
+      Writes (λ a. AnsweredBy make (holds a)) old given new more text
+  writes_by holds old new given more text f g = record {
     known = λ q h. (h.0, h.1, f h.0 h.2);
-    due = λ q h w a. subst (λ r. AreAnswers r more (w ++ lines new)) (sym h.1) (g h.0 h.2 w (subst (λ r. AreAnswers r given (w ++ lines old)) h.1 a));
+    due = λ q h w a. subst (λ r. AreAnswers r more (w ++ text)) (sym h.1) (g h.0 h.2 w (subst (λ r. AreAnswers r given w) h.1 a));
   }
 
   module _ (holds : P → List Object → Type 0) (q : Request) (given : List Object) (h : AnsweredBy make holds q given) where

@@ -1,14 +1,13 @@
 -- What one datum more adds, and the numbers of the last line.
-use Rattle.std.proofs.Common.{◌≡◌, ℕ, suc, ◌+◌, ◌-◌, Bool, true, false, cond, not, List, [], ◌∷◌, ◌++◌, length, refl, sym, ap, ap₂, ◌∙◌, subst, arith, append_assoc, append-nil}
+use Rattle.std.proofs.Common.{◌≡◌, ℕ, suc, ◌+◌, ◌-◌, Bool, true, false, cond, not, List, [], ◌∷◌, ◌++◌, length, refl, sym, ap, ap₂, ◌∙◌, subst, arith, append-nil}
 use Rattle.std.proofs.lemmas.List.{length_push}
 use Rattle.mw_model.specs.Terms.Object.{Object}
 use Rattle.mw_model.specs.Texts.Pieces.{how_many}
-use Rattle.mw_model.specs.Reports.Request.{Taut}
 use Rattle.mw_commands.specs.Commands.TautologyBook.{OwesTautology, is_proved, tautology_summary}
+use Rattle.mw_heap.specs.Contents.{Contents}
 use Rattle.mw_taut.specs.Counts.{formulas_line}
-use Rattle.mw_book.specs.Answered.{Answered, IsProving, ProvedFor, lines_of}
-use Rattle.mw_book.specs.Answering.{Answers}
-use Rattle.mw_book.specs.Statuses.{AreAnswers}
+use Rattle.mw_book.specs.Answered.{Answered, IsProving, ProvedFor}
+use Rattle.mw_book.specs.Writing.{Puts}
 use Rattle.mw_book.specs.declared.taut.Proving.{Proving}
 use Rattle.mw_book.proofs.Pieces.{how_many-append}
 use Rattle.mw_book.proofs.Promising.{answers_both}
@@ -32,27 +31,25 @@ summary_is j given h =
     ap₂ formulas_line h.counted p
 
 -- a datum was answered by this piece
-pub answers_one : (old new : Proving) (x : Object) (b : Bool) (piece : List ℕ) →
+pub answers_one : (old new : Proving) (k l : Contents) (x : Object) (b : Bool) (piece : List ℕ) →
     OwesTautology (old.formulas + 1, x) piece → is_proved x ≡ b →
-    new.lines.items ≡ old.lines.items ++ piece →
     new.formulas ≡ old.formulas + 1 →
     new.unproved ≡ old.unproved + cond b 0 1 →
-    IsProving new →
-    (given : List Object) → Answers lines_of ProvedFor old given new (given ++ x ∷ [])
-answers_one old new x b piece owed proved lines counted unproved proving given =
-    proved_by old new given (given ++ x ∷ [])
+    IsProving new l →
+    (given : List Object) → Puts ProvedFor old k given new l (given ++ x ∷ []) piece
+answers_one old new k l x b piece owed proved counted unproved proving given =
+    proved_by old new k l given (given ++ x ∷ []) piece
     (λ h a. (
       proving,
       record {
-        counted = counted ∙ ap (λ k. k + 1) a.counted ∙ sym (length_push given x);
-        unproved_counted = unproved ∙ ap₂ (λ k n. k + n) a.unproved_counted (by_value b (is_proved x) proved) ∙ sym (how_many-append is_unproved given x);
+        counted = counted ∙ ap (λ n. n + 1) a.counted ∙ sym (length_push given x);
+        unproved_counted = unproved ∙ ap₂ (λ m n. m + n) a.unproved_counted (by_value b (is_proved x) proved) ∙ sym (how_many-append is_unproved given x);
       },
     ))
     (λ h a written due.
     let number : old.formulas + 1 ≡ 1 + length given = omega (arith, a.counted) in
-    let one = subst (λ k. OwesTautology (k, x) piece) number owed in
-    subst (AreAnswers Taut (given ++ x ∷ [])) (append_assoc written old.lines.items piece ∙ ap (λ u. written ++ u) (sym lines))
-    (answers_both given (x ∷ []) (written ++ old.lines.items) piece due (piece, [], sym (append-nil piece), one, refl)))
+    let one = subst (λ n. OwesTautology (n, x) piece) number owed in
+    answers_both given (x ∷ []) written piece due (piece, [], sym (append-nil piece), one, refl))
   where
     by_value : (c d : Bool) → d ≡ c → ◌≡◌ {A = ℕ} (cond c 0 1) (cond (not d) 1 0)
     by_value true true e = refl

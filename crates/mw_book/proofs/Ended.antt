@@ -6,7 +6,7 @@ use Rattle.mw_model.specs.Events.Theory.{Theory, initial}
 use Rattle.mw_model.specs.Events.Fate.{fate, next, after}
 use Rattle.mw_model.specs.Texts.Printing.{numeral}
 use Rattle.mw_model.specs.Reports.Report.{spaced, is_accepted, accepted_among, refused_among, summary}
-use Rattle.mw_kernel.specs.Knowledge.{theory_of}
+use Rattle.mw_kernel.specs.Knowledge.{Knowledge, theory_of}
 use Rattle.mw_book.specs.Lines.{summary_of}
 use Rattle.mw_book.specs.Knowing.{Judged}
 use Rattle.mw_book.specs.declared.check.Judging.{Judging}
@@ -35,5 +35,5 @@ same_summary t given N events refused level e r l =
     (let a : events - refused ≡ accepted_among t given N = omega (arith, counts t given N, e, r) in a)
     r l
 
-pub summary_is : (j : Judging) (N : ℕ) (given : List Object) (level : ℕ) → Judged j N given → level ≡ (theory_of j.kernel).level → summary_of j.events j.refused level ≡ summary given N
-summary_is j N given level h l = same_summary (initial One) given N j.events j.refused level h.counted h.refused_counted (l ∙ ap (λ t. t.level) h.theory)
+pub summary_is : (j : Judging) (k : Knowledge) (N : ℕ) (given : List Object) (level : ℕ) → Judged j k N given → level ≡ (theory_of k).level → summary_of j.tally.events j.tally.refused level ≡ summary given N
+summary_is j k N given level h l = same_summary (initial One) given N j.tally.events j.tally.refused level h.counted h.refused_counted (l ∙ ap (λ t. t.level) h.theory)

@@ -1,5 +1,5 @@
 -- The data that were answered are the first of the book, whatever follows.
-use Rattle.std.proofs.Common.{◌≡◌, ℕ, zero, suc, ◌-◌, ◌≤◌, leb, List, [], ◌∷◌, ◌++◌, length, take, drop, Option, None, sym, ap, ◌∙◌, subst, arith, append_assoc, append-nil, if◌then◌else◌}
+use Rattle.std.proofs.Common.{◌≡◌, ℕ, zero, suc, ◌-◌, List, [], ◌∷◌, ◌++◌, length, take, drop, Option, None, sym, ap, ◌∙◌, subst, arith, append_assoc, append-nil, if◌then◌else◌}
 use Rattle.std.proofs.lemmas.Bool.{le-leb}
 use Rattle.mw_model.specs.Terms.Object.{Object}
 use Rattle.mw_model.specs.Texts.Lexemes.{Fault, Ends, Goes}

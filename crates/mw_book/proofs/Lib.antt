@@ -2,6 +2,7 @@ pub mod AnsweredBy
 pub mod FirstData
 pub mod Taken
 pub mod Writings
+pub mod Sessions
 pub mod Ended
 pub mod Written
 pub mod Rounds

@@ -13,10 +13,10 @@ use Rattle.mw_commands.specs.Commands.Transition.{Transition, course, last_theor
 use Rattle.mw_commands.specs.Commands.Slicing.{accepted_events}
 use Rattle.mw_kernel.specs.Knowledge.{Knowledge, theory_of}
 use Rattle.mw_slice.specs.Slices.{events_of}
-use Rattle.mw_book.specs.Answering.{Answers}
+use Rattle.mw_book.specs.Writing.{Puts}
 use Rattle.mw_book.specs.Sliced.{Sliced, SlicedFor, name_asked}
 use Rattle.mw_book.specs.declared.slice.Slicing.{Slicing}
-use Rattle.mw_book.proofs.AnsweredBy.{answers_by}
+use Rattle.mw_book.proofs.AnsweredBy.{writes_by}
 use Rattle.mw_book.proofs.Appending.{after-append}
 use Rattle.mw_book.proofs.Courses.{course-append, course_leads, judged}
 use Rattle.mw_book.proofs.Showing.{fate-large, next-large}
@@ -49,57 +49,46 @@ accepted_more N given y =
 
 -- ---- one event more
 
-abbrev pub lines_of : Slicing → List ℕ
-lines_of s = s.lines.items
-
 -- a request, by its name and its step limit
 abbrev pub slice_request : Name × ℕ → Request
 slice_request p = Slice p.0 p.1
 
-abbrev pub IsSliced : Slicing → Name × ℕ → List Object → Type 0
-IsSliced s p given = Sliced s p.0 p.1 given
+-- what was judged, by a command and a kernel
+abbrev pub IsSliced : Slicing × Knowledge → Name × ℕ → List Object → Type 0
+IsSliced a p given = Sliced a.0 a.1 p.0 p.1 given
 
-pub sliced_one : (old new : Slicing) (y : Object) →
-    theory_of new.kernel ≡ next (theory_of old.kernel) y old.kernel.steps →
-    new.kernel.steps ≡ old.kernel.steps →
-    events_of new.slicer ≡ events_of old.slicer ++ where_accepted (is_accepted (fate (theory_of old.kernel) y old.kernel.steps)) y →
+pub sliced_one : (old new : Slicing) (k l : Knowledge) (y : Object) (piece : List ℕ) →
+    theory_of l ≡ next (theory_of k) y k.steps →
+    l.steps ≡ k.steps →
+    events_of new.slicer ≡ events_of old.slicer ++ where_accepted (is_accepted (fate (theory_of k) y k.steps)) y →
     new.events ≡ old.events + 1 →
     name_asked new ≡ name_asked old →
-    new.lines.items ≡ old.lines.items →
-    (given : List Object) → Answers lines_of SlicedFor old given new (given ++ y ∷ [])
-sliced_one old new y goes steps kept counted named same given =
-    answers_by slice_request lines_of IsSliced old new given (given ++ y ∷ [])
+    piece ≡ [] →
+    (given : List Object) → Puts SlicedFor old k given new l (given ++ y ∷ []) piece
+sliced_one old new k l y piece goes steps kept counted named none given =
+    writes_by slice_request IsSliced (old, k) (new, l) given (given ++ y ∷ []) piece
     (λ p h.
     let N = p.1 in
     let t = after (initial One) given N in
     record {
       named = named ∙ h.named;
-      theory = goes ∙ ap (λ u. next u y old.kernel.steps) h.theory ∙ ap (λ n. next t y n) h.steps ∙ sym (after-append (initial One) given y N);
+      theory = goes ∙ ap (λ u. next u y k.steps) h.theory ∙ ap (λ n. next t y n) h.steps ∙ sym (after-append (initial One) given y N);
       steps = steps ∙ h.steps;
-      counted = counted ∙ ap (λ k. k + 1) h.counted ∙ sym (length_push given y);
+      counted = counted ∙ ap (λ n. n + 1) h.counted ∙ sym (length_push given y);
       accepted =
           kept
-          ∙ ap₂ (λ es b. es ++ where_accepted b y) h.accepted (ap (λ u. is_accepted (fate u y old.kernel.steps)) h.theory ∙ ap (λ n. is_accepted (fate t y n)) h.steps)
+          ∙ ap₂ (λ es b. es ++ where_accepted b y) h.accepted (ap (λ u. is_accepted (fate u y k.steps)) h.theory ∙ ap (λ n. is_accepted (fate t y n)) h.steps)
           ∙ sym (accepted_more N given y);
     })
-    (λ p h written due. ap (λ l. written ++ l) same ∙ due)
+    (λ p h written due. ap (λ l. written ++ l) none ∙ append-nil written ∙ due)
 
 -- the same where the event has a natural past the range
-pub sliced_large : (old new : Slicing) (y : Object) → is_out_of_range y ≡ true → new ≡ record old { events = old.events + 1 } → (given : List Object) → Answers lines_of SlicedFor old given new (given ++ y ∷ [])
-sliced_large old new y large is given =
-    let t = theory_of old.kernel in
-    let n = old.kernel.steps in
-    sliced_one old new y
-    (ap (λ s. theory_of s.kernel) is ∙ sym (next-large t y n large))
-    (ap (λ s. s.kernel.steps) is)
-    (ap (λ s. events_of s.slicer) is ∙ sym (ap (λ f. events_of old.slicer ++ where_accepted (is_accepted f) y) (fate-large t y n large) ∙ append-nil (events_of old.slicer)))
-    (ap (λ s. s.events) is)
-    (ap name_asked is)
-    (ap (λ s. s.lines.items) is) given
-
--- a kernel that has read more has the same theory
-pub sliced_read : (s : Slicing) (k : Knowledge) → theory_of k ≡ theory_of s.kernel → k.steps ≡ s.kernel.steps → (given : List Object) → Answers lines_of SlicedFor s given (record s { kernel = k }) given
-sliced_read s k t n given =
-    answers_by slice_request lines_of IsSliced s (record s { kernel = k }) given given
-    (λ p h. record { named = h.named; theory = t ∙ h.theory; steps = n ∙ h.steps; counted = h.counted; accepted = h.accepted })
-    (λ p h w a. a)
+pub sliced_large : (old : Slicing) (k : Knowledge) (y : Object) (piece : List ℕ) → is_out_of_range y ≡ true → piece ≡ [] →
+    (given : List Object) → Puts SlicedFor old k given (record old { events = old.events + 1 }) k (given ++ y ∷ []) piece
+sliced_large old k y piece large none =
+    let t = theory_of k in
+    let n = k.steps in
+    sliced_one old (record old { events = old.events + 1 }) k k y piece
+    (sym (next-large t y n large)) refl
+    (sym (ap (λ f. events_of old.slicer ++ where_accepted (is_accepted f) y) (fate-large t y n large) ∙ append-nil (events_of old.slicer)))
+    refl refl none

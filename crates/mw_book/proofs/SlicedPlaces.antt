@@ -14,6 +14,7 @@ use Rattle.mw_commands.specs.Commands.Slice.{begins_with, event_at, some_passes,
 use Rattle.mw_commands.specs.Commands.Slicing.{accepted_events, SliceOwed}
 use Rattle.mw_read.specs.Kinds.{kind_of}
 use Rattle.mw_read.specs.declared.step.SyntaxKind.{SyntaxKind}
+use Rattle.mw_kernel.specs.Knowledge.{Knowledge}
 use Rattle.mw_slice.specs.Slices.{events_of}
 use Rattle.mw_book.specs.Lines.{fault_line}
 use Rattle.mw_book.specs.Answering.{fault_of}
@@ -64,35 +65,35 @@ places_within es name goal places t s =
 
 -- ---- what is written last
 
-module _ (s : Slicing) (q : Request) (given : List Object) (h : SlicedFor s q given) where
+module _ (s : Slicing) (k : Knowledge) (q : Request) (given : List Object) (h : SlicedFor s k q given) where
   pub sliced_fault : (kind : SyntaxKind) (offset : ℕ) → IsLastText q given (fault_of (Some (kind, offset))) (codes "; " ++ fault_line (kind_of kind) offset)
-  sliced_fault kind offset = last_by slice_request (IsSliced s) q given h (fault_of (Some (kind, offset))) (codes "; " ++ fault_line (kind_of kind) offset) (λ p k. refl)
+  sliced_fault kind offset = last_by slice_request (λ p given. IsSliced (s, k) p given) q given h (fault_of (Some (kind, offset))) (codes "; " ++ fault_line (kind_of kind) offset) (λ p i. refl)
 
   -- the goal among the events that were accepted
-  goal_found : (p : Name × ℕ) → IsSliced s p given → (goal : Option ℕ) → target (events_of s.slicer) (name_asked s) ≡ goal → target (accepted_events given p.1) p.0 ≡ goal
-  goal_found p k goal e = ap₂ (λ es n. target es n) (sym k.accepted) (sym k.named) ∙ e
+  goal_found : (p : Name × ℕ) → IsSliced (s, k) p given → (goal : Option ℕ) → target (events_of s.slicer) (name_asked s) ≡ goal → target (accepted_events given p.1) p.0 ≡ goal
+  goal_found p i goal e = ap₂ (λ es n. target es n) (sym i.accepted) (sym i.named) ∙ e
 
   pub sliced_absent : target (events_of s.slicer) (name_asked s) ≡ None → IsLastText q given None (comment (spaced (codes "none of") (numeral s.events)))
   sliced_absent e =
       let text = comment (spaced (codes "none of") (numeral s.events)) in
-      last_by slice_request (IsSliced s) q given h None text
-      (λ p k. subst (λ goal. SliceOwed None goal given (accepted_events given p.1) text) (sym (goal_found p k None e)) (ap (λ n. comment (spaced (codes "none of") (numeral n))) k.counted))
+      last_by slice_request (λ p given. IsSliced (s, k) p given) q given h None text
+      (λ p i. subst (λ goal. SliceOwed None goal given (accepted_events given p.1) text) (sym (goal_found p i None e)) (ap (λ n. comment (spaced (codes "none of") (numeral n))) i.counted))
 
   pub sliced_found : (goal : ℕ) (places : List ℕ) (body : List ℕ) → target (events_of s.slicer) (name_asked s) ≡ Some goal → IsSlice (events_of s.slicer) goal places → InOrder IsDatumLine (map (event_at (events_of s.slicer)) places) body →
       IsLastText q given None (body ++ comment (spaced (codes "kept") (spaced (numeral (length places)) (spaced (codes "of") (numeral s.events)))))
   sliced_found goal places body e is written =
       let text : ℕ → ℕ → List ℕ = λ kept events. body ++ comment (spaced (codes "kept") (spaced (numeral kept) (spaced (codes "of") (numeral events)))) in
-      last_by slice_request (IsSliced s) q given h None (text (length places) s.events)
-      (λ p k.
+      last_by slice_request (λ p given. IsSliced (s, k) p given) q given h None (text (length places) s.events)
+      (λ p i.
       let accepted = accepted_events given p.1 in
       let kept = map (event_at accepted) places in
-      subst (λ g. SliceOwed None g given accepted (text (length places) s.events)) (sym (goal_found p k (Some goal) e)) (
+      subst (λ g. SliceOwed None g given accepted (text (length places) s.events)) (sym (goal_found p i (Some goal) e)) (
         kept,
         body,
-        (places, subst (λ es. IsSlice es goal places) k.accepted is, refl),
-        subst (λ es. InOrder IsDatumLine (map (event_at es) places) body) k.accepted written,
-        ap₂ text (sym (length-map places (event_at accepted))) k.counted,
+        (places, subst (λ es. IsSlice es goal places) i.accepted is, refl),
+        subst (λ es. InOrder IsDatumLine (map (event_at es) places) body) i.accepted written,
+        ap₂ text (sym (length-map places (event_at accepted))) i.counted,
       ))
 
   pub sliced_refused : (n : ℕ) → n ≡ cond (is_some (target (events_of s.slicer) (name_asked s))) 0 1 → n ≡ refused_for q given
-  sliced_refused n e = refused_by slice_request (IsSliced s) q given h n (λ p k. e ∙ ap (λ goal. cond (is_some goal) 0 1) (sym (goal_found p k _ refl)))
+  sliced_refused n e = refused_by slice_request (λ p given. IsSliced (s, k) p given) q given h n (λ p i. e ∙ ap (λ goal. cond (is_some goal) 0 1) (sym (goal_found p i _ refl)))

@@ -9,11 +9,10 @@ use Rattle.mw_read.specs.Kinds.{kind_of}
 use Rattle.mw_read.specs.declared.step.SyntaxKind.{SyntaxKind}
 use Rattle.mw_reflect.specs.Laws.{EventsKeep}
 use Rattle.mw_book.specs.Statuses.{Has, TakesSome}
-use Rattle.mw_model.specs.Reports.Request.{Check}
+use Rattle.mw_model.specs.Terms.Object.{Object}
+use Rattle.mw_model.specs.Reports.Request.{Request, Check}
 use Rattle.mw_book.specs.Answering.{fault_of, ReadWhole}
 use Rattle.mw_book.specs.Checks.{TrialEnds, LastReported, SourceCounts, SinkCounts, ConcludesWith, IsStop}
-use Rattle.mw_book.specs.Knowing.{JudgedFor}
-use Rattle.mw_book.specs.declared.check.Judging.{Judging}
 use Rattle.mw_book.specs.declared.status.Status.{Status as Ending}
 use Rattle.mw_book.specs.declared.status.Status.TheVariants as ending
 use Rattle.mw_book.proofs.Headlines.{same_some}
@@ -35,7 +34,7 @@ memory_alone ending.Help old new p q h s k = absurd h
 memory_alone ending.Usage old new p q h s k = absurd h
 memory_alone (ending.Syntax x o) old new p q h s k = absurd h
 
-module _ (m : ℕ) {N : ℕ} {input now first middle : Option (List ℕ)} {f : Option (SyntaxKind × ℕ)} {j : Judging} (w : ReadWhole JudgedFor (Check N) input now first middle f j) (holds : input ≡ Some (trial_book m)) where
+module _ (m : ℕ) {N : ℕ} {input now first middle : Option (List ℕ)} {f : Option (SyntaxKind × ℕ)} {A : Type 0} {answered : A → Request → List Object → Type 0} {a : A} (w : ReadWhole answered (Check N) input now first middle f a) (holds : input ≡ Some (trial_book m)) where
   abbrev here : Book
   here = book w.given (fault_of f)
 

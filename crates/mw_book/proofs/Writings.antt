@@ -3,22 +3,21 @@ use Rattle.std.proofs.Common.{◌≡◌, ℕ, ◌+◌, ◌<◌, ◌≤◌, ◌�
 use Rattle.std.proofs.lemmas.List.{drop-drop, length-drop}
 use Rattle.std.proofs.Math.Seq.{take-add}
 use Rattle.mw_model.specs.Terms.Object.{Object}
-use Rattle.mw_model.specs.Texts.Grammar.{book, trees}
+use Rattle.mw_model.specs.Texts.Grammar.{trees}
 use Rattle.mw_model.specs.Reports.Request.{Request}
 use Rattle.mw_port.specs.Ports.{Rises, Takes}
-use Rattle.mw_read.specs.Kinds.{kind_of}
 use Rattle.mw_read.specs.Standing.{Stands, IsStanding, Follows, work}
 use Rattle.mw_read.specs.declared.parser.Parser.{Parser}
 use Rattle.mw_read.specs.declared.step.SyntaxKind.{SyntaxKind}
 use Rattle.mw_read.proofs.Bare.{take_cut}
-use Rattle.mw_book.specs.Answering.{Answers, HasAnswered, fault_of, Taking, HasTaken, Ends, AreFirst, AreDueFirst}
+use Rattle.mw_book.specs.Answering.{Answers, HasAnswered, HasTaken, Ends, AreFirst, AreDueFirst}
 use Rattle.mw_book.specs.Statuses.{TakesSome, AreAnswers}
 use Rattle.mw_book.specs.Checks.{SinkShortages}
 use Rattle.mw_book.specs.Writing.{GoesOn, Writes, Writing, HasWritten, EndsWritten, StopsWritten}
 use Rattle.mw_book.specs.declared.reading.Taken.TheVariants as takings
 use Rattle.mw_book.specs.declared.status.Status.{Status as Ending}
 use Rattle.mw_book.specs.declared.status.Status.TheVariants as ending
-use Rattle.mw_book.proofs.Written.{takes_none, takes_both, takes_then, takes_some}
+use Rattle.mw_book.proofs.Written.{takes_none, takes_both, takes_then}
 
 or_both : {R P Q : Type 0} → (P → Q) → R ⊎ P → R ⊎ Q
 or_both f (inl r) = inl r

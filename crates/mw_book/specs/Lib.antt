@@ -1,6 +1,7 @@
 pub mod Answered
 pub mod LastTexts
 pub mod Answering
+pub mod Keeping
 pub mod Writing
 pub mod Statuses
 pub mod Numbers

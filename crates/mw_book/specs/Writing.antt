@@ -28,6 +28,11 @@ pub record Writes {A : Type 0} (answered : A → Request → List Object → Typ
   pub known : (q : Request) → answered old q given → answered new q more
   pub due : GoesOn answered old given more text
 
+-- The same of two states at once.
+abbrev pub Puts : {A B : Type 0} → (A → B → Request → List Object → Type 0) → A → B → List Object → A → B → List Object → List ℕ → Type 0
+Puts {A} {B} answered old old_store given new new_store more text =
+    Writes {A = A × B} (λ a. answered a.0 a.1) (old, old_store) given (new, new_store) more text
+
 -- The data of the first bytes of a piece were answered, the answers were written, and the parser stands after those bytes.
 pub record Writing {A : Type 0} (objects : A → List Object) (lines : A → List ℕ) (count : A → ℕ) (answered : A → Request → List Object → Type 0) (old : A) (p : Parser) (piece : List ℕ) (before : Option (List ℕ)) (new : A) (q : Parser) (at : ℕ) (after : Option (List ℕ)) : Type 0 where
   pub within : at ≤ length piece

@@ -15,8 +15,11 @@ mod output;
 mod promise;
 mod reading;
 mod recheck;
+mod session;
 mod slice;
 mod status;
+mod store;
+mod tally;
 mod taut;
 
 pub use command::run;

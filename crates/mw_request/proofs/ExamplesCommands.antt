@@ -1,230 +1,155 @@
 -- What the words of a command line ask for.
-use Rattle.std.proofs.Common.{◌≡◌, [], ◌∷◌, refl, codes}
+use Rattle.std.proofs.Common.{◌≡◌, List, [], ◌∷◌, map, refl, codes}
+use Prim.Native.String.{String}
 use Rattle.clap.proofs.OnLiterals.{clap_on_literals}
 use Rattle.mw_model.specs.Laws.BuiltInText.{joined}
 use Rattle.mw_model.specs.Terms.Object.{named}
-use Rattle.mw_model.specs.Reports.Request.{Check, Trial, Taut, Lower, Slice, Flat, Recheck, Explain, Help, Usage}
+use Rattle.mw_model.specs.Reports.Request.{Request, Check, Trial, Taut, Lower, Slice, Flat, Recheck, Explain, Help, Usage}
 use Rattle.mw_request.specs.Commands.{asked, help_text}
 
-no_words : asked [] ≡ Usage
-unfolding clap_on_literals
-no_words = refl
+-- each of these command lines asks for what stands beside it
+abbrev Ask : List (List String × Request) → Type 0
+Ask rows = map (λ row. asked (map codes row.0)) rows ≡ map (λ row. row.1) rows
 
-check_alone : asked (codes "check" ∷ []) ≡ Check 10000000
+the_words_of_check : Ask (
+    -- check alone
+    ("check" ∷ [], Check 10000000) ∷
+    -- steps after the option
+    ("check" ∷ "--steps" ∷ "5" ∷ [], Check 5) ∷
+    -- steps in the same word
+    ("check" ∷ "--steps=5" ∷ [], Check 5) ∷
+    -- two dashes alone
+    ("check" ∷ "--" ∷ [], Check 10000000) ∷
+    -- leading zeros
+    ("check" ∷ "--steps" ∷ "0000000000001" ∷ [], Check 1) ∷
+    -- fourteen digits
+    ("check" ∷ "--steps" ∷ "00000000000001" ∷ [], Usage) ∷
+    -- no steps
+    ("check" ∷ "--steps" ∷ "0" ∷ [], Usage) ∷
+    -- most steps
+    ("check" ∷ "--steps" ∷ "1000000000000" ∷ [], Check 1000000000000) ∷
+    -- too many steps
+    ("check" ∷ "--steps" ∷ "1000000000001" ∷ [], Usage) ∷
+    -- negative steps
+    ("check" ∷ "--steps" ∷ "-1" ∷ [], Usage) ∷
+    -- no number
+    ("check" ∷ "--steps" ∷ "x" ∷ [], Usage) ∷
+    -- empty number
+    ("check" ∷ "--steps=" ∷ [], Usage) ∷
+    -- no value
+    ("check" ∷ "--steps" ∷ [], Usage) ∷
+    -- steps twice
+    ("check" ∷ "--steps" ∷ "5" ∷ "--steps" ∷ "5" ∷ [], Usage) ∷
+    -- option before the command
+    ("--steps" ∷ "5" ∷ "check" ∷ [], Usage) ∷
+    -- word after check
+    ("check" ∷ "book" ∷ [], Usage) ∷
+    [])
 unfolding clap_on_literals
-check_alone = refl
+the_words_of_check = refl
 
-steps_after_the_option : asked (codes "check" ∷ codes "--steps" ∷ codes "5" ∷ []) ≡ Check 5
+the_words_of_trial : Ask (
+    -- trial of two
+    ("trial" ∷ "2" ∷ [], Trial 2 10000000) ∷
+    -- trial of none
+    ("trial" ∷ "0" ∷ [], Trial 0 10000000) ∷
+    -- steps after the argument
+    ("trial" ∷ "2" ∷ "--steps" ∷ "5" ∷ [], Trial 2 5) ∷
+    -- steps before the argument
+    ("trial" ∷ "--steps" ∷ "5" ∷ "0002" ∷ [], Trial 2 5) ∷
+    -- argument after two dashes
+    ("trial" ∷ "--" ∷ "5" ∷ [], Trial 5 10000000) ∷
+    -- trial alone
+    ("trial" ∷ [], Usage) ∷
+    -- trial of too many
+    ("trial" ∷ "1000001" ∷ [], Usage) ∷
+    -- two arguments
+    ("trial" ∷ "2" ∷ "3" ∷ [], Usage) ∷
+    [])
 unfolding clap_on_literals
-steps_after_the_option = refl
+the_words_of_trial = refl
 
-steps_in_the_same_word : asked (codes "check" ∷ codes "--steps=5" ∷ []) ≡ Check 5
+help_and_unknown_words : Ask (
+    -- no words
+    ([], Usage) ∷
+    -- help alone
+    ("--help" ∷ [], Help) ∷
+    -- help after a command
+    ("check" ∷ "--help" ∷ [], Usage) ∷
+    -- short help
+    ("-h" ∷ [], Usage) ∷
+    -- help as a command
+    ("help" ∷ [], Usage) ∷
+    -- version
+    ("--version" ∷ [], Usage) ∷
+    -- unknown command
+    ("judge" ∷ [], Usage) ∷
+    [])
 unfolding clap_on_literals
-steps_in_the_same_word = refl
+help_and_unknown_words = refl
 
-two_dashes_alone : asked (codes "check" ∷ codes "--" ∷ []) ≡ Check 10000000
+the_words_of_taut_and_lower : Ask (
+    -- taut alone
+    ("taut" ∷ [], Taut) ∷
+    -- taut with steps
+    ("taut" ∷ "--steps" ∷ "5" ∷ [], Usage) ∷
+    -- lower alone
+    ("lower" ∷ [], Lower 10000000) ∷
+    -- lower with steps
+    ("lower" ∷ "--steps" ∷ "5" ∷ [], Lower 5) ∷
+    -- word after lower
+    ("lower" ∷ "book" ∷ [], Usage) ∷
+    [])
 unfolding clap_on_literals
-two_dashes_alone = refl
+the_words_of_taut_and_lower = refl
 
-leading_zeros : asked (codes "check" ∷ codes "--steps" ∷ codes "0000000000001" ∷ []) ≡ Check 1
+the_words_of_slice : Ask (
+    -- slice of a theorem
+    ("slice" ∷ "use" ∷ [], Slice (named "USE") 10000000) ∷
+    -- name between bars
+    ("slice" ∷ "|a b|" ∷ [], Slice (named "a b") 10000000) ∷
+    -- name with a comment
+    ("slice" ∷ " use ; its last line" ∷ [], Slice (named "USE") 10000000) ∷
+    -- slice with steps
+    ("slice" ∷ "use" ∷ "--steps" ∷ "5" ∷ [], Slice (named "USE") 5) ∷
+    -- slice alone
+    ("slice" ∷ [], Usage) ∷
+    -- slice of a number
+    ("slice" ∷ "12" ∷ [], Usage) ∷
+    -- slice of a list
+    ("slice" ∷ "(use)" ∷ [], Usage) ∷
+    -- slice of two names in a word
+    ("slice" ∷ "a b" ∷ [], Usage) ∷
+    -- slice of two words
+    ("slice" ∷ "a" ∷ "b" ∷ [], Usage) ∷
+    -- slice of a fault
+    ("slice" ∷ "|use" ∷ [], Usage) ∷
+    [])
 unfolding clap_on_literals
-leading_zeros = refl
+the_words_of_slice = refl
 
-fourteen_digits : asked (codes "check" ∷ codes "--steps" ∷ codes "00000000000001" ∷ []) ≡ Usage
+the_words_of_logs_and_reasons : Ask (
+    -- flat alone
+    ("flat" ∷ [], Flat 10000000) ∷
+    -- flat with steps
+    ("flat" ∷ "--steps" ∷ "5" ∷ [], Flat 5) ∷
+    -- word after flat
+    ("flat" ∷ "book" ∷ [], Usage) ∷
+    -- recheck alone
+    ("recheck" ∷ [], Recheck) ∷
+    -- recheck with steps
+    ("recheck" ∷ "--steps" ∷ "5" ∷ [], Usage) ∷
+    -- word after recheck
+    ("recheck" ∷ "log" ∷ [], Usage) ∷
+    -- explain alone
+    ("explain" ∷ [], Explain 10000000) ∷
+    -- explain with steps
+    ("explain" ∷ "--steps" ∷ "5" ∷ [], Explain 5) ∷
+    -- word after explain
+    ("explain" ∷ "book" ∷ [], Usage) ∷
+    [])
 unfolding clap_on_literals
-fourteen_digits = refl
-
-no_steps : asked (codes "check" ∷ codes "--steps" ∷ codes "0" ∷ []) ≡ Usage
-unfolding clap_on_literals
-no_steps = refl
-
-most_steps : asked (codes "check" ∷ codes "--steps" ∷ codes "1000000000000" ∷ []) ≡ Check 1000000000000
-unfolding clap_on_literals
-most_steps = refl
-
-too_many_steps : asked (codes "check" ∷ codes "--steps" ∷ codes "1000000000001" ∷ []) ≡ Usage
-unfolding clap_on_literals
-too_many_steps = refl
-
-negative_steps : asked (codes "check" ∷ codes "--steps" ∷ codes "-1" ∷ []) ≡ Usage
-unfolding clap_on_literals
-negative_steps = refl
-
-no_number : asked (codes "check" ∷ codes "--steps" ∷ codes "x" ∷ []) ≡ Usage
-unfolding clap_on_literals
-no_number = refl
-
-empty_number : asked (codes "check" ∷ codes "--steps=" ∷ []) ≡ Usage
-unfolding clap_on_literals
-empty_number = refl
-
-no_value : asked (codes "check" ∷ codes "--steps" ∷ []) ≡ Usage
-unfolding clap_on_literals
-no_value = refl
-
-steps_twice : asked (codes "check" ∷ codes "--steps" ∷ codes "5" ∷ codes "--steps" ∷ codes "5" ∷ []) ≡ Usage
-unfolding clap_on_literals
-steps_twice = refl
-
-option_before_the_command : asked (codes "--steps" ∷ codes "5" ∷ codes "check" ∷ []) ≡ Usage
-unfolding clap_on_literals
-option_before_the_command = refl
-
-word_after_check : asked (codes "check" ∷ codes "book" ∷ []) ≡ Usage
-unfolding clap_on_literals
-word_after_check = refl
-
-trial_of_two : asked (codes "trial" ∷ codes "2" ∷ []) ≡ Trial 2 10000000
-unfolding clap_on_literals
-trial_of_two = refl
-
-trial_of_none : asked (codes "trial" ∷ codes "0" ∷ []) ≡ Trial 0 10000000
-unfolding clap_on_literals
-trial_of_none = refl
-
-steps_after_the_argument : asked (codes "trial" ∷ codes "2" ∷ codes "--steps" ∷ codes "5" ∷ []) ≡ Trial 2 5
-unfolding clap_on_literals
-steps_after_the_argument = refl
-
-steps_before_the_argument : asked (codes "trial" ∷ codes "--steps" ∷ codes "5" ∷ codes "0002" ∷ []) ≡ Trial 2 5
-unfolding clap_on_literals
-steps_before_the_argument = refl
-
-argument_after_two_dashes : asked (codes "trial" ∷ codes "--" ∷ codes "5" ∷ []) ≡ Trial 5 10000000
-unfolding clap_on_literals
-argument_after_two_dashes = refl
-
-trial_alone : asked (codes "trial" ∷ []) ≡ Usage
-unfolding clap_on_literals
-trial_alone = refl
-
-trial_of_too_many : asked (codes "trial" ∷ codes "1000001" ∷ []) ≡ Usage
-unfolding clap_on_literals
-trial_of_too_many = refl
-
-two_arguments : asked (codes "trial" ∷ codes "2" ∷ codes "3" ∷ []) ≡ Usage
-unfolding clap_on_literals
-two_arguments = refl
-
-help_alone : asked (codes "--help" ∷ []) ≡ Help
-unfolding clap_on_literals
-help_alone = refl
-
-help_after_a_command : asked (codes "check" ∷ codes "--help" ∷ []) ≡ Usage
-unfolding clap_on_literals
-help_after_a_command = refl
-
-short_help : asked (codes "-h" ∷ []) ≡ Usage
-unfolding clap_on_literals
-short_help = refl
-
-help_as_a_command : asked (codes "help" ∷ []) ≡ Usage
-unfolding clap_on_literals
-help_as_a_command = refl
-
-version : asked (codes "--version" ∷ []) ≡ Usage
-unfolding clap_on_literals
-version = refl
-
-unknown_command : asked (codes "judge" ∷ []) ≡ Usage
-unfolding clap_on_literals
-unknown_command = refl
-
-taut_alone : asked (codes "taut" ∷ []) ≡ Taut
-unfolding clap_on_literals
-taut_alone = refl
-
-taut_with_steps : asked (codes "taut" ∷ codes "--steps" ∷ codes "5" ∷ []) ≡ Usage
-unfolding clap_on_literals
-taut_with_steps = refl
-
-lower_alone : asked (codes "lower" ∷ []) ≡ Lower 10000000
-unfolding clap_on_literals
-lower_alone = refl
-
-lower_with_steps : asked (codes "lower" ∷ codes "--steps" ∷ codes "5" ∷ []) ≡ Lower 5
-unfolding clap_on_literals
-lower_with_steps = refl
-
-word_after_lower : asked (codes "lower" ∷ codes "book" ∷ []) ≡ Usage
-unfolding clap_on_literals
-word_after_lower = refl
-
-slice_of_a_theorem : asked (codes "slice" ∷ codes "use" ∷ []) ≡ Slice (named "USE") 10000000
-unfolding clap_on_literals
-slice_of_a_theorem = refl
-
-name_between_bars : asked (codes "slice" ∷ codes "|a b|" ∷ []) ≡ Slice (named "a b") 10000000
-unfolding clap_on_literals
-name_between_bars = refl
-
-name_with_a_comment : asked (codes "slice" ∷ codes " use ; its last line" ∷ []) ≡ Slice (named "USE") 10000000
-unfolding clap_on_literals
-name_with_a_comment = refl
-
-slice_with_steps : asked (codes "slice" ∷ codes "use" ∷ codes "--steps" ∷ codes "5" ∷ []) ≡ Slice (named "USE") 5
-unfolding clap_on_literals
-slice_with_steps = refl
-
-slice_alone : asked (codes "slice" ∷ []) ≡ Usage
-unfolding clap_on_literals
-slice_alone = refl
-
-slice_of_a_number : asked (codes "slice" ∷ codes "12" ∷ []) ≡ Usage
-unfolding clap_on_literals
-slice_of_a_number = refl
-
-slice_of_a_list : asked (codes "slice" ∷ codes "(use)" ∷ []) ≡ Usage
-unfolding clap_on_literals
-slice_of_a_list = refl
-
-slice_of_two_names_in_a_word : asked (codes "slice" ∷ codes "a b" ∷ []) ≡ Usage
-unfolding clap_on_literals
-slice_of_two_names_in_a_word = refl
-
-slice_of_two_words : asked (codes "slice" ∷ codes "a" ∷ codes "b" ∷ []) ≡ Usage
-unfolding clap_on_literals
-slice_of_two_words = refl
-
-slice_of_a_fault : asked (codes "slice" ∷ codes "|use" ∷ []) ≡ Usage
-unfolding clap_on_literals
-slice_of_a_fault = refl
-
-flat_alone : asked (codes "flat" ∷ []) ≡ Flat 10000000
-unfolding clap_on_literals
-flat_alone = refl
-
-flat_with_steps : asked (codes "flat" ∷ codes "--steps" ∷ codes "5" ∷ []) ≡ Flat 5
-unfolding clap_on_literals
-flat_with_steps = refl
-
-word_after_flat : asked (codes "flat" ∷ codes "book" ∷ []) ≡ Usage
-unfolding clap_on_literals
-word_after_flat = refl
-
-recheck_alone : asked (codes "recheck" ∷ []) ≡ Recheck
-unfolding clap_on_literals
-recheck_alone = refl
-
-recheck_with_steps : asked (codes "recheck" ∷ codes "--steps" ∷ codes "5" ∷ []) ≡ Usage
-unfolding clap_on_literals
-recheck_with_steps = refl
-
-word_after_recheck : asked (codes "recheck" ∷ codes "log" ∷ []) ≡ Usage
-unfolding clap_on_literals
-word_after_recheck = refl
-
-explain_alone : asked (codes "explain" ∷ []) ≡ Explain 10000000
-unfolding clap_on_literals
-explain_alone = refl
-
-explain_with_steps : asked (codes "explain" ∷ codes "--steps" ∷ codes "5" ∷ []) ≡ Explain 5
-unfolding clap_on_literals
-explain_with_steps = refl
-
-word_after_explain : asked (codes "explain" ∷ codes "book" ∷ []) ≡ Usage
-unfolding clap_on_literals
-word_after_explain = refl
+the_words_of_logs_and_reasons = refl
 
 help_text_of_all_commands :
     help_text ≡ joined ("milawa check [--steps N]" ∷ "milawa trial M [--steps N]" ∷ "milawa taut" ∷ "milawa lower [--steps N]" ∷ "milawa slice NAME [--steps N]" ∷ "milawa flat [--steps N]" ∷ "milawa recheck" ∷

@@ -135,32 +135,23 @@ fn request_by_numbers(word: &str, steps: Option<u64>, events: Option<u64>) -> Re
 fn check_with(steps: Option<u64>) -> Request
     ensures { meaning_of result ≡ commands.with_number Check steps }
 {
-    match steps {
-        Some(steps) => Request::Check { steps },
-        None => Request::Usage,
-    }
+    steps.map_or(Request::Usage, |steps| Request::Check { steps })
 }
 
 // To lower the book, where there is a step limit.
 fn lower_with(steps: Option<u64>) -> Request
     ensures { meaning_of result ≡ commands.with_number Lower steps }
 {
-    match steps {
-        Some(steps) => Request::Lower { steps },
-        None => Request::Usage,
-    }
+    steps.map_or(Request::Usage, |steps| Request::Lower { steps })
 }
 
 // To judge the trial book, where there are both numbers.
 fn trial_with(events: Option<u64>, steps: Option<u64>) -> Request
     ensures { meaning_of result ≡ commands.trial_with events steps }
 {
-    let Some(events) = events else {
-        return Request::Usage;
-    };
-    match steps {
-        Some(steps) => Request::Trial { events, steps },
-        None => Request::Usage,
+    match (events, steps) {
+        (Some(events), Some(steps)) => Request::Trial { events, steps },
+        _ => Request::Usage,
     }
 }
 
@@ -168,12 +159,9 @@ fn trial_with(events: Option<u64>, steps: Option<u64>) -> Request
 fn slice_with(name: Option<TheoremName>, steps: Option<u64>) -> Request
     ensures { meaning_of result ≡ commands.slice_with (option_map name_of_bytes name) steps }
 {
-    let Some(name) = name else {
-        return Request::Usage;
-    };
-    match steps {
-        Some(steps) => Request::Slice { name, steps },
-        None => Request::Usage,
+    match (name, steps) {
+        (Some(name), Some(steps)) => Request::Slice { name, steps },
+        _ => Request::Usage,
     }
 }
 
@@ -181,20 +169,14 @@ fn slice_with(name: Option<TheoremName>, steps: Option<u64>) -> Request
 fn flat_with(steps: Option<u64>) -> Request
     ensures { meaning_of result ≡ commands.with_number Flat steps }
 {
-    match steps {
-        Some(steps) => Request::Flat { steps },
-        None => Request::Usage,
-    }
+    steps.map_or(Request::Usage, |steps| Request::Flat { steps })
 }
 
 // To judge the book and say why events are refused, where there is a step limit.
 fn explain_with(steps: Option<u64>) -> Request
     ensures { meaning_of result ≡ commands.with_number Explain steps }
 {
-    match steps {
-        Some(steps) => Request::Explain { steps },
-        None => Request::Usage,
-    }
+    steps.map_or(Request::Usage, |steps| Request::Explain { steps })
 }
 
 // The name of a theorem, where the text spells one.

@@ -1,4 +1,4 @@
-use Rattle.std.proofs.Common.{◌≡◌, ◌<◌, drop, length}
+use Rattle.std.proofs.Common.{◌≡◌, drop}
 use Rattle.mw_read.specs.Standing.{work}
 use Rattle.mw_read.specs.Feeding.{IsAwaiting}
 use Rattle.mw_book.specs.Writing.{Writing}

@@ -1,5 +1,5 @@
 -- What the sink took of the last text.
-use Rattle.std.proofs.Common.{◌++◌, [], inl, ap, subst, ◌∙◌}
+use Rattle.std.proofs.Common.{◌++◌, inl, ap, subst, ◌∙◌}
 use Rattle.mw_model.specs.Reports.Report.{status_of}
 use Rattle.mw_port.specs.Ports.{Takes}
 use Rattle.mw_book.specs.Answering.{fault_of}

@@ -12,7 +12,7 @@ use Rattle.mw_book.proofs.TrialHeadlines.{memory_alone, trial_ends}
 use Rattle.mw_book.proofs.check.trial.Goals as goal
 
 pub conclude-requires-clause-known : goal.conclude-requires-clause-known
-conclude-requires-clause-known g c = let w = c.in-Ok-read_all.ensures.whole in (Check c.deref_mut-judging.result.now.kernel.steps, w.given, w.known)
+conclude-requires-clause-known g c = let w = c.in-Ok-read_all.ensures.whole in (Check c.deref_mut-session.result.now.store.steps, w.given, w.known)
 
 pub returns-in-Ok-read_all-clause-ends : goal.returns-in-Ok-read_all-clause-ends
 returns-in-Ok-read_all-clause-ends g c m holds =
@@ -21,7 +21,7 @@ returns-in-Ok-read_all-clause-ends g c m holds =
     let now = g.S.Source.left c.read_all.new.source in
     let f = c.in-Ok-read_all.fault in
     let j = c.read_all.new.answering in
-    let w = subst (λ n. ReadWhole JudgedFor (Check n) input now None None f j) (ap (λ k. k.kernel.steps) c.deref_mut-judging.ensures.value ∙ c.in-Ok.ensures.judged.steps) c.in-Ok-read_all.ensures.whole in
+    let w = subst (λ n. ReadWhole (λ s. JudgedFor s.command s.store) (Check n) input now None None f j) (ap (λ s. s.store.steps) c.deref_mut-session.ensures.value ∙ c.in-Ok.ensures.judged.steps) c.in-Ok-read_all.ensures.whole in
     trial_ends m w holds c.reached_sound.ensures.events c.conclude.result (g.K.Sink.taken c.args.sink.now) (g.K.Sink.taken c.conclude.new.sink) (g.K.Sink.shortages c.args.sink.now) (g.K.Sink.shortages c.conclude.new.sink)
     (c.conclude.ensures.concludes (Check N) w.given w.known)
 

@@ -1,6 +1,5 @@
 -- One step: a datum, which is answered, the end of the piece, or a fault.
-use Rattle.std.proofs.Common.{◌≡◌, ◌∙◌, ◌+◌, ℕ, List, [], ◌∷◌, ◌++◌, refl, sym, ap, subst}
-use Rattle.mw_model.specs.Terms.Object.{Object}
+use Rattle.std.proofs.Common.{◌∙◌, [], ◌∷◌, ◌++◌, refl, ap, subst}
 use Rattle.mw_model.specs.Events.Fate.{is_out_of_range}
 use Rattle.mw_read.specs.Standing.{Says}
 use Rattle.mw_read.specs.declared.step.Step.TheVariants as steps

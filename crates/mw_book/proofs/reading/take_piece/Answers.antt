@@ -1,5 +1,5 @@
 -- Datum after datum, up to the end of the piece or one that took long.
-use Rattle.std.proofs.Common.{◌≡◌, ◌∙◌, ◌+◌, ◌-◌, ◌<◌, ◌^◌, ◌++◌, ℕ, List, inl, inr, refl, sym, ap, subst, take, drop, length, arith}
+use Rattle.std.proofs.Common.{◌+◌, ◌-◌, ◌<◌, ◌^◌, ◌++◌, inl, inr, refl, sym, subst, take, drop, length, arith}
 use Rattle.std.proofs.lemmas.List.{length-drop}
 use Rattle.mw_read.specs.Standing.{Follows, work}
 use Rattle.mw_read.proofs.Beginning.{rest_is}

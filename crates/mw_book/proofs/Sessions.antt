@@ -1,0 +1,19 @@
+-- What a session has answered and not yet written.
+use Rattle.std.proofs.Common.{◌≡◌, ℕ, List, ◌++◌, sym, ap, ◌∙◌, subst, append_assoc}
+use Rattle.mw_model.specs.Terms.Object.{Object}
+use Rattle.mw_model.specs.Reports.Request.{Request}
+use Rattle.mw_book.specs.Answering.{Answers}
+use Rattle.mw_book.specs.Statuses.{AreAnswers}
+use Rattle.mw_book.specs.Writing.{Writes}
+
+-- The piece of a datum was put after the lines; state is what was answered of a session.
+pub answers_with : {A B : Type 0} (lines : A → List ℕ) (state : A → B) (answered : B → Request → List Object → Type 0) (old new : A) (given more : List Object) (piece : List ℕ) →
+    Writes answered (state old) given (state new) more piece → lines new ≡ lines old ++ piece → Answers lines (λ a. answered (state a)) old given new more
+answers_with lines state answered old new given more piece w line = record {
+  known = w.known;
+  due = λ q h written due. subst (AreAnswers q more) (append_assoc written (lines old) piece ∙ ap (λ l. written ++ l) (sym line)) (w.due q h (written ++ lines old) due);
+}
+
+-- what is known of a command and a store is known of a session of them
+pub begun : {A B : Type 0} (Known : A → B → Type 0) {command new : A} {store held : B} → new ≡ command → held ≡ store → Known command store → Known new held
+begun Known {command} {new} {store} {held} c s h = subst (λ a. Known a held) (sym c) (subst (Known command) (sym s) h)

@@ -1,7 +1,0 @@
--- The theory stays.
-use Rattle.std.proofs.Common.{ap}
-use Rattle.mw_book.proofs.OneMore.{judged_read}
-use Rattle.mw_book.proofs.check.JudgingAnswering.step.Goals as goal
-
-pub returns-clause-kept : goal.returns-clause-kept
-returns-clause-kept c = judged_read c.args.self.now c.step.new.self c.step.ensures.theory (ap (λ k. k.steps) c.step.ensures.rest)
