@@ -1,6 +1,6 @@
 //! The words of the command line, and what the program does with them.
-use mw_rows::{Answer, answer_of_command, expect_empty};
 use mw_book::Status;
+use mw_rows::{Answer, answer_of_command, expect_empty};
 use std::alloc::{AllocError, Global};
 use std::test::Fail;
 

@@ -1,8 +1,8 @@
 //! Books of derivations, and what `lower` writes for them.
+use mw_book::Status;
 use mw_rows::{
     NEVER, answer_of_check, answer_of_command, expect_empty, other_answer, wrap_book, wrong_answers,
 };
-use mw_book::Status;
 use std::alloc::{AllocError, Global};
 use std::test::Fail;
 

@@ -1,8 +1,6 @@
 //! Books, and what `slice` keeps of them.
-use mw_rows::{
-    Answer, answer_of_check, answer_of_command, expect_empty, wrap_book, wrong_answers,
-};
 use mw_book::Status;
+use mw_rows::{Answer, answer_of_check, answer_of_command, expect_empty, wrap_book, wrong_answers};
 use std::alloc::{AllocError, Global};
 use std::test::Fail;
 

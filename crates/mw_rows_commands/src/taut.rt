@@ -1,6 +1,6 @@
 //! Books of formulas, and what `taut` writes for them.
-use mw_rows::{Answer, answer_of_command, expect_empty, other_answer, wrong_answers};
 use mw_book::Status;
+use mw_rows::{Answer, answer_of_command, expect_empty, other_answer, wrong_answers};
 use std::alloc::{AllocError, Global};
 use std::test::Fail;
 

@@ -1,6 +1,6 @@
 //! Books at the bounds of turns and of code: one within them gives the expected answer, and one past them ends out of memory.
-use mw_rows::{Answer, answer_of_check, answer_of_command};
 use mw_book::Status;
+use mw_rows::{Answer, answer_of_check, answer_of_command};
 use std::alloc::{AllocError, Global};
 use std::test::Fail;
 

@@ -1,7 +1,7 @@
 //! The expected answer to the beginning of a book, computed from where its data end.
-use mw_rows::{Answer, answer_of_check};
 use mw_book::Status;
 use mw_read::SyntaxKind;
+use mw_rows::{Answer, answer_of_check};
 use std::alloc::{AllocError, Global};
 
 /// A datum of a book: where it begins and ends, its line, whether it is accepted, and the level after it.

@@ -1,10 +1,10 @@
 //! The ends that are not the book's own, and the numbers of all.
 use crate::due::{Datum, lines_within, wrong_cut};
+use mw_book::Status;
+use mw_read::SyntaxKind;
 use mw_rows::{
     NEVER, OF_NEVER, WRITTEN, answer_with_faults, expect_empty, other_answer_with_faults,
 };
-use mw_book::Status;
-use mw_read::SyntaxKind;
 use std::alloc::{AllocError, Global};
 use std::test::Fail;
 

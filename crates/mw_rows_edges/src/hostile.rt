@@ -2,8 +2,8 @@
 //! the units that it uses, or out of memory at once.
 use crate::nested::{Nested, other_report_on_nested, text_of};
 use crate::shared::doubled_term;
-use mw_rows::{Answer, answer_of_check, expect_empty, other_answer, other_report};
 use mw_book::Status;
+use mw_rows::{Answer, answer_of_check, expect_empty, other_answer, other_report};
 use std::alloc::{AllocError, Global};
 use std::test::Fail;
 
