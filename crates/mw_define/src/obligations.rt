@@ -1,5 +1,5 @@
 //! The obligations of a block.
-ghost use Rattle.std.specs.Prelude.{◌≡◌, [], length};
+ghost use Rattle.std.specs.Prelude.{◌≡◌, ◌+◌, ◌-◌, ◌^◌, min, [], length};
 ghost use Rattle.mw_define.specs.Owed.{is_past};
 
 use indexmap::IndexSet;
@@ -34,8 +34,10 @@ impl Obligations {
         }
     }
 
-    // Whether they may be more than the block may owe once this many more are added.
-    pub fn may_be_too_many_with(&self, more: usize) -> bool {
+    // Whether they may be more than the block may owe once this many more are added. The sum is cut off.
+    pub fn may_be_too_many_with(&self, more: usize) -> bool
+        ensures { result ≡ is_past self.now.most (min (length self.now.formulas.keys + more) (2 ^ 64 - 1)) }
+    {
         match self.most {
             Some(most) => (self.formulas.len() as u64).saturating_add(more as u64) > most,
             None => false,

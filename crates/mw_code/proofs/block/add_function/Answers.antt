@@ -1,5 +1,5 @@
 -- A body is laid out after the code that is there, and no body leaves that as it is.
-use Rattle.std.proofs.Common.{sym, subst, IfSome}
+use Rattle.std.proofs.Common.{sym, ap, subst, IfSome}
 use Rattle.mw_code.specs.Jobs.{Extends}
 use Rattle.mw_code.specs.Weights.{HasFewJobs}
 use Rattle.mw_code.proofs.Forms.{extends-same}
@@ -16,8 +16,8 @@ returns-clause-extends c =
 
 pub returns-clause-few : goal.returns-clause-few
 returns-clause-few c =
-    let os = c.args.heap.now.objects in
+    let os = c.args.context.now.heap.now.objects in
     elim c.match-body.branch [
-      | in-Some+in_ok-function-in-Some w ↦ subst (λ o. IfSome o (HasFewJobs os)) (sym w.in-Some.is) w.in_ok-function-in-Some.ensures.few
+      | in-Some+in_ok-function-in-Some w ↦ subst (λ o. IfSome o (HasFewJobs os)) (sym w.in-Some.is) (subst (HasFewJobs os) (ap (λ t. t.term) w.body_task-task.ensures) w.in_ok-function-in-Some.ensures.few)
       | in-None w ↦ subst (λ o. IfSome o (HasFewJobs os)) (sym w.in-None.is) tt
     ]

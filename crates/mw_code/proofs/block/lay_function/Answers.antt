@@ -7,7 +7,7 @@ use Rattle.mw_code.proofs.block.lay_function.Goals as goal
 
 pub returns-clause-laid : goal.returns-clause-laid
 returns-clause-laid c =
-    let S = c.args.signature.now in
+    let S = c.args.context.now.signature.now in
     let e = c.in_ok-entry.entry in
     let mid = c.lay_out.new.code.items in
     let new = c.push.new.self.items in
@@ -15,7 +15,7 @@ returns-clause-laid c =
     let same : c.in-Ok.index ≡ c.args.index = search rules in
     let code-is : new ≡ mid ++ TailCall c.args.index ∷ [] = c.in_ok-push.ensures.items ∙ ap (λ i. mid ++ TailCall i ∷ []) same in
     let need : need_at S new e.place ≡ need_at S mid e.place = need-extends S mid new (TailCall c.args.index ∷ [], code-is) e.place (omega (arith, place)) in
-    let width : e.width ≡ c.args.arity + need_at S new e.place = c.in_ok-entry.ensures.wide ∙ ap₂ (λ m n. m + n) c.in_ok-entry.ensures.place.1 (sym need) in
+    let width : e.width ≡ c.args.task.height + need_at S new e.place = c.in_ok-entry.ensures.wide ∙ ap₂ (λ m n. m + n) c.in_ok-entry.ensures.place.1 (sym need) in
     record {
       arity = refl;
       end = search rules;

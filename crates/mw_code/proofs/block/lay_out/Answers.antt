@@ -6,7 +6,7 @@ use Rattle.mw_code.proofs.block.lay_out.Goals as goal
 
 pub find_need-requires-clause-still : goal.find_need-requires-clause-still
 find_need-requires-clause-still c =
-    let S = c.args.signature.now in
+    let S = c.args.context.now.signature.now in
     let old = c.args.code.now.items in
     let new = c.compile.new.code.items in
     let from : c.len-from.result ≡ length old = search rules in

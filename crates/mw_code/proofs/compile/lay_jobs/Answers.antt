@@ -11,28 +11,28 @@ use Rattle.mw_code.proofs.compile.lay_jobs.Goals as goal
 
 pub loop-job-init : goal.loop-job-init
 loop-job-init c =
-    let P = profile_of c.args.profile in
+    let P = profile_of c.args.context.now.profile in
     let code = c.args.code.now.items in
     let first = c.in_ok-push.ensures.items ∙ ap (λ (l : List Job). l ++ TheValue c.args.task ∷ []) c.new-jobs.ensures.items in
-    (extends-same code, subst (λ js. AreLaying P c.args.heap.now.objects c.args.signature.now code code js c.args.task) (sym first) (laying-starts P c.args.heap.now.objects c.args.signature.now c.args.task code), c.requires.places)
+    (extends-same code, subst (λ js. AreLaying P c.args.context.now.heap.now.objects c.args.context.now.signature.now code code js c.args.task) (sym first) (laying-starts P c.args.context.now.heap.now.objects c.args.context.now.signature.now c.args.task code), c.requires.places)
 
 pub returns-clause-laid : goal.returns-clause-laid
 returns-clause-laid c =
-    let P = profile_of c.args.profile in
+    let P = profile_of c.args.context.now.profile in
     let none : c.loop-job.jobs.items ≡ [] = search rules in
-    laying-ends P c.args.heap.now.objects c.args.signature.now c.args.task c.args.code.now.items c.loop-job.code.items (subst (λ js. AreLaying P c.args.heap.now.objects c.args.signature.now c.args.code.now.items c.loop-job.code.items js c.args.task) none c.loop-job.invariant.1)
+    laying-ends P c.args.context.now.heap.now.objects c.args.context.now.signature.now c.args.task c.args.code.now.items c.loop-job.code.items (subst (λ js. AreLaying P c.args.context.now.heap.now.objects c.args.context.now.signature.now c.args.code.now.items c.loop-job.code.items js c.args.task) none c.loop-job.invariant.1)
 
 pub lay_job-requires : goal.lay_job-requires
 lay_job-requires c =
-    let P = profile_of c.args.profile in
-    let a = subst (λ js. AreLaying P c.args.heap.now.objects c.args.signature.now c.args.code.now.items c.loop-job.code.items js c.args.task) c.in-Some.ensures.items c.loop-job.invariant.1 in
-    record { job = last-fits P c.args.heap.now.objects c.args.signature.now c.args.task c.args.code.now.items c.loop-job.code.items c.pop.new.self.items c.in-Some.job c.requires.task a; places = c.loop-job.invariant.2 }
+    let P = profile_of c.args.context.now.profile in
+    let a = subst (λ js. AreLaying P c.args.context.now.heap.now.objects c.args.context.now.signature.now c.args.code.now.items c.loop-job.code.items js c.args.task) c.in-Some.ensures.items c.loop-job.invariant.1 in
+    record { job = last-fits P c.args.context.now.heap.now.objects c.args.context.now.signature.now c.args.task c.args.code.now.items c.loop-job.code.items c.pop.new.self.items c.in-Some.job c.requires.task a; places = c.loop-job.invariant.2 }
 
 pub loop-job-preserved : goal.loop-job-preserved
 loop-job-preserved c =
-    let P = profile_of c.args.profile in
-    let os = c.args.heap.now.objects in
-    let S = c.args.signature.now in
+    let P = profile_of c.args.context.now.profile in
+    let os = c.args.context.now.heap.now.objects in
+    let S = c.args.context.now.signature.now in
     let old = c.args.code.now.items in
     let now = c.loop-job.code.items in
     let jobs = c.lay_job.new.jobs.items in
@@ -47,9 +47,9 @@ loop-job-preserved c =
 
 pub loop-job-smaller : goal.loop-job-smaller
 loop-job-smaller c =
-    let P = profile_of c.args.profile in
-    let os = c.args.heap.now.objects in
-    let S = c.args.signature.now in
+    let P = profile_of c.args.context.now.profile in
+    let os = c.args.context.now.heap.now.objects in
+    let S = c.args.context.now.signature.now in
     let old = c.args.code.now.items in
     let now = c.loop-job.code.items in
     let rest = c.pop.new.self.items in
