@@ -1,7 +1,9 @@
+pub mod Candidates
 pub mod Copies
 pub mod Events
 pub mod Firsts
 pub mod Heaps
+pub mod Indexed
 pub mod Parts
 pub mod Picked
 pub mod Slices

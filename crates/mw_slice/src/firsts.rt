@@ -1,7 +1,6 @@
 //! Where formulas are first proved.
 ghost use Rattle.std.specs.Prelude.{◌≡◌, ℕ, ◌<◌, false, [], length, cond, Some, None, OnOk};
 ghost use Rattle.mw_model.specs.Terms.Object.{Object};
-ghost use Rattle.mw_commands.specs.Commands.Slice.{first_proof};
 ghost use Rattle.mw_heap.specs.Objects.{object_at, IsIn, Grows};
 ghost use Rattle.mw_slice.specs.Events.{AreIn, objects_of};
 ghost use Rattle.mw_slice.specs.Firsts.{AreFirsts, IsIndex, NamesNone, proves, first_or, first_by};
@@ -50,27 +49,6 @@ fn note_first(
     Ok(())
 }
 
-// Notes of each formula the place of the first event that proves it, in one pass. The formulas are copied to the heap `to`.
-fn note_firsts(
-    heaps: &Heaps,
-    added: &[Added],
-    to: &mut Heap,
-    copies: &mut Copies,
-    firsts: &mut IndexMap<Ref, u64>,
-) -> Result<(), Memory>
-    requires within { AreIn heaps.now added.now }
-    requires none { firsts.old.entries ≡ [] }
-    ensures grows { Grows to.old.objects to.new.objects }
-    ensures firsts { OnOk result (AreFirsts to.new.objects firsts.new.entries) }
-    ensures all { OnOk result ((c : Object) → first_by to.new.objects firsts.new.entries c ≡ first_proof (objects_of heaps.now added.now) c) }
-{
-    for (place, event) in added.iter().enumerate() {
-        let from = heaps.get(event.heap);
-        note_first(from, event.event, place as u64, to, copies, firsts)?;
-    }
-    Ok(())
-}
-
 // Whether an object of the heap is headed by the word of the steps that name a theorem: else no proof in it names one.
 fn names_theorem(heap: &Heap) -> bool
     ensures { result ≡ false → NamesNone heap.now.objects }
@@ -98,7 +76,7 @@ fn some_names_theorem(heaps: &Heaps) -> bool
 
 /// Notes of each formula that a step of an event names the place of the first event that proves it. Where no step names one, no formula
 /// is copied.
-pub(crate) fn note_firsts_named(
+pub(crate) fn note_firsts(
     heaps: &Heaps,
     added: &[Added],
     to: &mut Heap,
@@ -114,5 +92,9 @@ pub(crate) fn note_firsts_named(
     if !some_names_theorem(heaps) {
         return Ok(());
     }
-    note_firsts(heaps, added, to, copies, firsts)
+    for (place, event) in added.iter().enumerate() {
+        let from = heaps.get(event.heap);
+        note_first(from, event.event, place as u64, to, copies, firsts)?;
+    }
+    Ok(())
 }

@@ -4,12 +4,14 @@
 
 mod added;
 mod basis;
+mod candidate;
 mod copies;
 mod copying;
 mod event;
 mod firsts;
 mod gathering;
 mod heaps;
+mod indexed;
 mod kept;
 mod names;
 mod nil;

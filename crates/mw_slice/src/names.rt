@@ -10,27 +10,7 @@ use crate::basis::Basis;
 use crate::copying::copy;
 use mw_heap::{Heap, Memory, Ref, View, Word};
 
-// Whether it is an atom that was met in the heap `to`, where an atom is copied.
-fn is_atom_met(
-    from: &Heap,
-    x: Ref,
-    to: &mut Heap,
-    copies: &mut Copies,
-    basis: &Basis,
-) -> Result<bool, Memory>
-    requires within { IsIn from.now.objects x }
-    requires inside { IsInside to.old.objects basis.now }
-    ensures grows { Grows to.old.objects to.new.objects }
-    ensures met { IfOk result (λ b. b ≡ notes to.new.objects basis.now (Named (object_at from.now.objects x))) }
-{
-    if from.is_pair(Some(x)) {
-        return Ok(false);
-    }
-    let name = copy(from, x, to, copies)?;
-    Ok(basis.has_name(to, name))
-}
-
-// The same of a part, which is NIL where it is missing.
+// Whether a part is an atom that was met in the heap `to`, where an atom is copied. The part is NIL where it is missing.
 fn is_met(
     from: &Heap,
     part: Option<Ref>,
@@ -43,13 +23,15 @@ fn is_met(
     ensures grows { Grows to.old.objects to.new.objects }
     ensures met { IfOk result (λ b. b ≡ notes to.new.objects basis.now (Named (part_at from.now.objects part))) }
 {
-    match part {
-        Some(x) => is_atom_met(from, x, to, copies, basis),
-        None => {
-            let nil = to.nil()?;
-            Ok(basis.has_name(to, nil))
-        }
+    let Some(x) = part else {
+        let nil = to.nil()?;
+        return Ok(basis.has_name(to, nil));
+    };
+    if from.is_pair(Some(x)) {
+        return Ok(false);
     }
+    let name = copy(from, x, to, copies)?;
+    Ok(basis.has_name(to, name))
 }
 
 // Whether a member of the list begins with a name that was met.

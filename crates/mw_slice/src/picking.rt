@@ -4,6 +4,7 @@ ghost use Rattle.mw_model.specs.Terms.Object.{Object, is_name, name_of_bytes};
 ghost use Rattle.mw_commands.specs.Commands.Slice.{begins_with, some_passes, target, first_proof, is_idle, IsSlice};
 ghost use Rattle.mw_commands.proofs.SlicePlaces.{is_wanted, changes, collected, slice_places};
 ghost use Rattle.mw_heap.specs.Objects.{object_at, IsIn, Grows};
+ghost use Rattle.mw_slice.specs.Candidates.{IsCandidate, event_of};
 ghost use Rattle.mw_slice.specs.Events.{AreIn, objects_of};
 ghost use Rattle.mw_slice.specs.Firsts.{AreFirsts, IsIndex};
 ghost use Rattle.mw_slice.specs.Supports.{Support, has, notes, event_asks, is_asked_for, IsInside, IsBasis};
@@ -12,11 +13,13 @@ ghost use Rattle.mw_slice.specs.declared.part.Part.{Part};
 use crate::Copies;
 use crate::added::Added;
 use crate::basis::Basis;
+use crate::candidate::Candidate;
 use crate::copying::copy;
 use crate::event::{is_idle, is_theorem, sets_profile};
-use crate::firsts::note_firsts_named;
+use crate::firsts::note_firsts;
 use crate::gathering::gather_event;
 use crate::heaps::{Heaps, heap_with_words};
+use crate::indexed::IndexedHeap;
 use crate::names::adds_met;
 use indexmap::IndexMap;
 use mw_heap::{Heap, Memory, Ref, Word};
@@ -79,54 +82,55 @@ fn changing(heaps: &Heaps, added: &[Added], goal: usize) -> Result<Vec<u64>, Mem
     Ok(places)
 }
 
-// Whether the event at a place is the goal, sets the second profile, proves or defines what is asked for. The names that it adds are
-// copied to the heap `to`.
+// Whether the event is the goal, sets the second profile, proves or defines what is asked for. The names that it adds are copied to the
+// heap `to`.
 fn is_asked_for(
-    from: &Heap,
-    event: Ref,
-    place: u64,
+    candidate: &Candidate<'_>,
     goal: u64,
     to: &mut Heap,
     copies: &mut Copies,
     basis: &Basis,
 ) -> Result<bool, Memory>
-    requires within { IsIn from.now.objects event }
+    requires within { IsCandidate candidate.now }
     requires inside { IsInside to.old.objects basis.now }
     ensures grows { Grows to.old.objects to.new.objects }
-    ensures asked { IfOk result (λ b. b ≡ is_asked_for to.new.objects basis.now goal (object_at from.now.objects event) place) }
+    ensures asked { IfOk result (λ b. b ≡ is_asked_for to.new.objects basis.now goal (event_of candidate.now) candidate.now.place) }
 {
-    if place == goal || sets_profile(from, event, 2) || basis.places.contains(&place) {
+    let Candidate { heap, event, place } = *candidate;
+    if place == goal || sets_profile(heap, event, 2) || basis.places.contains(&place) {
         return Ok(true);
     }
-    adds_met(from, event, to, copies, basis)
+    adds_met(heap, event, to, copies, basis)
 }
 
 // Copies an event to the heap `to`, and gathers there what it asks for.
 fn gather_copied(
-    from: &Heap,
-    event: Ref,
+    candidate: &Candidate<'_>,
     to: &mut Heap,
     copies: &mut Copies,
     firsts: &IndexMap<Ref, u64>,
     basis: &mut Basis,
 ) -> Result<(), Memory>
-    requires within { IsIn from.now.objects event }
+    requires within { IsCandidate candidate.now }
     requires firsts { AreFirsts to.old.objects firsts.now.entries }
     requires basis { IsBasis to.old.objects firsts.now.entries basis.old }
     ensures grows { Grows to.old.objects to.new.objects }
     ensures basis { OnOk result (IsBasis to.new.objects firsts.now.entries basis.new) }
-    ensures supports { OnOk result ((s : Support) → notes to.new.objects basis.new s ≡ (notes to.new.objects basis.old s || event_asks to.new.objects firsts.now.entries s (object_at from.now.objects event))) }
+    ensures supports { OnOk result ((s : Support) → notes to.new.objects basis.new s ≡ (notes to.new.objects basis.old s || event_asks to.new.objects firsts.now.entries s (event_of candidate.now))) }
 {
     let nil = to.nil()?;
-    let copied = copy(from, event, to, copies)?;
-    gather_event(to, nil, firsts, copied, basis)
+    let copied = copy(candidate.heap, candidate.event, to, copies)?;
+    let indexed = IndexedHeap {
+        heap: to,
+        nil,
+        firsts,
+    };
+    gather_event(&indexed, copied, basis)
 }
 
 // Keeps an event, if it is asked for: it is copied to the heap `to`, and what it asks for is gathered there.
 fn keep(
-    from: &Heap,
-    event: Ref,
-    place: u64,
+    candidate: &Candidate<'_>,
     goal: u64,
     to: &mut Heap,
     copies: &mut Copies,
@@ -134,17 +138,17 @@ fn keep(
     basis: &mut Basis,
     places: &mut Vec<u64>,
 ) -> Result<(), Memory>
-    requires within { IsIn from.now.objects event }
+    requires within { IsCandidate candidate.now }
     requires firsts { AreFirsts to.old.objects firsts.now.entries }
     requires basis { IsBasis to.old.objects firsts.now.entries basis.old }
     ensures grows { Grows to.old.objects to.new.objects }
     ensures basis { OnOk result (IsBasis to.new.objects firsts.now.entries basis.new) }
-    ensures supports { OnOk result ((s : Support) → notes to.new.objects basis.new s ≡ cond (is_asked_for to.new.objects basis.old goal (object_at from.now.objects event) place) (notes to.new.objects basis.old s || event_asks to.new.objects firsts.now.entries s (object_at from.now.objects event)) (notes to.new.objects basis.old s)) }
-    ensures places { OnOk result (places.new.items ≡ cond (is_asked_for to.new.objects basis.old goal (object_at from.now.objects event) place) (places.old.items ++ place ∷ []) places.old.items) }
+    ensures supports { OnOk result ((s : Support) → notes to.new.objects basis.new s ≡ cond (is_asked_for to.new.objects basis.old goal (event_of candidate.now) candidate.now.place) (notes to.new.objects basis.old s || event_asks to.new.objects firsts.now.entries s (event_of candidate.now)) (notes to.new.objects basis.old s)) }
+    ensures places { OnOk result (places.new.items ≡ cond (is_asked_for to.new.objects basis.old goal (event_of candidate.now) candidate.now.place) (places.old.items ++ candidate.now.place ∷ []) places.old.items) }
 {
-    if is_asked_for(from, event, place, goal, to, copies, basis)? {
-        gather_copied(from, event, to, copies, firsts, basis)?;
-        places.push(place)?;
+    if is_asked_for(candidate, goal, to, copies, basis)? {
+        gather_copied(candidate, to, copies, firsts, basis)?;
+        places.push(candidate.place)?;
     }
     Ok(())
 }
@@ -171,10 +175,13 @@ fn needed_from(
     let mut places = Vec::new(heaps.alloc());
     for place in (0..goal + 1).rev() {
         let event = added[place];
+        let candidate = Candidate {
+            heap: heaps.get(event.heap),
+            event: event.event,
+            place: place as u64,
+        };
         keep(
-            heaps.get(event.heap),
-            event.event,
-            place as u64,
+            &candidate,
             goal as u64,
             to,
             copies,
@@ -200,7 +207,7 @@ fn needed_over(
     requires goal { goal < length added.now }
     ensures { IfOk result (λ v. reverse v.items ≡ collected (is_wanted (objects_of heaps.now added.now) goal) (suc goal) []) }
 {
-    note_firsts_named(heaps, added, to, copies, firsts)?;
+    note_firsts(heaps, added, to, copies, firsts)?;
     let mut basis = Basis::new(heaps.alloc())?;
     needed_from(heaps, added, goal, to, copies, firsts, &mut basis)
 }

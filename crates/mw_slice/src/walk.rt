@@ -2,17 +2,16 @@
 ghost use Rattle.std.specs.Prelude.{◌≡◌, ℕ, ◌||◌, List, [], ◌∷◌, ◌++◌, OnOk};
 ghost use Rattle.mw_heap.specs.Objects.{object_at, IsIn};
 ghost use Rattle.mw_slice.specs.Parts.{cell_of};
-ghost use Rattle.mw_slice.specs.Firsts.{AreFirsts};
-ghost use Rattle.mw_slice.specs.Slices.{IsNil};
+ghost use Rattle.mw_slice.specs.Indexed.{IsIndexed, objects_in, firsts_in};
 ghost use Rattle.mw_slice.specs.Supports.{Support, has, notes, asks, names_theorem, IsBasis};
 ghost use Rattle.mw_slice.specs.Walks.{IsEntered, Meets};
 ghost use Rattle.mw_slice.specs.declared.part.Part.{Part};
 
 use crate::basis::Basis;
 use crate::firsts::place_of;
+use crate::indexed::IndexedHeap;
 use crate::nil::or_nil;
 use crate::part::Part;
-use indexmap::IndexMap;
 use mw_heap::{Heap, Memory, Ref, View, Word};
 
 // Has two parts wait.
@@ -49,19 +48,13 @@ fn enter(heap: &Heap, part: Part, waiting: &mut Vec<Part>) -> Result<(), Memory>
 }
 
 // Notes where the theorem is first proved that a step by THEOREM names.
-fn note(
-    heap: &Heap,
-    nil: Ref,
-    firsts: &IndexMap<Ref, u64>,
-    part: Part,
-    basis: &mut Basis,
-) -> Result<(), Memory>
-    requires within { IsIn heap.now.objects (cell_of part) }
-    requires nil { IsNil heap.now.objects nil }
-    requires firsts { AreFirsts heap.now.objects firsts.now.entries }
+fn note(indexed: &IndexedHeap<'_>, part: Part, basis: &mut Basis) -> Result<(), Memory>
+    requires within { IsIn (objects_in indexed.now) (cell_of part) }
+    requires indexed { IsIndexed indexed.now }
     ensures parts { OnOk result ((p : Part) → has basis.new p ≡ has basis.old p) }
-    ensures supports { OnOk result ((s : Support) → notes heap.now.objects basis.new s ≡ (notes heap.now.objects basis.old s || names_theorem heap.now.objects firsts.now.entries s part)) }
+    ensures supports { OnOk result ((s : Support) → notes (objects_in indexed.now) basis.new s ≡ (notes (objects_in indexed.now) basis.old s || names_theorem (objects_in indexed.now) (firsts_in indexed.now) s part)) }
 {
+    let IndexedHeap { heap, nil, firsts } = *indexed;
     let Part::Proof(step) = part else {
         return Ok(());
     };
@@ -77,44 +70,34 @@ fn note(
 
 // Meets a part, which is noted and entered the first time.
 fn meet(
-    heap: &Heap,
-    nil: Ref,
-    firsts: &IndexMap<Ref, u64>,
+    indexed: &IndexedHeap<'_>,
     part: Part,
     basis: &mut Basis,
     waiting: &mut Vec<Part>,
 ) -> Result<(), Memory>
-    requires within { IsIn heap.now.objects (cell_of part) }
-    requires nil { IsNil heap.now.objects nil }
-    requires firsts { AreFirsts heap.now.objects firsts.now.entries }
-    ensures { OnOk result (Meets heap.now.objects firsts.now.entries part basis.old basis.new waiting.old.items waiting.new.items) }
+    requires within { IsIn (objects_in indexed.now) (cell_of part) }
+    requires indexed { IsIndexed indexed.now }
+    ensures { OnOk result (Meets (objects_in indexed.now) (firsts_in indexed.now) part basis.old basis.new waiting.old.items waiting.new.items) }
 {
     if !basis.insert(part)? {
         return Ok(());
     }
-    note(heap, nil, firsts, part, basis)?;
-    enter(heap, part, waiting)
+    note(indexed, part, basis)?;
+    enter(indexed.heap, part, waiting)
 }
 
 /// Adds to a basis what a part asks for.
-pub(crate) fn gather(
-    heap: &Heap,
-    nil: Ref,
-    firsts: &IndexMap<Ref, u64>,
-    root: Part,
-    basis: &mut Basis,
-) -> Result<(), Memory>
-    requires within { IsIn heap.now.objects (cell_of root) }
-    requires nil { IsNil heap.now.objects nil }
-    requires firsts { AreFirsts heap.now.objects firsts.now.entries }
-    requires basis { IsBasis heap.now.objects firsts.now.entries basis.old }
-    ensures basis { OnOk result (IsBasis heap.now.objects firsts.now.entries basis.new) }
-    ensures supports { OnOk result ((s : Support) → notes heap.now.objects basis.new s ≡ (notes heap.now.objects basis.old s || asks heap.now.objects firsts.now.entries s root)) }
+pub(crate) fn gather(indexed: &IndexedHeap<'_>, root: Part, basis: &mut Basis) -> Result<(), Memory>
+    requires within { IsIn (objects_in indexed.now) (cell_of root) }
+    requires indexed { IsIndexed indexed.now }
+    requires basis { IsBasis (objects_in indexed.now) (firsts_in indexed.now) basis.old }
+    ensures basis { OnOk result (IsBasis (objects_in indexed.now) (firsts_in indexed.now) basis.new) }
+    ensures supports { OnOk result ((s : Support) → notes (objects_in indexed.now) basis.new s ≡ (notes (objects_in indexed.now) basis.old s || asks (objects_in indexed.now) (firsts_in indexed.now) s root)) }
 {
-    let mut waiting = Vec::new(heap.alloc());
+    let mut waiting = Vec::new(indexed.heap.alloc());
     waiting.push(root)?;
     while let Some(part) = waiting.pop() {
-        meet(heap, nil, firsts, part, basis, &mut waiting)?;
+        meet(indexed, part, basis, &mut waiting)?;
     }
     Ok(())
 }

@@ -10,14 +10,14 @@ use Rattle.mw_slice.proofs.gathering.gather_cells.Goals as goal
 
 pub returns-then-not-is_headed-clause-supports : goal.returns-then-not-is_headed-clause-supports
 returns-then-not-is_headed-clause-supports c =
-    let os = c.args.heap.now.objects in
+    let os = c.args.indexed.now.heap.now.objects in
     on_ok_weaker c.gather.result (λ noted s.
-    noted s ∙ ap (λ b. notes os c.args.basis.now s || b) (cells_by_cell os c.args.firsts.now.entries c.args.event (sym c.is_headed.ensures ∙ c.if-not-is_headed.true) s)) c.gather.ensures.supports
+    noted s ∙ ap (λ b. notes os c.args.basis.now s || b) (cells_by_cell os c.args.indexed.now.firsts.now.entries c.args.event (sym c.is_headed.ensures ∙ c.if-not-is_headed.true) s)) c.gather.ensures.supports
 
 pub returns-clause-supports : goal.returns-clause-supports
 returns-clause-supports c =
-    let os = c.args.heap.now.objects in
-    let firsts = c.args.firsts.now.entries in
+    let os = c.args.indexed.now.heap.now.objects in
+    let firsts = c.args.indexed.now.firsts.now.entries in
     on_ok_weaker c.gather-3.result (λ noted s.
     noted s
     ∙ (ap (λ b. b || asks os firsts s (Cell c.rest-others.result)) (c.in_ok-gather.ensures.supports s)

@@ -8,8 +8,8 @@ use Rattle.mw_slice.proofs.gathering.gather_event.Goals as goal
 
 pub returns-in-Some-clause-supports : goal.returns-in-Some-clause-supports
 returns-in-Some-clause-supports c =
-    let os = c.args.heap.now.objects in
-    let firsts = c.args.firsts.now.entries in
+    let os = c.args.indexed.now.heap.now.objects in
+    let firsts = c.args.indexed.now.firsts.now.entries in
     let part = c.in-Some.part in
     on_ok_weaker c.gather.result (λ noted s.
     noted s

@@ -5,14 +5,13 @@ use Rattle.mw_slice.specs.Supports.{Support, notes, event_asks}
 use Rattle.mw_slice.proofs.Growing.{nil_grows, firsts_grow, basis_grows}
 use Rattle.mw_slice.proofs.picking.gather_copied.Goals as goal
 
-pub gather_event-requires-clause-nil : goal.gather_event-requires-clause-nil
-gather_event-requires-clause-nil c = nil_grows c.nil.new.self.objects c.copy.new.to.objects c.copy.ensures.grows c.in_ok-nil.nil c.in_ok-nil.ensures.made
-
-pub gather_event-requires-clause-firsts : goal.gather_event-requires-clause-firsts
-gather_event-requires-clause-firsts c =
+pub gather_event-requires-clause-indexed : goal.gather_event-requires-clause-indexed
+gather_event-requires-clause-indexed c =
     let os = c.args.to.now.objects in
-    let new = c.copy.new.to.objects in
-    firsts_grow os new (Grows-trans os c.nil.new.self.objects new c.nil.ensures.grows c.copy.ensures.grows) c.args.firsts.now.entries c.requires.firsts
+    let new = c.copy.new.to.objects in (
+      nil_grows c.nil.new.self.objects new c.copy.ensures.grows c.in_ok-nil.nil c.in_ok-nil.ensures.made,
+      firsts_grow os new (Grows-trans os c.nil.new.self.objects new c.nil.ensures.grows c.copy.ensures.grows) c.args.firsts.now.entries c.requires.firsts,
+    )
 
 pub gather_event-requires-clause-basis : goal.gather_event-requires-clause-basis
 gather_event-requires-clause-basis c =

@@ -1,7 +1,7 @@
 -- The event is asked for, and what it asks for is gathered, or it is not.
 use Rattle.std.proofs.Common.{◌≡◌, ◌||◌, ◌++◌, ◌∷◌, [], true, cond, sym, ap, ◌∙◌}
-use Rattle.mw_heap.specs.Objects.{object_at}
 use Rattle.mw_heap.proofs.Objects.{Grows-trans}
+use Rattle.mw_slice.specs.Candidates.{event_of}
 use Rattle.mw_slice.specs.Supports.{notes, event_asks, is_asked_for}
 use Rattle.mw_slice.proofs.Growing.{firsts_grow, inside_grows, asked_for-grows, basis_grows}
 use Rattle.mw_slice.proofs.picking.keep.Goals as goal
@@ -29,9 +29,9 @@ returns-in_ok-push-clause-supports c = λ s.
     let new = c.gather_copied.new.to.objects in
     let firsts = c.args.firsts.now.entries in
     let basis = c.args.basis.now in
-    let e = object_at c.args.from.now.objects c.args.event in
-    let asked : is_asked_for new basis c.args.goal e c.args.place ≡ true =
-    asked_for-grows mid new c.gather_copied.ensures.grows basis (inside_grows os mid c.is_asked_for.ensures.grows basis c.requires.basis.inside) c.args.goal e c.args.place ∙ (sym c.in_ok-is_asked_for.ensures.asked ∙ c.if-branch.true) in
+    let e = event_of c.args.candidate.now in
+    let asked : is_asked_for new basis c.args.goal e c.args.candidate.now.place ≡ true =
+    asked_for-grows mid new c.gather_copied.ensures.grows basis (inside_grows os mid c.is_asked_for.ensures.grows basis c.requires.basis.inside) c.args.goal e c.args.candidate.now.place ∙ (sym c.in_ok-is_asked_for.ensures.asked ∙ c.if-branch.true) in
     c.in_ok-gather_copied.ensures.supports s ∙ sym (ap (λ b. cond b (notes new basis s || event_asks new firsts s e) (notes new basis s)) asked)
 
 pub returns-in_ok-push-clause-places : goal.returns-in_ok-push-clause-places
@@ -40,11 +40,11 @@ returns-in_ok-push-clause-places c =
     let mid = c.is_asked_for.new.to.objects in
     let new = c.gather_copied.new.to.objects in
     let basis = c.args.basis.now in
-    let e = object_at c.args.from.now.objects c.args.event in
+    let e = event_of c.args.candidate.now in
     let places = c.args.places.now.items in
-    let asked : is_asked_for new basis c.args.goal e c.args.place ≡ true =
-    asked_for-grows mid new c.gather_copied.ensures.grows basis (inside_grows os mid c.is_asked_for.ensures.grows basis c.requires.basis.inside) c.args.goal e c.args.place ∙ (sym c.in_ok-is_asked_for.ensures.asked ∙ c.if-branch.true) in
-    c.in_ok-push.ensures.items ∙ sym (ap (λ b. cond b (places ++ c.args.place ∷ []) places) asked)
+    let asked : is_asked_for new basis c.args.goal e c.args.candidate.now.place ≡ true =
+    asked_for-grows mid new c.gather_copied.ensures.grows basis (inside_grows os mid c.is_asked_for.ensures.grows basis c.requires.basis.inside) c.args.goal e c.args.candidate.now.place ∙ (sym c.in_ok-is_asked_for.ensures.asked ∙ c.if-branch.true) in
+    c.in_ok-push.ensures.items ∙ sym (ap (λ b. cond b (places ++ c.args.candidate.now.place ∷ []) places) asked)
 
 pub returns-else-branch-clause-basis : goal.returns-else-branch-clause-basis
 returns-else-branch-clause-basis c =
@@ -54,7 +54,7 @@ pub returns-else-branch-clause-supports : goal.returns-else-branch-clause-suppor
 returns-else-branch-clause-supports c = λ s.
     let mid = c.is_asked_for.new.to.objects in
     let basis = c.args.basis.now in
-    let e = object_at c.args.from.now.objects c.args.event in
+    let e = event_of c.args.candidate.now in
     let asked = sym c.in_ok-is_asked_for.ensures.asked ∙ c.if-branch.false in
     sym (ap (λ b. cond b (notes mid basis s || event_asks mid c.args.firsts.now.entries s e) (notes mid basis s)) asked)
 
@@ -62,4 +62,4 @@ pub returns-else-branch-clause-places : goal.returns-else-branch-clause-places
 returns-else-branch-clause-places c =
     let places = c.args.places.now.items in
     let asked = sym c.in_ok-is_asked_for.ensures.asked ∙ c.if-branch.false in
-    sym (ap (λ b. cond b (places ++ c.args.place ∷ []) places) asked)
+    sym (ap (λ b. cond b (places ++ c.args.candidate.now.place ∷ []) places) asked)

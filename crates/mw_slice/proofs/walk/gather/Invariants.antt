@@ -3,7 +3,7 @@ use Rattle.mw_slice.proofs.Walking.{IsWalking, waiting_load}
 use Rattle.mw_slice.proofs.walk.gather.Given as goal
 
 abbrev pub invariant-loop-part : goal.invariant-loop-part
-invariant-loop-part l = IsWalking l.heap.objects l.firsts.entries l.fn.root l.fn.basis l.basis l.waiting.items
+invariant-loop-part l = IsWalking l.indexed.heap.now.objects l.indexed.firsts.now.entries l.fn.root l.fn.basis l.basis l.waiting.items
 
 abbrev pub decreases-loop-part : goal.decreases-loop-part
 decreases-loop-part l = waiting_load l.waiting.items

@@ -9,12 +9,12 @@ use Rattle.mw_slice.proofs.walk.meet.Goals as goal
 pub returns-then-not-branch : goal.returns-then-not-branch
 returns-then-not-branch c =
     let i = subst (Inserts c.args.part c.args.basis.now c.insert.new.self) c.if-not-branch.true c.in_ok-insert.ensures in
-    inl (i.0, i.1 c.args.heap.now.objects, refl)
+    inl (i.0, i.1 c.args.indexed.now.heap.now.objects, refl)
 
 pub returns : goal.returns
 returns c =
-    let os = c.args.heap.now.objects in
-    let firsts = c.args.firsts.now.entries in
+    let os = c.args.indexed.now.heap.now.objects in
+    let firsts = c.args.indexed.now.firsts.now.entries in
     let i = subst (Inserts c.args.part c.args.basis.now c.insert.new.self) c.if-not-branch.false c.in_ok-insert.ensures in
     let n = c.in_ok-note.ensures in
     on_ok_weaker c.enter.result (λ e. inr (record {
