@@ -2,7 +2,7 @@
 use Rattle.std.proofs.Common.{◌≡◌, ℕ, ◌<◌, true, false, Some, None, List, [], ◌∷◌, ◌++◌, refl, sym, ap, ap₂, ◌∙◌, subst, arith}
 use Rattle.std.specs.List.{All}
 use Rattle.std.proofs.lemmas.List.Elements.{All-head, All-tail, All-nil}
-use Rattle.mw_model.specs.Terms.Object.{Object, Pair, NIL, list1}
+use Rattle.mw_model.specs.Terms.Object.{Object, Pair, NIL, symbol, list1}
 use Rattle.mw_model.specs.Values.Primitive.{is_pair}
 use Rattle.mw_model.specs.Laws.RulesInduction.{is_list_object}
 use Rattle.mw_model.specs.Events.Theory.{Theory}
@@ -15,14 +15,28 @@ use Rattle.mw_axioms.proofs.OnStack.{AreIn-push}
 use Rattle.mw_term.specs.Marking.{ObjectMark, AreMarks}
 use Rattle.mw_theory.specs.declared.theory.Theory.{Theory as Kept}
 use Rattle.mw_theory.specs.Knowledge.{parts_of, meant, IsHeld}
-use Rattle.mw_theory.specs.Words.{verify_event}
+use Rattle.mw_theory.specs.Words.{verify_event, define_all_event}
+use Rattle.mw_theory.specs.Admitting.{AreWithin}
+use Rattle.mw_theory.specs.declared.admitting.Drafts.{Drafts}
+use Rattle.mw_theory.specs.declared.admitting.Drafts.TheVariants as drafts
 use Rattle.mw_theory.proofs.CallerLemmas.{all-grow, meant-grows, put_before, put_before-push, list_object-before, list_end}
 use Rattle.mw_theory.proofs.CallerLemmas.{pair_before}
+use Rattle.mw_kernel.specs.Rewriting.{defining_event}
 
 -- a VERIFY whose proof turns to q or stays
 pub verify-rewritten : (turns : Turning) (t : Theory) → None ≡ t.checker → (x e n f p q : Object) → e ≡ verify_event n f p → TurnsOrStays turns t p q → x ≡ verify_event n f q → IsRewritten turns t e x
 verify-rewritten turns t built_in x e n f p q is turned x_is =
     subst (λ y. IsRewritten turns t y x) (sym is) (subst (λ c. IsRewrittenBy c (Some Verify) turns t (verify_event n f p) x) built_in (list1 q, (q, NIL, refl, turned, refl), x_is))
+
+-- the definitions mean in the end what they meant before
+pub defining_event-grows : (old new : List Object) → Grows old new → (given : Drafts) → AreWithin old given → (proofs : Object) → defining_event new given proofs ≡ defining_event old given proofs
+defining_event-grows old new g (drafts.One d) h proofs =
+    ap (Pair (symbol "DEFINE"))
+    (ap₂ Pair (object_at-Grows old new g d.name h.0)
+    (ap₂ Pair (object_at-Grows old new g d.formals h.1)
+    (ap₂ Pair (object_at-Grows old new g d.body h.2)
+    (ap₂ Pair (object_at-Grows old new g d.measure h.3) refl))))
+defining_event-grows old new g (drafts.All x) h proofs = ap (λ y. define_all_event y proofs) (object_at-Grows old new g x h)
 
 put_before-grow : (old new : List Object) → Grows old new → (xs : List ℕ) → All (IsIn old) xs → (rest : Object) → put_before new xs rest ≡ put_before old xs rest
 put_before-grow old new g [] h rest = refl

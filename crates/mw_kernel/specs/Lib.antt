@@ -7,3 +7,4 @@ pub mod Switching
 pub mod Evaluating
 pub mod Reasons
 pub mod Defining
+pub mod Rewriting

@@ -5,39 +5,27 @@ ghost use Rattle.mw_model.specs.Terms.Term.{formula_object, table_object};
 ghost use Rattle.mw_model.specs.Values.Primitive.{One, is_symbol, name_of};
 ghost use Rattle.mw_model.specs.Values.Definition.{arity_table};
 ghost use Rattle.mw_model.specs.Events.Theory.{Theory, initial, claim, IsSound};
-ghost use Rattle.mw_model.specs.Events.Refusal.{RANGE, Refused};
-ghost use Rattle.mw_model.specs.Events.Fate.{fate, next, happens, eval};
+ghost use Rattle.mw_model.specs.Events.Refusal.{RANGE};
+ghost use Rattle.mw_model.specs.Events.Fate.{fate, next};
 ghost use Rattle.mw_model.specs.Laws.Rewriting.{IsRewritten};
 ghost use Rattle.mw_heap.specs.Objects.{object_at, IsIn, Grows};
-ghost use Rattle.mw_heap.specs.Variants.{refusal_of};
 ghost use Rattle.mw_read.specs.Standing.{Stands, IsStanding, Follows, Says, IsLast, HasEndedWith, HasEnded};
 ghost use Rattle.mw_read.specs.Feeding.{IsAwaiting, IsReady, Continues};
 ghost use Rattle.mw_kernel.specs.Knowledge.{theory_of};
-ghost use Rattle.mw_kernel.specs.Proofs.{judged_for};
-ghost use Rattle.mw_theory.specs.Settled.{settles};
 ghost use Rattle.mw_commands.specs.Commands.Explanation.{why};
 ghost use Rattle.mw_kernel.specs.Explained.{PutsLine, PutsWhy};
-ghost use Rattle.mw_kernel.specs.Fates.{fate_of, KeepsRoom, Comes};
-ghost use Rattle.mw_theory.specs.Words.{eval_event, StandsBefore};
-ghost use Rattle.mw_kernel.specs.Switching.{switched};
+ghost use Rattle.mw_kernel.specs.Fates.{fate_of, KeepsRoom};
 
 use crate::Fate;
 use crate::checker::Checker;
 use crate::claim::claim;
-use crate::eval::evaluated;
-use crate::explaining::parts_shown;
 use crate::explaining::why::put_reason;
-use crate::fate::{accepted, fate_after, shown};
 use crate::rewriting::rewritten;
-use crate::switch::refusal_of_switch;
 use mw_heap::{Heap, Memory, Ref, Refusal};
 use mw_machine::Machine;
-use mw_model::theory::refusals;
 use mw_proof::Rewriter;
 use mw_read::{Reader, Step};
-use mw_reflect::reached_sound;
-use mw_theory::{Event, World, event_of};
-use mw_truth::soundness::events_keep;
+use mw_theory::World;
 use std::alloc::Global;
 use std::marker::Model;
 
@@ -46,8 +34,8 @@ use std::marker::Model;
 /// alone. So after an event that is refused, and after running out of memory, all six show what they showed before.
 #[derive(Drop)]
 pub struct Kernel {
-    world: World,
-    checker: Checker,
+    pub(crate) world: World,
+    pub(crate) checker: Checker,
     took_long: bool,
 }
 
@@ -121,9 +109,9 @@ impl Kernel {
         reader.next(&mut self.world.heap)
     }
 
-    /// The fate of an event, with which the theory goes on: it changes once where the event is accepted, and else it stays. Where memory
-    /// is refused it stays too. The theory is sound, whichever checker judges. After an event that is refused, and after one that shows
-    /// an object, the heap is as large as it was.
+    /// The fate of an event, with which the theory goes on: it changes once where the event is accepted, and else it stays. The one error is
+    /// out of memory: then the theory stays as it was too. The theory is sound, whichever checker judges. After an event that is refused,
+    /// and after one that shows an object, the heap is as large as it was.
     pub fn event(&mut self, event: Ref) -> Result<Fate, Memory>
         requires { IsIn self.old.objects event }
         ensures fate { IfOk result (λ f. fate_of f ≡ fate (theory_of self.old) (object_at self.old.objects event) self.old.steps) }
@@ -280,109 +268,5 @@ impl Kernel {
             &mut self.world.marks,
             by,
         )
-    }
-
-    // The fate of the event; what it leaves in the heap is still there.
-    fn happens(&mut self, event: Ref) -> Result<Fate, Memory>
-        requires { IsIn self.old.objects event }
-        ensures { Comes result self.old self.new (happens (theory_of self.old) self.old.steps (object_at self.old.objects event)) }
-    {
-        events_keep();
-        reached_sound();
-        let Some(members) = event_of(&self.world.heap, event) else {
-            return Ok(Fate::Refused(Refusal::Event));
-        };
-        match members {
-            Event::Eval(term) => self.eval(term),
-            Event::Print(x) => shown(&self.world.heap, x),
-            Event::Switch(name) => self.switch(name),
-            _ => self.settle(members),
-        }
-    }
-
-    // The fate of the event; of one that is refused the line that says why is put behind `out`. What it leaves in the heap is still there.
-    fn happens_explained(
-        &mut self,
-        event: Ref,
-        number: u64,
-        out: &mut Vec<u8>,
-    ) -> Result<Fate, Memory>
-        requires { IsIn self.old.objects event }
-        ensures comes { Comes result self.old self.new (happens (theory_of self.old) self.old.steps (object_at self.old.objects event)) }
-        ensures why { IfOk result (λ f. PutsWhy number (fate_of f) (theory_of self.old) self.old.steps (object_at self.old.objects event) out.old.items out.new.items) }
-    {
-        refusals();
-        let fate = self.happens(event)?;
-        match fate {
-            Fate::Accepted(text) => Ok(Fate::Accepted(text)),
-            Fate::Refused(reason) => self.refused_for(event, number, reason, out),
-        }
-    }
-
-    // The fate of an event that is refused for this reason: the line that says why is put behind `out`.
-    fn refused_for(
-        &mut self,
-        event: Ref,
-        number: u64,
-        reason: Refusal,
-        out: &mut Vec<u8>,
-    ) -> Result<Fate, Memory>
-        requires event { IsIn self.old.objects event }
-        requires refused { fate (theory_of self.old) (object_at self.old.objects event) self.old.steps ≡ Refused (refusal_of reason) }
-        ensures fate { IfOk result (λ f. fate_of f ≡ Refused (refusal_of reason)) }
-        ensures theory { theory_of self.new ≡ theory_of self.old }
-        ensures grows { Grows self.old.objects self.new.objects }
-        ensures rest { self.new ≡ record self.old { objects = self.new.objects } }
-        ensures why { OnOk result (PutsLine (why number (refusal_of reason) (theory_of self.old) self.old.steps (object_at self.old.objects event)) out.old.items out.new.items) }
-    {
-        let parts = parts_shown(
-            &mut self.world.heap,
-            &self.world.theory,
-            &mut self.world.marks,
-            &mut self.checker,
-            reason,
-            event,
-        )?;
-        put_reason(&mut self.world.heap, number, reason, parts.as_slice(), out)?;
-        Ok(Fate::Refused(reason))
-    }
-
-    // The fate of an event whose proofs the theory's checker judges, or that has none.
-    fn settle(&mut self, event: Event) -> Result<Fate, Memory>
-        requires within { StandsBefore (length self.old.objects) event }
-        requires sound { IsSound (settles (judged_for self.old.steps) self.old.objects (theory_of self.old) event).1 }
-        ensures { Comes result self.old self.new (settles (judged_for self.old.steps) self.old.objects (theory_of self.old) event) }
-    {
-        let refused = self.world.settle(event, &mut self.checker)?;
-        Ok(fate_after(&self.world.heap, refused))
-    }
-
-    // The fate of an EVAL, by which the theory stays.
-    fn eval(&mut self, term: Ref) -> Result<Fate, Memory>
-        requires { IsIn self.old.objects term }
-        ensures { Comes result self.old self.new (eval (theory_of self.old) self.old.steps (eval_event (object_at self.old.objects term))) }
-    {
-        evaluated(
-            &mut self.world.heap,
-            term,
-            &self.world.theory.arity,
-            &mut self.world.theory.table,
-            &mut self.checker.machine,
-            self.checker.steps,
-        )
-    }
-
-    // The fate of a SWITCH to the function of this name. Past the greatest level that a number of 64 bits holds the answer is out of memory.
-    fn switch(&mut self, name: Ref) -> Result<Fate, Memory>
-        requires name { IsIn self.old.objects name }
-        requires sound { IsSound (switched (theory_of self.old) (object_at self.old.objects name)).1 }
-        ensures { Comes result self.old self.new (switched (theory_of self.old) (object_at self.old.objects name)) }
-    {
-        let refused = refusal_of_switch(&mut self.world.heap, name, &self.world.theory)?;
-        if let Some(reason) = refused {
-            return Ok(Fate::Refused(reason));
-        }
-        self.world.set_checker(name)?;
-        Ok(accepted(&self.world.heap))
     }
 }

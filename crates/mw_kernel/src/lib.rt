@@ -4,6 +4,7 @@
 mod checker;
 mod claim;
 mod eval;
+mod events;
 mod explaining;
 mod fate;
 mod judging;

@@ -5,17 +5,19 @@ ghost use Rattle.mw_model.specs.Laws.RulesInduction.{is_list_object};
 ghost use Rattle.mw_model.specs.Laws.Rewriting.{TurnsOrStays, EachTurnsOrStays, IsRewritten};
 ghost use Rattle.mw_heap.specs.Objects.{object_at, IsIn, Grows};
 ghost use Rattle.mw_heap.specs.Lists.{list_object};
-ghost use Rattle.mw_define.specs.Blocks.{IsDraftIn};
 ghost use Rattle.mw_term.specs.Marking.{AreMarks};
+ghost use Rattle.mw_theory.specs.Admitting.{AreWithin};
 ghost use Rattle.mw_theory.specs.Knowledge.{parts_of, meant, IsHeld};
-ghost use Rattle.mw_theory.specs.Words.{verify_event, define_event, define_all_event};
+ghost use Rattle.mw_theory.specs.Words.{verify_event};
+ghost use Rattle.mw_kernel.specs.Rewriting.{defining_event};
 
 use mw_bad_steps::is_list;
 use mw_define::Draft;
 use mw_heap::{Heap, Memory, Ref, View, Word, form_of, list_of};
 use mw_proof::{Rewriter, Rewritten};
+use mw_rules::Basis;
 use mw_term::Marks;
-use mw_theory::{Event, Theory, event_of};
+use mw_theory::{Drafts, Event, Theory, event_of};
 
 /// The event with its proofs rewritten, each to what it turns to, or kept where it turns to nothing. The event itself where the theory's
 /// checker is not the built-in one, where the object is no event with proofs, and where its proofs are no proper list. The marks, which
@@ -83,7 +85,7 @@ fn by_members<R: Rewriter>(
                 body,
                 measure,
             };
-            with_proofs(heap, draft, proofs, theory, marks, by)
+            with_proofs(heap, Drafts::One(draft), proofs, theory, marks, by)
         }
         Event::DefineAll {
             definitions,
@@ -92,7 +94,7 @@ fn by_members<R: Rewriter>(
             if !is_list(heap, proofs) {
                 return Ok(event);
             }
-            with_proofs_of_all(heap, definitions, proofs, theory, marks, by)
+            with_proofs(heap, Drafts::All(definitions), proofs, theory, marks, by)
         }
         _ => Ok(event),
     }
@@ -122,16 +124,16 @@ fn with_proof<R: Rewriter>(
     form_of(heap, Word::Verify, &[name, formula, turned])
 }
 
-// A DEFINE of these members whose proofs are rewritten.
+// A DEFINE or a DEFINE-ALL that gives these definitions, whose proofs are rewritten.
 fn with_proofs<R: Rewriter>(
     heap: &mut Heap,
-    draft: Draft,
+    drafts: Drafts,
     proofs: Ref,
     theory: &Theory,
     marks: &mut Marks,
     by: &mut R,
 ) -> Result<Ref, Memory>
-    requires draft { IsDraftIn heap.old.objects draft }
+    requires drafts { AreWithin heap.old.objects drafts }
     requires proofs { IsIn heap.old.objects proofs }
     requires list { is_list_object (object_at heap.old.objects proofs) ≡ true }
     requires held { IsHeld heap.old.objects theory.now }
@@ -139,37 +141,27 @@ fn with_proofs<R: Rewriter>(
     ensures grows { Grows heap.old.objects heap.new.objects }
     ensures marked { AreMarks theory.now.arity heap.new.objects marks.new }
     ensures within { IfOk result (λ r. IsIn heap.new.objects r) }
-    ensures rewritten { IfOk result (λ r. (qs : Object) × EachTurnsOrStays R.turns (meant heap.old.objects (parts_of theory.now)) (object_at heap.old.objects proofs) qs × (object_at heap.new.objects r ≡ define_event (object_at heap.old.objects draft.name) (object_at heap.old.objects draft.formals) (object_at heap.old.objects draft.body) (object_at heap.old.objects draft.measure) qs)) }
+    ensures rewritten { IfOk result (λ r. (qs : Object) × EachTurnsOrStays R.turns (meant heap.old.objects (parts_of theory.now)) (object_at heap.old.objects proofs) qs × (object_at heap.new.objects r ≡ defining_event heap.old.objects drafts qs)) }
 {
     let turned = rewritten_list(heap, proofs, theory, marks, by)?;
-    form_of(
-        heap,
-        Word::Define,
-        &[draft.name, draft.formals, draft.body, draft.measure, turned],
-    )
+    defining_event(heap, drafts, turned)
 }
 
-// A DEFINE-ALL of these members whose proofs are rewritten.
-fn with_proofs_of_all<R: Rewriter>(
-    heap: &mut Heap,
-    definitions: Ref,
-    proofs: Ref,
-    theory: &Theory,
-    marks: &mut Marks,
-    by: &mut R,
-) -> Result<Ref, Memory>
-    requires definitions { IsIn heap.old.objects definitions }
+// The DEFINE or the DEFINE-ALL that gives these definitions, with these proofs.
+fn defining_event(heap: &mut Heap, drafts: Drafts, proofs: Ref) -> Result<Ref, Memory>
+    requires drafts { AreWithin heap.old.objects drafts }
     requires proofs { IsIn heap.old.objects proofs }
-    requires list { is_list_object (object_at heap.old.objects proofs) ≡ true }
-    requires held { IsHeld heap.old.objects theory.now }
-    requires marked { AreMarks theory.now.arity heap.old.objects marks.old }
     ensures grows { Grows heap.old.objects heap.new.objects }
-    ensures marked { AreMarks theory.now.arity heap.new.objects marks.new }
-    ensures within { IfOk result (λ r. IsIn heap.new.objects r) }
-    ensures rewritten { IfOk result (λ r. (qs : Object) × EachTurnsOrStays R.turns (meant heap.old.objects (parts_of theory.now)) (object_at heap.old.objects proofs) qs × (object_at heap.new.objects r ≡ define_all_event (object_at heap.old.objects definitions) qs)) }
+    ensures made { IfOk result (λ r. IsIn heap.new.objects r × (object_at heap.new.objects r ≡ defining_event heap.old.objects drafts (object_at heap.old.objects proofs))) }
 {
-    let turned = rewritten_list(heap, proofs, theory, marks, by)?;
-    form_of(heap, Word::DefineAll, &[definitions, turned])
+    match drafts {
+        Drafts::One(draft) => form_of(
+            heap,
+            Word::Define,
+            &[draft.name, draft.formals, draft.body, draft.measure, proofs],
+        ),
+        Drafts::All(definitions) => form_of(heap, Word::DefineAll, &[definitions, proofs]),
+    }
 }
 
 // The list of what the members of a proper list of proofs turn to, or of themselves where they turn to nothing.
@@ -236,15 +228,12 @@ fn rewritten_proof<R: Rewriter>(
     ensures within { IfOk result (λ r. IsIn heap.new.objects r) }
     ensures turned { IfOk result (λ r. TurnsOrStays R.turns (meant heap.old.objects (parts_of theory.now)) (object_at heap.old.objects proof) (object_at heap.new.objects r)) }
 {
-    match by.rewrite(
-        heap,
-        proof,
-        &theory.known_axioms,
-        &theory.known_theorems,
-        marks,
-        &theory.arity,
-        theory.profile,
-    ) {
+    let basis = Basis {
+        axioms: &theory.known_axioms,
+        theorems: &theory.known_theorems,
+        profile: theory.profile,
+    };
+    match by.rewrite(heap, proof, &basis, marks, &theory.arity) {
         Rewritten::Proof(turned) => Ok(turned),
         Rewritten::Keep => Ok(proof),
         Rewritten::Memory => Err(Memory),

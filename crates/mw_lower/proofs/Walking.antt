@@ -9,10 +9,15 @@ use Rattle.mw_model.specs.Terms.Object.{Object, Natural, Symbol, Pair}
 use Rattle.mw_model.specs.Terms.Term.{ArityTable}
 use Rattle.mw_heap.specs.Objects.{object_at, IsIn, Grows, AreDistinct}
 use Rattle.mw_heap.proofs.Objects.{IsIn-Grows, object_at-Grows}
+use Rattle.mw_heap.specs.Variants.{profile_of}
 use Rattle.mw_term.specs.Marking.{ObjectMark, AreMarks, mark_of_object}
 use Rattle.mw_proof.specs.Step.{subproofs_of}
 use Rattle.mw_proof.specs.Gathered.{IsAmong, AreIn, HasMembers}
-use Rattle.mw_proof.specs.Judging.{Basis}
+use Rattle.mw_proof.specs.Judging.{Basis, basis_over}
+use Rattle.mw_proof.proofs.Deciding.{All-map}
+use Rattle.mw_proof.proofs.Holding.{basis-grows}
+use Rattle.mw_rules.specs.declared.basis.Basis as rules
+use Rattle.mw_rules.specs.Basis.{IsBasisIn}
 use Rattle.mw_rules.proofs.CallerLemmas.{eqb-swap}
 use Rattle.mw_proof.proofs.Gathering.{IsAmong-at, place}
 use Rattle.mw_lower.specs.Parts.{AreParts}
@@ -21,6 +26,17 @@ use Rattle.mw_lower.specs.Turned.{Becomes, IsTurned, AreMembersTurned, AreSubpro
 -- of each of these references it is known what it becomes
 abbrev pub AreTurned : Basis → List Object → List (ℕ × ℕ) → List ℕ → Type 0
 AreTurned b os turned keys = (p : ℕ) → IsAmong keys p → IsTurned b os (lookup (nat_eq p) turned) (object_at os p)
+
+-- what a proof may rest on stays in the heap, as it was
+module _ (os new : List Object) (g : Grows os new) where
+  pub IsBasisIn-grows : (b : rules.Basis) → IsBasisIn os b → IsBasisIn new b
+  IsBasisIn-grows b h = record {
+    axioms = All-map (IsIn os) (IsIn new) b.axioms.now (IsIn-Grows os new g) h.axioms;
+    theorems = All-map (IsIn os) (IsIn new) b.theorems.now (IsIn-Grows os new g) h.theorems;
+  }
+
+  pub basis_over-grows : (A : ArityTable) (b : rules.Basis) → IsBasisIn os b → basis_over new A b ≡ basis_over os A b
+  basis_over-grows A b h = basis-grows os new g A b.axioms.now b.theorems.now (profile_of b.profile) h.axioms h.theorems
 
 -- marks that reach no further than the older heap are right in it
 pub AreMarks-older : (A : ArityTable) (os new : List Object) (ms : List ObjectMark) → Grows os new → length ms ≤ length os → AreMarks A new ms → AreMarks A os ms

@@ -1,18 +1,18 @@
 //! The rewriter of derivations.
-ghost use Rattle.std.specs.Prelude.{◌≡◌, ◌≤◌, All, length, IfOk};
+ghost use Rattle.std.specs.Prelude.{◌≡◌, ◌≤◌, length, IfOk};
 ghost use Rattle.mw_heap.specs.Objects.{object_at, IsIn, Grows};
-ghost use Rattle.mw_heap.specs.Variants.{profile_of};
 ghost use Rattle.mw_term.specs.Marking.{AreMarks};
-ghost use Rattle.mw_proof.specs.Judging.{basis};
+ghost use Rattle.mw_rules.specs.Basis.{IsBasisIn};
+ghost use Rattle.mw_proof.specs.Judging.{basis_over};
 ghost use Rattle.mw_lower.specs.Proofs.{HasEquality};
 ghost use Rattle.mw_lower.specs.Turned.{IsTurned};
 
 use crate::parts::parts;
 use crate::walk::turn_all;
 use indexmap::IndexMap;
-use mw_heap::{Heap, Memory, Profile, Ref};
+use mw_heap::{Heap, Memory, Ref};
 use mw_proof::{Rewriter, Rewritten};
-use mw_rules::Known;
+use mw_rules::Basis;
 use mw_term::{Arity, Marks};
 
 /// Turns derivations to proofs by the twelve methods. What is such a proof already stays.
@@ -28,13 +28,11 @@ impl Rewriter for Lower {
         &mut self,
         heap: &mut Heap,
         proof: Ref,
-        axioms: &Known,
-        theorems: &Known,
+        basis: &Basis,
         marks: &mut Marks,
         arity: &Arity,
-        profile: Profile,
     ) -> Rewritten {
-        match turned(heap, proof, axioms, theorems, marks, arity, profile) {
+        match turned(heap, proof, basis, marks, arity) {
             Ok(Some(q)) => {
                 heap.in_range(q);
                 Rewritten::Proof(q)
@@ -49,21 +47,18 @@ impl Rewriter for Lower {
 fn turned(
     heap: &mut Heap,
     proof: Ref,
-    axioms: &Known,
-    theorems: &Known,
+    basis: &Basis,
     marks: &mut Marks,
     arity: &Arity,
-    profile: Profile,
 ) -> Result<Option<Ref>, Memory>
     requires within { IsIn heap.old.objects proof }
-    requires axioms { All (IsIn heap.old.objects) axioms.now }
-    requires theorems { All (IsIn heap.old.objects) theorems.now }
-    requires equality { HasEquality (basis heap.old.objects arity.now axioms.now theorems.now (profile_of profile)) }
+    requires basis { IsBasisIn heap.old.objects basis.now }
+    requires equality { HasEquality (basis_over heap.old.objects arity.now basis.now) }
     requires marked { AreMarks arity.now heap.old.objects marks.old }
     ensures grows { Grows heap.old.objects heap.new.objects }
     ensures marked { AreMarks arity.now heap.new.objects marks.new }
     ensures kept { length marks.old ≤ length marks.new }
-    ensures turned { IfOk result (λ o. IsTurned (basis heap.old.objects arity.now axioms.now theorems.now (profile_of profile)) heap.new.objects o (object_at heap.old.objects proof)) }
+    ensures turned { IfOk result (λ o. IsTurned (basis_over heap.old.objects arity.now basis.now) heap.new.objects o (object_at heap.old.objects proof)) }
 {
     let below = heap.mark();
     marks.extend(heap, arity, below)?;
@@ -71,14 +66,5 @@ fn turned(
         return Ok(None);
     };
     let mut known = IndexMap::new(heap.alloc());
-    turn_all(
-        heap,
-        proof,
-        parts.as_slice(),
-        &mut known,
-        axioms,
-        theorems,
-        profile,
-        marks,
-    )
+    turn_all(heap, proof, parts.as_slice(), &mut known, basis, marks)
 }

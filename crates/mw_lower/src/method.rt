@@ -1,7 +1,6 @@
 //! Steps by the methods of proof.
 ghost use Rattle.std.specs.Prelude.{◌≡◌, ◌<◌, true, All, List, length, IfOk};
 ghost use Rattle.mw_heap.specs.Objects.{object_at, IsIn, Grows};
-ghost use Rattle.mw_heap.specs.Variants.{profile_of};
 ghost use Rattle.mw_term.specs.Marking.{AreMarks};
 ghost use Rattle.mw_model.specs.Terms.Term.{ArityTable, Formula};
 ghost use Rattle.mw_model.specs.Proofs.Proof.{ProveEach};
@@ -9,13 +8,13 @@ ghost use Rattle.mw_model.specs.Proofs.Judgment.{methods, method_among};
 ghost use Rattle.mw_model.specs.Laws.Rules.{is_formula_object};
 ghost use Rattle.mw_rules.specs.Step.{rule_holds};
 ghost use Rattle.mw_rules.specs.Basis.{IsBasisIn};
-ghost use Rattle.mw_proof.specs.Judging.{basis, basis_over};
+ghost use Rattle.mw_proof.specs.Judging.{basis_over};
 ghost use Rattle.mw_heap.specs.Lists.{list_object};
 ghost use Rattle.mw_lower.specs.Methods.{ProvesSome, method_follows, IsMethodStep, AreConclusions, WithProofs};
 
-use mw_heap::{Heap, Memory, Profile, Ref, list_of};
+use mw_heap::{Heap, Memory, Ref, list_of};
 use mw_proof::Members;
-use mw_rules::{Basis, Known, Method, follows};
+use mw_rules::{Basis, Method, follows};
 use mw_term::Marks;
 
 /// A step by its method with other proofs for its premises, and with these the step itself where they are its own; nothing where it does
@@ -25,9 +24,7 @@ pub(crate) fn method_step(
     p: Ref,
     step: Members,
     proofs: &[Ref],
-    axioms: &Known,
-    theorems: &Known,
-    profile: Profile,
+    basis: &Basis,
     marks: &Marks,
 ) -> Result<Option<Ref>, Memory>
     requires marks { (A : ArityTable) × AreMarks A heap.old.objects marks.now }
@@ -38,18 +35,12 @@ pub(crate) fn method_step(
     requires subproofs { IsIn heap.old.objects step.subproofs }
     requires extras { step.extras < length marks.now }
     requires within { All (IsIn heap.old.objects) proofs.now }
-    requires axioms { All (IsIn heap.old.objects) axioms.now }
-    requires theorems { All (IsIn heap.old.objects) theorems.now }
-    requires proofs { (A : ArityTable) → AreMarks A heap.old.objects marks.now → ProvesSome (basis heap.old.objects A axioms.now theorems.now (profile_of profile)) (list_object heap.old.objects proofs.now) }
+    requires basis { IsBasisIn heap.old.objects basis.now }
+    requires proofs { (A : ArityTable) → AreMarks A heap.old.objects marks.now → ProvesSome (basis_over heap.old.objects A basis.now) (list_object heap.old.objects proofs.now) }
     ensures grows { Grows heap.old.objects heap.new.objects }
-    ensures answer { IfOk result (λ o. (A : ArityTable) → AreMarks A heap.old.objects marks.now → IsMethodStep (basis heap.old.objects A axioms.now theorems.now (profile_of profile)) heap.old.objects p step (list_object heap.old.objects proofs.now) heap.new.objects o) }
+    ensures answer { IfOk result (λ o. (A : ArityTable) → AreMarks A heap.old.objects marks.now → IsMethodStep (basis_over heap.old.objects A basis.now) heap.old.objects p step (list_object heap.old.objects proofs.now) heap.new.objects o) }
 {
-    let basis = Basis {
-        axioms,
-        theorems,
-        profile,
-    };
-    if !follows_from(heap, step, proofs, &basis, marks)? {
+    if !follows_from(heap, step, proofs, basis, marks)? {
         return Ok(None);
     }
     Ok(Some(with_proofs(heap, p, step, proofs)?))

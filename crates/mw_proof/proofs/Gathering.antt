@@ -206,7 +206,7 @@ module _ (os : List Object) (keys : List ℕ) (proof next : ℕ) (g : Gathers os
     no_others = record { distinct = distinct; each = g.made_of };
   }
 
--- memory was refused before the first
+-- out of memory before the first
 pub none_decided : (os : List Object) (proof steps : ℕ) → HasStepForSome os proof steps steps
 none_decided os proof steps = ([], record { distinct = IsDistinct-from_apart eqb [] (λ i j d k l. absurd (omega arith)); each = λ q h. cc }, omega arith)
 

@@ -11,7 +11,7 @@ use mw_forms::{boxed, is_in, read, read_two};
 use mw_heap::{Heap, Memory, Profile, Ref};
 use mw_lower::Lower;
 use mw_proof::{Judged, Rewriter, Rewritten, judge};
-use mw_rules::Known;
+use mw_rules::{Basis, Known};
 use mw_term::{Arity, Marks};
 use std::alloc::Global;
 use std::test::Fail;
@@ -72,16 +72,14 @@ fn lowered_from(heap: &mut Heap, p: Ref, known: &Known, arity: &Arity) -> Rewrit
         return Rewritten::Memory;
     }
     let alloc = heap.alloc();
+    let theorems = Known::new(alloc);
+    let basis = Basis {
+        axioms: known,
+        theorems: &theorems,
+        profile: Profile::One,
+    };
     let mut lower = Lower;
-    lower.rewrite(
-        heap,
-        p,
-        known,
-        &Known::new(alloc),
-        &mut Marks::new(alloc),
-        arity,
-        Profile::One,
-    )
+    lower.rewrite(heap, p, &basis, &mut Marks::new(alloc), arity)
 }
 
 // The same, where IF has its arity.

@@ -1,5 +1,5 @@
 //! A block of definitions more.
-ghost use Rattle.std.specs.Prelude.{◌≡◌, ℕ, ◌-◌, ◌≤◌, true, List, [], ◌∷◌, ◌++◌, length, take, drop, map, reverse, All, IfOk, OnOk, OnErr};
+ghost use Rattle.std.specs.Prelude.{◌≡◌, ◌-◌, ◌≤◌, List, [], ◌∷◌, ◌++◌, length, take, drop, map, reverse, All, IfOk, OnOk, OnErr};
 ghost use Rattle.mw_model.specs.Terms.Object.{Object};
 ghost use Rattle.mw_model.specs.Terms.Term.{ArityTable, table_object};
 ghost use Rattle.mw_model.specs.Values.Definition.{Block, Definitions, arity_table};
@@ -26,42 +26,47 @@ pub(crate) struct Lists {
     pub arity_list: Ref,
 }
 
+/// What is added to a theory: a block of definitions, and its axioms.
+#[derive(Clone, Copy)]
+pub(crate) struct Addition<'a> {
+    pub block: &'a [Definition],
+    pub axioms: &'a [Ref],
+}
+
 /// Adds a block of definitions and its axioms to the arity table, the entries, the code and the known axioms, and answers the lists with
 /// them in front. The one error is out of memory: then only the heap has grown, and the table stands for what it stood for.
 pub(crate) fn add_block(
     heap: &mut Heap,
-    block: &[Definition],
-    axioms: &[Ref],
+    addition: &Addition,
     lists: Lists,
     arity: &mut Arity,
     entries: &mut Entries,
     table: &mut Table,
     known: &mut Known,
 ) -> Result<Lists, Memory>
-    requires block { (D : Definitions) × (B : Block) × MayBeAdded heap.old.objects table.old D block.now B × (arity.old ≡ arity_table D) }
-    requires axioms { All (IsIn heap.old.objects) axioms.now }
+    requires block { (D : Definitions) × (B : Block) × MayBeAdded heap.old.objects table.old D addition.now.block.now B × (arity.old ≡ arity_table D) }
+    requires axioms { All (IsIn heap.old.objects) addition.now.axioms.now }
     requires axiom_list { IsIn heap.old.objects lists.axioms }
     requires arity_list { IsIn heap.old.objects lists.arity_list }
     requires arities_listed { object_at heap.old.objects lists.arity_list ≡ table_object arity.old }
     ensures grows { Grows heap.old.objects heap.new.objects }
-    ensures table { (D : Definitions) (B : Block) → MayBeAdded heap.old.objects table.old D block.now B → OnOk result (StandsFor heap.new.objects table.new (with_block B D)) }
-    ensures arity { (D : Definitions) (B : Block) → MayBeAdded heap.old.objects table.old D block.now B → arity.old ≡ arity_table D → OnOk result (arity.new ≡ arity_table (with_block B D)) }
-    ensures entries { OnOk result (entries.new ≡ entries.old ++ block.now ∷ []) }
-    ensures known { OnOk result (known.new ≡ reverse axioms.now ++ known.old) }
-    ensures arity_list { (D : Definitions) (B : Block) → MayBeAdded heap.old.objects table.old D block.now B → arity.old ≡ arity_table D → IfOk result (λ l. IsIn heap.new.objects l.arity_list × (object_at heap.new.objects l.arity_list ≡ table_object (arity_table (with_block B D)))) }
-    ensures axiom_list { IfOk result (λ l. IsIn heap.new.objects l.axioms × (object_at heap.new.objects l.axioms ≡ put_all (map (object_at heap.old.objects) axioms.now) (object_at heap.old.objects lists.axioms))) }
+    ensures table { (D : Definitions) (B : Block) → MayBeAdded heap.old.objects table.old D addition.now.block.now B → OnOk result (StandsFor heap.new.objects table.new (with_block B D)) }
+    ensures arity { (D : Definitions) (B : Block) → MayBeAdded heap.old.objects table.old D addition.now.block.now B → arity.old ≡ arity_table D → OnOk result (arity.new ≡ arity_table (with_block B D)) }
+    ensures entries { OnOk result (entries.new ≡ entries.old ++ addition.now.block.now ∷ []) }
+    ensures known { OnOk result (known.new ≡ reverse addition.now.axioms.now ++ known.old) }
+    ensures arity_list { (D : Definitions) (B : Block) → MayBeAdded heap.old.objects table.old D addition.now.block.now B → arity.old ≡ arity_table D → IfOk result (λ l. IsIn heap.new.objects l.arity_list × (object_at heap.new.objects l.arity_list ≡ table_object (arity_table (with_block B D)))) }
+    ensures axiom_list { IfOk result (λ l. IsIn heap.new.objects l.axioms × (object_at heap.new.objects l.axioms ≡ put_all (map (object_at heap.old.objects) addition.now.axioms.now) (object_at heap.old.objects lists.axioms))) }
     ensures err_table { (os : List Object) (E : Definitions) → StandsFor os table.old E → OnErr result (StandsFor os table.new E) }
     ensures err_arity { OnErr result (arity.new ≡ arity.old) }
     ensures err_entries { OnErr result (entries.new ≡ entries.old) }
     ensures err_known { OnErr result (known.new ≡ known.old) }
 {
-    let pairs = pairs_of(heap, block)?;
-    let lists = with_lists(heap, pairs.as_slice(), axioms, lists)?;
+    let pairs = pairs_of(heap, addition.block)?;
+    let lists = with_lists(heap, pairs.as_slice(), addition.axioms, lists)?;
     add_or_keep(
         heap,
-        block,
+        addition,
         pairs.as_slice(),
-        axioms,
         arity,
         entries,
         table,
@@ -94,9 +99,8 @@ fn with_lists(
 // Adds a block to the arity table, the entries, the known axioms and the code. If memory runs out, the first three are what they were.
 fn add_or_keep(
     heap: &Heap,
-    block: &[Definition],
+    addition: &Addition,
     pairs: &[(Ref, u64)],
-    axioms: &[Ref],
     arity: &mut Arity,
     entries: &mut Entries,
     table: &mut Table,
@@ -104,18 +108,18 @@ fn add_or_keep(
 ) -> Result<(), Memory>
     requires symbols { ArePairsOfSymbols heap.now.objects pairs.now }
     requires new { AreNew heap.now.objects arity.old pairs.now }
-    requires block { (D : Definitions) × (B : Block) × MayBeAdded heap.now.objects table.old D block.now B }
-    ensures table { (D : Definitions) (B : Block) → MayBeAdded heap.now.objects table.old D block.now B → OnOk result (StandsFor heap.now.objects table.new (with_block B D)) }
+    requires block { (D : Definitions) × (B : Block) × MayBeAdded heap.now.objects table.old D addition.now.block.now B }
+    ensures table { (D : Definitions) (B : Block) → MayBeAdded heap.now.objects table.old D addition.now.block.now B → OnOk result (StandsFor heap.now.objects table.new (with_block B D)) }
     ensures arity { OnOk result (arity.new ≡ with_pairs heap.now.objects pairs.now arity.old) }
-    ensures entries { OnOk result (entries.new ≡ entries.old ++ block.now ∷ []) }
-    ensures known { OnOk result (known.new ≡ reverse axioms.now ++ known.old) }
+    ensures entries { OnOk result (entries.new ≡ entries.old ++ addition.now.block.now ∷ []) }
+    ensures known { OnOk result (known.new ≡ reverse addition.now.axioms.now ++ known.old) }
     ensures err_table { (os : List Object) (E : Definitions) → StandsFor os table.old E → OnErr result (StandsFor os table.new E) }
     ensures err_arity { OnErr result (arity.new ≡ arity.old) }
     ensures err_entries { OnErr result (entries.new ≡ entries.old) }
     ensures err_known { OnErr result (known.new ≡ known.old) }
 {
     let had = sizes_of(arity, entries, known);
-    match add_parts(heap, block, pairs, axioms, arity, entries, table, known) {
+    match add_parts(heap, addition, pairs, arity, entries, table, known) {
         Ok(()) => Ok(()),
         Err(refusal) => {
             cut_back(had, arity, entries, known);
@@ -127,9 +131,8 @@ fn add_or_keep(
 // The same, with the code last. If memory runs out, some of the block may stay with all but the code.
 fn add_parts(
     heap: &Heap,
-    block: &[Definition],
+    addition: &Addition,
     pairs: &[(Ref, u64)],
-    axioms: &[Ref],
     arity: &mut Arity,
     entries: &mut Entries,
     table: &mut Table,
@@ -137,20 +140,20 @@ fn add_parts(
 ) -> Result<(), Memory>
     requires symbols { ArePairsOfSymbols heap.now.objects pairs.now }
     requires new { AreNew heap.now.objects arity.old pairs.now }
-    requires block { (D : Definitions) × (B : Block) × MayBeAdded heap.now.objects table.old D block.now B }
-    ensures table { (D : Definitions) (B : Block) → MayBeAdded heap.now.objects table.old D block.now B → OnOk result (StandsFor heap.now.objects table.new (with_block B D)) }
+    requires block { (D : Definitions) × (B : Block) × MayBeAdded heap.now.objects table.old D addition.now.block.now B }
+    ensures table { (D : Definitions) (B : Block) → MayBeAdded heap.now.objects table.old D addition.now.block.now B → OnOk result (StandsFor heap.now.objects table.new (with_block B D)) }
     ensures arity { OnOk result (arity.new ≡ with_pairs heap.now.objects pairs.now arity.old) }
-    ensures entries { OnOk result (entries.new ≡ entries.old ++ block.now ∷ []) }
-    ensures known { OnOk result (known.new ≡ reverse axioms.now ++ known.old) }
+    ensures entries { OnOk result (entries.new ≡ entries.old ++ addition.now.block.now ∷ []) }
+    ensures known { OnOk result (known.new ≡ reverse addition.now.axioms.now ++ known.old) }
     ensures err_table { (os : List Object) (E : Definitions) → StandsFor os table.old E → OnErr result (StandsFor os table.new E) }
     ensures arity_kept { EndsWith arity.new arity.old }
     ensures entries_kept { BeginsWith entries.new entries.old }
     ensures known_kept { EndsWith known.new known.old }
 {
     add_pairs(arity, heap, pairs)?;
-    add_entry(entries, heap.alloc(), block)?;
-    add_known(known, axioms)?;
-    add_code(table, heap, block)
+    add_entry(entries, heap.alloc(), addition.block)?;
+    add_known(known, addition.axioms)?;
+    add_code(table, heap, addition.block)
 }
 
 // Adds a copy of a block to the entries, where memory is given.

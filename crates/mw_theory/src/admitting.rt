@@ -1,6 +1,6 @@
 //! Functions that an event defines.
 ghost use Rattle.std.specs.Prelude.{◌≡◌, ◌≤◌, length, slice_get, map, Some, IfOk, IfSome};
-ghost use Rattle.mw_heap.specs.Objects.{object_at, Grows};
+ghost use Rattle.mw_heap.specs.Objects.{Grows};
 ghost use Rattle.mw_define.specs.BlockTests.{IsBlockOf, IsBlockOfWithin};
 ghost use Rattle.mw_theory.specs.Admitting.{AreWithin, AreBefore, drafts_given, function_of_entry};
 

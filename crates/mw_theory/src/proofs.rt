@@ -1,12 +1,11 @@
 //! The proofs that an event comes with, one for each formula that it owes.
-ghost use Rattle.std.specs.Prelude.{◌≡◌, List, true, All, IfOk, option_map};
+ghost use Rattle.std.specs.Prelude.{◌≡◌, List, true, IfOk, option_map};
 ghost use Rattle.mw_model.specs.Terms.Object.{Object, has_members};
 ghost use Rattle.mw_model.specs.Terms.Term.{Formula};
-ghost use Rattle.mw_model.specs.Laws.RulesInduction.{formulas_object, is_list_object, length_object};
+ghost use Rattle.mw_model.specs.Laws.RulesInduction.{formulas_object, length_object};
 ghost use Rattle.mw_heap.specs.Objects.{object_at, IsIn, Grows};
 ghost use Rattle.mw_heap.specs.Variants.{refusal_of};
 ghost use Rattle.mw_term.specs.Marking.{AreMarks};
-ghost use Rattle.mw_heap.specs.Lists.{list_object};
 ghost use Rattle.mw_theory.specs.Knowledge.{parts_of, meant, IsHeld};
 ghost use Rattle.mw_theory.specs.Proofs.{judged_each, judged_all};
 

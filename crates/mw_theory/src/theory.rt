@@ -1,5 +1,5 @@
 //! What is kept of a theory.
-ghost use Rattle.std.specs.Prelude.{◌≡◌, IfOk, OnOk, OnErr};
+ghost use Rattle.std.specs.Prelude.{◌≡◌, OnOk, OnErr};
 ghost use Rattle.mw_model.specs.Values.Definition.{Block};
 ghost use Rattle.mw_model.specs.Events.Theory.{IsSound};
 ghost use Rattle.mw_model.specs.Events.Admission.{add_to_theory};
@@ -7,7 +7,7 @@ ghost use Rattle.mw_heap.specs.Objects.{object_at, IsIn, Grows};
 ghost use Rattle.mw_theory.specs.Knowledge.{parts_of, meant, with_theorem, IsHeld};
 ghost use Rattle.mw_theory.specs.Defining.{IsNewBlock, HasOtherCode};
 
-use crate::adding::{Lists, add_block};
+use crate::adding::{Addition, Lists, add_block};
 use crate::front::with_front;
 use mw_code::Table;
 use mw_heap::{Heap, Memory, Profile, Ref};
@@ -77,8 +77,10 @@ impl Theory {
         let members = heap.list_members(axioms)?;
         let lists = add_block(
             heap,
-            block,
-            members.as_slice(),
+            &Addition {
+                block,
+                axioms: members.as_slice(),
+            },
             Lists {
                 axioms: self.axioms,
                 arity_list: self.arity_list,

@@ -11,7 +11,7 @@ ghost use Rattle.mw_theory.specs.Settling.{verify_refusal};
 use crate::judge::Judge;
 use crate::symbol::is_symbol;
 use crate::theory::Theory;
-use mw_heap::{Heap, Memory, Ref, Refusal, View};
+use mw_heap::{Heap, Memory, Ref, Refusal};
 use mw_term::{Marks, is_formula};
 
 /// Why a VERIFY of these members is refused, where it is: Name where its name is no symbol, Formula where its formula is none, and then

@@ -5,8 +5,7 @@ use Rattle.std.proofs.lemmas.Result.{IfOk-weaker}
 use Rattle.mw_model.specs.Proofs.Proof.{ProveEach}
 use Rattle.mw_heap.specs.Objects.{object_at, IsIn}
 use Rattle.mw_heap.specs.Lists.{list_object}
-use Rattle.mw_heap.specs.Variants.{profile_of}
-use Rattle.mw_proof.specs.Judging.{basis}
+use Rattle.mw_proof.specs.Judging.{basis_over}
 use Rattle.mw_lower.specs.Answers.{AnswersStep}
 use Rattle.mw_lower.specs.Further.{rule_of}
 use Rattle.mw_lower.specs.Methods.{IsMethodStep}
@@ -17,18 +16,18 @@ use Rattle.mw_lower.proofs.turn.turn.Goals as goal
 
 pub returns-in_default-clause-turned : goal.returns-in_default-clause-turned
 returns-in_default-clause-turned c = λ A k.
-    no_shape_derived (basis c.args.heap.now.objects A c.args.axioms.now c.args.theorems.now (profile_of c.args.profile)) (object_at c.args.heap.now.objects c.args.p) (sym c.in_default.ensures.shape)
+    no_shape_derived (basis_over c.args.heap.now.objects A c.args.basis.now) (object_at c.args.heap.now.objects c.args.p) (sym c.in_default.ensures.shape)
 
 pub returns-then-not-is_formula-clause-turned : goal.returns-then-not-is_formula-clause-turned
 returns-then-not-is_formula-clause-turned c = λ A k.
     let os = c.args.heap.now.objects in
-    let b = basis os A c.args.axioms.now c.args.theorems.now (profile_of c.args.profile) in
+    let b = basis_over os A c.args.basis.now in
     no_formula b os c.args.p c.in-Some.step c.in-Some.ensures.shape c.in-Some.ensures.members (sym (c.is_formula.ensures A os k) ∙ c.if-not-is_formula.true)
 
 pub returns-in_default-2-clause-turned : goal.returns-in_default-2-clause-turned
 returns-in_default-2-clause-turned c = λ A k.
     let os = c.args.heap.now.objects in
-    let b = basis os A c.args.axioms.now c.args.theorems.now (profile_of c.args.profile) in
+    let b = basis_over os A c.args.basis.now in
     let m = c.in-Some.step in
     let known = members_turned b os c.args.turned.now.entries c.args.p m c.in-Some.ensures.shape c.in-Some.ensures.members (c.requires.known A k) in
     no_subproofs b os c.args.p m c.in-Some.ensures.shape c.in-Some.ensures.members (no_list_replaced b os (object_at os m.subproofs) c.in_ok-proofs.field-0 c.in_default-2.is (c.in_ok-proofs.ensures.turned b known))
@@ -37,7 +36,7 @@ pub further_step-requires-clause-proofs : goal.further_step-requires-clause-proo
 further_step-requires-clause-proofs c =
     let os = c.args.heap.now.objects in
     let A = c.requires.marks.0 in
-    let b = basis os A c.args.axioms.now c.args.theorems.now (profile_of c.args.profile) in
+    let b = basis_over os A c.args.basis.now in
     let known = members_turned b os c.args.turned.now.entries c.args.p c.in-Some.step c.in-Some.ensures.shape c.in-Some.ensures.members (c.requires.known A c.requires.marks.1) in
     subst (All (IsIn os)) (sym c.as_slice.ensures.value) (subst (λ o. IfSome o (λ v. All (IsIn os) v.items)) c.in-Some-2.is (c.in_ok-proofs.ensures.within b known))
 
@@ -45,7 +44,7 @@ pub returns-in-Some-further_of-clause-turned : goal.returns-in-Some-further_of-c
 returns-in-Some-further_of-clause-turned c = IfOk-weaker c.further_step.result _ _ (λ o h A k.
     let os = c.args.heap.now.objects in
     let new = c.further_step.new.heap.objects in
-    let b = basis os A c.args.axioms.now c.args.theorems.now (profile_of c.args.profile) in
+    let b = basis_over os A c.args.basis.now in
     let m = c.in-Some.step in
     let shape = c.in-Some.ensures.shape in
     let am = c.in-Some.ensures.members in
@@ -63,14 +62,14 @@ pub method_step-requires-clause-within : goal.method_step-requires-clause-within
 method_step-requires-clause-within c =
     let os = c.args.heap.now.objects in
     let A = c.requires.marks.0 in
-    let b = basis os A c.args.axioms.now c.args.theorems.now (profile_of c.args.profile) in
+    let b = basis_over os A c.args.basis.now in
     let known = members_turned b os c.args.turned.now.entries c.args.p c.in-Some.step c.in-Some.ensures.shape c.in-Some.ensures.members (c.requires.known A c.requires.marks.1) in
     subst (All (IsIn os)) (sym c.as_slice-in-None.ensures.value) (subst (λ o. IfSome o (λ v. All (IsIn os) v.items)) c.in-Some-2.is (c.in_ok-proofs.ensures.within b known))
 
 pub method_step-requires-clause-proofs : goal.method_step-requires-clause-proofs
 method_step-requires-clause-proofs c = λ A k.
     let os = c.args.heap.now.objects in
-    let b = basis os A c.args.axioms.now c.args.theorems.now (profile_of c.args.profile) in
+    let b = basis_over os A c.args.basis.now in
     let m = c.in-Some.step in
     let known = members_turned b os c.args.turned.now.entries c.args.p m c.in-Some.ensures.shape c.in-Some.ensures.members (c.requires.known A k) in
     let replaced = list_replaced b os (object_at os m.subproofs) c.in_ok-proofs.field-0 c.in-Some-2.proofs c.in-Some-2.is (c.in_ok-proofs.ensures.turned b known) in
@@ -80,7 +79,7 @@ pub returns-clause-turned : goal.returns-clause-turned
 returns-clause-turned c = IfOk-weaker c.method_step.result _ _ (λ o h A k.
     let os = c.args.heap.now.objects in
     let new = c.method_step.new.heap.objects in
-    let b = basis os A c.args.axioms.now c.args.theorems.now (profile_of c.args.profile) in
+    let b = basis_over os A c.args.basis.now in
     let m = c.in-Some.step in
     let shape = c.in-Some.ensures.shape in
     let am = c.in-Some.ensures.members in

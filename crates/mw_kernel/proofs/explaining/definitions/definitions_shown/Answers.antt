@@ -1,5 +1,5 @@
 -- By the reason: the definitions, all that is owed, or the first proof that is refused.
-use Rattle.std.proofs.Common.{◌≡◌, false, [], map, sym, ap, ap₂, ◌∙◌, subst}
+use Rattle.std.proofs.Common.{◌≡◌, [], map, sym, ap, ap₂, ◌∙◌, subst}
 use Rattle.mw_model.specs.Terms.Term.{formula_object}
 use Rattle.mw_model.specs.Events.Refusal.{EVENT, COUNT}
 use Rattle.mw_heap.specs.Objects.{object_at}

@@ -1,6 +1,5 @@
 -- The name, or its claim.
 use Rattle.std.proofs.Common.{◌≡◌, [], ◌∷◌, sym, subst}
-use Rattle.mw_model.specs.Events.Theory.{claim}
 use Rattle.mw_model.specs.Events.Refusal.{CHECKER}
 use Rattle.mw_model.specs.Events.Fate.{Switch}
 use Rattle.mw_heap.specs.Objects.{object_at}

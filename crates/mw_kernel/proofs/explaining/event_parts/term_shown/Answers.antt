@@ -1,5 +1,5 @@
 -- It is one definition without a name and formals, or nothing is shown.
-use Rattle.std.proofs.Common.{true, false, [], ◌∷◌, sym, ap, ap₂, ◌∙◌, subst}
+use Rattle.std.proofs.Common.{[], ◌∷◌, sym, ap, ap₂, ◌∙◌, subst}
 use Rattle.mw_model.specs.Terms.Object.{NIL}
 use Rattle.mw_heap.specs.Objects.{object_at}
 use Rattle.mw_heap.specs.Variants.{refusal_of}
