@@ -1,5 +1,6 @@
 -- What comes of a case, by what the formula comes to.
-use Rattle.std.proofs.Common.{◌≡◌, ℕ, Bool, true, false, not, cond, List, [], ◌∷◌, ◌++◌, map, length, refl, sym, ap, ap₂, ◌∙◌, subst, arith, length-append}
+use Rattle.std.proofs.Common.{◌≡◌, ℕ, Bool, true, false, not, cond, List, [], ◌∷◌, ◌++◌, map, length, refl, sym, ap, ap₂, ◌∙◌, arith, length-append}
+use Rattle.std.proofs.lemmas.Bool.{and_parts}
 use Rattle.mw_model.specs.Terms.Object.{Object, Pair, truth_of}
 use Rattle.mw_model.specs.Terms.Term.{Formula, Equal, Not, Or, formula_object, ArityTable, is_formula}
 use Rattle.mw_model.specs.Terms.Same.{same_formula}
@@ -9,12 +10,13 @@ use Rattle.mw_commands.specs.Commands.Tautology.{Choice, choices, chosen, value_
 use Rattle.mw_heap.specs.Objects.{object_at}
 use Rattle.mw_taut.specs.declared.case.Outcome.{Outcome}
 use Rattle.mw_taut.specs.declared.case.Outcome.TheVariants.{Proof, Against}
-use Rattle.mw_taut.specs.Steps.{or_object, commuted, detached}
+use Rattle.mw_taut.specs.declared.rule.TheConstants.{COMMUTED, RESOLVED, CARRIED}
 use Rattle.mw_taut.specs.Reducing.{ValueAndProof, Form, Fixed, Kept, Changed}
 use Rattle.mw_taut.specs.Meaning.{literal, IsEquation, AreApart, Over, IsFixed, IsForm}
 use Rattle.mw_taut.specs.Cases.{answer_at, Answer, Proved, Falsified, choice_list, ended, entered, carried, joined, IsEntered, going_on, choice_of, Follows, Decides, DecidesWhere}
 use Rattle.mw_taut.proofs.Reduces.{literal_formed, from_kept}
-use Rattle.mw_taut.proofs.Proved.{Good, commuted-good, resolved-good, detached-good}
+use Rattle.mw_taut.proofs.Proved.{Good, left_part, right_part, good_closed}
+use Rattle.mw_taut.proofs.Schemes.{letter, no, either, formula, known, itself, proved, rule_means}
 use Rattle.mw_taut.proofs.Falsified.{or_else, first_by_value, first_of_same, none_against, all_false, first_against-false}
 
 -- a formula has an equation
@@ -69,7 +71,10 @@ module _ (A : ArityTable) (F : Formula) (before : List Formula) (E : Formula) (r
     where
       go : (v : Bool) (p : Object) → ((w : Formula → Bool) → w E ≡ b → v ≡ value_by w F) → Good A p (Or (literal v F) D) →
           DecidesWhere A c E b rest F (ended (formula_object D) (formula_object F) (map formula_object ((before ++ E ∷ []) ++ rest)) (bs ++ b ∷ []) (v, p))
-      go true p e g = (commuted-good A F D p g, λ w h. sym (e w h))
+      go true p e g = (
+        rule_means A (good_closed A) (F ∷ D ∷ []) COMMUTED (itself 0 (left_part A F D p g) ∷ itself 1 (right_part A F D p g) ∷ proved (either (letter 0) (letter 1)) p g ∷ []),
+        λ w h. sym (e w h),
+      )
       go false p e g =
           let count : length (bs ++ b ∷ []) ≡ length (before ++ E ∷ []) = omega (arith, many, length-append bs (b ∷ []), length-append before (E ∷ [])) in (
             longer ++ all_false rest,
@@ -79,12 +84,13 @@ module _ (A : ArityTable) (F : Formula) (before : List Formula) (E : Formula) (r
 
   -- where the formula follows from another one
   pub decided_carried : (d y q : Object) (H : Formula) (a : Answer) → Follows A E b rest d y q F H → Decides A longer rest H a → DecidesWhere A c E b rest F (carried d (formula_object F) y q a)
-  decided_carried d y q H (Proved p) h i = (
-    subst (λ z. Good A (commuted (formula_object F) z (detached y (or_object (formula_object F) z) p q)) (Or D F)) (sym h.context)
-        (subst (λ z. Good A (commuted (formula_object F) (formula_object D) (detached z (or_object (formula_object F) (formula_object D)) p q)) (Or D F)) (sym h.formula)
-        (commuted-good A F D _ (detached-good A H (Or F D) p q i.0 h.from))),
-    λ w e. h.same w e ∙ i.1 w,
-  )
+  decided_carried d y q H (Proved p) h i =
+      let both = and_parts (is_formula A F) (is_formula A D) (right_part A (Not H) (Or F D) q h.from) in
+      let from = proved (either (no (letter 2)) (either (letter 0) (letter 1))) q h.from in (
+        rule_means A (good_closed A) (F ∷ D ∷ H ∷ []) CARRIED
+            (itself 0 both.0 ∷ known (formula (letter 1)) d (h.context, both.1) ∷ known (formula (letter 2)) y (h.formula, left_part A (Not H) (Or F D) q h.from) ∷ proved (letter 2) p i.0 ∷ from ∷ []),
+        λ w e. h.same w e ∙ i.1 w,
+      )
   decided_carried d y q H (Falsified x) h i =
       (i.0, first_of_same longer (choices rest) F H (λ t. h.same (chosen (longer ++ t)) (apart_at before E rest bs b t apart)) ∙ i.1, i.2)
 
@@ -109,7 +115,10 @@ module _ (A : ArityTable) (F : Formula) (c : Choice) (E : Formula) (rest : List 
   decided_first os (Against x) none h = decided_without (object_at os x) h
 
   pub decided_joined : ((d : Choice) → chosen ((c ++ (E, false) ∷ []) ++ d) E ≡ false) → (p : Object) (a : Answer) → DecidesWhere A c E false rest F (Proved p) → DecidesWhere A c E true rest F a → Decides A c (E ∷ rest) F (joined (formula_object F) p a)
-  decided_joined at p (Proved q) h k = (resolved-good A E F p q h.0 k.0, λ w. by_value w (w E) refl)
+  decided_joined at p (Proved q) h k = (
+    rule_means A (good_closed A) (F ∷ E ∷ []) RESOLVED (itself 0 (right_part A E F p h.0) ∷ proved (either (letter 1) (letter 0)) p h.0 ∷ proved (either (no (letter 1)) (letter 0)) q k.0 ∷ []),
+    λ w. by_value w (w E) refl,
+  )
     where
       by_value : (w : Formula → Bool) (b : Bool) → w E ≡ b → value_by w F ≡ true
       by_value w true e = k.1 w e

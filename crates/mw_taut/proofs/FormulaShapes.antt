@@ -4,7 +4,7 @@ use Rattle.std.proofs.lemmas.Bool.{both_ways}
 use Rattle.mw_model.specs.Terms.Object.{Object, symbol, same_object, car, second_of, third_of}
 use Rattle.mw_model.specs.Terms.Term.{Formula, Equal, Not as Denial, Or as Either, formula_object}
 use Rattle.mw_model.proofs.Names.{same_object-from}
-use Rattle.mw_taut.specs.Steps.{not_object, or_object}
+use Rattle.mw_taut.specs.Connectives.{not_object, or_object}
 use Rattle.mw_taut.specs.Meaning.{IsEquation}
 
 pub not_shape : (X : Formula) (o : Object) → formula_object X ≡ not_object o → (Y : Formula) × (X ≡ Denial Y) × (formula_object Y ≡ o)

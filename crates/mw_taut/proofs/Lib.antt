@@ -1,7 +1,6 @@
 pub mod Growing
-pub mod EqualParts
+pub mod Schemes
 pub mod Proved
-pub mod BothParts
 pub mod Reduces
 pub mod WholeReduced
 pub mod Kept
@@ -26,4 +25,3 @@ pub mod PureProofs
 pub mod DecidedBy
 pub mod Verdicts
 mod Given
-mod RulesMean

@@ -1,5 +1,5 @@
 -- What each part of a formula comes to where the equation E has the value b.
-use Rattle.std.proofs.Common.{◌≡◌, Bool, true, false, ◌||◌, not, cond, List, ◌∷◌, Option, Some, None, refl, sym, ap, ap₂, ◌∙◌, subst}
+use Rattle.std.proofs.Common.{◌≡◌, ℕ, ◌+◌, Bool, true, false, ◌||◌, not, cond, List, [], ◌∷◌, map, Option, Some, None, refl, sym, ap, ap₂, ◌∙◌, subst}
 use Rattle.mw_model.specs.Terms.Object.{Object, same_object}
 use Rattle.mw_model.specs.Terms.Term.{Formula, Equal, Not as Denial, Or as Either, formula_object, ArityTable, is_formula}
 use Rattle.mw_model.specs.Terms.Same.{same_formula}
@@ -8,15 +8,12 @@ use Rattle.mw_model.proofs.SameTerms.{same_formula-eq}
 use Rattle.mw_model.proofs.Read.{formula_object-one}
 use Rattle.std.proofs.lemmas.Bool.{both_ways, and_from}
 use Rattle.mw_commands.specs.Commands.Tautology.{value_by}
-use Rattle.mw_taut.specs.Steps.{left, right}
-use Rattle.mw_taut.specs.Reducing.{ValueAndProof, Other, Form, Fixed, Kept, Changed, literal_object, literal_law, reduce_equation, kept_from, kept_to, kept, deny_value, denied_from, denied_to, undenied_from, undoubled, undenied_to, denial, undenied, deny_other, deny, either_value, first_from, first_to_start, first_to, second_from, second_to_start, alone_end, second_to_end, second_to, either_first, either_second, either_both, either_first_kept, either_second_kept, either_after, either_before, either}
+use Rattle.mw_taut.specs.declared.rule.TheConstants.{SCHEMA, DOUBLED, LEFT, RIGHT, NEITHER, LAW, KEPT, KEPT_FROM, DENIAL, UNDENIED, FIRST, SECOND, BOTH, FIRST_KEPT, SECOND_KEPT}
+use Rattle.mw_taut.specs.Rules.{rule_made}
+use Rattle.mw_taut.specs.Reducing.{ValueAndProof, Other, Form, Fixed, Kept, Changed, change_of, literal_object, literal_law, reduce_equation, kept, deny_value, deny_other, deny, either_value, either_both, either_after, either_before, either}
 use Rattle.mw_taut.specs.Meaning.{literal, IsEquation, among, Over, IsDenialOf, IsFixed, ComesTo, IsForm}
-use Rattle.mw_taut.proofs.Proved.{Good, left_part, schema-good, cut-good, commuted-good, inserted-good, appended-good, doubled-good, left-good, right-good, turned-good, turned_twice-good, replaced-good, gathered-good, without_second-good, without_first-good, neither-good, gained_left-good, gained_right-good, owed_alone-good}
-use Rattle.mw_taut.proofs.BothParts.{both_from-good, first_kept_from-good, second_kept_from-good, both_to-good, first_kept_to-good, second_kept_to-good}
-
--- what holds of what comes to H, by its other parts
-with_formula : (P : Other → Type 0) (s : Other) (H : Formula) → s.formula ≡ formula_object H → P (record { formula = formula_object H; denied = s.denied; from = s.from; to = s.to }) → P s
-with_formula P s H e p = subst (λ y. P (record { formula = y; denied = s.denied; from = s.from; to = s.to })) (sym e) p
+use Rattle.mw_taut.proofs.Proved.{Good, IsFormed, left_part, good_closed}
+use Rattle.mw_taut.proofs.Schemes.{AreClosed, Scheme, letter, no, either as or, formula, rule_value, Known, known, value, object, Means, itself, proved, meant, rule_means}
 
 not_not : (b : Bool) → not (not b) ≡ b
 not_not true = refl
@@ -26,14 +23,39 @@ or_true : (b : Bool) → true ≡ (b || true)
 or_true true = refl
 or_true false = refl
 
+or_false : (b : Bool) → (b || false) ≡ b
+or_false true = refl
+or_false false = refl
+
 pub literal_is : (b : Bool) (E : Formula) → literal_object (formula_object E) b ≡ formula_object (literal b E)
+unfolding rule_made
 literal_is true E = refl
 literal_is false E = refl
 
+-- ---- schemes of what rules are given
+
+abbrev context : Scheme
+context = letter 0
+
+abbrev first : Scheme
+first = letter 1
+
+abbrev second : Scheme
+second = letter 2
+
+abbrev third : Scheme
+third = letter 3
+
+abbrev fourth : Scheme
+fourth = letter 4
+
 module _ (A : ArityTable) where
-  pub law_good : (b : Bool) (E : Formula) → is_formula A E ≡ true → Good A (literal_law (formula_object E) b) (Either (literal b E) (literal (not b) E))
-  law_good true E h = commuted-good A (Denial E) E _ (schema-good A E h)
-  law_good false E h = schema-good A E h
+  abbrev Given : List Formula → Type 0
+  Given Fs = List (Known (Good A) (IsFormed A) Fs)
+
+  pub law_proves : {P : Object → Formula → Type 0} {Q : Formula → Type 0} → AreClosed A P Q → (b : Bool) (E : Formula) → Q E → P (literal_law (formula_object E) b) (Either (literal b E) (literal (not b) E))
+  law_proves closed true E h = rule_means A closed (E ∷ []) LAW (itself 0 h ∷ [])
+  law_proves closed false E h = rule_means A closed (E ∷ []) SCHEMA (itself 0 h ∷ [])
 
   pub literal_formed : (b : Bool) (E : Formula) → is_formula A E ≡ true → is_formula A (literal b E) ≡ true
   literal_formed true E h = h
@@ -85,211 +107,136 @@ module _ (A : ArityTable) where
         go true is =
             let same : E ≡ G = sym (formula_object-one A A G E i f (same_object-eq (formula_object G) (formula_object E) is)) in
             subst (λ c. IsForm A E b rest (cond c (Fixed (b, literal_law (formula_object E) b)) Kept) G) (sym is)
-            (subst (Fixes (b, literal_law (formula_object E) b)) same (λ v h. sym h ∙ sym (value_of_equation v E e), law_good b E f))
+            (subst (Fixes (b, literal_law (formula_object E) b)) same (λ v h. sym h ∙ sym (value_of_equation v E e), law_proves (good_closed A) b E f))
         go false is =
             subst (λ c. IsForm A E b rest (cond c (Fixed (b, literal_law (formula_object E) b)) Kept) G) (sym is) (over_rest G g (apart (same_formula G E) refl is) over, i)
 
-    -- ---- a part that is kept
-
     module _ (d : is_formula A D ≡ true) where
-      pub from_kept : (G : Formula) → is_formula A G ≡ true → Good A (kept_from (formula_object D) (formula_object G)) (Either (Denial G) (Either G D))
-      unfolding kept_from
-      from_kept G g = appended-good A (Denial G) G D _ d (schema-good A G g)
+      -- what rules make of what is given
+      abbrev made : (Fs : List Formula) → (n : ℕ) (given : Given Fs) → Means (Good A) (IsFormed A) Fs (rule_value n (map value given)) (rule_made n (map object given))
+      made Fs = rule_means A (good_closed A) Fs
+
+      -- x, which comes to y
+      abbrev changes : (Fs : List Formula) (x y : Scheme) (s : Other) → Comes s (meant (D ∷ Fs) x) (meant (D ∷ Fs) y) → Given (D ∷ Fs) → Given (D ∷ Fs)
+      changes Fs x y s h others =
+          known (formula y) s.formula (h.formula, formed_second s (meant (D ∷ Fs) x) (meant (D ∷ Fs) y) h)
+          ∷ (proved (or (no y) (or x context)) s.from h.from ∷ (proved (or (no x) (or context y)) s.to h.to ∷ others))
+
+      -- ---- a part that is kept
+
+      pub from_kept : (G : Formula) → is_formula A G ≡ true → Good A (rule_made KEPT_FROM (formula_object D ∷ formula_object G ∷ [])) (Either (Denial G) (Either G D))
+      from_kept G g = made (D ∷ G ∷ []) KEPT_FROM (itself 0 d ∷ itself 1 g ∷ [])
 
       kept_comes : (G : Formula) → Over rest G → is_formula A G ≡ true → Comes (kept (formula_object D) (formula_object G)) G G
-      unfolding kept_to
-      kept_comes G over g = record {
-        formula = refl;
-        denied = tt;
-        over = over;
-        same = λ v h. refl;
-        from = from_kept G g;
-        to = inserted-good A (Denial G) D G _ d (schema-good A G g);
-      }
+      kept_comes G over g =
+          let given : Given (D ∷ G ∷ []) = itself 0 d ∷ itself 1 g ∷ [] in
+          record { formula = (made (D ∷ G ∷ []) KEPT given).0; denied = tt; over = over; same = λ v h. refl; from = made (D ∷ G ∷ []) (KEPT + 1) given; to = made (D ∷ G ∷ []) (KEPT + 2) given }
 
-    -- ---- a denial
+      -- ---- a denial
 
-    value_denied : (G : Formula) (s : ValueAndProof) → Fixes s G → Fixes (deny_value (formula_object D) (formula_object G) s) (Denial G)
-    value_denied G s h = go s.0 s.1 h.0 h.1
-      where
-        go : (c : Bool) (p : Object) → ((v : Formula → Bool) → v E ≡ b → c ≡ value_by v G) → Good A p (Either (literal c G) D) → Fixes (deny_value (formula_object D) (formula_object G) (c, p)) (Denial G)
-        go true p e g = (λ v h. ap not (e v h), doubled-good A G D p g)
-        go false p e g = (λ v h. ap not (e v h), g)
+      value_denied : (G : Formula) (s : ValueAndProof) → Fixes s G → Fixes (deny_value (formula_object D) (formula_object G) s) (Denial G)
+      value_denied G s h = go s.0 s.1 h
+        where
+          go : (c : Bool) (p : Object) → Fixes (c, p) G → Fixes (deny_value (formula_object D) (formula_object G) (c, p)) (Denial G)
+          go true p h = (λ v e. ap not (h.0 v e), made (D ∷ G ∷ []) DOUBLED (itself 1 (formed_fixed (true, p) G h) ∷ itself 0 d ∷ proved (or first context) p h.1 ∷ []))
+          go false p h = (λ v e. ap not (h.0 v e), h.1)
 
-    other_denied : (G H : Formula) (s : Other) → Comes s G H → Comes (denial (formula_object D) (formula_object G) s) (Denial G) (Denial H)
-    unfolding denied_from denied_to
-    other_denied G H s h = with_formula (λ t. Comes (denial (formula_object D) (formula_object G) t) (Denial G) (Denial H)) s H h.formula (record {
-      formula = refl;
-      denied = (H, refl, refl);
-      over = h.over;
-      same = λ v e. ap not (h.same v e);
-      from = doubled-good A H (Either (Denial G) D) _ (turned-good A (Denial G) D H s.to h.to);
-      to = doubled-good A G (Either D (Denial H)) _ (turned_twice-good A (Denial H) G D s.from h.from);
-    })
+      other_denied : (G H : Formula) (s : Other) → Comes s G H → Comes (deny_other (formula_object D) (formula_object G) s None) (Denial G) (Denial H)
+      other_denied G H s h =
+          let given : Given (D ∷ G ∷ H ∷ []) = itself 0 d ∷ (itself 1 (formed_first s G H h) ∷ changes (G ∷ H ∷ []) first second s h []) in
+          let rule = made (D ∷ G ∷ H ∷ []) in
+          record { formula = (rule DENIAL given).0; denied = (H, refl, h.formula); over = h.over; same = λ v e. ap not (h.same v e); from = rule (DENIAL + 1) given; to = rule (DENIAL + 2) given }
 
-    other_undenied : (G K : Formula) (s : Other) → Comes s G (Denial K) → Comes (undenied (formula_object D) (formula_object G) (formula_object K) s) (Denial G) K
-    unfolding undenied_from undoubled undenied_to
-    other_undenied G K s h =
-        let k : is_formula A K ≡ true = formed_second s G (Denial K) h in
-        with_formula (λ t. Comes (undenied (formula_object D) (formula_object G) (formula_object K) t) (Denial G) K) s (Denial K) h.formula (record {
-          formula = refl;
-          denied = tt;
-          over = h.over;
-          same = λ v e. ap not (h.same v e) ∙ not_not (value_by v K);
-          from = turned-good A (Denial G) D (Denial K) s.to h.to;
-          to = doubled-good A G (Either D K) _ (turned_twice-good A K G D _ (cut-good A (Denial K) K (Either G D) _ s.from (schema-good A K k) h.from));
-        })
+      other_undenied : (G K : Formula) (s : Other) (z : Object) → z ≡ formula_object K → Comes s G (Denial K) → Comes (deny_other (formula_object D) (formula_object G) s (Some z)) (Denial G) K
+      other_undenied G K s z is h =
+          let given : Given (D ∷ G ∷ K ∷ []) = itself 0 d ∷ (itself 1 (formed_first s G (Denial K) h) ∷ changes (G ∷ K ∷ []) first (no second) s h (known (formula second) z (is, formed_second s G (Denial K) h) ∷ [])) in
+          let rule = made (D ∷ G ∷ K ∷ []) in
+          record { formula = (rule UNDENIED given).0; denied = tt; over = h.over; same = λ v e. ap not (h.same v e) ∙ not_not (value_by v K); from = rule (UNDENIED + 1) given; to = rule (UNDENIED + 2) given }
 
-    other_deny : (G H : Formula) (s : Other) → Comes s G H → IsForm A E b rest (Changed (deny_other (formula_object D) (formula_object G) s s.denied)) (Denial G)
-    other_deny G H s h = go s.denied h.denied
-      where
-        go : (o : Option Object) → IsDenialOf o H → IsForm A E b rest (Changed (deny_other (formula_object D) (formula_object G) s o)) (Denial G)
-        go None i = (Denial H, other_denied G H s h)
-        go (Some z) i =
-            let K = i.0 in
-            (K, subst (λ w. Comes (undenied (formula_object D) (formula_object G) w s) (Denial G) K) (sym i.2) (other_undenied G K s (subst (Comes s G) i.1 h)))
+      other_deny : (G H : Formula) (s : Other) → Comes s G H → IsForm A E b rest (Changed (deny_other (formula_object D) (formula_object G) s s.denied)) (Denial G)
+      other_deny G H s h = go s.denied h.denied
+        where
+          go : (o : Option Object) → IsDenialOf o H → IsForm A E b rest (Changed (deny_other (formula_object D) (formula_object G) s o)) (Denial G)
+          go None i = (Denial H, other_denied G H s h)
+          go (Some z) i = (i.0, other_undenied G i.0 s z i.2 (subst (Comes s G) i.1 h))
 
-    pub denied_form : (G : Formula) (r : Form) → IsForm A E b rest r G → IsForm A E b rest (deny (formula_object D) (formula_object G) r) (Denial G)
-    denied_form G (Fixed s) h = value_denied G s h
-    denied_form G Kept h = h
-    denied_form G (Changed s) h = other_deny G h.0 s h.1
+      pub denied_form : (G : Formula) (r : Form) → IsForm A E b rest r G → IsForm A E b rest (deny (formula_object D) (formula_object G) r) (Denial G)
+      denied_form G (Fixed s) h = value_denied G s h
+      denied_form G Kept h = h
+      denied_form G (Changed s) h = other_deny G h.0 s h.1
 
-    -- ---- a disjunction
+      -- ---- a disjunction
 
-    left_fixed : (G K : Formula) (p : Object) → is_formula A K ≡ true → Fixes (true, p) G → Fixes (true, left (formula_object G) (formula_object K) (formula_object D) p) (Either G K)
-    left_fixed G K p f h = (λ v e. ap (λ c. c || value_by v K) (h.0 v e), left-good A G K D p f h.1)
+      left_fixed : (G K : Formula) (p : Object) → is_formula A K ≡ true → Fixes (true, p) G → Fixes (true, rule_made LEFT (formula_object G ∷ formula_object K ∷ formula_object D ∷ p ∷ [])) (Either G K)
+      left_fixed G K p k h = (
+        λ v e. ap (λ c. c || value_by v K) (h.0 v e),
+        made (D ∷ G ∷ K ∷ []) LEFT (itself 1 (formed_fixed (true, p) G h) ∷ itself 2 k ∷ itself 0 d ∷ proved (or first context) p h.1 ∷ []),
+      )
 
-    right_fixed : (G K : Formula) (p : Object) → is_formula A G ≡ true → Fixes (true, p) K → Fixes (true, right (formula_object G) (formula_object K) (formula_object D) p) (Either G K)
-    right_fixed G K p f h = (λ v e. or_true (value_by v G) ∙ ap (λ c. value_by v G || c) (h.0 v e), right-good A G K D p f h.1)
+      right_fixed : (G K : Formula) (p : Object) → is_formula A G ≡ true → Fixes (true, p) K → Fixes (true, rule_made RIGHT (formula_object G ∷ formula_object K ∷ formula_object D ∷ p ∷ [])) (Either G K)
+      right_fixed G K p g h = (
+        λ v e. or_true (value_by v G) ∙ ap (λ c. value_by v G || c) (h.0 v e),
+        made (D ∷ G ∷ K ∷ []) RIGHT (itself 1 g ∷ itself 2 (formed_fixed (true, p) K h) ∷ itself 0 d ∷ proved (or second context) p h.1 ∷ []),
+      )
 
-    both_fixed : (G K : Formula) (s t : ValueAndProof) → Fixes s G → Fixes t K → Fixes (either_value (formula_object D) (formula_object G) (formula_object K) s t) (Either G K)
-    both_fixed G K s t h i = go s.0 t.0 s.1 t.1 h i
-      where
-        go : (c e : Bool) (p q : Object) → Fixes (c, p) G → Fixes (e, q) K → Fixes (either_value (formula_object D) (formula_object G) (formula_object K) (c, p) (e, q)) (Either G K)
-        go true e p q h i = left_fixed G K p (formed_fixed (e, q) K i) h
-        go false true p q h i = right_fixed G K q (formed_fixed (false, p) G h) i
-        go false false p q h i = (λ v e. ap₂ (λ c d. c || d) (h.0 v e) (i.0 v e), neither-good A G K D p q h.1 i.1)
+      both_fixed : (G K : Formula) (s t : ValueAndProof) → Fixes s G → Fixes t K → Fixes (either_value (formula_object D) (formula_object G) (formula_object K) s t) (Either G K)
+      both_fixed G K s t h i = go s.0 t.0 s.1 t.1 h i
+        where
+          go : (c e : Bool) (p q : Object) → Fixes (c, p) G → Fixes (e, q) K → Fixes (either_value (formula_object D) (formula_object G) (formula_object K) (c, p) (e, q)) (Either G K)
+          go true e p q h i = left_fixed G K p (formed_fixed (e, q) K i) h
+          go false true p q h i = right_fixed G K q (formed_fixed (false, p) G h) i
+          go false false p q h i = (
+            λ v e. ap₂ (λ c d. c || d) (h.0 v e) (i.0 v e),
+            made (D ∷ G ∷ K ∷ []) NEITHER
+                (itself 1 (formed_fixed (false, p) G h) ∷ itself 2 (formed_fixed (false, q) K i) ∷ itself 0 d ∷ proved (or (no first) context) p h.1 ∷ proved (or (no second) context) q i.1 ∷ []),
+          )
 
-    or_false : (c : Bool) → (c || false) ≡ c
-    or_false true = refl
-    or_false false = refl
+      fixed_before : (G K H : Formula) (s : ValueAndProof) (t : Other) → Fixes s G → Comes t K H → IsForm A E b rest (either_after (formula_object D) (formula_object G) (formula_object K) s t) (Either G K)
+      fixed_before G K H s t h i = go s.0 s.1 h
+        where
+          go : (c : Bool) (p : Object) → Fixes (c, p) G → IsForm A E b rest (either_after (formula_object D) (formula_object G) (formula_object K) (c, p) t) (Either G K)
+          go true p h = left_fixed G K p (formed_first t K H i) h
+          go false p h =
+              let given : Given (D ∷ G ∷ K ∷ H ∷ []) = itself 0 d ∷ (itself 1 (formed_fixed (false, p) G h) ∷ (itself 2 (formed_first t K H i) ∷ changes (G ∷ K ∷ H ∷ []) second third t i (proved (or (no first) context) p h.1 ∷ []))) in
+              let rule = made (D ∷ G ∷ K ∷ H ∷ []) in
+              (H, record { formula = (rule SECOND given).0; denied = i.denied; over = i.over; same = λ v e. ap₂ (λ c d. c || d) (sym (h.0 v e)) (i.same v e); from = rule (SECOND + 1) given; to = rule (SECOND + 2) given })
 
-    module _ (G K H : Formula) (g : is_formula A G ≡ true) (k : is_formula A K ≡ true) (h : is_formula A H ≡ true) where
-      abbrev N : Formula
-      N = Denial (Either G K)
+      fixed_after : (G K H : Formula) (s : Other) (t : ValueAndProof) → Comes s G H → Fixes t K → IsForm A E b rest (either_before (formula_object D) (formula_object G) (formula_object K) s t) (Either G K)
+      fixed_after G K H s t h i = go t.0 t.1 i
+        where
+          go : (c : Bool) (q : Object) → Fixes (c, q) K → IsForm A E b rest (either_before (formula_object D) (formula_object G) (formula_object K) s (c, q)) (Either G K)
+          go true q i = right_fixed G K q (formed_first s G H h) i
+          go false q i =
+              let given : Given (D ∷ G ∷ K ∷ H ∷ []) = itself 0 d ∷ (itself 1 (formed_first s G H h) ∷ (itself 2 (formed_fixed (false, q) K i) ∷ changes (G ∷ K ∷ H ∷ []) first third s h (proved (or (no second) context) q i.1 ∷ []))) in
+              let rule = made (D ∷ G ∷ K ∷ H ∷ []) in
+              (H, record { formula = (rule FIRST given).0; denied = h.denied; over = h.over; same = λ v e. ap₂ (λ c d. c || d) (h.same v e) (sym (i.0 v e)) ∙ or_false (value_by v H); from = rule (FIRST + 1) given; to = rule (FIRST + 2) given })
 
-      first_from-good : (p : Object) → Good A p (Either (Denial H) (Either G D)) → Good A (first_from (formula_object D) (formula_object G) (formula_object K) (formula_object H) p) (Either (Denial H) (Either (Either G K) D))
-      unfolding first_from
-      first_from-good p i = commuted-good A (Either (Either G K) D) (Denial H) _ (gained_left-good A D (Denial H) G K _ k (turned-good A (Denial H) G D p i))
-
-      second_from-good : (p : Object) → Good A p (Either (Denial H) (Either K D)) → Good A (second_from (formula_object D) (formula_object G) (formula_object K) (formula_object H) p) (Either (Denial H) (Either (Either G K) D))
-      unfolding second_from
-      second_from-good p i = commuted-good A (Either (Either G K) D) (Denial H) _ (gained_right-good A D (Denial H) G K _ g (turned-good A (Denial H) K D p i))
-
-      first_to-good : (p q : Object) → Good A p (Either (Denial G) (Either D H)) → Good A q (Either (Denial K) D) → Good A (first_to (formula_object D) (formula_object G) (formula_object K) (formula_object H) p q) (Either N (Either D H))
-      unfolding first_to_start first_to
-      first_to-good p q i j = without_first-good A G N (Either D H) _ p (owed_alone-good A D (Either N G) H _ h (without_second-good A G K D q g j)) i
-
-      second_to_start-good : (q : Object) → Good A q (Either (Denial K) (Either D H)) → Good A (second_to_start (formula_object D) (formula_object G) (formula_object K) (formula_object N) (formula_object H) q) (Either (Either D H) (Either N G))
-      unfolding second_to_start
-      second_to_start-good q j = commuted-good A (Either N G) (Either D H) _ (without_second-good A G K (Either D H) q g j)
-
-      second_to-good : (p q : Object) → Good A p (Either (Denial G) D) → Good A q (Either (Denial K) (Either D H)) → Good A (second_to (formula_object D) (formula_object G) (formula_object K) (formula_object H) p q) (Either N (Either D H))
-      unfolding alone_end second_to_end second_to
-      second_to-good p q i j =
-          let W = Either D H in
-          gathered-good A N W _ (owed_alone-good A D (Either W N) H _ h (replaced-good A W N G D _ p (second_to_start-good q j) i))
-
-    -- where the second is false
-    first_comes : (G K H : Formula) (s : Other) (q : Object) → Comes s G H → Fixes (false, q) K → Comes (either_first (formula_object D) (formula_object G) (formula_object K) s q) (Either G K) H
-    first_comes G K H s q h i =
-        let g = formed_first s G H h in
-        let k = formed_fixed (false, q) K i in
-        let l = formed_second s G H h in
-        with_formula (λ t. Comes (either_first (formula_object D) (formula_object G) (formula_object K) t q) (Either G K) H) s H h.formula (record {
-          formula = refl;
-          denied = h.denied;
-          over = h.over;
-          same = λ v e. ap₂ (λ c d. c || d) (h.same v e) (sym (i.0 v e)) ∙ or_false (value_by v H);
-          from = first_from-good G K H g k l s.from h.from;
-          to = first_to-good G K H g k l s.to q h.to i.1;
-        })
-
-    -- where the first is false
-    second_comes : (G K H : Formula) (p : Object) (t : Other) → Fixes (false, p) G → Comes t K H → Comes (either_second (formula_object D) (formula_object G) (formula_object K) p t) (Either G K) H
-    second_comes G K H p t h i =
-        let g = formed_fixed (false, p) G h in
-        let k = formed_first t K H i in
-        let l = formed_second t K H i in
-        with_formula (λ u. Comes (either_second (formula_object D) (formula_object G) (formula_object K) p u) (Either G K) H) t H i.formula (record {
-          formula = refl;
-          denied = i.denied;
-          over = i.over;
-          same = λ v e. ap₂ (λ c d. c || d) (sym (h.0 v e)) (i.same v e);
-          from = second_from-good G K H g k l t.from i.from;
-          to = second_to-good G K H g k l p t.to h.1 i.to;
-        })
-
-    fixed_before : (G K H : Formula) (s : ValueAndProof) (t : Other) → Fixes s G → Comes t K H → IsForm A E b rest (either_after (formula_object D) (formula_object G) (formula_object K) s t) (Either G K)
-    fixed_before G K H s t h i = go s.0 s.1 h
-      where
-        go : (c : Bool) (p : Object) → Fixes (c, p) G → IsForm A E b rest (either_after (formula_object D) (formula_object G) (formula_object K) (c, p) t) (Either G K)
-        go true p h = left_fixed G K p (formed_first t K H i) h
-        go false p h = (H, second_comes G K H p t h i)
-
-    fixed_after : (G K H : Formula) (s : Other) (t : ValueAndProof) → Comes s G H → Fixes t K → IsForm A E b rest (either_before (formula_object D) (formula_object G) (formula_object K) s t) (Either G K)
-    fixed_after G K H s t h i = go t.0 t.1 i
-      where
-        go : (c : Bool) (q : Object) → Fixes (c, q) K → IsForm A E b rest (either_before (formula_object D) (formula_object G) (formula_object K) s (c, q)) (Either G K)
-        go true q i = right_fixed G K q (formed_first s G H h) i
-        go false q i = (H, first_comes G K H s q h i)
-
-    module _ (d : is_formula A D ≡ true) where
       both_come : (G K H L : Formula) (s t : Other) → Comes s G H → Comes t K L → Comes (either_both (formula_object D) (formula_object G) (formula_object K) s t) (Either G K) (Either H L)
       both_come G K H L s t h i =
-          let g = formed_first s G H h in
-          let k = formed_first t K L i in
-          with_formula (λ u. Comes (either_both (formula_object D) (formula_object G) (formula_object K) u t) (Either G K) (Either H L)) s H h.formula
-          (with_formula (λ u. Comes (either_both (formula_object D) (formula_object G) (formula_object K) (record { formula = formula_object H; denied = s.denied; from = s.from; to = s.to }) u) (Either G K) (Either H L)) t L i.formula (record {
-            formula = refl;
-            denied = tt;
-            over = (h.over, i.over);
-            same = λ v e. ap₂ (λ c d. c || d) (h.same v e) (i.same v e);
-            from = both_from-good A D G K d g k H L s.from t.from h.from i.from;
-            to = both_to-good A D G K d g k H L s.to t.to h.to i.to;
-          }))
+          let Fs = G ∷ K ∷ H ∷ L ∷ [] in
+          let given : Given (D ∷ Fs) = itself 0 d ∷ (itself 1 (formed_first s G H h) ∷ (itself 2 (formed_first t K L i) ∷ changes Fs first third s h (changes Fs second fourth t i []))) in
+          let rule = made (D ∷ Fs) in
+          record { formula = (rule BOTH given).0; denied = tt; over = (h.over, i.over); same = λ v e. ap₂ (λ c d. c || d) (h.same v e) (i.same v e); from = rule (BOTH + 1) given; to = rule (BOTH + 2) given }
 
-      -- where the first is kept
-      first_kept_comes : (G K L : Formula) (t : Other) → Over rest G → is_formula A G ≡ true → Comes t K L → Comes (either_first_kept (formula_object D) (formula_object G) (formula_object K) t) (Either G K) (Either G L)
+      first_kept_comes : (G K L : Formula) (t : Other) → Over rest G → is_formula A G ≡ true → Comes t K L →
+          Comes (change_of FIRST_KEPT None (formula_object D ∷ formula_object G ∷ formula_object K ∷ t.formula ∷ t.from ∷ t.to ∷ [])) (Either G K) (Either G L)
       first_kept_comes G K L t o g i =
-          let k = formed_first t K L i in
-          with_formula (λ u. Comes (either_first_kept (formula_object D) (formula_object G) (formula_object K) u) (Either G K) (Either G L)) t L i.formula (record {
-            formula = refl;
-            denied = tt;
-            over = (o, i.over);
-            same = λ v e. ap (λ c. value_by v G || c) (i.same v e);
-            from = first_kept_from-good A D G K d g k L t.from i.from;
-            to = first_kept_to-good A D G K d g k L t.to i.to;
-          })
+          let given : Given (D ∷ G ∷ K ∷ L ∷ []) = itself 0 d ∷ (itself 1 g ∷ (itself 2 (formed_first t K L i) ∷ changes (G ∷ K ∷ L ∷ []) second third t i [])) in
+          let rule = made (D ∷ G ∷ K ∷ L ∷ []) in
+          record { formula = (rule FIRST_KEPT given).0; denied = tt; over = (o, i.over); same = λ v e. ap (λ c. value_by v G || c) (i.same v e); from = rule (FIRST_KEPT + 1) given; to = rule (FIRST_KEPT + 2) given }
 
-      -- where the second is kept
-      second_kept_comes : (G K H : Formula) (s : Other) → Comes s G H → Over rest K → is_formula A K ≡ true → Comes (either_second_kept (formula_object D) (formula_object G) (formula_object K) s) (Either G K) (Either H K)
+      second_kept_comes : (G K H : Formula) (s : Other) → Comes s G H → Over rest K → is_formula A K ≡ true →
+          Comes (change_of SECOND_KEPT None (formula_object D ∷ formula_object G ∷ formula_object K ∷ s.formula ∷ s.from ∷ s.to ∷ [])) (Either G K) (Either H K)
       second_kept_comes G K H s h o k =
-          let g = formed_first s G H h in
-          with_formula (λ u. Comes (either_second_kept (formula_object D) (formula_object G) (formula_object K) u) (Either G K) (Either H K)) s H h.formula (record {
-            formula = refl;
-            denied = tt;
-            over = (h.over, o);
-            same = λ v e. ap (λ c. c || value_by v K) (h.same v e);
-            from = second_kept_from-good A D G K d g k H s.from h.from;
-            to = second_kept_to-good A D G K d g k H s.to h.to;
-          })
+          let given : Given (D ∷ G ∷ K ∷ H ∷ []) = itself 0 d ∷ (itself 1 (formed_first s G H h) ∷ (itself 2 k ∷ changes (G ∷ K ∷ H ∷ []) first third s h [])) in
+          let rule = made (D ∷ G ∷ K ∷ H ∷ []) in
+          record { formula = (rule SECOND_KEPT given).0; denied = tt; over = (h.over, o); same = λ v e. ap (λ c. c || value_by v K) (h.same v e); from = rule (SECOND_KEPT + 1) given; to = rule (SECOND_KEPT + 2) given }
 
       pub either_form : (G K : Formula) (r s : Form) → IsForm A E b rest r G → IsForm A E b rest s K → IsForm A E b rest (either (formula_object D) (formula_object G) (formula_object K) r s) (Either G K)
       either_form G K (Fixed s) (Fixed t) h i = both_fixed G K s t h i
-      either_form G K (Fixed s) Kept h i = fixed_before G K K s (kept (formula_object D) (formula_object K)) h (kept_comes d K i.0 i.1)
+      either_form G K (Fixed s) Kept h i = fixed_before G K K s (kept (formula_object D) (formula_object K)) h (kept_comes K i.0 i.1)
       either_form G K (Fixed s) (Changed t) h i = fixed_before G K i.0 s t h i.1
-      either_form G K Kept (Fixed t) h i = fixed_after G K G (kept (formula_object D) (formula_object G)) t (kept_comes d G h.0 h.1) i
+      either_form G K Kept (Fixed t) h i = fixed_after G K G (kept (formula_object D) (formula_object G)) t (kept_comes G h.0 h.1) i
       either_form G K Kept Kept h i = ((h.0, i.0), and_from (is_formula A G) (is_formula A K) h.1 i.1)
       either_form G K Kept (Changed t) h i = (Either G i.0, first_kept_comes G K i.0 t h.0 h.1 i.1)
       either_form G K (Changed s) (Fixed t) h i = fixed_after G K h.0 s t h.1 i

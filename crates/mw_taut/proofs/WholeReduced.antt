@@ -73,7 +73,7 @@ module _ (A : ArityTable) (E : Formula) (b : Bool) (rest : List Formula) where
         let H = i.0 in
         let x = listed before (G ∷ after) a H i.1 in
         subst (IsForm A E b rest _) (sym i.2)
-        (subst (λ z. IsForm A E b rest (deny d z (get_or done a nothing)) (Denial H)) (sym x) (denied_form A E b rest H (get_or done a nothing) (looked_up done before a H h i.1)))
+        (subst (λ z. IsForm A E b rest (deny d z (get_or done a nothing)) (Denial H)) (sym x) (denied_form A E b rest (literal_formed A (not b) E formed) H (get_or done a nothing) (looked_up done before a H h i.1)))
     node_reduced before after done (Or a c) G h i =
         let H = i.0 in
         let K = i.1 in

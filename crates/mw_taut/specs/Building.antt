@@ -11,7 +11,7 @@ use Rattle.mw_taut.specs.declared.node.Node.{Node}
 use Rattle.mw_taut.specs.declared.node.Node.TheVariants.{Equation, Not, Or}
 use Rattle.mw_taut.specs.declared.progress.Progress.{Progress}
 use Rattle.mw_taut.specs.declared.progress.Progress.TheVariants.{Made, Wants}
-use Rattle.mw_taut.specs.Steps.{not_object, or_object}
+use Rattle.mw_taut.specs.Connectives.{not_object, or_object}
 use Rattle.mw_taut.specs.Nodes.{AreNodes}
 use Rattle.mw_taut.specs.Meaning.{AreNodesOf, among}
 

@@ -15,10 +15,11 @@ use Rattle.mw_taut.specs.declared.case.Outcome.TheVariants.{Proof, Against}
 use Rattle.mw_taut.specs.declared.case.Follow.{Follow}
 use Rattle.mw_taut.specs.declared.case.Entered.{Entered}
 use Rattle.mw_taut.specs.declared.case.Entered.TheVariants.{Ended, Goes}
-use Rattle.mw_taut.specs.Steps.{or_object, commuted, resolved, detached}
+use Rattle.mw_taut.specs.declared.rule.TheConstants.{COMMUTED, RESOLVED, KEPT_FROM, CARRIED}
+use Rattle.mw_taut.specs.Rules.{rule_made}
 use Rattle.mw_taut.specs.Nodes.{AreNodes}
 use Rattle.mw_taut.specs.Meaning.{literal, IsEquation, AreApart, Over}
-use Rattle.mw_taut.specs.Reducing.{ValueAndProof, Form, Fixed, Kept, Changed, kept_from}
+use Rattle.mw_taut.specs.Reducing.{ValueAndProof, Form, Fixed, Kept, Changed}
 
 pub record IsTableIn (os : List Object) (t : Table) : Type 0 where
   pub formulas : All (IsIn os) t.formulas.items
@@ -46,7 +47,7 @@ choice_list (e ∷ es) (b ∷ bs) = Pair (Pair e (truth_of b)) (choice_list es b
 
 -- where the value of the formula x is fixed, in the context d
 abbrev pub ended : Object → Object → List Object → List Bool → ValueAndProof → Answer
-ended d x es bs s = cond s.0 (Proved (commuted x d s.1)) (Falsified (choice_list es bs))
+ended d x es bs s = cond s.0 (Proved (rule_made COMMUTED (x ∷ d ∷ s.1 ∷ []))) (Falsified (choice_list es bs))
 
 -- the end of a case, or its context, another formula, and a proof that the formula follows from it
 pub data Step : Type 0 where
@@ -56,17 +57,17 @@ pub data Step : Type 0 where
 -- where the formula x comes to this
 abbrev pub entered : Object → Object → List Object → List Bool → Form → Step
 entered d x es bs (Fixed s) = End (ended d x es bs s)
-entered d x es bs Kept = Next d x (kept_from d x)
+entered d x es bs Kept = Next d x (rule_made KEPT_FROM (d ∷ x ∷ []))
 entered d x es bs (Changed s) = Next d s.formula s.from
 
 -- where it follows from y, by q, of what comes of that
 abbrev pub carried : Object → Object → Object → Object → Answer → Answer
-carried d x y q (Proved p) = Proved (commuted x d (detached y (or_object x d) p q))
+carried d x y q (Proved p) = Proved (rule_made CARRIED (x ∷ d ∷ y ∷ p ∷ q ∷ []))
 carried d x y q (Falsified z) = Falsified z
 
 -- of the case in which an equation is false, by the proof p, and that in which it is true
 abbrev pub joined : Object → Object → Answer → Answer
-joined x p (Proved q) = Proved (resolved x p q)
+joined x p (Proved q) = Proved (rule_made RESOLVED (x ∷ p ∷ q ∷ []))
 joined x p (Falsified z) = Falsified z
 
 abbrev pub answer_at : List Object → Outcome → Answer

@@ -1,6 +1,6 @@
 -- What the parts of a formula come to where an equation has a value: a truth value, or a formula without the equation; with proofs, in the
 -- context of the value's denial. A part in which the equation does not occur comes to itself, and there is nothing to prove.
-use Rattle.std.specs.Prelude.{Bool, true, false, cond, List, [], ◌∷◌, ◌++◌, length, map, get_or, option_map, Option, Some, None, IfSome, All}
+use Rattle.std.specs.Prelude.{ℕ, ◌+◌, Bool, true, false, cond, List, [], ◌∷◌, ◌++◌, length, map, get_or, option_map, Option, Some, None, IfSome, All}
 use Rattle.mw_model.specs.Terms.Object.{Object, NIL, same_object}
 use Rattle.mw_heap.specs.Objects.{object_at, IsIn}
 use Rattle.mw_taut.specs.declared.reduced.Assumption.{Assumption}
@@ -10,7 +10,8 @@ use Rattle.mw_taut.specs.declared.reduced.Reduced.{Reduced}
 use Rattle.mw_taut.specs.declared.reduced.Reduced.TheVariants.{Fixed as FixedAt, Kept as KeptAt, Changed as ChangedAt}
 use Rattle.mw_taut.specs.declared.node.Node.{Node}
 use Rattle.mw_taut.specs.declared.node.Node.TheVariants.{Equation, Not, Or}
-use Rattle.mw_taut.specs.Steps.{not_object, or_object, schema, associativity, cut, commuted, inserted, appended, doubled, left, right, turned, turned_twice, replaced, gathered, without_second, without_first, neither, exchanged, exposed, gained_left, gained_right, owed_left, owed_right, owed_alone}
+use Rattle.mw_taut.specs.declared.rule.TheConstants.{SCHEMA, DOUBLED, LEFT, RIGHT, NEITHER, NOT, LAW, KEPT, DENIAL, UNDENIED, FIRST, SECOND, BOTH, FIRST_KEPT, SECOND_KEPT}
+use Rattle.mw_taut.specs.Rules.{rule_made}
 
 -- a value, with a proof of the part or of its denial, or the context
 abbrev pub ValueAndProof : Type 0
@@ -29,62 +30,38 @@ pub data Form : Type 0 where
   Kept : Form
   Changed : Other → Form
 
+-- by three rules that stand one after the other
+abbrev pub change_of : ℕ → Option Object → List Object → Other
+change_of n denied given = record { formula = rule_made n given; denied = denied; from = rule_made (n + 1) given; to = rule_made (n + 2) given }
+
+-- ---- an equation
+
 -- e where it is taken to be true, and else its denial
 abbrev pub literal_object : Object → Bool → Object
 literal_object e true = e
-literal_object e false = not_object e
+literal_object e false = rule_made NOT (e ∷ [])
 
 -- the literal or its denial
 abbrev pub literal_law : Object → Bool → Object
-literal_law e true = commuted (not_object e) e (schema e)
-literal_law e false = schema e
-
--- ---- an equation
+literal_law e true = rule_made LAW (e ∷ [])
+literal_law e false = rule_made SCHEMA (e ∷ [])
 
 abbrev pub reduce_equation : Object → Bool → Object → Form
 reduce_equation e b x = cond (same_object x e) (Fixed (b, literal_law e b)) Kept
 
 -- ---- a part that is kept, as one that comes to itself
 
-unfoldable pub kept_from : Object → Object → Object
-kept_from d x = appended (not_object x) x d (schema x)
-
-unfoldable pub kept_to : Object → Object → Object
-kept_to d x = inserted (not_object x) d x (schema x)
-
 abbrev pub kept : Object → Object → Other
-kept d x = record { formula = x; denied = None; from = kept_from d x; to = kept_to d x }
+kept d x = change_of KEPT None (d ∷ x ∷ [])
 
--- ---- the denial of x, where x comes to y, or to the denial of z
+-- ---- the denial of x, where x comes to s, which may be the denial of z
 
 abbrev pub deny_value : Object → Object → ValueAndProof → ValueAndProof
-deny_value d x s = cond s.0 (false, doubled x d s.1) (true, s.1)
-
-unfoldable pub denied_from : Object → Object → Object → Object → Object
-denied_from d x y q = doubled y (or_object (not_object x) d) (turned (not_object x) d y q)
-
-unfoldable pub denied_to : Object → Object → Object → Object → Object
-denied_to d x y p = doubled x (or_object d (not_object y)) (turned_twice (not_object y) x d p)
-
-unfoldable pub undenied_from : Object → Object → Object → Object → Object
-undenied_from d x y q = turned (not_object x) d y q
-
--- not not z or (x or d) gives z or (x or d)
-unfoldable pub undoubled : Object → Object → Object → Object → Object
-undoubled d x z p = cut z (or_object x d) (schema z) p
-
-unfoldable pub undenied_to : Object → Object → Object → Object → Object
-undenied_to d x z p = doubled x (or_object d z) (turned_twice z x d (undoubled d x z p))
-
-abbrev pub denial : Object → Object → Other → Other
-denial d x s = record { formula = not_object s.formula; denied = Some s.formula; from = denied_from d x s.formula s.to; to = denied_to d x s.formula s.from }
-
-abbrev pub undenied : Object → Object → Object → Other → Other
-undenied d x z s = record { formula = z; denied = None; from = undenied_from d x s.formula s.to; to = undenied_to d x z s.from }
+deny_value d x s = cond s.0 (false, rule_made DOUBLED (x ∷ d ∷ s.1 ∷ [])) (true, s.1)
 
 abbrev pub deny_other : Object → Object → Other → Option Object → Other
-deny_other d x s None = denial d x s
-deny_other d x s (Some z) = undenied d x z s
+deny_other d x s None = change_of DENIAL (Some s.formula) (d ∷ x ∷ s.formula ∷ s.from ∷ s.to ∷ [])
+deny_other d x s (Some z) = change_of UNDENIED None (d ∷ x ∷ s.formula ∷ s.from ∷ s.to ∷ z ∷ [])
 
 abbrev pub deny : Object → Object → Form → Form
 deny d x (Fixed s) = Fixed (deny_value d x s)
@@ -94,167 +71,21 @@ deny d x (Changed s) = Changed (deny_other d x s s.denied)
 -- ---- the disjunction of x and y, where x comes to s, or y to t, or both
 
 abbrev pub either_value : Object → Object → Object → ValueAndProof → ValueAndProof → ValueAndProof
-either_value d x y s t = cond s.0 (true, left x y d s.1) (cond t.0 (true, right x y d t.1) (false, neither x y d s.1 t.1))
-
-unfoldable pub first_from : Object → Object → Object → Object → Object → Object
-first_from d x y s p =
-    let n = not_object s in
-    commuted (or_object (or_object x y) d) n (gained_left d n x y (turned n x d p))
-
--- where y is false, by q: w or (n or x), where n is not (x or y), and w is d or s
-unfoldable pub first_to_start : Object → Object → Object → Object → Object → Object → Object
-first_to_start d x y n s q = owed_alone d (or_object n x) s (without_second x y n d q)
-
-unfoldable pub first_to : Object → Object → Object → Object → Object → Object → Object
-first_to d x y s p q =
-    let n = not_object (or_object x y) in
-    without_first x n (or_object d s) (first_to_start d x y n s q) p
-
-unfoldable pub second_from : Object → Object → Object → Object → Object → Object
-second_from d x y t p =
-    let n = not_object t in
-    commuted (or_object (or_object x y) d) n (gained_right d n x y (turned n y d p))
-
--- of t, by q, w or (n or x), where n is not (x or y), and w is d or t
-unfoldable pub second_to_start : Object → Object → Object → Object → Object → Object → Object
-second_to_start d x y n t q =
-    let w = or_object d t in
-    commuted (or_object n x) w (without_second x y n w q)
-
--- (w or n) or d gives n or w, where w is d or t
-unfoldable pub alone_end : Object → Object → Object → Object → Object
-alone_end d n t p =
-    let w = or_object d t in
-    gathered n w (owed_alone d (or_object w n) t p)
-
--- where x is false, by p, of w or (n or x), by r, n or w
-unfoldable pub second_to_end : Object → Object → Object → Object → Object → Object → Object
-second_to_end d x n t r p = alone_end d n t (replaced (or_object d t) n x d r p)
-
-unfoldable pub second_to : Object → Object → Object → Object → Object → Object → Object
-second_to d x y t p q =
-    let n = not_object (or_object x y) in
-    second_to_end d x n t (second_to_start d x y n t q) p
-
--- First y is put in the place of t, and then x in that of s, where n is not (s or t), and w is (x or y) or d: of t, by q, w or (n or s),
--- and of s, by p, n or w.
-unfoldable pub both_from_start : Object → Object → Object → Object → Object → Object → Object → Object
-both_from_start d x y n s t q = gained_right d (or_object n s) x y (exchanged d n s t y (schema (or_object s t)) q)
-
--- of d or ((w or n) or x)
-unfoldable pub from_end : Object → Object → Object → Object → Object → Object
-from_end d x y n p =
-    let w = or_object (or_object x y) d in
-    gathered n w (gained_left d (or_object w n) x y p)
-
-unfoldable pub both_from_end : Object → Object → Object → Object → Object → Object → Object → Object
-both_from_end d x y n s r p = from_end d x y n (exchanged d (or_object (or_object x y) d) n s x r p)
-
--- where t is y
-unfoldable pub kept_from_start : Object → Object → Object → Object → Object → Object
-kept_from_start d x y n s = gained_right d (or_object n s) x y (exposed d n s y (schema (or_object s y)))
-
--- where s is x
-unfoldable pub kept_from_end : Object → Object → Object → Object → Object → Object
-kept_from_end d x y n r = from_end d x y n (exposed d (or_object (or_object x y) d) n x r)
-
-unfoldable pub both_from : Object → Object → Object → Object → Object → Object → Object → Object
-both_from d x y s t p q =
-    let n = not_object (or_object s t) in
-    both_from_end d x y n s (both_from_start d x y n s t q) p
-
-unfoldable pub first_kept_from : Object → Object → Object → Object → Object → Object
-first_kept_from d x y t q =
-    let n = not_object (or_object x t) in
-    kept_from_end d x y n (both_from_start d x y n x t q)
-
-unfoldable pub second_kept_from : Object → Object → Object → Object → Object → Object
-second_kept_from d x y s p =
-    let n = not_object (or_object s y) in
-    both_from_end d x y n s (kept_from_start d x y n s) p
-
--- First t is put in the place of y, and then s in that of x, where n is not (x or y), and w is d or (s or t): of y, by q, w or (n or x),
--- and of x, by p, n or w.
-unfoldable pub both_to_start : Object → Object → Object → Object → Object → Object → Object → Object
-both_to_start d x y n s t q = owed_right d (or_object n x) s t (without_second x y n (or_object d t) q)
-
--- of (w or n) or (d or s)
-unfoldable pub to_end : Object → Object → Object → Object → Object → Object
-to_end d n s t p =
-    let w = or_object d (or_object s t) in
-    gathered n w (owed_left d (or_object w n) s t p)
-
-unfoldable pub both_to_middle : Object → Object → Object → Object → Object → Object → Object → Object
-both_to_middle d x w n s r p = replaced w n x (or_object d s) r p
-
-unfoldable pub both_to_end : Object → Object → Object → Object → Object → Object → Object → Object
-both_to_end d x n s t r p = to_end d n s t (both_to_middle d x (or_object d (or_object s t)) n s r p)
-
--- where t is y
-unfoldable pub kept_to_start : Object → Object → Object → Object → Object → Object
-kept_to_start d x y n s =
-    let k = or_object n x in
-    owed_right d k s y (inserted k d y (associativity n x y (schema (or_object x y))))
-
--- where s is x
-unfoldable pub kept_to_middle : Object → Object → Object → Object → Object → Object
-kept_to_middle d x w n r = inserted (or_object w n) d x (associativity w n x r)
-
-unfoldable pub kept_to_end : Object → Object → Object → Object → Object → Object
-kept_to_end d x n t r = to_end d n x t (kept_to_middle d x (or_object d (or_object x t)) n r)
-
-unfoldable pub both_to : Object → Object → Object → Object → Object → Object → Object → Object
-both_to d x y s t p q =
-    let n = not_object (or_object x y) in
-    both_to_end d x n s t (both_to_start d x y n s t q) p
-
-unfoldable pub first_kept_to : Object → Object → Object → Object → Object → Object
-first_kept_to d x y t q =
-    let n = not_object (or_object x y) in
-    kept_to_end d x n t (both_to_start d x y n x t q)
-
-unfoldable pub second_kept_to : Object → Object → Object → Object → Object → Object
-second_kept_to d x y s p =
-    let n = not_object (or_object x y) in
-    both_to_end d x n s y (kept_to_start d x y n s) p
-
-abbrev pub either_first : Object → Object → Object → Other → Object → Other
-either_first d x y s q = record { formula = s.formula; denied = s.denied; from = first_from d x y s.formula s.from; to = first_to d x y s.formula s.to q }
-
-abbrev pub either_second : Object → Object → Object → Object → Other → Other
-either_second d x y p t = record { formula = t.formula; denied = t.denied; from = second_from d x y t.formula t.from; to = second_to d x y t.formula p t.to }
-
-abbrev pub either_both : Object → Object → Object → Other → Other → Other
-either_both d x y s t = record {
-  formula = or_object s.formula t.formula;
-  denied = None;
-  from = both_from d x y s.formula t.formula s.from t.from;
-  to = both_to d x y s.formula t.formula s.to t.to;
-}
-
-abbrev pub either_first_kept : Object → Object → Object → Other → Other
-either_first_kept d x y t = record {
-  formula = or_object x t.formula;
-  denied = None;
-  from = first_kept_from d x y t.formula t.from;
-  to = first_kept_to d x y t.formula t.to;
-}
-
-abbrev pub either_second_kept : Object → Object → Object → Other → Other
-either_second_kept d x y s = record {
-  formula = or_object s.formula y;
-  denied = None;
-  from = second_kept_from d x y s.formula s.from;
-  to = second_kept_to d x y s.formula s.to;
-}
+either_value d x y s t =
+    cond s.0 (true, rule_made LEFT (x ∷ y ∷ d ∷ s.1 ∷ [])) (cond t.0 (true, rule_made RIGHT (x ∷ y ∷ d ∷ t.1 ∷ [])) (false, rule_made NEITHER (x ∷ y ∷ d ∷ s.1 ∷ t.1 ∷ [])))
 
 -- where x has the value, and y comes to t
 abbrev pub either_after : Object → Object → Object → ValueAndProof → Other → Form
-either_after d x y s t = cond s.0 (Fixed (true, left x y d s.1)) (Changed (either_second d x y s.1 t))
+either_after d x y s t =
+    cond s.0 (Fixed (true, rule_made LEFT (x ∷ y ∷ d ∷ s.1 ∷ []))) (Changed (change_of SECOND t.denied (d ∷ x ∷ y ∷ t.formula ∷ t.from ∷ t.to ∷ s.1 ∷ [])))
 
 -- where x comes to s, and y has the value
 abbrev pub either_before : Object → Object → Object → Other → ValueAndProof → Form
-either_before d x y s t = cond t.0 (Fixed (true, right x y d t.1)) (Changed (either_first d x y s t.1))
+either_before d x y s t =
+    cond t.0 (Fixed (true, rule_made RIGHT (x ∷ y ∷ d ∷ t.1 ∷ []))) (Changed (change_of FIRST s.denied (d ∷ x ∷ y ∷ s.formula ∷ s.from ∷ s.to ∷ t.1 ∷ [])))
+
+abbrev pub either_both : Object → Object → Object → Other → Other → Other
+either_both d x y s t = change_of BOTH None (d ∷ x ∷ y ∷ s.formula ∷ s.from ∷ s.to ∷ t.formula ∷ t.from ∷ t.to ∷ [])
 
 abbrev pub either : Object → Object → Object → Form → Form → Form
 either d x y (Fixed s) (Fixed t) = Fixed (either_value d x y s t)
@@ -262,9 +93,9 @@ either d x y (Fixed s) Kept = either_after d x y s (kept d y)
 either d x y (Fixed s) (Changed t) = either_after d x y s t
 either d x y Kept (Fixed t) = either_before d x y (kept d x) t
 either d x y Kept Kept = Kept
-either d x y Kept (Changed t) = Changed (either_first_kept d x y t)
+either d x y Kept (Changed t) = Changed (change_of FIRST_KEPT None (d ∷ x ∷ y ∷ t.formula ∷ t.from ∷ t.to ∷ []))
 either d x y (Changed s) (Fixed t) = either_before d x y s t
-either d x y (Changed s) Kept = Changed (either_second_kept d x y s)
+either d x y (Changed s) Kept = Changed (change_of SECOND_KEPT None (d ∷ x ∷ y ∷ s.formula ∷ s.from ∷ s.to ∷ []))
 either d x y (Changed s) (Changed t) = Changed (either_both d x y s t)
 
 -- ---- the parts, in order

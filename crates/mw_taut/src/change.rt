@@ -2,8 +2,8 @@
 ghost use Rattle.std.specs.Prelude.{◌≡◌, map, option_map, IfOk, IfSome};
 ghost use Rattle.mw_model.specs.Values.Truth.{Each};
 ghost use Rattle.mw_heap.specs.Objects.{object_at, IsIn, Grows};
-ghost use Rattle.mw_taut.specs.Reducing.{Fixed, Changed, other_at, form_at, IsOtherIn, IsFormIn};
-ghost use Rattle.mw_taut.specs.Rules.{rule_made, change_of};
+ghost use Rattle.mw_taut.specs.Reducing.{Fixed, Changed, change_of, other_at, form_at, IsOtherIn, IsFormIn};
+ghost use Rattle.mw_taut.specs.Rules.{rule_made};
 
 use crate::apply::apply;
 use crate::reduced::{Change, Reduced, Settled};

@@ -1,30 +1,12 @@
 //! What the denial of a formula comes to.
 ghost use Rattle.std.specs.Prelude.{◌≡◌, IfOk};
 ghost use Rattle.mw_heap.specs.Objects.{object_at, IsIn, Grows};
-ghost use Rattle.mw_taut.specs.Reducing.{Fixed, Changed, settled_at, other_at, form_at, IsOtherIn, IsFormIn, deny_value, deny_other, deny};
+ghost use Rattle.mw_taut.specs.Reducing.{Changed, other_at, form_at, IsOtherIn, IsFormIn, deny_other, deny};
 
 use crate::change::{changed, fixed};
 use crate::reduced::{Change, Reduced, Settled};
 use crate::rule::{DENIAL, DOUBLED, UNDENIED};
 use mw_heap::{Heap, Memory, Ref};
-
-// Where the value of x is fixed.
-fn deny_value(heap: &mut Heap, d: Ref, x: Ref, s: Settled) -> Result<Reduced, Memory>
-    requires d_in { IsIn heap.old.objects d }
-    requires x_in { IsIn heap.old.objects x }
-    requires s_in { IsIn heap.old.objects s.proof }
-    ensures grows { Grows heap.old.objects heap.new.objects }
-    ensures within { IfOk result (λ r. IsFormIn heap.new.objects r) }
-    ensures made { IfOk result (λ r. form_at heap.new.objects r ≡ Fixed (deny_value (object_at heap.old.objects d) (object_at heap.old.objects x) (settled_at heap.old.objects s))) }
-{
-    if s.value {
-        return fixed(heap, false, DOUBLED, &[x, d, s.proof]);
-    }
-    Ok(Reduced::Fixed(Settled {
-        value: true,
-        proof: s.proof,
-    }))
-}
 
 // Where x comes to another formula.
 fn deny_other(heap: &mut Heap, d: Ref, x: Ref, s: Change) -> Result<Reduced, Memory>
@@ -54,7 +36,11 @@ pub(crate) fn deny(heap: &mut Heap, d: Ref, x: Ref, r: Reduced) -> Result<Reduce
     ensures made { IfOk result (λ s. form_at heap.new.objects s ≡ deny (object_at heap.old.objects d) (object_at heap.old.objects x) (form_at heap.old.objects r)) }
 {
     match r {
-        Reduced::Fixed(s) => deny_value(heap, d, x, s),
+        Reduced::Fixed(s) if s.value => fixed(heap, false, DOUBLED, &[x, d, s.proof]),
+        Reduced::Fixed(s) => Ok(Reduced::Fixed(Settled {
+            value: true,
+            proof: s.proof,
+        })),
         Reduced::Kept => Ok(Reduced::Kept),
         Reduced::Changed(s) => deny_other(heap, d, x, s),
     }

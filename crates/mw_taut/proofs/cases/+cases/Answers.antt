@@ -55,10 +55,6 @@ branch-by_cases-requires t c =
       ),
     )
 
-pub branch-returns-in_err-outcome-in-Goes-clause-grows :
-    goal.branch-returns-in_err-outcome-in-Goes-clause-grows
-branch-returns-in_err-outcome-in-Goes-clause-grows t c = Grows-trans _ _ _ c.in_ok-outcome.ensures.grows c.by_cases.ensures.grows
-
 pub branch-carried-requires : goal.branch-carried-requires
 branch-carried-requires t c =
     let h1 = c.enter.new.heap.objects in
@@ -71,10 +67,6 @@ branch-carried-requires t c =
       s_in = record { context = IsIn-Grows h1 h2 g2 s.context within.context; formula = IsIn-Grows h1 h2 g2 s.formula within.formula; from = IsIn-Grows h1 h2 g2 s.from within.from };
       outcome_in = c.in_ok-outcome-in-Goes.ensures.within;
     }
-
-pub branch-returns-in_ok-outcome-in-Goes-clause-grows :
-    goal.branch-returns-in_ok-outcome-in-Goes-clause-grows
-branch-returns-in_ok-outcome-in-Goes-clause-grows t c = Grows-trans _ _ _ (Grows-trans _ _ _ c.in_ok-outcome.ensures.grows c.in_ok-outcome-in-Goes.ensures.grows) c.carried.ensures.grows
 
 pub branch-returns-in_ok-outcome-in-Goes-clause-proved :
     goal.branch-returns-in_ok-outcome-in-Goes-clause-proved
@@ -184,9 +176,6 @@ by_both-branch-heap-requires-2 t c =
       ),
     )
 
-pub by_both-returns-in_err-with-clause-grows : goal.by_both-returns-in_err-with-clause-grows
-by_both-returns-in_err-with-clause-grows t c = Grows-trans _ _ _ c.in_ok-without.ensures.grows c.branch-heap-2.ensures.grows
-
 pub by_both-joined-requires : goal.by_both-joined-requires
 by_both-joined-requires t c =
     let h1 = c.branch-heap.new.heap.objects in
@@ -197,9 +186,6 @@ by_both-joined-requires t c =
       p_in = IsIn-Grows h1 h2 g2 c.in-Proof.without (subst (IsOutcomeIn h1) c.in-Proof.is c.in_ok-without.ensures.within);
       with_in = c.in_ok-with.ensures.within;
     }
-
-pub by_both-returns-clause-grows : goal.by_both-returns-clause-grows
-by_both-returns-clause-grows t c = Grows-trans _ _ _ (Grows-trans _ _ _ c.in_ok-without.ensures.grows c.in_ok-with.ensures.grows) c.joined.ensures.grows
 
 pub by_both-returns-clause-proved : goal.by_both-returns-clause-proved
 by_both-returns-clause-proved t c =

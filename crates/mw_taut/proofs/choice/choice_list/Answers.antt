@@ -1,7 +1,7 @@
 -- One more pair is listed.
 use Rattle.std.proofs.Common.{◌≡◌, ◌-◌, suc, sym, subst, arith}
 use Rattle.mw_heap.specs.Objects.{IsIn}
-use Rattle.mw_heap.proofs.Objects.{IsIn-Grows, Grows-trans}
+use Rattle.mw_heap.proofs.Objects.{IsIn-Grows}
 use Rattle.mw_taut.proofs.Choosing.{IsChoosing, choosing-more}
 use Rattle.mw_taut.proofs.choice.choice_list.Goals as goal
 
@@ -24,6 +24,3 @@ choice_before-requires-clause-equation_in c =
     let e = c.index-equations-k.result in
     let within = subst (IsIn c.args.heap.now.objects) (sym c.index-equations-k.is) (c.requires k e (omega (arith, c.loop-k-test.true, c.loop-k.invariant.few))) in
     IsIn-Grows _ _ c.loop-k.invariant.grows e within
-
-pub returns-in_err-list-2-clause-grows : goal.returns-in_err-list-2-clause-grows
-returns-in_err-list-2-clause-grows c = Grows-trans _ _ _ c.loop-k.invariant.grows c.choice_before.ensures.grows

@@ -47,15 +47,6 @@ entered-requires c =
       r_in = subst (IsFormIn h2) (sym c.index.ensures) (c.in_ok-reduced.ensures.within.0 table.root c.index.result.now inside);
     }
 
-pub returns-in_err-reduced-clause-grows : goal.returns-in_err-reduced-clause-grows
-returns-in_err-reduced-clause-grows c = Grows-trans _ _ _ c.in_ok-context.ensures.grows c.reduce_all.ensures.grows
-
-pub returns-in_err-longer-clause-grows : goal.returns-in_err-longer-clause-grows
-returns-in_err-longer-clause-grows c = Grows-trans _ _ _ c.in_ok-context.ensures.grows c.in_ok-reduced.ensures.grows
-
-pub returns-clause-grows : goal.returns-clause-grows
-returns-clause-grows c = Grows-trans _ _ _ (Grows-trans _ _ _ c.in_ok-context.ensures.grows c.in_ok-reduced.ensures.grows) c.entered.ensures.grows
-
 pub returns-clause-entered : goal.returns-clause-entered
 returns-clause-entered c =
     let old = c.args.heap.now.objects in

@@ -29,9 +29,6 @@ reduce-requires c =
       node = subst (λ l. (m : ℕ) × IsNode m (length l) n × (length l < length c.args.at.now.formulas.now)) (sym c.as_slice.ensures.value) (node.0, node.1, omega (arith, h.count, c.loop-node-test.true, c.requires.nodes.2));
     }
 
-pub returns-in_err-reduced-clause-grows : goal.returns-in_err-reduced-clause-grows
-returns-in_err-reduced-clause-grows c = Grows-trans _ _ _ c.loop-node.invariant.grows c.reduce.ensures.grows
-
 pub returns-in_err-take_looks_at-clause-grows : goal.returns-in_err-take_looks_at-clause-grows
 returns-in_err-take_looks_at-clause-grows c = subst (Grows c.args.heap.now.objects) (sym c.take_looks_at.ensures) (Grows-trans _ _ _ c.loop-node.invariant.grows c.reduce.ensures.grows)
 

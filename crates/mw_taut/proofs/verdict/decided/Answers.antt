@@ -3,28 +3,15 @@ use Rattle.std.proofs.Common.{subst}
 use Rattle.mw_model.specs.Terms.Reading.{formula_under}
 use Rattle.mw_commands.specs.Commands.Tautology.{decision}
 use Rattle.mw_heap.specs.Objects.{object_at}
-use Rattle.mw_heap.proofs.Objects.{Grows-trans, IsIn-Grows}
 use Rattle.mw_taut.specs.Decided.{IsDecision}
 use Rattle.mw_taut.proofs.Verdicts.{present, proof_holds, theorem_found, choice_found, many_found}
 use Rattle.mw_taut.proofs.verdict.decided.Goals as goal
-
-pub returns-in_err-theorem_of-in-Proof-clause-grows : goal.returns-in_err-theorem_of-in-Proof-clause-grows
-returns-in_err-theorem_of-in-Proof-clause-grows c = Grows-trans _ _ _ c.decide.ensures.grows c.theorem_of.ensures.grows
-
-pub returns-in_ok-theorem_of-in-Proof-clause-grows : goal.returns-in_ok-theorem_of-in-Proof-clause-grows
-returns-in_ok-theorem_of-in-Proof-clause-grows c = Grows-trans _ _ _ c.decide.ensures.grows c.theorem_of.ensures.grows
 
 pub theorem_of-requires-clause-proof : goal.theorem_of-requires-clause-proof
 theorem_of-requires-clause-proof c =
     let A = c.args.arity.now in
     let f = present (formula_under A (object_at c.args.heap.now.objects c.args.formula)) c.requires.formula in
     (proof_holds c.decide.new.heap.objects A f.0 (decision f.0) c.in-Proof.proof (subst (IsDecision c.decide.new.heap.objects A f.0 (decision f.0)) c.in-Proof.is (c.decide.ensures.decided f.0 f.1))).1
-
-pub theorem_of-requires-clause-name : goal.theorem_of-requires-clause-name
-theorem_of-requires-clause-name c = IsIn-Grows _ _ c.decide.ensures.grows c.args.name c.requires.named.1.name_in
-
-pub theorem_of-requires-clause-formula : goal.theorem_of-requires-clause-formula
-theorem_of-requires-clause-formula c = IsIn-Grows _ _ c.decide.ensures.grows c.args.formula c.requires.named.1.formula_in
 
 pub returns-in_ok-theorem_of-in-Proof-clause-verdict : goal.returns-in_ok-theorem_of-in-Proof-clause-verdict
 returns-in_ok-theorem_of-in-Proof-clause-verdict c = λ x named.
