@@ -10,14 +10,6 @@ pub after-append : (t : Theory) (es : List Object) (e : Object) (N : ℕ) → af
 after-append t [] e N = refl
 after-append t (x ∷ es) e N = after-append (next t x N) es e N
 
-pub refused_among-append : (t : Theory) (es : List Object) (e : Object) (N : ℕ) →
-    refused_among t (es ++ e ∷ []) N ≡ refused_among t es N + cond (is_accepted (fate (after t es N) e N)) 0 1
-refused_among-append t [] e N = add-zero (cond (is_accepted (fate t e N)) 0 1) ∙ sym (zero-add (cond (is_accepted (fate t e N)) 0 1))
-refused_among-append t (x ∷ es) e N =
-    let here = cond (is_accepted (fate t x N)) 0 1 in
-    ap (λ n. here + n) (refused_among-append (next t x N) es e N)
-    ∙ sym (add_assoc here (refused_among (next t x N) es N) (cond (is_accepted (fate (after (next t x N) es N) e N)) 0 1))
-
 pub lines-append : (k : ℕ) (t : Theory) (es : List Object) (e : Object) (N : ℕ) →
     lines k t (es ++ e ∷ []) N ≡ lines k t es N ++ line (k + length es) e (fate (after t es N) e N)
 lines-append k t [] e N = append-nil (line k e (fate t e N)) ∙ ap (λ n. line n e (fate t e N)) (sym (add-zero k))

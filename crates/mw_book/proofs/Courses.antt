@@ -3,7 +3,8 @@ use Rattle.std.proofs.Common.{◌≡◌, ℕ, suc, ◌+◌, List, [], ◌∷◌,
 use Rattle.mw_model.specs.Terms.Object.{Object}
 use Rattle.mw_model.specs.Values.Primitive.{One}
 use Rattle.mw_model.specs.Events.Theory.{Theory, initial}
-use Rattle.mw_model.specs.Events.Fate.{happens, next, after}
+use Rattle.mw_model.specs.Events.Fate.{next, after}
+use Rattle.mw_book.specs.Effects.{plain}
 use Rattle.mw_commands.specs.Commands.Transition.{Effect, Transition, course, course_from, last_theory, last_theory_from}
 
 pub course-append : (effect : Effect) (k : ℕ) (t : Theory) (es more : List Object) → course_from effect k t (es ++ more) ≡ course_from effect k t es ++ course_from effect (k + length es) (last_theory_from t (course_from effect k t es)) more
@@ -28,10 +29,6 @@ event_after effect given y = let t = last_theory (course effect given) in let h 
 pub course_more : (effect : Effect) (given : List Object) (y : Object) → course effect (given ++ y ∷ []) ≡ course effect given ++ event_after effect given y ∷ []
 course_more effect given y = course-append effect 1 (initial One) given (y ∷ [])
 
--- by the theory's own checker
-abbrev pub judged : ℕ → Effect
-judged N t e = happens t N e
-
-pub course_leads : (N k : ℕ) (t : Theory) (es : List Object) → last_theory_from t (course_from (judged N) k t es) ≡ after t es N
+pub course_leads : (N k : ℕ) (t : Theory) (es : List Object) → last_theory_from t (course_from (plain N) k t es) ≡ after t es N
 course_leads N k t [] = refl
 course_leads N k t (e ∷ es) = course_leads N (suc k) (next t e N) es

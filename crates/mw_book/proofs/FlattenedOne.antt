@@ -20,7 +20,8 @@ use Rattle.mw_book.specs.Writing.{Puts}
 use Rattle.mw_book.specs.Flattened.{Flattened, FlattenedFor, HasEndedEvent, has_no_place, is_known_logged}
 use Rattle.mw_book.specs.declared.flat.Flattening.{Flattening}
 use Rattle.mw_book.proofs.AnsweredBy.{writes_by}
-use Rattle.mw_book.proofs.Courses.{event_after, course_more, judged, last-append, length-course}
+use Rattle.mw_book.specs.Effects.{plain}
+use Rattle.mw_book.proofs.Courses.{event_after, course_more, last-append, length-course}
 use Rattle.mw_book.proofs.FlatPieces.{few_flat, flat_more, flat_one, some_more}
 use Rattle.mw_book.proofs.Pieces.{in_order_both, how_many-append}
 use Rattle.mw_book.proofs.Showing.{fate-large, next-large}
@@ -65,15 +66,15 @@ abbrev IsFlattened : Flattening × Knowledge → ℕ → List Object → Type 0
 IsFlattened a N given = Flattened a.0 a.1 N given
 
 event_more : (old new : Flattening) (k l : Knowledge) (y : Object) (piece : List ℕ) → l.steps ≡ k.steps → new.events ≡ old.events + 1 →
-    ((N : ℕ) (given : List Object) → Flattened old k N given → EventMore old new l (event_after (judged N) given y) piece) →
+    ((N : ℕ) (given : List Object) → Flattened old k N given → EventMore old new l (event_after (plain N) given y) piece) →
     (given : List Object) → Puts FlattenedFor old k given new l (given ++ y ∷ []) piece
 event_more old new k l y piece steps counted one given =
     writes_by Flat IsFlattened (old, k) (new, l) given (given ++ y ∷ []) piece
     (λ N h.
     let m = one N given h in
     let ss = plain_course given N in
-    let s = event_after (judged N) given y in
-    let goes_on = sym (course_more (judged N) given y) in
+    let s = event_after (plain N) given y in
+    let goes_on = sym (course_more (plain N) given y) in
     record {
       theory = λ e. m.theory e ∙ sym (last-append (initial One) ss s) ∙ ap last_theory goes_on;
       steps = steps ∙ h.steps;
@@ -100,8 +101,8 @@ event_more old new k l y piece steps counted one given =
     events_are : (N : ℕ) (h : Flattened old k N given) → flat_events (plain_course (given ++ y ∷ []) N) ≡ flat_events (plain_course given N) ++ cond (one N given h).put (y ∷ []) []
     events_are N h =
         let ss = plain_course given N in
-        let s = event_after (judged N) given y in
-        ap flat_events (course_more (judged N) given y) ∙ flat_more ss s ∙ ap (λ es. flat_events ss ++ es) (ap (λ w. flat_one w s) (sym h.switched) ∙ (one N given h).one)
+        let s = event_after (plain N) given y in
+        ap flat_events (course_more (plain N) given y) ∙ flat_more ss s ∙ ap (λ es. flat_events ss ++ es) (ap (λ w. flat_one w s) (sym h.switched) ∙ (one N given h).one)
 
 -- ---- an event that is judged
 
@@ -147,12 +148,12 @@ pub judged_flat : {E : Type 0} (old mid ended new : Flattening) (k l : Knowledge
     new.written ≡ ended.written + cond put 1 0 →
     piece ≡ cond put text [] →
     (given : List Object) → Puts FlattenedFor old k given new l (given ++ y ∷ []) piece
-judged_flat old mid ended new k l y f logged switch put text piece plain comes goes steps rest is_here word owed e last count left =
+judged_flat old mid ended new k l y f logged switch put text piece unswitched comes goes steps rest is_here word owed e last count left =
     event_more old new k l y piece steps (ap (λ m. m.events) last ∙ e.counted ∙ ap (λ m. m.events + 1) rest)
     (λ N given h.
     let ss = plain_course given N in
-    let s = event_after (judged N) given y in
-    let here = h.theory plain in
+    let s = event_after (plain N) given y in
+    let here = h.theory unswitched in
     let same : happens (theory_of k) k.steps y ≡ happens (last_theory ss) N y = ap (λ t. happens t k.steps y) here ∙ ap (λ n. happens (last_theory ss) n y) h.steps in
     let accepted : is_accepted f ≡ is_acceptance s = ap is_accepted (comes ∙ ap (λ p. p.0) same) in
     let switches : is_switch s ≡ (is_accepted f && switch) = ap₂ (λ a b. a && b) (sym accepted) (sym is_here) in
@@ -160,7 +161,7 @@ judged_flat old mid ended new k l y f logged switch put text piece plain comes g
       theory = λ n. goes ∙ ap (λ p. p.1) same;
       put = put;
       one =
-          ap (λ w. flat_one w s) plain
+          ap (λ w. flat_one w s) unswitched
           ∙ ap₂ (λ w a. cond w [] (cond (a && is_logged_word (event_word y)) (y ∷ []) [])) switches (sym accepted)
           ∙ put_one (is_accepted f) switch logged (is_logged_word (event_word y)) y e.certain word
           ∙ ap (λ b. cond b (y ∷ []) []) (sym e.put_is);
@@ -183,7 +184,7 @@ pub counted_flat : (old : Flattening) (k l : Knowledge) (y : Object) (piece : Li
 counted_flat old k l y piece after steps none =
     event_more old (record old { events = old.events + 1 }) k l y piece steps refl
     (λ N given h.
-    let s = event_after (judged N) given y in
+    let s = event_after (plain N) given y in
     record {
       theory = λ n. absurd (true≢false (sym after ∙ n));
       put = false;
@@ -202,7 +203,7 @@ large_flat old k y piece large none =
     event_more old (record old { refused = true; events = old.events + 1 }) k k y piece refl refl
     (λ N given h.
     let t = last_theory (plain_course given N) in
-    let s = event_after (judged N) given y in
+    let s = event_after (plain N) given y in
     let refused : is_acceptance s ≡ false = ap is_accepted (fate-large t y N large) in
     let no_switch : is_switch s ≡ false = ap (λ a. a && begins_with "SWITCH" y) refused in
     record {
@@ -227,7 +228,7 @@ pub flattened_few : (f : Flattening) (k : Knowledge) → HasAnswered (FlattenedF
 flattened_few f k h =
     let p = h.2.2 in
     let ss = plain_course h.1 h.2.0 in
-    omega (arith, few_flat ss, length-course (judged h.2.0) 1 (initial One) h.1, p.counted, p.written_counted)
+    omega (arith, few_flat ss, length-course (plain h.2.0) 1 (initial One) h.1, p.counted, p.written_counted)
 
 pub flat_summary_is : (f : Flattening) (k : Knowledge) (N : ℕ) (given : List Object) → Flattened f k N given → flat_line f.events f.written ≡ flat_summary (plain_course given N) ++ 10 ∷ []
-flat_summary_is f k N given h = ap₂ flat_line (h.counted ∙ sym (length-course (judged N) 1 (initial One) given)) h.written_counted
+flat_summary_is f k N given h = ap₂ flat_line (h.counted ∙ sym (length-course (plain N) 1 (initial One) given)) h.written_counted

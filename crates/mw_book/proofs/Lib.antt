@@ -3,7 +3,6 @@ pub mod FirstData
 pub mod Taken
 pub mod Writings
 pub mod Sessions
-pub mod Ended
 pub mod Written
 pub mod Rounds
 pub mod Headlines
@@ -22,6 +21,8 @@ pub mod Appending
 pub mod Showing
 pub mod OneMore
 pub mod OneEvent
+pub mod JudgedOne
+pub mod ReportedOne
 pub mod LoweredOne
 pub mod SlicedOne
 pub mod FlattenedOne

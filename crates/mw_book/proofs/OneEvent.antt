@@ -4,13 +4,19 @@ use Rattle.mw_model.specs.Terms.Object.{Object}
 use Rattle.mw_model.specs.Values.Primitive.{One}
 use Rattle.mw_model.specs.Events.Theory.{Theory, initial}
 use Rattle.mw_model.specs.Events.Refusal.{Refusal, Fate, Refused}
-use Rattle.mw_model.specs.Reports.Report.{fate_text, line, is_accepted}
+use Rattle.mw_model.specs.Events.Fate.{fate, next}
+use Rattle.mw_model.specs.Reports.Request.{Request}
+use Rattle.mw_model.specs.Texts.Printing.{numeral}
+use Rattle.mw_model.specs.Reports.Report.{fate_text, line, is_accepted, spaced}
 use Rattle.mw_model.specs.Texts.Pieces.{InOrder, how_many}
 use Rattle.mw_commands.specs.Commands.Transition.{Transition, Effect, course, last_theory, is_acceptance}
 use Rattle.mw_commands.specs.Commands.Lowering.{refused_in, course_summary}
+use Rattle.mw_kernel.specs.Knowledge.{Knowledge, theory_of}
 use Rattle.mw_book.specs.Lines.{line_begun, summary_of}
+use Rattle.mw_book.specs.Statuses.{AreAnswers}
+use Rattle.mw_book.specs.Effects.{plain}
+use Rattle.mw_book.specs.Judged.{Tells}
 use Rattle.mw_book.proofs.Courses.{event_after, course_more, last-append, length-course}
-use Rattle.mw_book.proofs.Ended.{same_text}
 use Rattle.mw_book.proofs.OneMore.{line-parts}
 use Rattle.mw_book.proofs.Pieces.{in_order_both, how_many-append}
 
@@ -45,7 +51,32 @@ refused_text r s remark begun =
     ∙ append_assoc (codes "; ") (line_begun s.number s.event) (fate_text (Refused r) ++ 10 ∷ [])
     ∙ ap (λ u. codes "; " ++ u) (line-parts s.number s.event (Refused r))
 
+-- The theory's own checker judged the event: only the answers are left to be shown.
+pub tells_plain : (request : ℕ → Request) (k l : Knowledge) (number : ℕ) (y : Object) (f : Fate) (piece : List ℕ) →
+    f ≡ fate (theory_of k) y k.steps →
+    theory_of l ≡ next (theory_of k) y k.steps →
+    l.steps ≡ k.steps →
+    ((N : ℕ) (given : List Object) → theory_of k ≡ last_theory (course (plain N) given) → k.steps ≡ N → number ≡ 1 + length given → f ≡ (event_after (plain N) given y).fate → (written : List ℕ) → AreAnswers (request N) given written → AreAnswers (request N) (given ++ y ∷ []) (written ++ piece)) →
+    Tells request plain k number y f l piece
+tells_plain request k l number y f piece comes goes kept due N given stands steps count =
+    let s = event_after (plain N) given y in
+    let fate_is : f ≡ s.fate = comes ∙ ap (λ t. fate t y k.steps) stands ∙ ap (λ n. fate s.before y n) steps in
+    record {
+      fate = fate_is;
+      theory = goes ∙ ap (λ t. next t y k.steps) stands ∙ ap (λ n. next s.before y n) steps;
+      steps = kept ∙ steps;
+      due = due N given stands steps count fate_is;
+    }
+
 -- ---- the last line
+
+abbrev text_with : (events accepted refused level : ℕ) → List ℕ
+text_with e a r l =
+    spaced (codes "events") (spaced (numeral e) (spaced (codes "accepted") (spaced (numeral a) (spaced (codes "refused") (spaced (numeral r) (spaced (codes "level") (numeral l))))))) ++ 10 ∷ []
+
+pub same_text : (e a r l e' a' r' l' : ℕ) → e ≡ e' → a ≡ a' → r ≡ r' → l ≡ l' → text_with e a r l ≡ text_with e' a' r' l'
+same_text e a r l e' a' r' l' p q s u =
+    ap (λ x. text_with x a r l) p ∙ ap (λ x. text_with e' x r l) q ∙ ap (λ x. text_with e' a' x l) s ∙ ap (λ x. text_with e' a' r' x) u
 
 course_counts : (ss : List Transition) → how_many is_acceptance ss + refused_in ss ≡ length ss
 course_counts [] = refl

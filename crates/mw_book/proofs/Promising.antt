@@ -32,7 +32,8 @@ use Rattle.mw_commands.specs.Commands.Lowering.{OwesLowered, LoweredWritten, cou
 use Rattle.mw_commands.specs.Commands.ExplanationBook.{ExplanationWritten, OwesExplained, explanation_status, reasons}
 use Rattle.mw_commands.specs.Headlines.{AcceptsAll, EntryKeeps, LogAccepted, SliceHeadline, Promised, IsBegun}
 use Rattle.mw_book.proofs.Headlines.{AreKept}
-use Rattle.mw_book.proofs.Courses.{course-append, judged}
+use Rattle.mw_book.specs.Effects.{plain}
+use Rattle.mw_book.proofs.Courses.{course-append}
 use Rattle.mw_book.proofs.FlatPieces.{flat_goes_on}
 use Rattle.mw_book.proofs.Logs.{log_goes_on, log_lines-append}
 use Rattle.mw_book.proofs.LoweredPieces.{HasLowered, each_later, all_lowered}
@@ -163,7 +164,7 @@ module _
             let r = some_slice labelled has_slices b.fault (target accepted name) b.events accepted in
             goes_on (Slice name N) bytes text [] r.0 (ap (λ u. u ++ []) h) r.1
         begun (Flat N) bytes text given more e h =
-            let effect = judged N in
+            let effect = plain N in
             let ss = plain_course given N in
             let rest = course_from effect (1 + length given) (last_theory ss) more in
             let whole_course = ap (λ es. plain_course es N) e ∙ course-append effect 1 (initial One) given more in
@@ -177,7 +178,7 @@ module _
             goes_on Recheck bytes text (log_lines r.0) (ending b.fault (log_summary (log_of b.events)))
             (ap (λ u. u ++ log_lines r.0) h ∙ sym (log_lines-append (log_of given).entered r.0) ∙ ap log_lines (sym r.1) ∙ ap (λ xs. log_lines (log_of xs).entered) (sym e)) refl
         begun (Explain N) bytes text given more e h =
-            let effect = judged N in
+            let effect = plain N in
             let ss = plain_course given N in
             let rest = course_from effect (1 + length given) (last_theory ss) more in
             let whole_course = ap (λ es. plain_course es N) e ∙ course-append effect 1 (initial One) given more in

@@ -13,7 +13,3 @@ answers_with lines state answered old new given more piece w line = record {
   known = w.known;
   due = λ q h written due. subst (AreAnswers q more) (append_assoc written (lines old) piece ∙ ap (λ l. written ++ l) (sym line)) (w.due q h (written ++ lines old) due);
 }
-
--- what is known of a command and a store is known of a session of them
-pub begun : {A B : Type 0} (Known : A → B → Type 0) {command new : A} {store held : B} → new ≡ command → held ≡ store → Known command store → Known new held
-begun Known {command} {new} {store} {held} c s h = subst (λ a. Known a held) (sym c) (subst (Known command) (sym s) h)

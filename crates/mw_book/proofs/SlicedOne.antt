@@ -18,7 +18,8 @@ use Rattle.mw_book.specs.Sliced.{Sliced, SlicedFor, name_asked}
 use Rattle.mw_book.specs.declared.slice.Slicing.{Slicing}
 use Rattle.mw_book.proofs.AnsweredBy.{writes_by}
 use Rattle.mw_book.proofs.Appending.{after-append}
-use Rattle.mw_book.proofs.Courses.{course-append, course_leads, judged}
+use Rattle.mw_book.specs.Effects.{plain}
+use Rattle.mw_book.proofs.Courses.{course-append, course_leads}
 use Rattle.mw_book.proofs.Showing.{fate-large, next-large}
 
 -- ---- the events that are accepted
@@ -37,12 +38,12 @@ one_event s = go (is_acceptance s) refl
 pub accepted_more : (N : ℕ) (given : List Object) (y : Object) → accepted_events (given ++ y ∷ []) N ≡ accepted_events given N ++ where_accepted (is_accepted (fate (after (initial One) given N) y N)) y
 accepted_more N given y =
     let t = initial One in
-    let ss = course (judged N) given in
+    let ss = course (plain N) given in
     let u = last_theory ss in
     let h = happens u N y in
     let s : Transition = record { number = 1 + length given; before = u; event = y; fate = h.0; next = h.1 } in
     let events : List Transition → List Object = λ rs. map (λ r. r.event) rs in
-    ap (λ rs. events (filter is_acceptance rs)) (course-append (judged N) 1 t given (y ∷ []))
+    ap (λ rs. events (filter is_acceptance rs)) (course-append (plain N) 1 t given (y ∷ []))
     ∙ ap events (filter-append is_acceptance ss (s ∷ []))
     ∙ map-append (λ (r : Transition). r.event) (filter is_acceptance ss) (filter is_acceptance (s ∷ []))
     ∙ ap (λ l. events (filter is_acceptance ss) ++ l) (one_event s ∙ ap (λ v. where_accepted (is_accepted (fate v y N)) y) (course_leads N 1 t given))

@@ -5,12 +5,12 @@ pub mod Keeping
 pub mod Writing
 pub mod Statuses
 pub mod Numbers
-pub mod Knowing
-pub mod Lowered
+pub mod Effects
+pub mod Judged
+pub mod Pieces
 pub mod Sliced
 pub mod Flattened
 pub mod Rechecked
-pub mod Explained
 pub mod Checks
 pub mod Runs
 pub mod Complete

@@ -7,13 +7,11 @@ ghost use Rattle.mw_heap.specs.Objects.{object_at, IsIn};
 ghost use Rattle.mw_kernel.specs.Fates.{fate_of};
 ghost use Rattle.mw_book.specs.Lines.{flat_line};
 ghost use Rattle.mw_book.specs.Writing.{Puts};
-ghost use Rattle.mw_book.specs.Flattened.{Flattened, FlattenedFor, HasEndedEvent, flattened_still};
+ghost use Rattle.mw_book.specs.Flattened.{FlattenedFor, HasEndedEvent, flattened_still};
 ghost use Rattle.mw_book.specs.Checks.{BookEnds, SourceCounts, SinkCounts};
 
 use crate::Status;
-use crate::book::answer_book;
-use crate::promise::answers_promised;
-use crate::session::{Command, Session};
+use crate::session::{Command, answer_by};
 use mw_flat::write_flat;
 use mw_heap::{Memory, Ref, Word};
 use mw_kernel::{Fate, Kernel};
@@ -47,23 +45,20 @@ fn write_counts(lines: &mut Vec<u8>, events: u64, written: u64) -> Result<(), Me
 }
 
 impl Flattening {
-    /// The command at work on a book of which nothing was read.
-    pub(crate) fn session(
-        alloc: Global,
-        steps: u64,
-    ) -> Result<Box<Session<Kernel, Flattening>>, Memory>
-        ensures flattened { IfOk result (λ b. Flattened b.value.command b.value.store steps []) }
-        ensures lines { IfOk result (λ b. b.value.lines.items ≡ []) }
+    /// Nothing was judged.
+    pub(crate) fn new(alloc: Global) -> Flattening
+        ensures events { result.events ≡ 0 }
+        ensures written { result.written ≡ 0 }
+        ensures refused { result.refused ≡ false }
+        ensures switched { result.switched ≡ false }
     {
-        let flattening = Flattening {
+        Flattening {
             events: 0,
             written: 0,
             refused: false,
             switched: false,
             copies: Copies::new(alloc),
-        };
-        let session = Session::new(alloc, Kernel::new(alloc, steps)?, flattening)?;
-        Ok(session)
+        }
     }
 
     // Judges an event. Its steps, and the event with their numbers, are written before that. If they are too many or too long to be
@@ -176,10 +171,6 @@ pub(crate) fn flat<S: Source, K: Sink>(
     ensures source_counts { SourceCounts result (S.faults source.old) (S.faults source.new) }
     ensures sink_counts { SinkCounts result (K.faults sink.old) (K.faults sink.new) }
 {
-    answers_promised();
-    let Ok(mut boxed) = Flattening::session(alloc, steps) else {
-        return Status::Memory;
-    };
-    let session: &mut Session<Kernel, Flattening> = &mut boxed;
-    answer_book(alloc, session, source, sink)
+    let flattening = Flattening::new(alloc);
+    answer_by(alloc, Kernel::new(alloc, steps), flattening, source, sink)
 }

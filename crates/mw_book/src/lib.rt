@@ -8,6 +8,7 @@ mod command;
 mod completeness;
 mod explain;
 mod flat;
+mod judging;
 mod line;
 mod lower;
 mod nowhere;

@@ -1,6 +1,6 @@
 //! The lines of reports. What is written goes after what is there already, in time in proportion to it. The error is out of memory: then
 //! a part of it may stand.
-ghost use Rattle.std.specs.Prelude.{◌≡◌, ◌≤◌, ◌++◌, ◌∷◌, [], true, codes, OnOk};
+ghost use Rattle.std.specs.Prelude.{◌≡◌, ◌≤◌, ◌++◌, ◌∷◌, [], true, OnOk};
 ghost use Rattle.mw_model.specs.Terms.Object.{Object};
 ghost use Rattle.mw_model.specs.Values.Primitive.{is_symbol};
 ghost use Rattle.mw_model.specs.Reports.Report.{dash, fate_text, kind_word, symbol_text};
@@ -35,8 +35,16 @@ pub(crate) fn begin_line(
     Ok(())
 }
 
-/// Ends the line of an event with its fate.
-pub(crate) fn end_line(lines: &mut Vec<u8>, fate: &Fate) -> Result<(), Memory>
+/// Writes the line of an event, which was begun, and ends it with its fate.
+pub(crate) fn write_line(lines: &mut Vec<u8>, begun: &[u8], fate: &Fate) -> Result<(), Memory>
+    ensures { OnOk result (lines.new.items ≡ lines.old.items ++ (begun.now ++ (fate_text (fate_of fate.now) ++ 10 ∷ []))) }
+{
+    lines.extend_from_slice(begun)?;
+    end_line(lines, fate)
+}
+
+// Ends the line of an event with its fate.
+fn end_line(lines: &mut Vec<u8>, fate: &Fate) -> Result<(), Memory>
     ensures { OnOk result (lines.new.items ≡ lines.old.items ++ (fate_text (fate_of fate.now) ++ 10 ∷ [])) }
 {
     match fate {
@@ -54,22 +62,6 @@ pub(crate) fn end_line(lines: &mut Vec<u8>, fate: &Fate) -> Result<(), Memory>
     }
     lines.push(b'\n')?;
     Ok(())
-}
-
-/// Begins a comment on an event, in place of what was there: its number, its word and its label.
-pub(crate) fn begin_remark(
-    remark: &mut Vec<u8>,
-    heap: &Heap,
-    number: u64,
-    word: Option<Ref>,
-    label: Option<Ref>,
-) -> Result<(), Memory>
-    requires shows { (e : Object) × ShowsEvent heap.now.objects word label e }
-    ensures { OnOk result ((e : Object) → ShowsEvent heap.now.objects word label e → remark.new.items ≡ codes "; " ++ line_begun number e) }
-{
-    remark.clear();
-    remark.extend_from_slice(b"; ")?;
-    begin_line(remark, heap, number, word, label)
 }
 
 /// The last line, for a book that was read to its end.

@@ -1,18 +1,16 @@
 //! The command that judges a log, and the judging of its data as they are read.
-ghost use Rattle.std.specs.Prelude.{◌≡◌, ◌+◌, ◌<◌, ◌≤◌, ◌^◌, cond, [], ◌++◌, IfOk, OnOk};
+ghost use Rattle.std.specs.Prelude.{◌≡◌, ◌+◌, ◌<◌, ◌≤◌, ◌^◌, cond, [], ◌++◌, OnOk};
 ghost use Rattle.mw_model.specs.Terms.Object.{Object};
 ghost use Rattle.mw_model.specs.Reports.Request.{Recheck};
 ghost use Rattle.mw_read.specs.Shown.{ShowsEvent};
 ghost use Rattle.mw_flat.specs.Verdicts.{answer_of};
 ghost use Rattle.mw_book.specs.Lines.{answers_line, line_begun};
-ghost use Rattle.mw_book.specs.Rechecked.{HasCounted, Rechecked, RecheckedFor, rechecked_still, said_text};
+ghost use Rattle.mw_book.specs.Rechecked.{HasCounted, RecheckedFor, rechecked_still, said_text};
 ghost use Rattle.mw_book.specs.Checks.{BookEnds, SourceCounts, SinkCounts};
 
 use crate::Status;
-use crate::book::answer_book;
 use crate::line::begin_line;
-use crate::promise::answers_promised;
-use crate::session::{Command, Session};
+use crate::session::{Command, answer_by};
 use mw_flat::{Flat, Verdict, is_step_word};
 use mw_heap::{Memory, Ref, Word};
 use mw_port::{Sink, Source};
@@ -70,18 +68,17 @@ fn end_answer(line: &mut Vec<u8>, verdict: &Verdict) -> Result<(), Memory>
 }
 
 impl Rechecking {
-    /// The command at work on a log of which nothing was read.
-    pub(crate) fn session(alloc: Global) -> Result<Box<Session<Flat, Rechecking>>, Memory>
-        ensures rechecked { IfOk result (λ b. Rechecked b.value.command b.value.store []) }
-        ensures lines { IfOk result (λ b. b.value.lines.items ≡ []) }
+    /// Nothing was judged.
+    pub(crate) fn new() -> Rechecking
+        ensures taken { result.taken ≡ 0 }
+        ensures events { result.events ≡ 0 }
+        ensures denied { result.denied ≡ 0 }
     {
-        let rechecking = Rechecking {
+        Rechecking {
             taken: 0,
             events: 0,
             denied: 0,
-        };
-        let session = Session::new(alloc, Flat::new(alloc)?, rechecking)?;
-        Ok(session)
+        }
     }
 
     // Begins the line of a datum that is shown so, unless it is a step, which has none.
@@ -175,10 +172,5 @@ pub(crate) fn recheck<S: Source, K: Sink>(alloc: Global, source: &mut S, sink: &
     ensures source_counts { SourceCounts result (S.faults source.old) (S.faults source.new) }
     ensures sink_counts { SinkCounts result (K.faults sink.old) (K.faults sink.new) }
 {
-    answers_promised();
-    let Ok(mut boxed) = Rechecking::session(alloc) else {
-        return Status::Memory;
-    };
-    let session: &mut Session<Flat, Rechecking> = &mut boxed;
-    answer_book(alloc, session, source, sink)
+    answer_by(alloc, Flat::new(alloc), Rechecking::new(), source, sink)
 }

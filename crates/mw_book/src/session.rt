@@ -11,11 +11,17 @@ ghost use Rattle.mw_book.specs.Answering.{HasAnswered, fault_of};
 ghost use Rattle.mw_book.specs.LastTexts.{IsLastText, refused_for};
 ghost use Rattle.mw_book.specs.Lines.{fault_line};
 ghost use Rattle.mw_book.specs.Writing.{Puts};
+ghost use Rattle.mw_book.specs.Statuses.{AreAnswers};
+ghost use Rattle.mw_book.specs.Checks.{BookEnds, SourceCounts, SinkCounts};
 
+use crate::Status;
 use crate::answering::Answering;
+use crate::book::answer_book;
 use crate::line::write_fault;
+use crate::promise::answers_promised;
 use crate::store::Store;
 use mw_heap::{Memory, Ref};
+use mw_port::{Sink, Source};
 use mw_read::{Reader, Step, SyntaxKind};
 use std::alloc::Global;
 
@@ -152,4 +158,30 @@ impl<S: Store, C: Command<S>> Answering for Session<S, C> {
             None => self.command.end(&self.store, &mut self.lines),
         }
     }
+}
+
+/// Answers the book on the source by a command at work on what the book is read into, of which nothing was read.
+pub(crate) fn answer_by<T: Store, C: Command<T>, S: Source, K: Sink>(
+    alloc: Global,
+    store: Result<T, Memory>,
+    command: C,
+    source: &mut S,
+    sink: &mut K,
+) -> Status
+    requires answered { IfOk store (λ s. C.answered command s (C.request command s) []) }
+    requires due { IfOk store (λ s. AreAnswers (C.request command s) [] []) }
+    requires count { C.count command ≡ 0 }
+    ensures ends { (q : Request) → AreAnswers q [] [] → IfOk store (λ s. C.request command s ≡ q) → BookEnds result q (S.left source.old) (S.left source.new) (K.taken sink.old) (K.taken sink.new) (K.shortages sink.old) (K.shortages sink.new) }
+    ensures source_counts { SourceCounts result (S.faults source.old) (S.faults source.new) }
+    ensures sink_counts { SinkCounts result (K.faults sink.old) (K.faults sink.new) }
+{
+    answers_promised();
+    let Ok(store) = store else {
+        return Status::Memory;
+    };
+    let Ok(mut boxed) = Session::new(alloc, store, command) else {
+        return Status::Memory;
+    };
+    let session: &mut Session<T, C> = &mut boxed;
+    answer_book(alloc, session, source, sink)
 }

@@ -1,5 +1,5 @@
 //! The command that keeps what a theorem of a book rests on: the judging of events as they are read, and those that are accepted.
-ghost use Rattle.std.specs.Prelude.{◌≡◌, cond, [], ◌∷◌, ◌++◌, IfOk, OnOk};
+ghost use Rattle.std.specs.Prelude.{◌≡◌, cond, [], ◌∷◌, ◌++◌, OnOk};
 ghost use Rattle.mw_model.specs.Terms.Object.{name_of_bytes};
 ghost use Rattle.mw_model.specs.Reports.Request.{Slice};
 ghost use Rattle.mw_model.specs.Events.Fate.{fate, next};
@@ -7,13 +7,11 @@ ghost use Rattle.mw_model.specs.Reports.Report.{is_accepted};
 ghost use Rattle.mw_heap.specs.Objects.{object_at, IsIn};
 ghost use Rattle.mw_kernel.specs.Knowledge.{theory_of};
 ghost use Rattle.mw_slice.specs.Slices.{events_of};
-ghost use Rattle.mw_book.specs.Sliced.{Sliced, SlicedFor, name_asked, sliced_still};
+ghost use Rattle.mw_book.specs.Sliced.{SlicedFor, name_asked, sliced_still};
 ghost use Rattle.mw_book.specs.Checks.{BookEnds, SourceCounts, SinkCounts};
 
 use crate::Status;
-use crate::book::answer_book;
-use crate::promise::answers_promised;
-use crate::session::{Command, Session};
+use crate::session::{Command, answer_by};
 use mw_heap::{Memory, Ref};
 use mw_kernel::{Fate, Kernel};
 use mw_port::{Sink, Source};
@@ -32,22 +30,17 @@ pub(crate) struct Slicing {
 }
 
 impl Slicing {
-    /// The command at work on a book of which nothing was read.
-    pub(crate) fn session(
-        alloc: Global,
-        name: TheoremName,
-        steps: u64,
-    ) -> Result<Box<Session<Kernel, Slicing>>, Memory>
-        ensures sliced { IfOk result (λ b. Sliced b.value.command b.value.store (name_of_bytes name) steps []) }
-        ensures lines { IfOk result (λ b. b.value.lines.items ≡ []) }
+    /// Nothing was judged.
+    pub(crate) fn new(alloc: Global, name: TheoremName) -> Slicing
+        ensures name { name_asked result ≡ name_of_bytes name }
+        ensures events { result.events ≡ 0 }
+        ensures accepted { events_of result.slicer ≡ [] }
     {
-        let slicing = Slicing {
+        Slicing {
             slicer: Slicer::new(alloc),
             name,
             events: 0,
-        };
-        let session = Session::new(alloc, Kernel::new(alloc, steps)?, slicing)?;
-        Ok(session)
+        }
     }
 
     // Judges an event. The slicer keeps it if it is accepted.
@@ -124,10 +117,6 @@ pub(crate) fn slice<S: Source, K: Sink>(
     ensures source_counts { SourceCounts result (S.faults source.old) (S.faults source.new) }
     ensures sink_counts { SinkCounts result (K.faults sink.old) (K.faults sink.new) }
 {
-    answers_promised();
-    let Ok(mut boxed) = Slicing::session(alloc, name, steps) else {
-        return Status::Memory;
-    };
-    let session: &mut Session<Kernel, Slicing> = &mut boxed;
-    answer_book(alloc, session, source, sink)
+    let slicing = Slicing::new(alloc, name);
+    answer_by(alloc, Kernel::new(alloc, steps), slicing, source, sink)
 }

@@ -1,24 +1,19 @@
 -- Nothing was read.
-use Rattle.std.proofs.Common.{[], refl, sym, subst, ap₂}
-use Rattle.mw_model.specs.Terms.Object.{name_of_bytes}
+use Rattle.std.proofs.Common.{◌≡◌, ℕ, [], Result, Ok, Err, IfOk, refl}
 use Rattle.mw_model.specs.Reports.Request.{Slice}
-use Rattle.mw_book.specs.Checks.{BookEnds}
-use Rattle.mw_book.specs.Sliced.{Sliced, name_asked}
-use Rattle.mw_book.proofs.Rounds.{ends_none}
+use Rattle.mw_model.specs.Events.Theory.{initial}
+use Rattle.mw_model.specs.Values.Primitive.{One}
+use Rattle.mw_heap.specs.declared.budget.memory.Memory.{Memory}
+use Rattle.mw_kernel.specs.declared.kernel.Kernel.{Kernel}
+use Rattle.mw_kernel.specs.Knowledge.{theory_of}
+use Rattle.mw_slice.specs.Slices.{events_of}
+use Rattle.mw_book.specs.declared.slice.Slicing.{Slicing}
+use Rattle.mw_book.specs.Sliced.{SlicedFor, name_asked}
 use Rattle.mw_book.proofs.slice.slice.Goals as goal
 
-pub answer_book-requires-clause-answered : goal.answer_book-requires-clause-answered
-answer_book-requires-clause-answered g c =
-    let s = c.deref_mut-session.result.now in
-    let name = name_of_bytes c.args.name in
-    let h = subst (λ v. Sliced v.command v.store name c.args.steps []) (sym c.deref_mut-session.ensures.value) c.in-Ok.ensures.sliced in
-    ((name_asked s.command, s.store.steps), refl, subst (λ n. Sliced s.command s.store n s.store.steps []) (sym h.named) (subst (λ m. Sliced s.command s.store name m []) (sym h.steps) h))
+none-sliced : (s : Slicing) (r : Result Kernel Memory) → s.events ≡ 0 → events_of s.slicer ≡ [] → IfOk r (λ k. theory_of k ≡ initial One) → IfOk r (λ k. SlicedFor s k (Slice (name_asked s) k.steps) [])
+none-sliced s (Ok k) events accepted theory = ((name_asked s, k.steps), refl, record { named = refl; theory = theory; steps = refl; counted = events; accepted = accepted })
+none-sliced s (Err e) events accepted theory = tt
 
-pub returns-clause-ends : goal.returns-clause-ends
-returns-clause-ends g c =
-    let name = name_of_bytes c.args.name in
-    let h = subst (λ v. Sliced v.command v.store name c.args.steps []) (sym c.deref_mut-session.ensures.value) c.in-Ok.ensures.sliced in
-    subst (λ q. BookEnds c.answer_book.result q (g.S.Source.left c.args.source.now) (g.S.Source.left c.answer_book.new.source) (g.K.Sink.taken c.args.sink.now) (g.K.Sink.taken c.answer_book.new.sink) (g.K.Sink.shortages c.args.sink.now) (g.K.Sink.shortages c.answer_book.new.sink)) (ap₂ Slice h.named h.steps) c.answer_book.ensures.ends
-
-pub returns-in_default-clause-ends : goal.returns-in_default-clause-ends
-returns-in_default-clause-ends g c = ends_none c.answers_promised.ensures.begun (Slice (name_of_bytes c.args.name) c.args.steps) refl (g.S.Source.left c.args.source.now) (g.S.Source.left c.args.source.now) (g.K.Sink.taken c.args.sink.now) (g.K.Sink.shortages c.args.sink.now) (g.K.Sink.shortages c.args.sink.now)
+pub answer_by-requires-clause-answered : goal.answer_by-requires-clause-answered
+answer_by-requires-clause-answered g c = none-sliced c.new-slicing.result c.new.result c.new-slicing.ensures.events c.new-slicing.ensures.accepted c.new.ensures.theory
