@@ -139,39 +139,27 @@ module _ (P : Profile) where
     no_pair_value (If a b c) x e h = let k : true ≡ is_pair x = ap is_pair (sym e) in cc
     no_pair_value (Call f ts) x e h = let k : true ≡ is_pair x = ap is_pair (sym e) in cc
 
-    none_of_if : (a b c : Term) → (is_constant a && (is_constant b && (is_constant c && true))) ≡ false → value_of_call P (If a b c) ≡ None
-    none_of_if (Constant a) (Constant b) (Constant c) h = cc
-    none_of_if (Constant a) (Constant b) (Variable v) h = refl
-    none_of_if (Constant a) (Constant b) (If d e f) h = refl
-    none_of_if (Constant a) (Constant b) (Call f ts) h = refl
-    none_of_if (Constant a) (Constant b) (Lambda xs d ts) h = refl
-    none_of_if (Constant a) (Variable v) c h = refl
-    none_of_if (Constant a) (If d e f) c h = refl
-    none_of_if (Constant a) (Call f ts) c h = refl
-    none_of_if (Constant a) (Lambda xs d ts) c h = refl
-    none_of_if (Variable v) b c h = refl
-    none_of_if (If d e f) b c h = refl
-    none_of_if (Call f ts) b c h = refl
-    none_of_if (Lambda xs d ts) b c h = refl
+    if_value : (a b c : Term) → value_of_call P (If a b c) ≡ cond (is_constant a && (is_constant b && (is_constant c && true))) (Some (choose (second_of (term_object a)) (second_of (term_object b)) (second_of (term_object c)))) None
+    if_value (Constant a) (Constant b) (Constant c) = refl
+    if_value (Constant a) (Constant b) (Variable v) = refl
+    if_value (Constant a) (Constant b) (If d e f) = refl
+    if_value (Constant a) (Constant b) (Call f ts) = refl
+    if_value (Constant a) (Constant b) (Lambda xs d ts) = refl
+    if_value (Constant a) (Variable v) c = refl
+    if_value (Constant a) (If d e f) c = refl
+    if_value (Constant a) (Call f ts) c = refl
+    if_value (Constant a) (Lambda xs d ts) c = refl
+    if_value (Variable v) b c = refl
+    if_value (If d e f) b c = refl
+    if_value (Call f ts) b c = refl
+    if_value (Lambda xs d ts) b c = refl
+
+    value_at_if : (a b c : Term) (all : Bool) → (is_constant a && (is_constant b && (is_constant c && true))) ≡ all → value_of_call P (If a b c) ≡ cond all (Some (choose (second_of (term_object a)) (second_of (term_object b)) (second_of (term_object c)))) None
+    value_at_if a b c all h = if_value a b c ∙ ap (λ t. cond t (Some (choose (second_of (term_object a)) (second_of (term_object b)) (second_of (term_object c)))) None) h
 
     three_constants : (a b c : Term) → Readable a → Readable b → Readable c → are_constant_objects (list3 (term_object a) (term_object b) (term_object c)) ≡ (is_constant a && (is_constant b && (is_constant c && true)))
     three_constants a b c i j k =
         ap₂ (λ p q. p && q) (is_constant_object-is a i) (ap₂ (λ p q. p && q) (is_constant_object-is b j) (ap (λ p. p && true) (is_constant_object-is c k)))
-
-    constants_of_if : (a b c : Term) → (is_constant a && (is_constant b && (is_constant c && true))) ≡ true → value_of_call P (If a b c) ≡ Some (choose (second_of (term_object a)) (second_of (term_object b)) (second_of (term_object c)))
-    constants_of_if (Constant a) (Constant b) (Constant c) h = refl
-    constants_of_if (Constant a) (Constant b) (Variable v) h = cc
-    constants_of_if (Constant a) (Constant b) (If d e f) h = cc
-    constants_of_if (Constant a) (Constant b) (Call f ts) h = cc
-    constants_of_if (Constant a) (Constant b) (Lambda xs d ts) h = cc
-    constants_of_if (Constant a) (Variable v) c h = cc
-    constants_of_if (Constant a) (If d e f) c h = cc
-    constants_of_if (Constant a) (Call f ts) c h = cc
-    constants_of_if (Constant a) (Lambda xs d ts) c h = cc
-    constants_of_if (Variable v) b c h = cc
-    constants_of_if (If d e f) b c h = cc
-    constants_of_if (Call f ts) b c h = cc
-    constants_of_if (Lambda xs d ts) b c h = cc
 
     no_value_of : (o : Option Primitive) → map2 apply o None ≡ None
     no_value_of None = refl
@@ -219,7 +207,7 @@ module _ (P : Profile) where
           go : (u : Term) → Readable u → are_constant_objects (cdr (term_object u)) ≡ false → IsValue os (value_of_call P u) None
           go (Variable v) j k = tt
           go (Constant c) j k = tt
-          go (If a b c) j k = subst (λ o. IsValue os o None) (sym (none_of_if a b c (sym (three_constants a b c j.0 j.1 j.2) ∙ k))) tt
+          go (If a b c) j k = subst (λ o. IsValue os o None) (sym (value_at_if a b c false (sym (three_constants a b c j.0 j.1 j.2) ∙ k))) tt
           go (Call g ts) j k = subst (λ o. IsValue os o None) (sym (ap (map2 apply (primitive_named P g)) (no_constants ts k) ∙ no_value_of (primitive_named P g))) tt
           go (Lambda xs b ts) j k = tt
 
@@ -235,7 +223,7 @@ module _ (P : Profile) where
           go (If a b c) j l m q y d =
               let d2 : Some w ≡ Some word.If = m ∙ if_word in
               let d3 : w ≡ word.If = cc d2 in
-              subst (λ z. IsValue os z o) (ap (λ z. Some (value_of z (second_of (term_object a) ∷ second_of (term_object b) ∷ second_of (term_object c) ∷ []))) d3 ∙ sym (constants_of_if a b c (sym (three_constants a b c j.0 j.1 j.2) ∙ q))) y
+              subst (λ z. IsValue os z o) (ap (λ z. Some (value_of z (second_of (term_object a) ∷ second_of (term_object b) ∷ second_of (term_object c) ∷ []))) d3 ∙ sym (value_at_if a b c true (sym (three_constants a b c j.0 j.1 j.2) ∙ q))) y
           go (Call g ts) j l m q y d = subst (λ z. IsValue os z o) (sym (value_at_call g ts w j.1 (not_if g j.0) (sym m) q)) y
 
 -- ---- conclusions

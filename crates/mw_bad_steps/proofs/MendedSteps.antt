@@ -1,5 +1,6 @@
 -- The conclusion with which a step of a heap follows.
 use Rattle.std.proofs.Common.{◌≡◌, ℕ, Bool, true, false, List, [], ◌∷◌, map, Option, Some, None, refl, sym, ap, ap₂, ◌∙◌, subst}
+use Rattle.std.specs.Bool.{then_some}
 use Rattle.mw_model.specs.Terms.Object.{Object, Natural, Symbol, Pair, NIL, car, cdr, second_of, third_of, fourth_of, list4}
 use Rattle.mw_model.specs.Terms.Term.{Formula, IsFormula, is_formula, formula_object}
 use Rattle.mw_model.specs.Terms.Reading.{formula_of, formula_under, that}
@@ -82,8 +83,9 @@ module _ (os new : List Object) (p : ℕ) (mem : Members) (am : AreMembers os p 
         ∙ ap (is_step_on b)
         (made ∙ (ap (λ z. list4 z (object_at new r) (object_at os mem.subproofs) (object_at os mem.extras)) am.method_is ∙ ap₂ (λ z w. list4 (car x) (object_at new r) z w) am.subproofs_are am.extras_are))
 
-    pub one_mended : s ≡ true → IsMended last Defined (Some r)
-    one_mended t = meant_follows b m F Fs (car x) (third_of x) (fourth_of x) i j new read.1 concluded.1 e last r s here in_last same range answered t
-
-    pub not_mended : s ≡ false → IsMended last Defined None
-    not_mended t = meant_fails b m F Fs (car x) (third_of x) (fourth_of x) i j new read.1 concluded.1 e last r s here in_last same range answered t
+    pub follows_mended : IsMended last Defined (then_some s r)
+    follows_mended = by_answer s refl
+      where
+        by_answer : (t : Bool) → s ≡ t → IsMended last Defined (then_some t r)
+        by_answer true t = meant_follows b m F Fs (car x) (third_of x) (fourth_of x) i j new read.1 concluded.1 e last r s here in_last same range answered t
+        by_answer false t = meant_fails b m F Fs (car x) (third_of x) (fourth_of x) i j new read.1 concluded.1 e last r s here in_last same range answered t

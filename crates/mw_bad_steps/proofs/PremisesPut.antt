@@ -1,5 +1,5 @@
 -- Premises that are put one after another.
-use Rattle.std.proofs.Common.{◌≡◌, ℕ, ◌<◌, arith, true, false, List, [], ◌∷◌, ◌++◌, map, All, refl, sym, ap, ap₂, ◌∙◌, subst, append_assoc}
+use Rattle.std.proofs.Common.{◌≡◌, ℕ, ◌<◌, arith, true, false, List, [], ◌∷◌, ◌++◌, map, length, All, refl, sym, ap, ap₂, ◌∙◌, subst, append_assoc}
 use Rattle.std.proofs.lemmas.Bool.{and_parts}
 use Rattle.std.proofs.lemmas.List.{append-nil}
 use Rattle.mw_model.specs.Terms.Object.{Object, Natural, Symbol, Pair, NIL, car, cdr}
@@ -120,6 +120,34 @@ module _ (os cur : List Object) (g : Grows os cur) where
       let in_s : IsIn os s = omega (arith, l, i) in
       let in_more : IsIn os more = omega (arith, m, i) in
       (in_s, in_more, sym (object_at-Grows os cur g rest i) ∙ (e ∙ ap₂ Pair (object_at-Grows os cur g s in_s) (object_at-Grows os cur g more in_more)))
+
+  -- the next condition q with its substitutions ss, and what is left of both lists
+  pub record IsNextCase (conditions cases q more ss others : ℕ) : Type 0 where
+    pub condition_in : IsIn os q
+    pub conditions_in : IsIn os more
+    pub conditions_are : object_at os conditions ≡ Pair (object_at os q) (object_at os more)
+    pub substitutions_in : IsIn os ss
+    pub substitutions_are : object_at cur ss ≡ car (object_at os cases)
+    pub cases_in : IsIn os others
+    pub cases_are : object_at os others ≡ cdr (object_at os cases)
+    pub pairs : are_cases_of_pairs (object_at os others) ≡ true
+
+  pub next_case : (conditions cases q more ss others nil : ℕ) → IsIn os conditions → q < conditions → more < conditions → object_at cur conditions ≡ Pair (object_at cur q) (object_at cur more) → IsIn os cases → IsIn os nil → ((n : ℕ) → cases < n → nil < n → (ss < n) × (others < n)) → object_at cur ss ≡ car (object_at cur cases) → object_at cur others ≡ cdr (object_at cur cases) → are_cases_of_pairs (object_at os cases) ≡ true → IsNextCase conditions cases q more ss others
+  next_case conditions cases q more ss others nil i l m e j k below f r p =
+      let part = next_part conditions q more i l m e in
+      let here = object_at-Grows os cur g cases j in
+      let in_os = below (length os) j k in
+      let rest = sym (object_at-Grows os cur g others in_os.1) ∙ (r ∙ ap cdr here) in
+      record {
+        condition_in = part.0;
+        conditions_in = part.1;
+        conditions_are = part.2;
+        substitutions_in = in_os.0;
+        substitutions_are = f ∙ ap car here;
+        cases_in = in_os.1;
+        cases_are = rest;
+        pairs = ap are_cases_of_pairs rest ∙ (case_pairs (object_at os cases) p).1;
+      }
 
   pub same_fall : (m q s : ℕ) → IsIn os m → IsIn os q → IsIn os s → fall_object (object_at cur m) (object_at cur q) (object_at cur s) ≡ fall_object (object_at os m) (object_at os q) (object_at os s)
   same_fall m q s i j k =

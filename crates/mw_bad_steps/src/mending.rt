@@ -153,8 +153,6 @@ pub fn mended(
         theorems,
         profile,
     };
-    if !is_step(heap, made, &basis, arity, marks)? {
-        return Ok(None);
-    }
-    Ok(Some(conclusion))
+    let follows = is_step(heap, made, &basis, arity, marks)?;
+    Ok(follows.then_some(conclusion))
 }

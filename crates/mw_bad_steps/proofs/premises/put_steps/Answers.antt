@@ -3,10 +3,9 @@ use Rattle.std.proofs.Common.{◌++◌, length, map, All, sym, ap, ◌∙◌, su
 use Rattle.mw_model.specs.Terms.Object.{car, cdr, NIL}
 use Rattle.mw_model.specs.Laws.RulesInduction.{steps_object}
 use Rattle.mw_heap.specs.Objects.{object_at, IsIn}
-use Rattle.mw_heap.proofs.Objects.{IsIn-Grows, object_at-Grows, Grows-trans}
-use Rattle.mw_induct.specs.Pairs.{are_cases_of_pairs}
+use Rattle.mw_heap.proofs.Objects.{IsIn-Grows, Grows-trans}
 use Rattle.mw_bad_steps.specs.Members.{members_in}
-use Rattle.mw_bad_steps.proofs.PremisesPut.{step_object, put_next, case_pairs, next_part, same_step}
+use Rattle.mw_bad_steps.proofs.PremisesPut.{step_object, put_next, next_case, same_step}
 use Rattle.mw_bad_steps.proofs.premises.put_steps.Goals as goal
 
 pub step-requires-clause-substitutions : goal.step-requires-clause-substitutions
@@ -22,29 +21,24 @@ loop-condition-preserved c =
     let cur = c.loop-condition.heap.objects in
     let new = c.step.new.heap.objects in
     let inv = c.loop-condition.invariant in
-    let q = c.in-Pair.condition in
-    let more = c.in-Pair.more in
-    let cases = c.loop-condition.left in
-    let ss = c.first_and_rest-substitutions.result.0 in
-    let others = c.first_and_rest-substitutions.result.1 in
+    let shown = c.in-Pair.ensures in
+    let split = c.first_and_rest-substitutions.ensures in
     let a = object_at os c.args.a in
+    let y = object_at os c.loop-condition.left in
     let items = c.loop-condition.premises.items in
-    let part = next_part os cur inv.grows c.loop-condition.conditions q more inv.conditions_in c.in-Pair.ensures.below.0 c.in-Pair.ensures.below.1 c.in-Pair.ensures.shows.2 in
-    let here = object_at-Grows os cur inv.grows cases inv.cases_in in
-    let in_os = c.first_and_rest-substitutions.ensures.below _ inv.cases_in c.requires.cases.nil_in in
-    let pairs = case_pairs (object_at os cases) inv.pairs in
-    let first = c.first_and_rest-substitutions.ensures.first ∙ ap car here in
-    let rest = sym (object_at-Grows os cur inv.grows others in_os.1) ∙ (c.first_and_rest-substitutions.ensures.rest ∙ ap cdr here) in
-    let next = ap (λ y. map (object_at cur) items ++ members_in (steps_object a y (object_at os cases) NIL)) (sym part.2) ∙ inv.same in
-    let made = c.in_ok-made.ensures.made ∙ same_step os cur inv.grows c.args.a q ss (car (object_at os cases)) c.requires.within part.0 first in
-    let put = put_next cur new items c.in_ok-made.made (step_object a (object_at os q) (car (object_at os cases))) (members_in (steps_object a (object_at os more) (cdr (object_at os cases)) NIL)) _ c.in_ok-made.ensures.grows inv.within next c.in_ok-made.ensures.within made in
+    let made = c.in_ok-made in
+    let case = next_case os cur inv.grows c.loop-condition.conditions c.loop-condition.left c.in-Pair.condition c.in-Pair.more _ _ _ inv.conditions_in shown.below.0 shown.below.1 shown.shows.2 inv.cases_in c.requires.cases.nil_in split.below split.first split.rest inv.pairs in
+    let rest = steps_object a (object_at os c.in-Pair.more) (cdr y) NIL in
+    let next = ap (λ z. map (object_at cur) items ++ members_in (steps_object a z y NIL)) (sym case.conditions_are) ∙ inv.same in
+    let is = made.ensures.made ∙ same_step os cur inv.grows c.args.a _ _ (car y) c.requires.within case.condition_in case.substitutions_are in
+    let put = put_next cur new items made.made (step_object a (object_at os c.in-Pair.condition) (car y)) (members_in rest) _ made.ensures.grows inv.within next made.ensures.within is in
     record {
-      grows = Grows-trans _ _ _ inv.grows c.in_ok-made.ensures.grows;
-      conditions_in = part.1;
-      cases_in = in_os.1;
-      pairs = ap are_cases_of_pairs rest ∙ pairs.1;
+      grows = Grows-trans _ _ _ inv.grows made.ensures.grows;
+      conditions_in = case.conditions_in;
+      cases_in = case.cases_in;
+      pairs = case.pairs;
       within = subst (All (IsIn new)) (sym c.in_ok-push.ensures.items) put.0;
       same =
-          ap (λ y. map (object_at new) c.push.new.self.items ++ members_in (steps_object a (object_at os more) y NIL)) rest
-          ∙ (ap (λ l. map (object_at new) l ++ members_in (steps_object a (object_at os more) (cdr (object_at os cases)) NIL)) c.in_ok-push.ensures.items ∙ put.1);
+          ap (λ z. map (object_at new) c.push.new.self.items ++ members_in (steps_object a (object_at os c.in-Pair.more) z NIL)) case.cases_are
+          ∙ (ap (λ l. map (object_at new) l ++ members_in rest) c.in_ok-push.ensures.items ∙ put.1);
     }
