@@ -1,4 +1,4 @@
--- A step is put with those that were collected, or memory is refused, while the heap and the theory stay.
+-- A step is put with those that were collected, or memory runs out, while the heap and the theory stay.
 use Rattle.std.proofs.Common.{◌≡◌, ℕ, ◌+◌, true, false, List, [], ◌∷◌, ◌++◌, map, Option, Some, None, refl, sym, ap, ap₂, ◌∙◌, subst}
 use Rattle.std.proofs.lemmas.Bool.{false≢true}
 use Rattle.std.proofs.lemmas.List.Elements.{All-push}

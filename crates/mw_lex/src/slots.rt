@@ -35,7 +35,7 @@ impl Slots {
         }
     }
 
-    /// Puts a place into a slot. Where memory is refused it is not noted, which costs time alone.
+    /// Puts a place into a slot. If memory runs out it is not noted, which costs time alone.
     pub fn note(&mut self, slot: usize, place: Ref) {
         if self.places.is_empty() {
             let _ = self.places.resize(SLOTS, place);

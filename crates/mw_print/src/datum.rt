@@ -58,7 +58,7 @@ fn write_long(heap: &Heap, x: Ref, first: u32, out: &mut Vec<u8>) -> Result<u32,
 /// Writes a datum after what `out` has: the text of an object, if that has at most 65,536 bytes. Of a longer one each pair that stands
 /// more than once has a label the first time, and is named by it from then on, as long as there are labels of at most nine digits.
 /// These are numbered upwards from `first`, since those before it are in use; the answer is the first one that is unused then. It takes
-/// time in proportion to the distinct pairs and to what is written. Where memory is refused `out` keeps its bytes.
+/// time in proportion to the distinct pairs and to what is written. If memory runs out `out` keeps its bytes.
 pub fn write_datum(heap: &Heap, x: Ref, first: u32, out: &mut Vec<u8>) -> Result<u32, Memory>
     requires within { IsIn heap.now.objects x }
     requires some { 0 < first }

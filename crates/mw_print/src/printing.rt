@@ -54,8 +54,8 @@ fn put(out: &mut Vec<u8>, text: &[u8]) -> Printed
     }
 }
 
-/// Writes the text of an object after what `out` has, if it has at most 65,536 bytes. Else, and where memory is refused, `out` keeps
-/// its bytes.
+/// Writes the text of an object after what `out` has, if it has at most 65,536 bytes. If it has more, or memory runs out, `out`
+/// keeps its bytes.
 pub fn print(heap: &Heap, x: Ref, out: &mut Vec<u8>) -> Printed
     requires { IsIn heap.now.objects x }
     ensures { Prints (text_of (object_at heap.now.objects x)) result out.old.items out.new.items }

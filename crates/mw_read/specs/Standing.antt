@@ -62,7 +62,7 @@ lasting s = None
 abbrev pub HasEndedWith : Step → Parser → Type 0
 HasEndedWith s p = p.ended ≡ Some s
 
--- A fault of the book, or that memory was refused, was answered.
+-- The answer was a fault of the book, or out of memory.
 abbrev pub HasEnded : Parser → Type 0
 HasEnded p = (s : Step) × IsLast s × HasEndedWith s p
 

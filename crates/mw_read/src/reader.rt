@@ -37,7 +37,7 @@ impl Reader {
         }
     }
 
-    /// Feeds a piece of the book: its bytes come after those fed before, and are kept until they are read. Where memory is refused
+    /// Feeds a piece of the book: its bytes come after those fed before, and are kept until they are read. If memory runs out
     /// nothing is fed. After `Syntax` and `Memory` nothing more is kept.
     pub fn feed(&mut self, piece: &[u8]) -> Result<(), Memory>
         requires more { (self.old.finished ≡ false) ⊎ HasEnded self.old.parser }

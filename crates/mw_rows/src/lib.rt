@@ -13,9 +13,9 @@ pub use app::{app_book, app_lines};
 pub use never::{NEVER, OF_NEVER, other_answer_on_never};
 pub use ranks::{other_report_after_ranks, ranks_book};
 pub use row::{
-    Answer, NEXT_ROW, WRITTEN, answer_of_check, answer_of_command, answer_with_faults, due_after,
-    expect_empty, limited_parts, other_answer, other_answer_with_faults, other_report,
-    other_reports, wrong_answers,
+    Answer, NEXT_ROW, WRITTEN, answer_of_check, answer_of_command, answer_with_faults,
+    expect_empty, expected_after, limited_parts, other_answer, other_answer_with_faults,
+    other_report, other_reports, wrong_answers,
 };
 pub use shared_proof::book_of_the_proof;
 pub use shorthand::{shorthand_book, shorthand_lines};

@@ -23,6 +23,6 @@ events 4 accepted 3 refused 1 level 2
 
 /// How `check` ends on it and what it writes, where this is not the expected answer, and else no text. Each read gives at most the given number of bytes.
 pub fn other_answer_on_never(alloc: Global, size: usize) -> Result<String, AllocError> {
-    let due = format!(in alloc; "1\n{OF_NEVER}")?;
-    other_answer(alloc, &["check"], NEVER, due.as_str(), size)
+    let expected = format!(in alloc; "1\n{OF_NEVER}")?;
+    other_answer(alloc, &["check"], NEVER, expected.as_str(), size)
 }

@@ -1,5 +1,5 @@
 //! The book books/ranks.book, after which others define recursive functions: theorems up to the two that a recursion down CDR owes.
-use crate::row::{due_after, other_report};
+use crate::row::{expected_after, other_report};
 use std::alloc::{AllocError, Global};
 
 const RANKS: &str =
@@ -277,10 +277,10 @@ pub fn other_report_after_ranks(
     alloc: Global,
     steps: &str,
     events: &str,
-    due: &str,
+    expected: &str,
 ) -> Result<String, AllocError> {
     let mut book = String::from_str(alloc, ranks_book())?;
     book.push_str(events)?;
-    let due = due_after(alloc, OF_RANKS, due)?;
-    other_report(alloc, steps, book.as_str(), due.as_str())
+    let expected = expected_after(alloc, OF_RANKS, expected)?;
+    other_report(alloc, steps, book.as_str(), expected.as_str())
 }

@@ -11,7 +11,7 @@ use std::test::Fail;
 pub const NEXT_ROW: &str = "----\n";
 
 // What stands between a row's book and the expected answer to it.
-const DUE: &str = "\n=> ";
+const EXPECTED: &str = "\n=> ";
 
 /// What the program wrote and how it ended.
 #[derive(Drop)]
@@ -22,7 +22,7 @@ pub struct Answer {
 
 impl Answer {
     /// Whether this is just the expected answer: the number that the program ended with, and the report, byte by byte.
-    pub fn is_due(&self, number: u8, report: &str) -> bool
+    pub fn is_expected(&self, number: u8, report: &str) -> bool
         ensures { IsTrue result ↔ ((string_bytes self.now.report ≡ report.now) × (status_number self.now.status ≡ number)) }
     {
         self.report.as_str() == report && self.status.number() == number
@@ -89,28 +89,28 @@ pub fn other_report(
     alloc: Global,
     steps: &str,
     book: &str,
-    due: &str,
+    expected: &str,
 ) -> Result<String, AllocError> {
     let answer = answer_of_command(alloc, &["check", "--steps", steps], book, 4096)?;
-    match number_and_text(due) {
+    match number_and_text(expected) {
         Some((number, lines)) if answer.begins_with(number, lines) => Ok(String::new(alloc)),
         _ => answer.as_row(alloc),
     }
 }
 
 /// The expected answer to a book where these lines come before the others of its report.
-pub fn due_after(alloc: Global, lines: &str, due: &str) -> Result<String, AllocError> {
-    match due.split_once("\n") {
+pub fn expected_after(alloc: Global, lines: &str, expected: &str) -> Result<String, AllocError> {
+    match expected.split_once("\n") {
         Some((number, others)) => format!(in alloc; "{number}\n{lines}{others}"),
-        None => format!(in alloc; "no row: {due}"),
+        None => format!(in alloc; "no row: {expected}"),
     }
 }
 
 /// The step limit, the book and the expected answer of a row: a step limit stands on a line of its own before the book.
 pub fn limited_parts(row: &str) -> Option<(&str, &str, &str)> {
     let (steps, rest) = row.split_once("\n")?;
-    let (book, due) = rest.split_once(DUE)?;
-    Some((steps, book, due))
+    let (book, expected) = rest.split_once(EXPECTED)?;
+    Some((steps, book, expected))
 }
 
 /// How `check` ends and what it writes where that is not the expected answer, by a table of rows: a row is a step limit on a line of its own, a book,
@@ -146,11 +146,11 @@ pub fn other_answer(
     alloc: Global,
     words: &[&str],
     book: &str,
-    due: &str,
+    expected: &str,
     size: usize,
 ) -> Result<String, AllocError> {
     let answer = answer_of_command(alloc, words, book, size)?;
-    other_than(alloc, &answer, due)
+    other_than(alloc, &answer, expected)
 }
 
 /// The same where each of the first hundred writes takes three bytes at most, and the reads and the writes of these numbers, counted from 1,
@@ -159,13 +159,13 @@ pub fn other_answer_with_faults(
     alloc: Global,
     words: &[&str],
     book: &str,
-    due: &str,
+    expected: &str,
     size: usize,
     reads: &[u64],
     writes: &[u64],
 ) -> Result<String, AllocError> {
     let answer = answer_with_faults(alloc, words, book, size, reads, writes)?;
-    other_than(alloc, &answer, due)
+    other_than(alloc, &answer, expected)
 }
 
 /// Fails with this text, which tells what went wrong, exactly when it is not empty.
@@ -192,16 +192,16 @@ pub(crate) fn lines_from(alloc: Global, first: u64, events: &str) -> Result<Stri
 }
 
 // The answer, as a row has it, where it is not the expected one, and else no text.
-fn other_than(alloc: Global, answer: &Answer, due: &str) -> Result<String, AllocError> {
-    match number_and_text(due) {
-        Some((number, report)) if answer.is_due(number, report) => Ok(String::new(alloc)),
+fn other_than(alloc: Global, answer: &Answer, expected: &str) -> Result<String, AllocError> {
+    match number_and_text(expected) {
+        Some((number, report)) if answer.is_expected(number, report) => Ok(String::new(alloc)),
         _ => answer.as_row(alloc),
     }
 }
 
 // The number and the text of the expected answer.
-fn number_and_text(due: &str) -> Option<(u8, &str)> {
-    let (number, text) = due.split_once("\n")?;
+fn number_and_text(expected: &str) -> Option<(u8, &str)> {
+    let (number, text) = expected.split_once("\n")?;
     match number.parse::<u8>() {
         Ok(number) => Some((number, text)),
         Err(_) => None,
@@ -216,10 +216,10 @@ fn add_wrong_answer(
     row: &str,
     size: usize,
 ) -> Result<(), AllocError> {
-    let Some((book, due)) = row.split_once(DUE) else {
+    let Some((book, expected)) = row.split_once(EXPECTED) else {
         return writeln!(wrong, "no row: {row}");
     };
-    let other = other_answer(alloc, words, book, due, size)?;
+    let other = other_answer(alloc, words, book, expected, size)?;
     if other.as_str().is_empty() {
         return Ok(());
     }
@@ -228,10 +228,10 @@ fn add_wrong_answer(
 
 // Puts the answer to a row's book under the row's step limit after the text, where it is not the expected one.
 fn add_other_report(others: &mut String, alloc: Global, row: &str) -> Result<(), AllocError> {
-    let Some((steps, book, due)) = limited_parts(row) else {
+    let Some((steps, book, expected)) = limited_parts(row) else {
         return writeln!(others, "no row: {row}");
     };
-    let other = other_report(alloc, steps, book, due)?;
+    let other = other_report(alloc, steps, book, expected)?;
     others.push_str(other.as_str())
 }
 

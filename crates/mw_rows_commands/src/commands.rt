@@ -120,10 +120,10 @@ fn wrong_lines(
 
 // The same for a trial book, where its line is expected, and a newline after it.
 fn add_wrong_trial(wrong: &mut String, alloc: Global, trial: &str) -> Result<(), AllocError> {
-    let Some((line, due)) = trial.split_once(" => ") else {
+    let Some((line, expected)) = trial.split_once(" => ") else {
         return writeln!(wrong, "no row: {trial}");
     };
-    let text = format!(in alloc; "{due}\n")?;
+    let text = format!(in alloc; "{expected}\n")?;
     add_wrong(wrong, alloc, line, Status::Done, text.as_str())
 }
 

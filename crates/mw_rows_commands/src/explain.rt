@@ -328,28 +328,28 @@ fn long_proof(alloc: Global) -> Result<String, AllocError> {
 }
 
 // The expected answer to it: the place has 598 numbers.
-fn due_for_long(alloc: Global) -> Result<String, AllocError> {
-    let mut due = String::from_str(
+fn expected_for_long(alloc: Global) -> Result<String, AllocError> {
+    let mut expected = String::from_str(
         alloc,
         "1\n; 1 VERIFY BIG refused PROOF\n(WHY 1 PROOF 1 (PEQUAL* X X) (",
     )?;
     for _ in 1..CUTS / 2 {
-        due.push_str("1 1 1 ")?;
+        expected.push_str("1 1 1 ")?;
     }
-    due.push_str(
+    expected.push_str(
         "1) (CUT (POR* (PEQUAL* X X) (PEQUAL* X X)) \
         ((POR* (PEQUAL* Z Z) (PEQUAL* X X)) (POR* (PNOT* (PEQUAL* Y Y)) (PEQUAL* X X))) NIL) RULE)\n\
         ; events 1 accepted 0 refused 1 level 1\n",
     )?;
-    Ok(due)
+    Ok(expected)
 }
 
 // The answer to the book of that proof, where it is not the expected one.
 fn other_answer_to_long(alloc: Global) -> Result<String, AllocError> {
     let proof = long_proof(alloc)?;
     let book = format!(in alloc; "(verify big (pequal* x x) {proof})")?;
-    let due = due_for_long(alloc)?;
-    other_answer(alloc, &["explain"], book.as_str(), due.as_str(), 4096)
+    let expected = expected_for_long(alloc)?;
+    other_answer(alloc, &["explain"], book.as_str(), expected.as_str(), 4096)
 }
 
 // The books above to which the answer is another one, in pieces of the given number of bytes.

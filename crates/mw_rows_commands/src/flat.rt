@@ -118,8 +118,8 @@ fn other_answer_after_the_switch(alloc: Global) -> Result<String, AllocError> {
     }
     let book = format!(in alloc; "{NEVER} (eval {term})")?;
     let (log, _) = OF_NEVER.split_once("; events").unwrap_or((OF_NEVER, ""));
-    let due = format!(in alloc; "{log}; events 5 flat 2\n")?;
-    other_answer(alloc, &["flat"], book.as_str(), due.as_str(), 4096)
+    let expected = format!(in alloc; "{log}; events 5 flat 2\n")?;
+    other_answer(alloc, &["flat"], book.as_str(), expected.as_str(), 4096)
 }
 
 // The books above to which the answer is another one, in pieces of the given number of bytes.

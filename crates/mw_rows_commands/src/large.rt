@@ -42,17 +42,17 @@ fn book_of_theorems(alloc: Global) -> Result<String, AllocError> {
 }
 
 // The expected answer to the book where its theorems are written as they are, with this after them.
-fn due_with(alloc: Global, book: &str, last: &str) -> Result<String, AllocError> {
+fn expected_with(alloc: Global, book: &str, last: &str) -> Result<String, AllocError> {
     format!(in alloc; "0\n{book}{last}")
 }
 
-fn due_for_flat(alloc: Global) -> Result<String, AllocError> {
-    let mut due = String::from_str(alloc, "0\n")?;
+fn expected_for_flat(alloc: Global) -> Result<String, AllocError> {
+    let mut expected = String::from_str(alloc, "0\n")?;
     for number in 0..MANY {
-        push_flat_theorem(&mut due, number)?;
+        push_flat_theorem(&mut expected, number)?;
     }
-    writeln!(due, "; events {MANY} flat {MANY}")?;
-    Ok(due)
+    writeln!(expected, "; events {MANY} flat {MANY}")?;
+    Ok(expected)
 }
 
 // A book of formulas that are equations, none of which is a tautology, and the expected answer to it.
@@ -67,16 +67,16 @@ fn book_of_formulas(alloc: Global) -> Result<String, AllocError> {
     Ok(book)
 }
 
-fn due_for_formulas(alloc: Global) -> Result<String, AllocError> {
-    let mut due = String::from_str(alloc, "1\n")?;
+fn expected_for_formulas(alloc: Global) -> Result<String, AllocError> {
+    let mut expected = String::from_str(alloc, "1\n")?;
     for number in 1..=MANY {
         writeln!(
-            due,
+            expected,
             "; {number} NO{number} FALSE (((PEQUAL* X{number} Y{number})) ((PEQUAL* (CAR X{number}) (CDR Y{number})) . T))"
         )?;
     }
-    writeln!(due, "; formulas {MANY} proved 0")?;
-    Ok(due)
+    writeln!(expected, "; formulas {MANY} proved 0")?;
+    Ok(expected)
 }
 
 // The answer to the book of theorems, where it is not the expected one.
@@ -86,20 +86,20 @@ fn other_answer_to_theorems(
     last: &str,
 ) -> Result<String, AllocError> {
     let book = book_of_theorems(alloc)?;
-    let due = due_with(alloc, book.as_str(), last)?;
-    other_answer(alloc, words, book.as_str(), due.as_str(), 4096)
+    let expected = expected_with(alloc, book.as_str(), last)?;
+    other_answer(alloc, words, book.as_str(), expected.as_str(), 4096)
 }
 
 fn other_log_of_theorems(alloc: Global) -> Result<String, AllocError> {
     let book = book_of_theorems(alloc)?;
-    let due = due_for_flat(alloc)?;
-    other_answer(alloc, &["flat"], book.as_str(), due.as_str(), 4096)
+    let expected = expected_for_flat(alloc)?;
+    other_answer(alloc, &["flat"], book.as_str(), expected.as_str(), 4096)
 }
 
 fn other_answer_to_formulas(alloc: Global) -> Result<String, AllocError> {
     let book = book_of_formulas(alloc)?;
-    let due = due_for_formulas(alloc)?;
-    other_answer(alloc, &["taut"], book.as_str(), due.as_str(), 4096)
+    let expected = expected_for_formulas(alloc)?;
+    other_answer(alloc, &["taut"], book.as_str(), expected.as_str(), 4096)
 }
 
 #[test]

@@ -40,14 +40,14 @@ fn log_of_a_repeated_number(alloc: Global, times: usize) -> Result<String, Alloc
 // The answers to a log of a hundred thousand steps, and to one with a million numbers, where they are not the expected ones.
 fn other_answer_to_a_chain(alloc: Global) -> Result<String, AllocError> {
     let log = log_of_a_chain(alloc, 50_000)?;
-    let due = "0\n1 VERIFY Q yes\nevents 1 yes 1 no 0 left 0\n";
-    other_answer(alloc, &["recheck"], log.as_str(), due, 4096)
+    let expected = "0\n1 VERIFY Q yes\nevents 1 yes 1 no 0 left 0\n";
+    other_answer(alloc, &["recheck"], log.as_str(), expected, 4096)
 }
 
 fn other_answer_to_a_repeated_number(alloc: Global) -> Result<String, AllocError> {
     let log = log_of_a_repeated_number(alloc, 1_000_000)?;
-    let due = "1\n1 VERIFY Q no STEP\nevents 1 yes 0 no 1 left 0\n";
-    other_answer(alloc, &["recheck"], log.as_str(), due, 4096)
+    let expected = "1\n1 VERIFY Q no STEP\nevents 1 yes 0 no 1 left 0\n";
+    other_answer(alloc, &["recheck"], log.as_str(), expected, 4096)
 }
 
 #[test]

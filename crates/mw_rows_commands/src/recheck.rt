@@ -178,9 +178,13 @@ events 1 yes 0 no 1 left 0
 ";
 
 // The answer of `recheck` to the log that `flat` makes of the book, where it is not the expected answer.
-fn other_answer_to_the_log_of(alloc: Global, book: &str, due: &str) -> Result<String, AllocError> {
+fn other_answer_to_the_log_of(
+    alloc: Global,
+    book: &str,
+    expected: &str,
+) -> Result<String, AllocError> {
     let log = answer_of_command(alloc, &["flat"], book, 4096)?;
-    other_answer(alloc, &["recheck"], log.report.as_str(), due, 4096)
+    other_answer(alloc, &["recheck"], log.report.as_str(), expected, 4096)
 }
 
 // The books above to which the answer is another one, in pieces of the given number of bytes.
@@ -200,6 +204,6 @@ fn a_log_that_is_read_byte_by_byte_has_the_same_report(rt: HostRuntime) -> Resul
 
 #[test]
 fn the_log_of_the_events_before_a_switch_gets_a_yes(rt: HostRuntime) -> Result<(), Fail> {
-    let due = "0\n1 DEFINE NEVER yes\n2 VERIFY CLAIM yes\nevents 2 yes 2 no 0 left 0\n";
-    expect_empty(other_answer_to_the_log_of(rt.alloc(), NEVER, due)?)
+    let expected = "0\n1 DEFINE NEVER yes\n2 VERIFY CLAIM yes\nevents 2 yes 2 no 0 left 0\n";
+    expect_empty(other_answer_to_the_log_of(rt.alloc(), NEVER, expected)?)
 }

@@ -94,8 +94,8 @@ fn other_answer_to_the_proof_of(alloc: Global, formula: &str) -> Result<String, 
     let Some(proof) = proof_of(alloc, formula)? else {
         return String::from_str(alloc, "no proof");
     };
-    let due = "0\n1 VERIFY EM accepted\nevents 1 accepted 1 refused 0 level 1\n";
-    other_answer(alloc, &["check"], proof.report.as_str(), due, 4096)
+    let expected = "0\n1 VERIFY EM accepted\nevents 1 accepted 1 refused 0 level 1\n";
+    other_answer(alloc, &["check"], proof.report.as_str(), expected, 4096)
 }
 
 // The books above to which the answer is another one, in pieces of the given number of bytes.

@@ -48,8 +48,8 @@ module _ (n : ℕ) where
   abbrev fault : List ℕ
   fault = codes "syntax END at " ++ numeral n
 
-  abbrev due : Report
-  due =
+  abbrev expected : Report
+  expected =
       let all = count (λ d. true) data_of_book in
       let good = count (λ d. d.accepted) data_of_book in
       record {
@@ -61,6 +61,6 @@ abbrev up_to : ℕ → List ℕ
 up_to zero = 0 ∷ []
 up_to (suc n) = suc n ∷ up_to n
 
-cuts_are_due : map (λ n. report (take n book) 10000000) (up_to 139) ≡ map due (up_to 139)
+cuts_are_expected : map (λ n. report (take n book) 10000000) (up_to 139) ≡ map expected (up_to 139)
 unfolding need must unless
-cuts_are_due = refl
+cuts_are_expected = refl

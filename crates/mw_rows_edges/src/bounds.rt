@@ -38,8 +38,8 @@ fn answer_on_calls(alloc: Global, steps: &str) -> Result<Answer, AllocError> {
 // Whether the book ends with the expected answer at this step limit.
 fn gives_a_value(alloc: Global, steps: &str) -> Result<bool, AllocError> {
     let answer = answer_on_calls(alloc, steps)?;
-    let due = "15 EVAL - accepted 1\nevents 15 accepted 15 refused 0 level 1\n";
-    Ok(answer.status == Status::Done && answer.report.as_str().ends_with(due))
+    let expected = "15 EVAL - accepted 1\nevents 15 accepted 15 refused 0 level 1\n";
+    Ok(answer.status == Status::Done && answer.report.as_str().ends_with(expected))
 }
 
 fn ends_out_of_memory(alloc: Global, steps: &str) -> Result<bool, AllocError> {
@@ -73,7 +73,7 @@ events 3 accepted 3 refused 0 level 1
 fn accepts_a_small_one(alloc: Global) -> Result<bool, AllocError> {
     let book = book_of_code(alloc, "")?;
     let answer = answer_of_check(alloc, book.as_str(), 4096)?;
-    Ok(answer.is_due(0, OF_THE_CODE))
+    Ok(answer.is_expected(0, OF_THE_CODE))
 }
 
 // Whether the program ends out of memory at a second large one.

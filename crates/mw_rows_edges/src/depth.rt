@@ -43,8 +43,8 @@ fn lists(depth: usize) -> Nested {
 // The answer to the lists that are shown, where it is not the expected one.
 fn other_answer_on_shown(alloc: Global) -> Result<String, AllocError> {
     let book = text_of(alloc, &lists(32_767))?;
-    let due = text_of(alloc, &SHOWN)?;
-    other_answer(alloc, &["check"], book.as_str(), due.as_str(), 4096)
+    let expected = text_of(alloc, &SHOWN)?;
+    other_answer(alloc, &["check"], book.as_str(), expected.as_str(), 4096)
 }
 
 // The answer to a datum, where it is not that its text is too long.

@@ -1,5 +1,5 @@
 //! The ends that are not the book's own, and the numbers of all.
-use crate::due::{Datum, lines_within, wrong_cut};
+use crate::expected::{Datum, lines_within, wrong_cut};
 use mw_book::Status;
 use mw_read::SyntaxKind;
 use mw_rows::{
@@ -90,11 +90,11 @@ fn failing_writes(alloc: Global) -> Result<usize, AllocError> {
 // What is written on the book, where it is not the expected answer and these reads and writes fail.
 fn other_answer_to_the_book(
     alloc: Global,
-    due: &str,
+    expected: &str,
     reads: &[u64],
     writes: &[u64],
 ) -> Result<String, AllocError> {
-    other_answer_with_faults(alloc, &CHECK, BOOK, due, 4096, reads, writes)
+    other_answer_with_faults(alloc, &CHECK, BOOK, expected, 4096, reads, writes)
 }
 
 // The same for the book with a switch, of which the whole is expected although a read or a write after the last one would fail.
@@ -103,14 +103,14 @@ fn other_answer_to_the_switch(
     reads: &[u64],
     writes: &[u64],
 ) -> Result<String, AllocError> {
-    let due = format!(in alloc; "1\n{OF_NEVER}")?;
-    other_answer_with_faults(alloc, &CHECK, NEVER, due.as_str(), READ, reads, writes)
+    let expected = format!(in alloc; "1\n{OF_NEVER}")?;
+    other_answer_with_faults(alloc, &CHECK, NEVER, expected.as_str(), READ, reads, writes)
 }
 
 #[test]
 fn a_failed_read_leaves_the_lines_before_it(rt: HostRuntime) -> Result<(), Fail> {
-    let due = "4\n1 VERIFY REFL accepted\n";
-    expect_empty(other_answer_to_the_book(rt.alloc(), due, &[2], &[])?)
+    let expected = "4\n1 VERIFY REFL accepted\n";
+    expect_empty(other_answer_to_the_book(rt.alloc(), expected, &[2], &[])?)
 }
 
 #[test]

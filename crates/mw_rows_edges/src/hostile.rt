@@ -38,8 +38,8 @@ fn ends_out_of_memory_on_calls(
 // The answer to a book whose third event takes too much memory, where it is not the answers to the first two, in pieces of the given number of bytes.
 fn other_answer_before_memory_ends(alloc: Global, size: usize) -> Result<String, AllocError> {
     let book = book_of_calls(alloc, "(eval 7) (shout) (eval ", "cons", ") (eval 8)")?;
-    let due = "6\n1 EVAL - accepted 7\n2 SHOUT - refused EVENT\n";
-    other_answer(alloc, &["check"], book.as_str(), due, size)
+    let expected = "6\n1 EVAL - accepted 7\n2 SHOUT - refused EVENT\n";
+    other_answer(alloc, &["check"], book.as_str(), expected, size)
 }
 
 // Whether the program ends out of memory on a nested text.
@@ -257,6 +257,6 @@ fn a_call_may_have_many_actuals(rt: HostRuntime) -> Result<(), Fail> {
 
 #[test]
 fn a_long_value_is_not_shown(rt: HostRuntime) -> Result<(), Fail> {
-    let due = "1\n1 EVAL - refused LONG\n";
-    expect_empty(other_report_on_nested(rt.alloc(), "10000000", &LONG_VALUE, due)?)
+    let expected = "1\n1 EVAL - refused LONG\n";
+    expect_empty(other_report_on_nested(rt.alloc(), "10000000", &LONG_VALUE, expected)?)
 }

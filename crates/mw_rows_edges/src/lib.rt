@@ -7,9 +7,9 @@ mod bounds;
 #[cfg(test)]
 mod depth;
 #[cfg(test)]
-mod due;
-#[cfg(test)]
 mod ends;
+#[cfg(test)]
+mod expected;
 #[cfg(test)]
 mod faults;
 #[cfg(test)]

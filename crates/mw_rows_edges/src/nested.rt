@@ -36,8 +36,8 @@ pub(crate) fn other_report_on_nested(
     alloc: Global,
     steps: &str,
     nested: &Nested,
-    due: &str,
+    expected: &str,
 ) -> Result<String, AllocError> {
     let book = text_of(alloc, nested)?;
-    other_report(alloc, steps, book.as_str(), due)
+    other_report(alloc, steps, book.as_str(), expected)
 }

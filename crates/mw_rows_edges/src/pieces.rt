@@ -1,5 +1,5 @@
 //! A book read in pieces of any size.
-use crate::due::{Datum, wrong_cut};
+use crate::expected::{Datum, wrong_cut};
 use mw_rows::{expect_empty, other_answer, other_answer_on_never};
 use std::alloc::{AllocError, Global};
 use std::test::Fail;

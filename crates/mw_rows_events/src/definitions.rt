@@ -1,6 +1,6 @@
 //! Definitions: what is taken, what is refused, and what a theory does with a function that it has taken.
 use mw_rows::{
-    NEXT_ROW, due_after, expect_empty, limited_parts, other_report_after_ranks, other_reports,
+    NEXT_ROW, expect_empty, expected_after, limited_parts, other_report_after_ranks, other_reports,
     wrong_answers,
 };
 use std::alloc::{AllocError, Global};
@@ -390,21 +390,26 @@ const LIMITED_RECURSIONS: &str = "\
 ";
 
 // The answer to the recursions and these events after them, where it is not the expected answer to these with the lines of those before.
-fn other_lines(alloc: Global, steps: &str, events: &str, due: &str) -> Result<String, AllocError> {
+fn other_lines(
+    alloc: Global,
+    steps: &str,
+    events: &str,
+    expected: &str,
+) -> Result<String, AllocError> {
     let mut book = String::from_str(alloc, RECURSIONS)?;
     book.push_str(events)?;
-    let due = due_after(alloc, OF_RECURSIONS, due)?;
-    other_report_after_ranks(alloc, steps, book.as_str(), due.as_str())
+    let expected = expected_after(alloc, OF_RECURSIONS, expected)?;
+    other_report_after_ranks(alloc, steps, book.as_str(), expected.as_str())
 }
 
 // The reports on the recursions and each book after them that are not those expected.
 fn other_limits_of_recursions(alloc: Global) -> Result<String, AllocError> {
     let mut others = String::new(alloc);
     for row in LIMITED_RECURSIONS.split(NEXT_ROW) {
-        let Some((steps, events, due)) = limited_parts(row) else {
+        let Some((steps, events, expected)) = limited_parts(row) else {
             return format!(in alloc; "no row: {row}");
         };
-        others.push_str(other_lines(alloc, steps, events, due)?.as_str())?;
+        others.push_str(other_lines(alloc, steps, events, expected)?.as_str())?;
     }
     Ok(others)
 }

@@ -155,10 +155,10 @@ fn other_report_on_a_product(alloc: Global) -> Result<String, AllocError> {
         "(profile 2)\n{wrap}(switch wrap)\n(verify b #1=(pequal* (* '6 '7) '42) (base-eval #1#))\n"
     )?;
     let lines = wrap_lines(alloc, 2)?;
-    let due = format!(in alloc;
+    let expected = format!(in alloc;
         "0\n1 PROFILE - accepted\n{lines}10 SWITCH WRAP accepted\n11 VERIFY B accepted\nevents 11 accepted 11 refused 0 level 2\n"
     )?;
-    other_report(alloc, "10000000", book.as_str(), due.as_str())
+    other_report(alloc, "10000000", book.as_str(), expected.as_str())
 }
 
 #[test]

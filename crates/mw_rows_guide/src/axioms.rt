@@ -510,15 +510,15 @@ fn report_of_definitions(alloc: Global) -> Result<String, AllocError> {
 // The answer to the axioms of a profile, where it is not the expected one.
 fn other_axioms(alloc: Global, profile: u8, own: &str, events: u8) -> Result<String, AllocError> {
     let book = book_of_axioms(alloc, profile, own)?;
-    let due = report_of_axioms(alloc, events)?;
-    other_report(alloc, "10000000", book.as_str(), due.as_str())
+    let expected = report_of_axioms(alloc, events)?;
+    other_report(alloc, "10000000", book.as_str(), expected.as_str())
 }
 
 // The answer to the definitions of a profile, where it is not the expected one.
 fn other_definitions(alloc: Global, profile: u8, own: &str) -> Result<String, AllocError> {
     let book = book_of_definitions(alloc, profile, own)?;
-    let due = report_of_definitions(alloc)?;
-    other_report(alloc, "10000000", book.as_str(), due.as_str())
+    let expected = report_of_definitions(alloc)?;
+    other_report(alloc, "10000000", book.as_str(), expected.as_str())
 }
 
 #[test]

@@ -1,6 +1,6 @@
 //! The books of the guide to writing books, docs/BOOKS.md, with the reports that it states.
 use mw_rows::{
-    app_book, app_lines, due_after, expect_empty, other_report, other_report_after_ranks,
+    app_book, app_lines, expect_empty, expected_after, other_report, other_report_after_ranks,
     shorthand_book, shorthand_lines, wrap_book, wrap_lines, wrong_answers,
 };
 use std::alloc::{AllocError, Global};
@@ -350,15 +350,15 @@ events 21 accepted 20 refused 1 level 3
 fn other_report_after_app(alloc: Global) -> Result<String, AllocError> {
     let mut book = String::from_str(alloc, app_book())?;
     book.push_str(AFTER_APP)?;
-    let due = due_after(alloc, app_lines(alloc, 14)?.as_str(), OF_AFTER_APP)?;
-    other_report_after_ranks(alloc, "10000000", book.as_str(), due.as_str())
+    let expected = expected_after(alloc, app_lines(alloc, 14)?.as_str(), OF_AFTER_APP)?;
+    other_report_after_ranks(alloc, "10000000", book.as_str(), expected.as_str())
 }
 
 fn other_report_after_wrap(alloc: Global) -> Result<String, AllocError> {
     let mut book = String::from_str(alloc, wrap_book())?;
     book.push_str(AFTER_WRAP)?;
-    let due = due_after(alloc, wrap_lines(alloc, 1)?.as_str(), OF_AFTER_WRAP)?;
-    other_report(alloc, "10000000", book.as_str(), due.as_str())
+    let expected = expected_after(alloc, wrap_lines(alloc, 1)?.as_str(), OF_AFTER_WRAP)?;
+    other_report(alloc, "10000000", book.as_str(), expected.as_str())
 }
 
 fn other_report_after_shorthand(alloc: Global) -> Result<String, AllocError> {
@@ -367,8 +367,8 @@ fn other_report_after_shorthand(alloc: Global) -> Result<String, AllocError> {
     book.push_str(AFTER_SHORTHAND)?;
     let mut lines = wrap_lines(alloc, 1)?;
     lines.push_str(shorthand_lines(alloc, 9)?.as_str())?;
-    let due = due_after(alloc, lines.as_str(), OF_AFTER_SHORTHAND)?;
-    other_report(alloc, "10000000", book.as_str(), due.as_str())
+    let expected = expected_after(alloc, lines.as_str(), OF_AFTER_SHORTHAND)?;
+    other_report(alloc, "10000000", book.as_str(), expected.as_str())
 }
 
 #[test]

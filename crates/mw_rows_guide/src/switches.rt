@@ -223,10 +223,10 @@ fn other_outcome(
 ) -> Result<String, AllocError> {
     let book = book_with_useless_checker(alloc, test)?;
     let book = format!(in alloc; "{book}(verify refl (pequal* x x) (axiom (pequal* x x)))\n")?;
-    let due = format!(in alloc;
+    let expected = format!(in alloc;
         "1\n1 DEFINE USELESS accepted\n2 VERIFY CLAIM accepted\n3 SWITCH USELESS accepted\n4 VERIFY REFL refused {reason}\n"
     )?;
-    other_report(alloc, steps, book.as_str(), due.as_str())
+    other_report(alloc, steps, book.as_str(), expected.as_str())
 }
 
 // The answers of useless checkers that are not those expected.
@@ -244,8 +244,10 @@ fn other_wrap(alloc: Global, row: &(&str, &str, &str), lines: &str) -> Result<St
     let (steps, number, end) = *row;
     let mut book = String::from_str(alloc, wrap_book())?;
     book.push_str("(switch wrap)\n(verify refl (pequal* x x) (axiom (pequal* x x)))\n")?;
-    let due = format!(in alloc; "{number}\n{lines}9 SWITCH WRAP accepted\n10 VERIFY REFL {end}")?;
-    other_report(alloc, steps, book.as_str(), due.as_str())
+    let expected = format!(in alloc;
+        "{number}\n{lines}9 SWITCH WRAP accepted\n10 VERIFY REFL {end}"
+    )?;
+    other_report(alloc, steps, book.as_str(), expected.as_str())
 }
 
 // The reports on the checker that runs LOGIC.PROOFP that are not those expected.
@@ -268,8 +270,10 @@ fn other_definition(
     let (steps, number, end) = *row;
     let mut book = String::from_str(alloc, wrap_book())?;
     book.push_str(DEFINED)?;
-    let due = format!(in alloc; "{number}\n{lines}22 SWITCH WRAP accepted\n23 DEFINE APP {end}\n")?;
-    other_report_after_ranks(alloc, steps, book.as_str(), due.as_str())
+    let expected = format!(in alloc;
+        "{number}\n{lines}22 SWITCH WRAP accepted\n23 DEFINE APP {end}\n"
+    )?;
+    other_report_after_ranks(alloc, steps, book.as_str(), expected.as_str())
 }
 
 // The reports on a recursion under the checker that runs LOGIC.PROOFP that are not those expected.

@@ -55,7 +55,7 @@ fn count_within(data: &[Datum], bytes: usize) -> (u64, u64, u64) {
 }
 
 // The expected answer to the book that is cut there. A datum that is cut inside is not complete: it is a list.
-fn due_at(alloc: Global, data: &[Datum], cut: usize) -> Result<Answer, AllocError> {
+fn expected_at(alloc: Global, data: &[Datum], cut: usize) -> Result<Answer, AllocError> {
     let mut report = lines_within(alloc, data, cut)?;
     if is_inside(data, cut) {
         writeln!(report, "syntax END at {cut}")?;
@@ -77,7 +77,7 @@ fn due_at(alloc: Global, data: &[Datum], cut: usize) -> Result<Answer, AllocErro
 }
 
 // Whether the answer to the book of these data that is cut there, in pieces of the given number of bytes, is the expected one.
-fn is_due(
+fn is_expected(
     alloc: Global,
     book: &str,
     data: &[Datum],
@@ -88,8 +88,8 @@ fn is_due(
         return Ok(false);
     };
     let answer = answer_of_check(alloc, text, size)?;
-    let due = due_at(alloc, data, cut)?;
-    Ok(answer.report == due.report && answer.status == due.status)
+    let expected = expected_at(alloc, data, cut)?;
+    Ok(answer.report == expected.report && answer.status == expected.status)
 }
 
 /// A place where the book of these data may be cut so that the answer, in pieces of the given number of bytes, is not the expected one.
@@ -100,7 +100,7 @@ pub(crate) fn wrong_cut(
     size: usize,
 ) -> Result<Option<usize>, AllocError> {
     for cut in 0..=book.len() {
-        if !is_due(alloc, book, data, cut, size)? {
+        if !is_expected(alloc, book, data, cut, size)? {
             return Ok(Some(cut));
         }
     }
