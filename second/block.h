@@ -1,4 +1,4 @@
-/* The block of functions that a definition adds, and what it owes. */
+/* The block of functions that a definition adds, and its obligations. */
 #ifndef BLOCK_H
 #define BLOCK_H
 
@@ -32,7 +32,7 @@ void add_block(void);
 
 /*
  * What comes of the obligations of a well-made block: a body calls a function of the block in an
- * actual of such a call; the numbers name collected steps that conclude just what is owed, in
+ * actual of such a call; the numbers name collected steps that conclude just the obligations, in
  * order; or they do not.
  */
 enum { NESTED, MET, NOT_MET };

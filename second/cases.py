@@ -95,9 +95,9 @@ EVENTS = {
     "a natural that is too large":
         _one(f"(verify a (pequal* x '{2 ** 128}) 1)", "VERIFY A no SHAPE"),
     "too many numbers": _one("(define f (x) x nil (1))", "DEFINE F no GOAL"),
-    "a measure that is no term, where nothing is owed":
+    "a measure that is no term, where there are no obligations":
         _one("(define f (x) x (car x x) ())", "DEFINE F no ADMIT"),
-    "a measure with another variable, where nothing is owed":
+    "a measure with another variable, where there are no obligations":
         _one("(define f (x) x y ())", "DEFINE F no ADMIT"),
     "a measure that calls the function": _one("(define f (x) x (f x) ())", "DEFINE F no ADMIT"),
     "a nested call": _one("(define f (x y) (f (f x y) y) nil ())", "DEFINE F no ADMIT"),
@@ -184,10 +184,10 @@ AFTER_RANKS = {
         _owes(f"(define f (x) {_LOOP} (rank x) (1 2))", "yes"),
     "in this order": _owes(f"(define f (x) {_LOOP} (rank x) (2 1))", "no GOAL"),
     "and each": _owes(f"(define f (x) {_LOOP} (rank x) (2))", "no GOAL"),
-    "what is owed twice is proved once":
+    "an obligation that comes twice is proved once":
         _owes("(define f (x) (if (consp x) (cons (f (cdr x)) (f (cdr x))) x) (rank x) (1 2))",
               "yes"),
-    "each function owes that its measure is an ordinal, also one that calls none":
+    "each function has the obligation that its measure is an ordinal, also one that calls none":
         _owes(f"(define-all ((f (x) {_LOOP} (rank x)) (g (y) y (rank y))) (1 2 3))", "yes",
               _ORDINAL + _FALL + _OTHER),
     "and no other":

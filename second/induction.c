@@ -18,23 +18,23 @@ static bool is_next_premise(Object formula)
     return (Object)given->items[next_premise++] == formula;
 }
 
-/* How many premises are owed, or 0 where the extras are not as they have to be. */
-static size_t count_owed(Object extras)
+/* How many premises are needed, or 0 where the extras are not as they have to be. */
+static size_t count_needed(Object extras)
 {
     if (count_members(extras) != 3 || !is_list(conditions) ||
         count_members(conditions) != count_members(cases))
         return 0;
-    size_t owed = 2 + (size_t)count_members(conditions);
+    size_t needed = 2 + (size_t)count_members(conditions);
     for (Object rest = cases; is_pair(rest); rest = cdr(rest)) {
         if (!is_list(car(rest)))
             return 0;
-        owed += count_members(car(rest));
+        needed += count_members(car(rest));
         for (Object substitutions = car(rest); is_pair(substitutions);
              substitutions = cdr(substitutions))
             if (!is_substitution(car(substitutions)))
                 return 0;
     }
-    return owed;
+    return needed;
 }
 
 /* The disjunction, nested to the right, of the objects in a vector. */
@@ -101,7 +101,7 @@ bool follows_by_induction(Object conclusion, const Vector *premises, Object extr
     cases = member(extras, 2);
     given = premises;
     next_premise = 0;
-    if (count_owed(extras) != premises->count)
+    if (count_needed(extras) != premises->count)
         return false;
     if (premises->count == 0 || !is_next_premise(base_premise(conclusion)) ||
         !are_steps_next(conclusion) ||

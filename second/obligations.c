@@ -1,7 +1,7 @@
 /*
- * What a block owes: for each function that its measure is an ordinal, and for each call of the
- * block in its body that the measure of the called function, at the actuals, is below its own,
- * under the tests that govern the call.
+ * The obligations of a block: for each function that its measure is an ordinal, and for each
+ * call of the block in its body that the measure of the called function, at the actuals, is
+ * below its own, under the tests that govern the call.
  */
 #include "block.h"
 #include "steps.h"
@@ -38,13 +38,16 @@ static bool mentions_block(Object x, int view)
     return value_by(mention_rule, &mention, x, view) == T;
 }
 
-/* What was owed so far, the numbers of the steps for what is owed next, and whether all was met. */
+/* The obligations so far, the numbers of the steps for the next ones, and whether all were met. */
 static Map obligations;
 static Object numbers_left;
 static bool is_all_met;
 
-/* The next number has to name a step with this conclusion. What is owed twice is proved once. */
-static void owe(Object formula)
+/*
+ * The next number has to name a step with this conclusion. An obligation that comes twice is
+ * proved once.
+ */
+static void meet(Object formula)
 {
     if (!put(&obligations, formula, T))
         return;
@@ -104,11 +107,11 @@ static void push_parts(Object x, int view, Object tests)
 }
 
 /*
- * Owes what each call of the block in a body makes it owe, in the order in which they are written;
- * answers false at a nested call. What was looked at under the same tests makes it owe the same,
- * and is passed over; so is what mentions no function of the block.
+ * Meets the obligations of each call of the block in a body, in the order in which they are
+ * written; answers false at a nested call. What was looked at under the same tests has the same
+ * obligations, and is passed over; so is what mentions no function of the block.
  */
-static bool owe_for_calls(const Function *caller)
+static bool meet_for_calls(const Function *caller)
 {
     static Map seen;
     uint32_t place;
@@ -128,7 +131,7 @@ static bool owe_for_calls(const Function *caller)
         } else {
             if (mentions_block(cdr(x), TERMS))
                 return false;
-            owe(obligation(caller, &block[place], cdr(x), tests));
+            meet(obligation(caller, &block[place], cdr(x), tests));
         }
     }
     return true;
@@ -150,8 +153,8 @@ int settle_obligations(Object numbers)
     is_all_met = true;
     size_t owing = is_recursive() ? block_count : 0;
     for (size_t i = 0; i < owing; i++) {
-        owe(equation(list_of_two(ORDP, block[i].measure), quoted(T)));
-        if (!owe_for_calls(&block[i]))
+        meet(equation(list_of_two(ORDP, block[i].measure), quoted(T)));
+        if (!meet_for_calls(&block[i]))
             return NESTED;
     }
     return is_all_met && numbers_left == NIL ? MET : NOT_MET;

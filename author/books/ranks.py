@@ -1,4 +1,4 @@
-"""The source of books/ranks.book: theorems on ranks, up to the two that a recursion down CDR owes.
+"""The source of books/ranks.book: theorems on ranks, up to the two obligations of a recursion down CDR.
 
     python3 author/books/ranks.py
 

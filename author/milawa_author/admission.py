@@ -47,7 +47,7 @@ def _check_variables(t: Object, allowed: Sequence[str]) -> None:
 
 
 def admit_block(theory: Theory, block: Sequence[Function]) -> list[Pair]:
-    """What a block of functions owes, in order.  Raises EventError: NAME, FORMALS, TERM, VARIABLES, NESTED."""
+    """The obligations of a block of functions, in order.  Raises EventError: NAME, FORMALS, TERM, VARIABLES, NESTED."""
     for k, function in enumerate(block):
         _check_name(theory, function.name, [f.name for f in block[:k]])
     for function in block:

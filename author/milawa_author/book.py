@@ -162,8 +162,8 @@ class Book:
     # ---- definitions -------------------------------------------------------------------------------------
 
     def define(self, text: str, measure: str = "nil", proofs: Optional[Iterable[Proof]] = None) -> Definition:
-        """DEFINE from the text `(name (formals) body)`.  Without `proofs` what a simple recursion owes is proved
-        (`prover.ranks`); where RuleError says that it is not simple, give a proof of each of `owed`."""
+        """DEFINE from the text `(name (formals) body)`.  Without `proofs` the obligations of a simple recursion are
+        proved (`prover.ranks`); where RuleError says that it is not simple, give a proof of each of `obligations`."""
         return self.define_all([(text, measure)], proofs)[0]
 
     def define_all(self, functions: Iterable[tuple[str, str]],
@@ -173,15 +173,16 @@ class Book:
 
     def define_block(self, block: Sequence[Function], proofs: Optional[Iterable[Proof]] = None) -> list[Definition]:
         """The same from terms."""
-        owed = admit_block(self.theory, block)
-        if owed and proofs is None and any(f.measure is quote("NIL") for f in block):
+        obligations = admit_block(self.theory, block)
+        if obligations and proofs is None and any(f.measure is quote("NIL") for f in block):
             raise RuleError("DEFINE", "the function calls itself: give its measure, as `(rank x)`, which has to fall")
         for function in block:
             self._check_range(make_list(function.body, function.measure))
-        proofs = [solve_obligation(self, o) for o in owed] if proofs is None else list(proofs)
-        if len(proofs) != len(owed):
-            raise EventError("COUNT", f"{len(owed)} obligations, {len(proofs)} proofs; owed are", make_list(*owed))
-        for proof, o in zip(proofs, owed):
+        proofs = [solve_obligation(self, o) for o in obligations] if proofs is None else list(proofs)
+        if len(proofs) != len(obligations):
+            raise EventError("COUNT", f"{len(obligations)} obligations, {len(proofs)} proofs; the obligations are",
+                             make_list(*obligations))
+        for proof, o in zip(proofs, obligations):
             if proof.conclusion is not o or proof.theory is not self.theory:
                 raise EventError("CONCLUSION", "a proof shows something else than its obligation", o)
         proofs = [pack(p) for p in proofs]
@@ -196,8 +197,8 @@ class Book:
             self.theory.add_definition(definition)
         return definitions
 
-    def owed(self, text: str, measure: str) -> list[Pair]:
-        """The formulas that a DEFINE would owe, in order."""
+    def obligations(self, text: str, measure: str) -> list[Pair]:
+        """The obligations of a DEFINE, in order."""
         return admit_block(self.theory, [self._function(text, measure)])
 
     @staticmethod

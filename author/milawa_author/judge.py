@@ -118,11 +118,11 @@ class Judge:
     def _admit(self, block: Sequence[tuple], proofs: Object) -> None:
         functions = [Function(name, _variables_of(formals), _expanded(body), _expanded(measure))
                      for name, formals, body, measure in block]
-        owed = admit_block(self.theory, functions)
+        obligations = admit_block(self.theory, functions)
         given = items(proofs)
-        if given is None or len(given) != len(owed):
-            raise EventError("COUNT", f"{len(owed)} obligations", proofs)
-        for formula, proof in zip(owed, given):
+        if given is None or len(given) != len(obligations):
+            raise EventError("COUNT", f"{len(obligations)} obligations", proofs)
+        for formula, proof in zip(obligations, given):
             self._judge(formula, proof)
         for f in functions:
             self._add(Definition(f.name, f.formals, f.body))

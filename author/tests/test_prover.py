@@ -107,8 +107,8 @@ class Values(unittest.TestCase):
 class Definitions(unittest.TestCase):
     def test_obligations(self):
         body = term("(if (h (cdr x)) (h (car x)) x)")
-        owed = obligations("H", ("X",), body, term("(rank x)"))
-        self.assertEqual([write(o) for o in owed],
+        made = obligations("H", ("X",), body, term("(rank x)"))
+        self.assertEqual([write(o) for o in made],
                          [write(formula(t)) for t in ("(= (ordp (rank x)) 't)",
                                                       "(= (ord< (rank (cdr x)) (rank x)) 't)",
                                                       "(= (ord< (rank (car x)) (rank x)) 't)")])
@@ -117,9 +117,9 @@ class Definitions(unittest.TestCase):
 
     def test_obligations_of_a_block(self):
         measure = term("(rank x)")
-        owed = block_obligations([("EV", ("X",), term("(if (consp x) (od (cdr x)) t)"), measure),
+        made = block_obligations([("EV", ("X",), term("(if (consp x) (od (cdr x)) t)"), measure),
                                   ("OD", ("X",), term("(if (consp x) (ev (cdr x)) nil)"), measure)])
-        self.assertEqual(owed, [formula("(= (ordp (rank x)) 't)"),
+        self.assertEqual(made, [formula("(= (ordp (rank x)) 't)"),
                                 formula("(implies (consp x) (= (ord< (rank (cdr x)) (rank x)) 't))")])
 
     def test_definitions_are_checked(self):

@@ -58,7 +58,7 @@ class Theory:
     # ---- growing ----------------------------------------------------------------------------------------
 
     def add_definition(self, definition: Definition) -> None:
-        """Adds a function or witness that the program admits; what it owes is looked at by `Book`."""
+        """Adds a function or witness that the program admits; its obligations are looked at by `Book`."""
         self.arities[definition.name] = len(definition.formals)
         self.definitions[definition.name] = definition
         self.axioms.setdefault(definition.axiom())

@@ -46,26 +46,27 @@ def verify_lexicographic(book: "Book") -> None:
                     book.axiom_at(40, a="'0", b="b", c="d")])
 
 
-def solve_obligation(book: "Book", owed: Pair) -> Proof:
+def solve_obligation(book: "Book", obligation: Pair) -> Proof:
     """A proof of an obligation of a simple recursion, or of one with such a measure.  Raises RuleError where the
     measure is another, and Unproved where it is not seen to fall."""
     try:
-        return solve_simple(book, owed)
+        return solve_simple(book, obligation)
     except RuleError:
-        return _solve(book, owed)
+        return _solve(book, obligation)
 
 
-def _solve(book: "Book", owed: Pair) -> Proof:
-    last = literals(owed)[-1]
+def _solve(book: "Book", obligation: Pair) -> Proof:
+    last = literals(obligation)[-1]
     t = items(last)[1]
     measure = items(t)[-1] if is_call(t, "ORDP") or is_call(t, "ORD<") else None
     verify_ranks(book)
     if is_call(measure, "+"):
-        return _of_sum(book, owed, t)
+        return _of_sum(book, obligation, t)
     pair = lexicographic_parts(measure)
     if pair is None:
-        raise RuleError("DEFINE", "no measure that is known here; give proofs of the obligations by `proofs`", owed)
-    return _of_pair(book, owed, t, pair)
+        raise RuleError("DEFINE", "no measure that is known here; give proofs of the obligations by `proofs`",
+                        obligation)
+    return _of_pair(book, obligation, t, pair)
 
 
 def lexicographic_parts(measure: Optional[Object]) -> Optional[tuple[Object, Object]]:
@@ -96,29 +97,29 @@ def rank_facts(book: "Book", t: Object) -> list[Proof]:
     return facts
 
 
-def _of_sum(book: "Book", owed: Pair, t: Pair) -> Proof:
+def _of_sum(book: "Book", obligation: Pair, t: Pair) -> Proof:
     verify_decrease(book)
     measure = items(t)[-1]
     if is_call(t, "ORDP"):
         a, b = items(measure)[1:]
-        return subset(instance(book.lemmas["ORDP-OF-SUM"], {"A": a, "B": b}), owed)
+        return subset(instance(book.lemmas["ORDP-OF-SUM"], {"A": a, "B": b}), obligation)
     smaller = items(t)[1]
     order = call("<", smaller, measure)
-    fact = linear(book, disjunction(*literals(owed)[:-1], equation(order, T)), rank_facts(book, smaller))
+    fact = linear(book, disjunction(*literals(obligation)[:-1], equation(order, T)), rank_facts(book, smaller))
     a, b, c, d = items(smaller)[1:] + items(measure)[1:]
     same = instance(book.lemmas["ORD<-OF-SUMS"], {"A": a, "B": b, "C": c, "D": d})
-    return prove(book.theory, owed, use=[fact, same])
+    return prove(book.theory, obligation, use=[fact, same])
 
 
-def _of_pair(book: "Book", owed: Pair, t: Pair, pair: tuple[Object, Object]) -> Proof:
+def _of_pair(book: "Book", obligation: Pair, t: Pair, pair: tuple[Object, Object]) -> Proof:
     verify_lexicographic(book)
     if is_call(t, "ORDP"):
-        return subset(instance(book.lemmas["ORDP-OF-LEXICOGRAPHIC"], {"A": pair[0], "B": pair[1]}), owed)
+        return subset(instance(book.lemmas["ORDP-OF-LEXICOGRAPHIC"], {"A": pair[0], "B": pair[1]}), obligation)
     smaller = lexicographic_parts(items(t)[1])
     place = 0 if smaller[0] is not pair[0] else 1
     order = call("<", smaller[place], pair[place])
-    tests = literals(owed)[:-1]
+    tests = literals(obligation)[:-1]
     fact = linear(book, disjunction(*tests, equation(order, T)), rank_facts(book, smaller[place]))
     name = ("ORD<-BY-FIRST", "ORD<-BY-SECOND")[place]
     lemma = instance(book.lemmas[name], {"A": smaller[0], "B": smaller[1], "C": pair[0], "D": pair[1]})
-    return prove(book.theory, owed, use=[fact, lemma])
+    return prove(book.theory, obligation, use=[fact, lemma])

@@ -1,4 +1,4 @@
-"""What a recursive definition owes: its measure is an ordinal, and falls at each call, under the tests that
+"""The obligations of a recursive definition: its measure is an ordinal, and falls at each call, under the tests that
 govern the call."""
 from collections.abc import Sequence
 
@@ -59,22 +59,22 @@ def recursive_calls(names: Sequence[str], body: Object) -> list[tuple[Tests, str
 
 
 def block_obligations(block: Sequence[tuple[str, Sequence[str], Object, Object]]) -> list[Pair]:
-    """The formulas that a DEFINE-ALL owes, in order and each once; a member of the block is a name with its formals,
+    """The obligations of a DEFINE-ALL, in order and each once; a member of the block is a name with its formals,
     body and measure.  Raises RuleError, NESTED."""
     names = [name for name, *_ in block]
     calls = [recursive_calls(names, body) for _, _, body, _ in block]
     if not any(calls):
         return []
-    owed: dict[Pair, None] = {}
+    distinct: dict[Pair, None] = {}
     for (_, _, _, measure), found in zip(block, calls):
-        owed.setdefault(equation(call("ORDP", measure), T))
+        distinct.setdefault(equation(call("ORDP", measure), T))
         for tests, called, actuals in found:
             _, formals, _, smaller = block[names.index(called)]
             less = call("ORD<", substitute(smaller, dict(zip(formals, actuals))), measure)
-            owed.setdefault(disjunction(*tests, equation(less, T)))
-    return list(owed)
+            distinct.setdefault(disjunction(*tests, equation(less, T)))
+    return list(distinct)
 
 
 def obligations(name: str, formals: Sequence[str], body: Object, measure: Object) -> list[Pair]:
-    """The formulas that a DEFINE owes, in order and each once.  Raises RuleError, NESTED."""
+    """The obligations of a DEFINE, in order and each once.  Raises RuleError, NESTED."""
     return block_obligations([(name, formals, body, measure)])

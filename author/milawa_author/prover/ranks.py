@@ -76,25 +76,25 @@ def verify_decrease(book: "Book") -> None:
                     ax(40, a="'0", b="(- n '1)", c="n"), book.lemmas["LESS-BY-ONE"]])
 
 
-def solve_simple(book: "Book", owed: Pair) -> Proof:
+def solve_simple(book: "Book", obligation: Pair) -> Proof:
     """A proof of an obligation of a simple recursion.  Raises RuleError where it is none."""
-    last = literals(owed)[-1]
+    last = literals(obligation)[-1]
     t = left(last)
     if is_call(t, "ORDP") or is_call(t, "ORD<"):
         measure = items(t)[-1]
         if is_call(measure, "RANK"):
             verify_ranks(book)
-            return subset(_rank_proof(book, owed, t), owed)
+            return subset(_rank_proof(book, obligation, t), obligation)
         if is_call(measure, "+") and items(measure)[1] is quote(0):
             verify_decrease(book)
             n = items(measure)[2]
             if is_call(t, "ORDP"):
                 return instance(book.lemmas["ORDP-OF-SUM"], {"A": quote(0), "B": n})
-            return subset(instance(book.lemmas["ORD<-OF-DECREASE"], {"N": n}), owed)
-    raise RuleError("DEFINE", "not a simple recursion", owed)
+            return subset(instance(book.lemmas["ORD<-OF-DECREASE"], {"N": n}), obligation)
+    raise RuleError("DEFINE", "not a simple recursion", obligation)
 
 
-def _rank_proof(book: "Book", owed: Pair, t: Pair) -> Proof:
+def _rank_proof(book: "Book", obligation: Pair, t: Pair) -> Proof:
     whole = items(items(t)[-1])[1]
     if is_call(t, "ORDP"):
         return instance(book.lemmas["ORDP-OF-RANK"], {"X": whole})
@@ -102,8 +102,8 @@ def _rank_proof(book: "Book", owed: Pair, t: Pair) -> Proof:
     while part is not whole and is_call(part) and part.first in ("CAR", "CDR"):
         steps.append(part.first)
         part = items(part)[1]
-    if part is not whole or not steps or nil(call("CONSP", whole)) not in literals(owed):
-        raise RuleError("DEFINE", "no part of the argument under a test CONSP; give proofs by `proofs`", owed)
+    if part is not whole or not steps or nil(call("CONSP", whole)) not in literals(obligation):
+        raise RuleError("DEFINE", "no part of the argument under a test CONSP; give proofs by `proofs`", obligation)
     inner = steps.pop()
     proof = instance(book.lemmas["ORD<-OF-" + inner], {"X": whole})
     part = call(inner, whole)
