@@ -1,5 +1,8 @@
--- The bodies of a block that may be added are in the heap.
-use Rattle.std.proofs.Common.{◌≡◌, ℕ, List, Option, Some, None, slice_get, subst, arith}
+-- The bodies of a block that may be added are in the heap, and so are the cells of these.
+use Rattle.std.proofs.Common.{◌≡◌, ℕ, nat_eq, Bool, true, false, if◌then◌else◌, List, [], ◌∷◌, ◌++◌, All, Option, Some, None, slice_get, sym, subst, arith}
+use Rattle.std.specs.List.{list_any}
+use Rattle.std.proofs.lemmas.List.Elements.{All-push}
+use Rattle.indexmap.specs.IndexSet.{insert_key}
 use Rattle.std.proofs.lemmas.Option.{slice_get_within}
 use Rattle.mw_model.specs.Terms.Object.{Object}
 use Rattle.mw_model.specs.Terms.Term.{Term}
@@ -21,3 +24,11 @@ body-within os D ms B h i m b at is =
     let below = slice_get_within ms i m at in
     let d = slice_get-some (members B) i (omega (arith, below, h.heads.count)) in
     body-in os m.2 B d.0.body b (h.bodies i m d.0 at d.1) is
+
+-- what is put among cells is in the heap as they are
+pub cells-in : (os : List Object) (cells new : List ℕ) (x : ℕ) → new ≡ insert_key nat_eq cells x → All (IsIn os) cells → IsIn os x → All (IsIn os) new
+cells-in os cells new x e all within = subst (All (IsIn os)) (sym e) (go (list_any (nat_eq x) cells))
+  where
+    go : (b : Bool) → All (IsIn os) (if b then cells else cells ++ x ∷ [])
+    go true = all
+    go false = All-push (IsIn os) cells x all within

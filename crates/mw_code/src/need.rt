@@ -50,7 +50,7 @@ fn need_of(needs: &[u32], from: usize, signature: &Signature, instruction: Instr
 {
     let top = top_need(needs);
     match instruction {
-        Instruction::Constant(_) | Instruction::Local(_) => top + 1,
+        Instruction::Constant(_) | Instruction::Local(_) | Instruction::Enter(_, _) => top + 1,
         Instruction::Apply(primitive) => (top + 1).saturating_sub(arity_of(primitive)),
         Instruction::Call(index) => (top + 1).saturating_sub(signature.arity(index)),
         Instruction::JumpNil(place) => need_at(needs, from, place).max(top).saturating_sub(1),
@@ -60,7 +60,8 @@ fn need_of(needs: &[u32], from: usize, signature: &Signature, instruction: Instr
     }
 }
 
-fn instruction_at(code: &[Instruction], index: usize) -> Instruction
+/// The instruction at an index.
+pub(crate) fn instruction_at(code: &[Instruction], index: usize) -> Instruction
     requires { index < length code.now }
     ensures { slice_get code.now index ≡ Some result }
 {

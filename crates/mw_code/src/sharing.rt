@@ -1,71 +1,98 @@
-//! What blocks take of the jobs that they share.
+//! What blocks take of the instructions that they share.
+ghost use Rattle.std.specs.Prelude.{All, IsOk, OnOk};
 ghost use Rattle.mw_model.specs.Values.Definition.{Block, Definitions};
+ghost use Rattle.mw_heap.specs.Objects.{IsIn};
 ghost use Rattle.mw_code.specs.Blocks.{IsBlockOf};
-ghost use Rattle.mw_code.specs.Weights.{AreWeights};
 
 use crate::members::member_at;
-use crate::weight::{Weight, count_cells};
-use indexmap::IndexMap;
-use mw_heap::{Heap, Memory, Ref};
+use indexmap::IndexSet;
+use mw_heap::{Heap, Memory, Ref, View};
 
-/// The jobs that the blocks of a table share, for code that labels make of few cells: as many as one term may take, so that what all
-/// definitions keep beyond what their cells pay for, code and the entries beside it, is 320 megabytes at most.
-pub(crate) const SHARED_JOBS: u64 = 1 << 24;
+/// The instructions that the blocks of a table share, for code that is long though its cells are few: as many as one body may have, so
+/// that what all definitions keep beyond what their cells pay for, code and the entries beside it, is 256 megabytes at most.
+pub(crate) const SHARED_INSTRUCTIONS: u64 = 1 << 24;
 
-// The jobs for which each distinct cell of a block's bodies pays: a body that is written out has one or two.
-const JOBS_FOR_A_CELL: u64 = 64;
+// The instructions for which each distinct cell of a block's bodies pays: a body that is written out has one or two.
+const INSTRUCTIONS_FOR_A_CELL: u64 = 64;
 
-// Bodies whose texts have at most this many bytes together are not counted: a term has no more jobs than its text has bytes,
-// so that each keeps some 80 kilobytes at most.
+// The cells of a block with at most this many instructions are not counted: it keeps 64 kilobytes at most.
 const SHORT: u64 = 4096;
 
-/// What is left of the jobs that blocks share once this block took those for which its own cells do not pay. The error is that fewer were
-/// left, or out of memory.
+// No heap has as many cells.
+const MOST_CELLS: usize = 1 << 32;
+
+/// What is left of the instructions that blocks share, where a block was added: its code has `laid` of them, and those for which its own
+/// cells do not pay are taken. The error is that it was not added, that fewer were left, or out of memory.
 pub(crate) fn left_after(
+    added: Result<(), Memory>,
     left: u64,
     heap: &Heap,
     block: &[(Ref, Ref, Option<Ref>)],
+    laid: u64,
 ) -> Result<u64, Memory>
     requires { (D : Definitions) × (B : Block) × IsBlockOf heap.now.objects D block.now B }
+    ensures { OnOk result (IsOk added) }
 {
-    if length_of_texts(heap, block) <= SHORT {
+    added?;
+    if laid <= SHORT {
         return Ok(left);
     }
-    let mut known = IndexMap::new(heap.alloc());
-    let jobs = count_bodies(heap, &mut known, block)?;
-    let paid = JOBS_FOR_A_CELL.saturating_mul(known.len() as u64);
-    left.checked_sub(jobs.saturating_sub(paid)).ok_or(Memory)
+    let paid = INSTRUCTIONS_FOR_A_CELL.saturating_mul(count_distinct(heap, block)?);
+    left.checked_sub(laid.saturating_sub(paid)).ok_or(Memory)
 }
 
-// The bytes of the texts of all bodies, each cut off.
-fn length_of_texts(heap: &Heap, block: &[(Ref, Ref, Option<Ref>)]) -> u64
+/// Refuses code of a block, from one length to another, for which not even all cells of the heap would pay: a block whose bodies share
+/// their cells is refused before all of them are laid out.
+pub(crate) fn check_laid(heap: &Heap, from: usize, to: usize) -> Result<(), Memory> {
+    let paid = INSTRUCTIONS_FOR_A_CELL.saturating_mul(heap.mark().cells() as u64);
+    if SHARED_INSTRUCTIONS.saturating_add(paid) < to.saturating_sub(from) as u64 {
+        return Err(Memory);
+    }
+    Ok(())
+}
+
+// How many distinct cells the bodies have. Each cell has its parts put after all that are there.
+fn count_distinct(heap: &Heap, block: &[(Ref, Ref, Option<Ref>)]) -> Result<u64, Memory>
     requires { (D : Definitions) × (B : Block) × IsBlockOf heap.now.objects D block.now B }
 {
-    let mut length: u64 = 0;
-    for index in 0..block.len() {
-        let (_, _, body) = member_at(block, index);
-        if let Some(body) = body {
-            length = length.saturating_add(heap.lengths(body).0);
-        }
+    let mut cells = IndexSet::new(heap.alloc());
+    put_bodies(heap, block, &mut cells)?;
+    for index in 0..MOST_CELLS {
+        let Some(x) = cells.get_index(index).copied() else {
+            return Ok(index as u64);
+        };
+        put_parts(heap, x, &mut cells)?;
     }
-    length
+    Err(Memory)
 }
 
-// The jobs of all bodies, where each distinct cell of them is counted once.
-fn count_bodies(
+fn put_bodies(
     heap: &Heap,
-    known: &mut IndexMap<Ref, Weight>,
     block: &[(Ref, Ref, Option<Ref>)],
-) -> Result<u64, Memory>
+    cells: &mut IndexSet<Ref>,
+) -> Result<(), Memory>
     requires block { (D : Definitions) × (B : Block) × IsBlockOf heap.now.objects D block.now B }
-    requires weights { AreWeights heap.now.objects known.old.entries }
+    requires within { All (IsIn heap.now.objects) cells.old.keys }
+    ensures { OnOk result (All (IsIn heap.now.objects) cells.new.keys) }
 {
-    let mut jobs: u64 = 0;
     for index in 0..block.len() {
         let (_, _, body) = member_at(block, index);
         if let Some(body) = body {
-            jobs = jobs.saturating_add(u64::from(count_cells(heap, known, body)?));
+            cells.insert(body)?;
         }
     }
-    Ok(jobs)
+    Ok(())
+}
+
+fn put_parts(heap: &Heap, x: Ref, cells: &mut IndexSet<Ref>) -> Result<(), Memory>
+    requires cell { IsIn heap.now.objects x }
+    requires within { All (IsIn heap.now.objects) cells.old.keys }
+    ensures { OnOk result (All (IsIn heap.now.objects) cells.new.keys) }
+{
+    let View::Pair(first, rest) = heap.view(x) else {
+        return Ok(());
+    };
+    cells.insert(first)?;
+    cells.insert(rest)?;
+    Ok(())
 }

@@ -40,7 +40,8 @@ fn has_small_room(units: u64, width: u64, code: usize) -> bool
 
 /// Runs the code of an entry on values of its formals, with the given number of units. It comes to just what evaluation gives, or is out of
 /// memory. Of at most 10,000 units, where that takes at most 2^24 places of the stack and the table's code is so short that such a run
-/// ends in time, room is made first: once the run has begun it asks for no memory.
+/// ends in time, room is made first: once the run has begun it asks for no memory. Not so where the code has parts, whose frames and turns
+/// no units bound: such a run has its turns limited.
 pub(crate) fn run_entry(
     heap: &mut Heap,
     table: &Table,
@@ -56,7 +57,7 @@ pub(crate) fn run_entry(
     ensures grows { Grows heap.old.objects heap.new.objects }
     ensures answer { (D : Definitions) (t : Term) → StandsFor heap.old.objects table.now D → IsEntry D.profile heap.old.objects table.now entry.now (map (object_at heap.old.objects) args.now) t → Answers heap.new.objects (evaluate D units [] t) result }
 {
-    if has_small_room(units, table.width(entry), table.code().len()) {
+    if !table.has_parts() && has_small_room(units, table.width(entry), table.code().len()) {
         machine.run_with_room(heap, table, entry, args, units)
     } else {
         machine.run(heap, table, entry, args, units)

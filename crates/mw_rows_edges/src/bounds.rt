@@ -1,11 +1,12 @@
 //! Books at the bounds of turns and of code: one within them gives the expected answer, and one past them ends out of memory.
+use crate::shared::scoped_term;
 use mw_book::Status;
 use mw_rows::{Answer, answer_of_check, answer_of_command};
 use std::alloc::{AllocError, Global};
 use std::test::Fail;
 
 // A term of the given number of tests within one another by labels, each of the one before it, twice: of X, if that is not NIL, it runs
-// 5 * 2^(times - 1) - 2 - times entries of code, and takes no unit. It takes 5 * 2^times - 4 jobs to lay it out.
+// 5 * 2^(times - 1) - 2 - times entries of code, and takes no unit.
 fn tested_term(alloc: Global, times: usize) -> Result<String, AllocError> {
     let mut term = String::from_str(alloc, "#1=x")?;
     for k in 1..times.saturating_add(1) {
@@ -54,9 +55,9 @@ fn a_run_has_turns_for_the_units_of_its_limit(rt: HostRuntime) -> Result<(), Fai
     Ok(())
 }
 
-// A definition whose code takes ten million jobs, a small one, and an EVAL of that; then, where there is another text, that.
+// A definition whose code has more than 2^23 instructions, a small one, and an EVAL of that; then, where there is another text, that.
 fn book_of_code(alloc: Global, after: &str) -> Result<String, AllocError> {
-    let term = tested_term(alloc, 21)?;
+    let term = scoped_term(alloc, 20)?;
     format!(in alloc;
         "(define large (x) {term} nil ())(define small (x) x nil ())(eval (small 7)){after}"
     )
@@ -78,19 +79,19 @@ fn accepts_a_small_one(alloc: Global) -> Result<bool, AllocError> {
 
 // Whether the program ends out of memory at a second large one.
 fn refuses_a_large_one(alloc: Global) -> Result<bool, AllocError> {
-    let term = tested_term(alloc, 21)?;
+    let term = scoped_term(alloc, 20)?;
     let after = format!(in alloc; "(define another (x) {term} nil ())")?;
     let book = book_of_code(alloc, after.as_str())?;
     let answer = answer_of_check(alloc, book.as_str(), 4096)?;
     Ok(answer.status == Status::Memory)
 }
 
-// Whether the program ends out of memory at a block of functions that share one body, of five million jobs each.
+// Whether the program ends out of memory at a block of functions that share one body, of more than 2^22 instructions each.
 fn refuses_a_block(alloc: Global) -> Result<bool, AllocError> {
-    let term = tested_term(alloc, 20)?;
+    let term = scoped_term(alloc, 19)?;
     let mut book = format!(in alloc; "(define-all ((f0 (x) {term} nil)")?;
     for k in 1..4 {
-        write!(book, "(f{k} (x) #21# nil)")?;
+        write!(book, "(f{k} (x) #20# nil)")?;
     }
     book.push_str(") ())")?;
     let answer = answer_of_check(alloc, book.as_str(), 4096)?;

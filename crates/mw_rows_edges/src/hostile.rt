@@ -1,7 +1,7 @@
 //! Books whose terms would be large if labels and abbreviations were written out: each ends in time that is linear in what is written and in
 //! the units that it uses, or out of memory at once.
 use crate::nested::{Nested, other_report_on_nested, text_of};
-use crate::shared::doubled_term;
+use crate::shared::{doubled_term, scoped_term};
 use mw_book::Status;
 use mw_rows::{Answer, answer_of_check, expect_empty, other_answer, other_report};
 use std::alloc::{AllocError, Global};
@@ -37,7 +37,8 @@ fn ends_out_of_memory_on_calls(
 
 // The answer to a book whose third event takes too much memory, where it is not the answers to the first two, in pieces of the given number of bytes.
 fn other_answer_before_memory_ends(alloc: Global, size: usize) -> Result<String, AllocError> {
-    let book = book_of_calls(alloc, "(eval 7) (shout) (eval ", "cons", ") (eval 8)")?;
+    let term = scoped_term(alloc, 60)?;
+    let book = format!(in alloc; "(eval 7) (shout) (eval (if nil {term} 1)) (eval 8)")?;
     let expected = "6\n1 EVAL - accepted 7\n2 SHOUT - refused EVENT\n";
     other_answer(alloc, &["check"], book.as_str(), expected, size)
 }
@@ -48,9 +49,9 @@ fn ends_out_of_memory_on_nested(alloc: Global, nested: &Nested) -> Result<bool, 
     ends_out_of_memory(alloc, book.as_str())
 }
 
-// The report on an EVAL of a recursion over an object of 2^60 pairs as a tree, where it does not run out of units.
-fn other_report_on_rank(alloc: Global) -> Result<String, AllocError> {
-    let book = book_of_calls(alloc, "(eval (rank '", "cons", "))")?;
+// The report on a term of 2^60 pairs as a tree, between these texts, where it does not run out of units.
+fn other_report_on_pairs(alloc: Global, before: &str, after: &str) -> Result<String, AllocError> {
+    let book = book_of_calls(alloc, before, "cons", after)?;
     other_report(
         alloc,
         "10000000",
@@ -58,6 +59,19 @@ fn other_report_on_rank(alloc: Global) -> Result<String, AllocError> {
         "1\n1 EVAL - refused STEPS\n",
     )
 }
+
+// The report on a body that has 2^60 calls of a function that was defined before, where it is not accepted.
+fn other_report_on_body(alloc: Global) -> Result<String, AllocError> {
+    let before = "(define two (x y) (cons x y) nil ()) (define big (x) ";
+    let book = book_of_calls(alloc, before, "two", " nil ())")?;
+    other_report(alloc, "10000000", book.as_str(), OF_THE_BODY)
+}
+
+const OF_THE_BODY: &str = "0
+1 DEFINE TWO accepted
+2 DEFINE BIG accepted
+events 2 accepted 2 refused 0 level 1
+";
 
 // The report on an EVAL of a call with the given number of actuals, each for a formal of its own, where it is not the pair of two.
 fn other_report_on_actuals(alloc: Global, count: usize) -> Result<String, AllocError> {
@@ -188,12 +202,17 @@ fn a_deep_term_takes_a_unit_for_each_call(rt: HostRuntime) -> Result<(), Fail> {
     expect_empty(other_report_on_nested(alloc, "99999", &CALLS, "1\n1 EVAL - refused STEPS\n")?)
 }
 
+// The code has each part once, and a run comes to it as often as it stands there.
 #[test]
-fn code_past_the_bound_is_out_of_memory(rt: HostRuntime) -> Result<(), Fail> {
+fn a_run_of_shared_code_ends_with_its_turns(rt: HostRuntime) -> Result<(), Fail> {
     assert!(rt; ends_out_of_memory_on_nested(rt.alloc(), &CHOICES)?);
     assert!(rt; ends_out_of_memory_on_calls(rt.alloc(), "(eval ", "or", ")")?);
-    assert!(rt; ends_out_of_memory_on_calls(rt.alloc(), "(eval ", "cons", ")")?);
     Ok(())
+}
+
+#[test]
+fn a_run_of_shared_code_ends_with_its_units(rt: HostRuntime) -> Result<(), Fail> {
+    expect_empty(other_report_on_pairs(rt.alloc(), "(eval ", ")")?)
 }
 
 #[test]
@@ -202,12 +221,9 @@ fn what_was_answered_before_memory_ends_is_written(rt: HostRuntime) -> Result<()
     expect_empty(other_answer_before_memory_ends(rt.alloc(), 1)?)
 }
 
-// The body has 2^60 calls of a function that was defined before.
 #[test]
-fn a_body_past_the_bound_is_out_of_memory(rt: HostRuntime) -> Result<(), Fail> {
-    let before = "(define two (x y) (cons x y) nil ()) (define big (x) ";
-    assert!(rt; ends_out_of_memory_on_calls(rt.alloc(), before, "two", " nil ())")?);
-    Ok(())
+fn a_body_of_shared_calls_is_defined(rt: HostRuntime) -> Result<(), Fail> {
+    expect_empty(other_report_on_body(rt.alloc())?)
 }
 
 #[test]
@@ -229,7 +245,7 @@ fn a_book_may_define_many_functions(rt: HostRuntime) -> Result<(), Fail> {
 
 #[test]
 fn a_recursion_ends_with_its_units(rt: HostRuntime) -> Result<(), Fail> {
-    expect_empty(other_report_on_rank(rt.alloc())?)
+    expect_empty(other_report_on_pairs(rt.alloc(), "(eval (rank '", "))")?)
 }
 
 #[test]

@@ -17,6 +17,17 @@ pub(crate) fn doubled_term(
     Ok(term)
 }
 
+/// A term of labels, each for a pair of two lambda calls whose bodies are the one before it: on each of the 2^times ways down it stands in
+/// another scope, and is laid out there.
+pub(crate) fn scoped_term(alloc: Global, times: usize) -> Result<String, AllocError> {
+    let mut term = String::from_str(alloc, "#1=(cons 1 1)")?;
+    for k in 1..times.saturating_add(1) {
+        let next = k.saturating_add(1);
+        term = format!(in alloc; "#{next}=(cons ((lambda (x) {term}) 1) ((lambda (y) #{k}#) 1))")?;
+    }
+    Ok(term)
+}
+
 // The book that shows the term equal to itself, and then prints it.
 fn book_of_the_term(alloc: Global) -> Result<String, AllocError> {
     let term = doubled_term(alloc, "cons", "x")?;

@@ -26,7 +26,18 @@ fn a_shared_term_is_run_as_a_tree(rt: HostRuntime) {
     );
 }
 
+// The text of this term has more than 65,536 bytes as a tree, so that its code has parts. They take a unit for each of the 2^20 - 1 sums
+// of the tree, and open no frame that counts.
 #[test]
-fn a_term_that_is_shared_too_often_is_refused(rt: HostRuntime) {
-    assert!(rt; answer_for(rt.alloc(), Recipe::Doubled(3, 60), 1000).is_err());
+fn a_term_that_is_shared_often_takes_the_units_of_its_tree(rt: HostRuntime) {
+    assert!(rt;
+        answer_for(rt.alloc(), Recipe::Doubled(3, 20), 1_048_575)
+            == Ok(Answer::Number(3_145_728, 0, 1))
+    );
+    assert!(rt; answer_for(rt.alloc(), Recipe::Doubled(3, 20), 1_048_574) == Ok(Answer::Steps));
+}
+
+#[test]
+fn a_term_that_is_shared_sixty_times_ends_with_its_units(rt: HostRuntime) {
+    assert!(rt; answer_for(rt.alloc(), Recipe::Doubled(3, 60), 1000) == Ok(Answer::Steps));
 }

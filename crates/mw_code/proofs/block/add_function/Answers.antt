@@ -1,7 +1,6 @@
 -- A body is laid out after the code that is there, and no body leaves that as it is.
-use Rattle.std.proofs.Common.{sym, ap, subst, IfSome}
+use Rattle.std.proofs.Common.{sym, subst}
 use Rattle.mw_code.specs.Jobs.{Extends}
-use Rattle.mw_code.specs.Weights.{HasFewJobs}
 use Rattle.mw_code.proofs.Forms.{extends-same}
 use Rattle.mw_code.proofs.block.add_function.Goals.{in-Some+in_ok-function-in-Some, in-None}
 use Rattle.mw_code.proofs.block.add_function.Goals as goal
@@ -12,12 +11,4 @@ returns-clause-extends c =
     elim c.match-body.branch [
       | in-Some+in_ok-function-in-Some w ↦ subst (λ v. Extends code v.items) (sym w.code-is) w.lay_function.ensures.extends
       | in-None w ↦ subst (λ v. Extends code v.items) (sym w.code-is) (extends-same code)
-    ]
-
-pub returns-clause-few : goal.returns-clause-few
-returns-clause-few c =
-    let os = c.args.context.now.heap.now.objects in
-    elim c.match-body.branch [
-      | in-Some+in_ok-function-in-Some w ↦ subst (λ o. IfSome o (HasFewJobs os)) (sym w.in-Some.is) (subst (HasFewJobs os) (ap (λ t. t.term) w.body_task-task.ensures) w.in_ok-function-in-Some.ensures.few)
-      | in-None w ↦ subst (λ o. IfSome o (HasFewJobs os)) (sym w.in-None.is) tt
     ]

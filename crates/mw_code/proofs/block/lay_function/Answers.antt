@@ -1,5 +1,5 @@
 -- The call after the code of the body changes nothing of what that needs.
-use Rattle.std.proofs.Common.{◌≡◌, ◌+◌, max, [], ◌∷◌, ◌++◌, refl, sym, ap, ap₂, ◌∙◌, arith, rules}
+use Rattle.std.proofs.Common.{◌≡◌, ◌+◌, max, [], ◌∷◌, ◌++◌, length, refl, sym, ap, ap₂, ◌∙◌, arith, rules, length-append}
 use Rattle.mw_code.specs.declared.instruction.Instruction.TheVariants.{TailCall}
 use Rattle.mw_code.specs.Needs.{need_at}
 use Rattle.mw_code.proofs.NeedLemmas.{need-extends}
@@ -29,3 +29,8 @@ returns-clause-laid c =
       code_is = code-is;
       laid = λ A f. c.in_ok-entry.ensures.laid A f;
     }
+
+pub returns-clause-few : goal.returns-clause-few
+returns-clause-few c =
+    let mid = c.lay_out.new.code.items in
+    omega (arith, c.in_ok-entry.ensures.few, ap length c.in_ok-push.ensures.items, length-append mid (TailCall c.in-Ok.index ∷ []))
