@@ -1,11 +1,12 @@
 //! The parts of the body that is laid out: code of the terms that it holds more than once.
-ghost use Rattle.std.specs.Prelude.{◌≡◌, ℕ, ◌≤◌, nat_eq, List, [], true, Some, IfSome, OnOk};
+ghost use Rattle.std.specs.Prelude.{◌≡◌, ℕ, ◌≤◌, List, [], true, Some, IfSome, OnOk};
 ghost use Rattle.std.specs.Map.{lookup};
 ghost use Rattle.mw_model.specs.Terms.Object.{Object};
 ghost use Rattle.mw_model.specs.Values.Primitive.{Profile};
 ghost use Rattle.mw_code.specs.Jobs.{part_height, part_task};
 ghost use Rattle.mw_code.specs.Meaning.{Signature};
-ghost use Rattle.mw_code.specs.Shared.{AreParts, BeginsPart};
+ghost use Rattle.mw_code.specs.Places.{same_variable};
+ghost use Rattle.mw_code.specs.Reused.{AreParts, BeginsPart};
 ghost use Rattle.mw_code.specs.declared.instruction.Instruction.{Instruction};
 
 use crate::job::{Job, Scope, Task};
@@ -21,11 +22,22 @@ pub(crate) struct Part {
     pub place: u32,
 }
 
-/// The terms that the body holds more than once, and the parts that are laid out so far, by their terms.
+/// The terms that the body holds more than once, and the parts that are laid out so far, by their terms and scopes.
 #[derive(Drop)]
 pub(crate) struct Parts {
     shared: Shared,
-    laid: IndexMap<Ref, Part>,
+    laid: IndexMap<(Ref, u64), Part>,
+}
+
+// The key under which the part of a task is noted: the term, and one number for its scope and for whether it is last. Two tasks may have
+// one key, since `find` compares the tasks themselves: then the part that was noted last is found.
+fn key_of(task: &Task) -> (Ref, u64) {
+    let formals = match task.scope.formals {
+        Some(formals) => formals.index() as u64,
+        None => 0,
+    };
+    let scope = formals.wrapping_mul(1 << 33) ^ (u64::from(task.scope.start) << 1);
+    (task.term, scope ^ u64::from(task.is_last))
 }
 
 // The height of the frame in which the code of a task runs as a part.
@@ -92,9 +104,9 @@ impl Parts {
 
     /// The place of the part for a task, where one is laid out.
     pub fn find(&self, task: &Task) -> Option<u32>
-        ensures { IfSome result (λ place. lookup (nat_eq task.now.term) self.now.laid.entries ≡ Some (record { task = part_task task.now; place = place })) }
+        ensures { IfSome result (λ place. (key : ℕ × ℕ) × (lookup (same_variable key) self.now.laid.entries ≡ Some (record { task = part_task task.now; place = place }))) }
     {
-        let Some(part) = self.laid.get(&task.term).copied() else {
+        let Some(part) = self.laid.get(&key_of(task)).copied() else {
             return None;
         };
         if same_task(part.task, part_task(task)) {
@@ -113,7 +125,7 @@ impl Parts {
                 task: part_task(&task),
                 place,
             };
-            self.laid.insert(task.term, part)?;
+            self.laid.insert(key_of(&task), part)?;
         }
         Ok(())
     }

@@ -40,7 +40,7 @@ struct Walk {
 }
 
 // Whether a list is visited for the first or the second time.
-fn is_due(walk: &mut Walk, x: Ref) -> Result<bool, Memory>
+fn visits_again(walk: &mut Walk, x: Ref) -> Result<bool, Memory>
     ensures { walk.new.waiting.items ≡ walk.old.waiting.items }
 {
     if walk.lists.insert(x)? {
@@ -59,7 +59,7 @@ fn visit_list(heap: &Heap, walk: &mut Walk, x: Ref) -> Result<(), Memory>
     let View::Pair(first, rest) = heap.view(x) else {
         return Ok(());
     };
-    if !is_due(walk, x)? {
+    if !visits_again(walk, x)? {
         return Ok(());
     }
     walk.waiting.push(Visit {

@@ -1,9 +1,10 @@
 //! What blocks take of the instructions that they share.
-ghost use Rattle.std.specs.Prelude.{All, IsOk, OnOk};
+ghost use Rattle.std.specs.Prelude.{◌≤◌, All, IfOk, OnOk};
 ghost use Rattle.mw_model.specs.Values.Definition.{Block, Definitions};
 ghost use Rattle.mw_heap.specs.Objects.{IsIn};
 ghost use Rattle.mw_code.specs.Blocks.{IsBlockOf};
 
+use crate::addition::Addition;
 use crate::members::member_at;
 use indexmap::IndexSet;
 use mw_heap::{Heap, Memory, Ref, View};
@@ -21,34 +22,31 @@ const SHORT: u64 = 4096;
 // No heap has as many cells.
 const MOST_CELLS: usize = 1 << 32;
 
-/// What is left of the instructions that blocks share, where a block was added: its code has `laid` of them, and those for which its own
-/// cells do not pay are taken. The error is that it was not added, that fewer were left, or out of memory.
-pub(crate) fn left_after(
-    added: Result<(), Memory>,
-    left: u64,
-    heap: &Heap,
-    block: &[(Ref, Ref, Option<Ref>)],
-    laid: u64,
-) -> Result<u64, Memory>
-    requires { (D : Definitions) × (B : Block) × IsBlockOf heap.now.objects D block.now B }
-    ensures { OnOk result (IsOk added) }
+/// What is left of the instructions that blocks share, once a block is added: its code has `laid` of them, and those for which its own
+/// cells do not pay are taken. The error is that fewer were left, or out of memory.
+pub(crate) fn left_after(addition: &Addition<'_>, laid: u64) -> Result<u64, Memory>
+    requires { (D : Definitions) × (B : Block) × IsBlockOf addition.now.heap.now.objects D addition.now.block.now B }
+    ensures { IfOk result (λ left. left ≤ addition.now.left) }
 {
-    added?;
     if laid <= SHORT {
-        return Ok(left);
+        return Ok(addition.left);
     }
-    let paid = INSTRUCTIONS_FOR_A_CELL.saturating_mul(count_distinct(heap, block)?);
-    left.checked_sub(laid.saturating_sub(paid)).ok_or(Memory)
+    let distinct = count_distinct(addition.heap, addition.block)?;
+    let paid = INSTRUCTIONS_FOR_A_CELL.saturating_mul(distinct);
+    addition
+        .left
+        .checked_sub(laid.saturating_sub(paid))
+        .ok_or(Memory)
 }
 
-/// Refuses code of a block, from one length to another, for which not even all cells of the heap would pay: a block whose bodies share
-/// their cells is refused before all of them are laid out.
-pub(crate) fn check_laid(heap: &Heap, from: usize, to: usize) -> Result<(), Memory> {
+/// The most instructions that the next body of a block may have, after the bodies whose code goes from one length to another. More of them
+/// would be beyond what is left, even if all cells of the heap paid, so that `left_after` would refuse the block. It is refused so before
+/// that body is laid out whole.
+pub(crate) fn most_left(heap: &Heap, left: u64, from: usize, to: usize) -> u64 {
     let paid = INSTRUCTIONS_FOR_A_CELL.saturating_mul(heap.mark().cells() as u64);
-    if SHARED_INSTRUCTIONS.saturating_add(paid) < to.saturating_sub(from) as u64 {
-        return Err(Memory);
-    }
-    Ok(())
+    left.saturating_add(paid)
+        .max(SHORT)
+        .saturating_sub(to.saturating_sub(from) as u64)
 }
 
 // How many distinct cells the bodies have. Each cell has its parts put after all that are there.

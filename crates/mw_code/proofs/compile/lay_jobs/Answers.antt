@@ -5,7 +5,7 @@ use Rattle.mw_code.specs.declared.job.Job.{Job}
 use Rattle.mw_code.specs.declared.job.Job.TheVariants.{Value as TheValue}
 use Rattle.mw_code.specs.Jobs.{Extends}
 use Rattle.mw_code.specs.Loads.{load}
-use Rattle.mw_code.specs.Shared.{AreParts, BeginsPart}
+use Rattle.mw_code.specs.Reused.{AreParts, BeginsPart}
 use Rattle.mw_code.proofs.Forms.{extends-same}
 use Rattle.mw_code.proofs.Laying.{AreLaying, laying-starts, last-fits, laying-goes, laying-ends, laid-extends, load-falls, begins-part}
 use Rattle.mw_code.proofs.PartLemmas.{parts-none, parts-extend}
