@@ -6,7 +6,7 @@ use Rattle.mw_model.specs.Laws.Ordinal.{is_below}
 use Rattle.mw_ordinal.specs.declared.turn.Turn.{Turn}
 use Rattle.mw_ordinal.specs.declared.turn.Turn.TheVariants.{Decided, Next}
 use Rattle.mw_ordinal.specs.Turns.{Turns}
-use Rattle.mw_ordinal.proofs.Ordinals.{pairs_compare}
+use Rattle.mw_descent.proofs.Ordinals.{pairs_compare}
 
 module _ (x y p r q s : Object) (is_x : x ≡ Pair p r) (is_y : y ≡ Pair q s) where
   compared : is_below x y ≡ cond (same_object (car p) (car q)) (cond (same_object (cdr p) (cdr q)) (is_below r s) (ltb (number (cdr p)) (number (cdr q)))) (is_below (car p) (car q))

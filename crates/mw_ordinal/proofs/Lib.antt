@@ -1,10 +1,2 @@
-pub mod Ordinals
-pub mod Order
-pub mod Normal
-pub mod Descents
-mod Sums
-mod Beyond
-pub mod Jumps
-pub mod Computed
 pub mod Compared
 pub mod Passed

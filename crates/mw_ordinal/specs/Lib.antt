@@ -1,4 +1,2 @@
-pub mod Shape
-pub mod Descending
 pub mod Turns
 pub mod Leading

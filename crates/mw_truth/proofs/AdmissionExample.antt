@@ -10,7 +10,7 @@ use Rattle.mw_model.specs.Values.Truth.{IsTrueIn, AreTrueIn}
 use Rattle.mw_model.specs.Events.Obligation.{Measures, ordinal_formula, below_formula, obligations}
 use Rattle.mw_model.specs.Events.Writing.{var, call}
 use Rattle.mw_model.specs.BuiltIns.BuiltIn.{built_in, built_in_definitions}
-use Rattle.mw_ordinal.proofs.Computed.{ord_less_exact, ordp_exact}
+use Rattle.mw_descent.proofs.Computed.{ord_less_exact, ordp_exact}
 use Rattle.mw_model.proofs.BuiltInRead.{well_made}
 use Rattle.mw_model.proofs.BuiltInValue.{pairs}
 use Rattle.mw_model.proofs.BuiltInAnswers.{built_in_functions, answer, answer-body}

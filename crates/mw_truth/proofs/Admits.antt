@@ -9,7 +9,7 @@ use Rattle.mw_model.specs.Values.Value.{block_calls, IsTotal}
 use Rattle.mw_model.specs.Values.Truth.{Each}
 use Rattle.mw_model.specs.Events.Obligation.{Measures, measure_of, calls_none}
 use Rattle.mw_model.specs.Laws.Descent.{OfBlock, goal}
-use Rattle.mw_ordinal.specs.Descending.{Passes}
+use Rattle.mw_descent.specs.Descending.{Passes}
 use Rattle.mw_model.proofs.Formed.{Formed, formed}
 use Rattle.mw_model.proofs.Depth.{block_calls-det}
 use Rattle.mw_model.proofs.Older.{functions_new}

@@ -14,7 +14,7 @@ use Rattle.mw_model.proofs.Formed.{Formed, AreFormed}
 use Rattle.mw_model.proofs.Values.{Det, ev_det, Induces, ev_sub-back, evs_sub-back, ev_vars}
 use Rattle.mw_model.proofs.Depth.{Now, block_fold}
 use Rattle.mw_model.proofs.Older.{add_keeps, arity_here}
-use Rattle.mw_ordinal.proofs.Descents.{Ordinal, Below, Passes, at_each}
+use Rattle.mw_descent.proofs.Descents.{Ordinal, Below, Passes, at_each}
 use Rattle.mw_truth.proofs.Having.{Has, CallsHave, Orders, stable, each_left, each_right, evs_length, count_subs, on_has, if_has, term_has, terms_have, bound_over, ordp_says, less_says, over, induces_zip, over_same}
 
 -- no actual mentions the block, and the obligation is true at e

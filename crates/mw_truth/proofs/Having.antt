@@ -12,7 +12,7 @@ use Rattle.mw_model.specs.Events.Obligation.{ordinal_formula, below_formula}
 use Rattle.mw_model.proofs.Names.{same_name-eq, same_name-refl, same_name-from, same_object-from}
 use Rattle.mw_model.proofs.Values.{Det, ev_det, Induces}
 pub use Rattle.mw_model.proofs.SomeValue.{Has, CallsHave, evs_length, on_has, if_has, term_has, terms_have}
-use Rattle.mw_ordinal.proofs.Descents.{Ordinal, Below}
+use Rattle.mw_descent.proofs.Descents.{Ordinal, Below}
 
 -- the two functions on ordinals compute the test and the order
 pub record Orders (C : Calls) : Type 0 where

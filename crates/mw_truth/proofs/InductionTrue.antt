@@ -10,7 +10,7 @@ use Rattle.mw_model.specs.Values.Truth.{TrueAt, TrueFor, Each}
 use Rattle.mw_model.specs.Events.Obligation.{ordinal_formula}
 use Rattle.mw_model.specs.Proofs.Induction.{Case, disjunction, base_premise, step_premise, fall_premise, fall_premises, premises, are_substitutions, are_cases}
 use Rattle.mw_model.proofs.Values.{Det, ev_sub-back}
-use Rattle.mw_ordinal.proofs.Descents.{Ordinal, Below, Passes, at_each}
+use Rattle.mw_descent.proofs.Descents.{Ordinal, Below, Passes, at_each}
 use Rattle.mw_truth.proofs.Having.{Orders, stable, each_left, each_right, ordp_says, less_says}
 use Rattle.mw_truth.proofs.TrueSubstituted.{TermsHave, true_substituted, induced}
 

@@ -15,7 +15,7 @@ use Rattle.mw_model.specs.Laws.Descent.{OfFormula, goal}
 use Rattle.mw_model.proofs.Formed.{formed, is_term-from}
 use Rattle.mw_model.proofs.Read.{formula_object-one}
 use Rattle.mw_model.proofs.Depth.{block_calls-det}
-use Rattle.mw_ordinal.proofs.Descents.{Passes}
+use Rattle.mw_descent.proofs.Descents.{Passes}
 use Rattle.mw_truth.specs.Methods.{IsTrueFormula, KeepsTruth}
 use Rattle.mw_truth.proofs.Having.{Orders, stable, each_right}
 use Rattle.mw_truth.proofs.TrueSubstituted.{true_substituted, induced}

@@ -8,7 +8,7 @@ use Rattle.mw_model.specs.Values.Value.{block_calls}
 use Rattle.mw_model.specs.BuiltIns.BuiltIn.{built_in}
 use Rattle.mw_model.specs.Events.Theory.{BeginsWith}
 use Rattle.mw_model.proofs.Begins.{begins_arity}
-use Rattle.mw_ordinal.proofs.Computed.{ord_less_value, ordp_value}
+use Rattle.mw_descent.proofs.Computed.{ord_less_value, ordp_value}
 use Rattle.mw_truth.proofs.Having.{Orders}
 
 less_known : (P : Profile) → arity_of (arities P (built_in P)) (named "ORD<") ≡ Some 2

@@ -10,7 +10,7 @@ use Rattle.mw_model.specs.Proofs.Proof.{Method, Axiom, Theorem, PropositionalSch
 use Rattle.mw_model.specs.BuiltIns.BuiltIn.{built_in}
 use Rattle.mw_model.specs.Events.Theory.{BeginsWith, AreTrueFormulas}
 use Rattle.mw_model.specs.Laws.Descent.{OfFormula, goal}
-use Rattle.mw_ordinal.specs.Descending.{Passes}
+use Rattle.mw_descent.specs.Descending.{Passes}
 
 -- a formula of the definitions, and true there
 abbrev pub IsTrueFormula : Definitions → Formula → Type 0

@@ -8,7 +8,7 @@ ghost use Rattle.mw_model.specs.Values.Value.{Environment, IsValue, IsTotal};
 ghost use Rattle.mw_model.specs.Values.Truth.{Each, IsTrueIn};
 ghost use Rattle.mw_model.specs.Events.Obligation.{Measures};
 ghost use Rattle.mw_model.specs.Laws.Descent.{OfBlock, goal};
-ghost use Rattle.mw_ordinal.specs.Descending.{Passes};
+ghost use Rattle.mw_descent.specs.Descending.{Passes};
 ghost use Rattle.mw_truth.specs.Methods.{IsTrueFormula};
 ghost use Rattle.mw_truth.specs.Admitted.{with_block, IsAdmissible};
 

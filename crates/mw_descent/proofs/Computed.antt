@@ -12,7 +12,7 @@ use Rattle.mw_model.specs.Laws.Ordinal.{is_below, leads_below, is_ordinal}
 use Rattle.mw_model.proofs.BuiltInAnswers.{built_in_functions, built_in_value, answer, answer-body}
 use Rattle.mw_model.proofs.BuiltInValue.{names}
 use Rattle.mw_model.proofs.BuiltInTotal.{begun_value, begun_value-only}
-use Rattle.mw_ordinal.proofs.Ordinals.{pairs_compare, pair_below_atom}
+use Rattle.mw_descent.proofs.Ordinals.{pairs_compare, pair_below_atom}
 
 choose-truth : (a b c : Bool) → choose (truth_of a) (truth_of b) (truth_of c) ≡ truth_of (cond a b c)
 choose-truth true b c = refl

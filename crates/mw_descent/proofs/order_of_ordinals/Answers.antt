@@ -1,8 +1,8 @@
 -- The laws are the lemmas of Ordinals, Order and Normal.
-use Rattle.mw_ordinal.proofs.Ordinals.{exponents_compare, coefficients_compare, rests_compare, atom_below_pair, pair_below_atom, atoms_compare}
-use Rattle.mw_ordinal.proofs.Order.{irreflexive, transitive}
-use Rattle.mw_ordinal.proofs.Normal.{total}
-use Rattle.mw_ordinal.proofs.order_of_ordinals.Goals as goal
+use Rattle.mw_descent.proofs.Ordinals.{exponents_compare, coefficients_compare, rests_compare, atom_below_pair, pair_below_atom, atoms_compare}
+use Rattle.mw_descent.proofs.Order.{irreflexive, transitive}
+use Rattle.mw_descent.proofs.Normal.{total}
+use Rattle.mw_descent.proofs.order_of_ordinals.Goals as goal
 
 pub returns-clause-irreflexive : goal.returns-clause-irreflexive
 returns-clause-irreflexive c = irreflexive

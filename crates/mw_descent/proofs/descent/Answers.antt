@@ -1,7 +1,7 @@
 -- The laws are the lemmas of Descents and Jumps.
-use Rattle.mw_ordinal.proofs.Descents.{all_end, each_sequence_stops}
-use Rattle.mw_ordinal.proofs.Jumps.{up_passes, goal_each}
-use Rattle.mw_ordinal.proofs.descent.Goals as goal
+use Rattle.mw_descent.proofs.Descents.{all_end, each_sequence_stops}
+use Rattle.mw_descent.proofs.Jumps.{up_passes, goal_each}
+use Rattle.mw_descent.proofs.descent.Goals as goal
 
 pub returns-clause-ends : goal.returns-clause-ends
 returns-clause-ends c = all_end

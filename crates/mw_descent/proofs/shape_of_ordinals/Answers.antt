@@ -1,7 +1,7 @@
 -- The laws are the lemmas of Normal.
 use Rattle.std.proofs.Common.{refl}
-use Rattle.mw_ordinal.proofs.Normal.{no_term, normal, ordinal-from}
-use Rattle.mw_ordinal.proofs.shape_of_ordinals.Goals as goal
+use Rattle.mw_descent.proofs.Normal.{no_term, normal, ordinal-from}
+use Rattle.mw_descent.proofs.shape_of_ordinals.Goals as goal
 
 pub returns-clause-naturals : goal.returns-clause-naturals
 returns-clause-naturals c = λ n. refl

@@ -4,10 +4,10 @@ use Rattle.std.proofs.lemmas.Bool.{and_parts, and_from, true≢false, not-true, 
 use Rattle.mw_model.specs.Terms.Object.{Object, Natural, Symbol, Pair, car}
 use Rattle.mw_model.specs.Values.Primitive.{number, is_pair, is_natural}
 use Rattle.mw_model.specs.Laws.Ordinal.{is_below, leads_below, is_ordinal}
-use Rattle.mw_ordinal.specs.Shape.{IsNormal}
-use Rattle.mw_ordinal.specs.Descending.{Ordinal, Below}
-use Rattle.mw_ordinal.proofs.Ordinals.{same_object-false, same_object-differ}
-use Rattle.mw_ordinal.proofs.Order.{by_exponent, by_coefficient, by_rest, Below-pairs, below_differ}
+use Rattle.mw_descent.specs.Shape.{IsNormal}
+use Rattle.mw_descent.specs.Descending.{Ordinal, Below}
+use Rattle.mw_descent.proofs.Ordinals.{same_object-false, same_object-differ}
+use Rattle.mw_descent.proofs.Order.{by_exponent, by_coefficient, by_rest, Below-pairs, below_differ}
 
 pub leads_below-true : (r e : Object) → leads_below r e ≡ true → is_pair r ≡ true → is_below (car (car r)) e ≡ true
 leads_below-true (Natural n) e h i = cc

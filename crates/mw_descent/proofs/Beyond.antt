@@ -5,12 +5,12 @@ use Rattle.mw_model.specs.Terms.Object.{Object, Natural, Symbol, Pair, same_obje
 use Rattle.mw_model.specs.Values.Primitive.{number}
 use Rattle.mw_model.specs.Laws.Ordinal.{leads_below}
 use Rattle.mw_model.specs.Laws.Descent.{omega_to, plus_power}
-use Rattle.mw_ordinal.specs.Shape.{IsNormal}
-use Rattle.mw_ordinal.specs.Descending.{Ordinal, Below}
-use Rattle.mw_ordinal.proofs.Ordinals.{same_object-differ}
-use Rattle.mw_ordinal.proofs.Order.{PairBelow, by_exponent, by_coefficient, by_rest, PairBelow-from, Below-pairs, transitive, below_differ, not_below_natural}
-use Rattle.mw_ordinal.proofs.Normal.{leads_below-from, normal, naturals_equal, total}
-use Rattle.mw_ordinal.proofs.Sums.{zero_below, not_below_zero, not_both, omega_to-not_zero, plus_power-greater, plus_power-equal, plus_power-less}
+use Rattle.mw_descent.specs.Shape.{IsNormal}
+use Rattle.mw_descent.specs.Descending.{Ordinal, Below}
+use Rattle.mw_descent.proofs.Ordinals.{same_object-differ}
+use Rattle.mw_descent.proofs.Order.{PairBelow, by_exponent, by_coefficient, by_rest, PairBelow-from, Below-pairs, transitive, below_differ, not_below_natural}
+use Rattle.mw_descent.proofs.Normal.{leads_below-from, normal, naturals_equal, total}
+use Rattle.mw_descent.proofs.Sums.{zero_below, not_below_zero, not_both, omega_to-not_zero, plus_power-greater, plus_power-equal, plus_power-less}
 
 -- b + omega^f + .. + omega^f, k times
 abbrev pub plus_powers : Object → Object → ℕ → Object

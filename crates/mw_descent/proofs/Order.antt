@@ -5,8 +5,8 @@ use Rattle.mw_model.specs.Terms.Object.{Name, Object, Natural, Symbol, Pair, sam
 use Rattle.mw_model.specs.Values.Primitive.{number}
 use Rattle.mw_model.specs.Laws.Ordinal.{is_atom_below}
 use Rattle.mw_model.proofs.Names.{object_cases}
-use Rattle.mw_ordinal.specs.Descending.{Below}
-use Rattle.mw_ordinal.proofs.Ordinals.{exponents_compare, coefficients_compare, rests_compare, pair_below_atom}
+use Rattle.mw_descent.specs.Descending.{Below}
+use Rattle.mw_descent.proofs.Ordinals.{exponents_compare, coefficients_compare, rests_compare, pair_below_atom}
 
 -- how a pair is below a pair
 pub data PairBelow (p r q s : Object) : Type 0 where

@@ -3,11 +3,11 @@ use Rattle.std.proofs.Common.{◌≡◌, inl, inr, ℕ, zero, suc, Bool, true, f
 use Rattle.std.proofs.lemmas.Bool.{true≢false}
 use Rattle.mw_model.specs.Terms.Object.{Object, Natural, Symbol, Pair, same_object}
 use Rattle.mw_model.specs.Laws.Descent.{Question, goal, omega_to, plus_power, up}
-use Rattle.mw_ordinal.specs.Descending.{Ordinal, Below, Passes}
-use Rattle.mw_ordinal.proofs.Order.{by_exponent, Below-pairs, below_differ}
-use Rattle.mw_ordinal.proofs.Normal.{normal}
-use Rattle.mw_ordinal.proofs.Sums.{not_below_zero, omega_to-not_zero, ordinal-plus_natural, ordinal-plus_power}
-use Rattle.mw_ordinal.proofs.Beyond.{Where, plus_powers, compare}
+use Rattle.mw_descent.specs.Descending.{Ordinal, Below, Passes}
+use Rattle.mw_descent.proofs.Order.{by_exponent, Below-pairs, below_differ}
+use Rattle.mw_descent.proofs.Normal.{normal}
+use Rattle.mw_descent.proofs.Sums.{not_below_zero, omega_to-not_zero, ordinal-plus_natural, ordinal-plus_power}
+use Rattle.mw_descent.proofs.Beyond.{Where, plus_powers, compare}
 
 -- the jump of G
 abbrev pub Jump : (Object → Type 0) → Object → Type 0

@@ -6,11 +6,11 @@ use Rattle.mw_model.specs.Values.Primitive.{number}
 use Rattle.mw_model.specs.Laws.Ordinal.{is_below, leads_below}
 use Rattle.mw_model.specs.Laws.Descent.{omega_to, plus_power}
 use Rattle.mw_model.proofs.Names.{same_object-from}
-use Rattle.mw_ordinal.specs.Shape.{IsNormal}
-use Rattle.mw_ordinal.specs.Descending.{Ordinal, Below}
-use Rattle.mw_ordinal.proofs.Ordinals.{same_object-differ}
-use Rattle.mw_ordinal.proofs.Order.{irreflexive, transitive, below_differ, not_below_natural}
-use Rattle.mw_ordinal.proofs.Normal.{leads_below-true, leads_below-from, normal, ordinal-from, total}
+use Rattle.mw_descent.specs.Shape.{IsNormal}
+use Rattle.mw_descent.specs.Descending.{Ordinal, Below}
+use Rattle.mw_descent.proofs.Ordinals.{same_object-differ}
+use Rattle.mw_descent.proofs.Order.{irreflexive, transitive, below_differ, not_below_natural}
+use Rattle.mw_descent.proofs.Normal.{leads_below-true, leads_below-from, normal, ordinal-from, total}
 
 pub zero_below : (a : Object) → Ordinal a → a ≢ Natural 0 → Below (Natural 0) a
 zero_below (Natural n) o ne = let p : n ≢ 0 = λ q. ne (ap Natural q) in lt-ltb 0 n (omega arith)

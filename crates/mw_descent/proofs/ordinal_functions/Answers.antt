@@ -1,6 +1,6 @@
 -- The laws are the lemmas of Computed.
-use Rattle.mw_ordinal.proofs.Computed.{ord_less_exact, ordp_exact}
-use Rattle.mw_ordinal.proofs.ordinal_functions.Goals as goal
+use Rattle.mw_descent.proofs.Computed.{ord_less_exact, ordp_exact}
+use Rattle.mw_descent.proofs.ordinal_functions.Goals as goal
 
 pub returns-clause-ord_less : goal.returns-clause-ord_less
 returns-clause-ord_less c = ord_less_exact
