@@ -1,5 +1,4 @@
 //! Books at the bounds of turns and of code: one within them gives the expected answer, and one past them ends out of memory.
-use crate::shared::scoped_term;
 use mw_book::Status;
 use mw_rows::{Answer, answer_of_check, answer_of_command};
 use std::alloc::{AllocError, Global};
@@ -55,43 +54,49 @@ fn a_run_has_turns_for_the_units_of_its_limit(rt: HostRuntime) -> Result<(), Fai
     Ok(())
 }
 
-// A definition whose code has more than 2^23 instructions, a small one, and an EVAL of that; then, where there is another text, that.
-fn book_of_code(alloc: Global, after: &str) -> Result<String, AllocError> {
-    let term = scoped_term(alloc, 20)?;
-    format!(in alloc;
-        "(define large (x) {term} nil ())(define small (x) x nil ())(eval (small 7)){after}"
-    )
+// A term of twelve tests, each of the one before it twice, whose text as a tree has fewer than 65,536 bytes: it is laid out as a tree, of some
+// 16,000 instructions, and has some sixty cells.
+fn large_body(alloc: Global) -> Result<String, AllocError> {
+    tested_term(alloc, 12)
 }
 
-const OF_THE_CODE: &str = "\
-1 DEFINE LARGE accepted
-2 DEFINE SMALL accepted
-3 EVAL - accepted 7
-events 3 accepted 3 refused 0 level 1
+// As many definitions of such a body, a small one, and an EVAL of that.
+fn book_of_code(alloc: Global, count: usize) -> Result<String, AllocError> {
+    let term = large_body(alloc)?;
+    let mut book = String::new(alloc);
+    for k in 0..count {
+        write!(book, "(define f{k} (x) {term} nil ())")?;
+    }
+    book.push_str("(define small (x) x nil ())(eval (small 7))")?;
+    Ok(book)
+}
+
+const LAST_OF_CODE: &str = "\
+1001 DEFINE SMALL accepted
+1002 EVAL - accepted 7
+events 1002 accepted 1002 refused 0 level 1
 ";
 
-// Whether a small definition is accepted after a large one.
+// Whether a small definition is accepted after a thousand large ones.
 fn accepts_a_small_one(alloc: Global) -> Result<bool, AllocError> {
-    let book = book_of_code(alloc, "")?;
+    let book = book_of_code(alloc, 1_000)?;
     let answer = answer_of_check(alloc, book.as_str(), 4096)?;
-    Ok(answer.is_expected(0, OF_THE_CODE))
+    Ok(answer.status == Status::Done && answer.report.as_str().ends_with(LAST_OF_CODE))
 }
 
-// Whether the program ends out of memory at a second large one.
+// Whether the program ends out of memory before it has answered all of 2,000 large ones.
 fn refuses_a_large_one(alloc: Global) -> Result<bool, AllocError> {
-    let term = scoped_term(alloc, 20)?;
-    let after = format!(in alloc; "(define another (x) {term} nil ())")?;
-    let book = book_of_code(alloc, after.as_str())?;
+    let book = book_of_code(alloc, 2_000)?;
     let answer = answer_of_check(alloc, book.as_str(), 4096)?;
     Ok(answer.status == Status::Memory)
 }
 
-// Whether the program ends out of memory at a block of functions that share one body, of more than 2^22 instructions each.
+// Whether the program ends out of memory at a block of functions that share one such body.
 fn refuses_a_block(alloc: Global) -> Result<bool, AllocError> {
-    let term = scoped_term(alloc, 19)?;
+    let term = large_body(alloc)?;
     let mut book = format!(in alloc; "(define-all ((f0 (x) {term} nil)")?;
-    for k in 1..4 {
-        write!(book, "(f{k} (x) #20# nil)")?;
+    for k in 1..1_500 {
+        write!(book, "(f{k} (x) #13# nil)")?;
     }
     book.push_str(") ())")?;
     let answer = answer_of_check(alloc, book.as_str(), 4096)?;

@@ -1,7 +1,7 @@
 //! Books whose terms would be large if labels and abbreviations were written out: each ends in time that is linear in what is written and in
 //! the units that it uses, or out of memory at once.
 use crate::nested::{Nested, other_report_on_nested, text_of};
-use crate::shared::{doubled_term, scoped_term};
+use crate::shared::{crowded_term, doubled_term};
 use mw_book::Status;
 use mw_rows::{Answer, answer_of_check, expect_empty, other_answer, other_report};
 use std::alloc::{AllocError, Global};
@@ -37,7 +37,7 @@ fn ends_out_of_memory_on_calls(
 
 // The answer to a book whose third event takes too much memory, where it is not the answers to the first two, in pieces of the given number of bytes.
 fn other_answer_before_memory_ends(alloc: Global, size: usize) -> Result<String, AllocError> {
-    let term = scoped_term(alloc, 60)?;
+    let term = crowded_term(alloc, 4_200)?;
     let book = format!(in alloc; "(eval 7) (shout) (eval (if nil {term} 1)) (eval 8)")?;
     let expected = "6\n1 EVAL - accepted 7\n2 SHOUT - refused EVENT\n";
     other_answer(alloc, &["check"], book.as_str(), expected, size)
@@ -58,6 +58,43 @@ fn other_report_on_pairs(alloc: Global, before: &str, after: &str) -> Result<Str
         book.as_str(),
         "1\n1 EVAL - refused STEPS\n",
     )
+}
+
+// The report on a term of 2^60 such calls as a tree, where it does not come to the atom without units.
+fn other_report_on_choices(
+    alloc: Global,
+    function: &str,
+    atom: &str,
+) -> Result<String, AllocError> {
+    let term = doubled_term(alloc, function, atom)?;
+    let book = format!(in alloc; "(eval {term})")?;
+    let value = if atom == "1" { "1" } else { "NIL" };
+    let expected = format!(in alloc; "0\n1 EVAL - accepted {value}\n")?;
+    other_report(alloc, "1", book.as_str(), expected.as_str())
+}
+
+// The report on twenty alternatives of a test and CONSP of it, at this step limit, where it is not this one. The innermost test takes two
+// units, and each further one twice as many as the one before, since the value of what holds is evaluated again.
+fn other_report_on_units(alloc: Global, steps: &str, expected: &str) -> Result<String, AllocError> {
+    let mut term = String::from_str(alloc, "#1=(consp (cons 1 1))")?;
+    for k in 1..21 {
+        let next = k + 1;
+        term = format!(in alloc; "#{next}=(or {term} (consp #{k}#))")?;
+    }
+    let book = format!(in alloc; "(eval {term})")?;
+    other_report(alloc, steps, book.as_str(), expected)
+}
+
+// Whether the program ends out of memory on a test of sixty tests within one another, each of which comes to the one before it once more, but
+// not at once.
+fn ends_out_of_memory_on_tests(alloc: Global) -> Result<bool, AllocError> {
+    let mut term = String::from_str(alloc, "#1=(if 1 1 nil)")?;
+    for k in 1..60 {
+        let next = k + 1;
+        term = format!(in alloc; "#{next}=(if {term} (if 1 #{k}# nil) nil)")?;
+    }
+    let book = format!(in alloc; "(eval {term})")?;
+    ends_out_of_memory(alloc, book.as_str())
 }
 
 // The report on a body that has 2^60 calls of a function that was defined before, where it is not accepted.
@@ -202,11 +239,28 @@ fn a_deep_term_takes_a_unit_for_each_call(rt: HostRuntime) -> Result<(), Fail> {
     expect_empty(other_report_on_nested(alloc, "99999", &CALLS, "1\n1 EVAL - refused STEPS\n")?)
 }
 
-// The code has each part once, and a run comes to it as often as it stands there.
+// A part whose value has just been tested is not run again, however often it stands in the tree.
+#[test]
+fn shared_alternatives_run_once(rt: HostRuntime) -> Result<(), Fail> {
+    let alloc = rt.alloc();
+    expect_empty(other_report_on_nested(alloc, "1", &CHOICES, "0\n1 EVAL - accepted 1\n")?)?;
+    expect_empty(other_report_on_choices(alloc, "or", "1")?)?;
+    expect_empty(other_report_on_choices(alloc, "and", "1")?)?;
+    expect_empty(other_report_on_choices(alloc, "or", "nil")?)
+}
+
+// What is not run again takes its units again.
+#[test]
+fn shared_alternatives_take_the_units_of_the_tree(rt: HostRuntime) -> Result<(), Fail> {
+    let alloc = rt.alloc();
+    expect_empty(other_report_on_units(alloc, "2097152", "0\n1 EVAL - accepted T\n")?)?;
+    expect_empty(other_report_on_units(alloc, "2097151", "1\n1 EVAL - refused STEPS\n")?)
+}
+
+// Any other part runs as often as it stands in the tree.
 #[test]
 fn a_run_of_shared_code_ends_with_its_turns(rt: HostRuntime) -> Result<(), Fail> {
-    assert!(rt; ends_out_of_memory_on_nested(rt.alloc(), &CHOICES)?);
-    assert!(rt; ends_out_of_memory_on_calls(rt.alloc(), "(eval ", "or", ")")?);
+    assert!(rt; ends_out_of_memory_on_tests(rt.alloc())?);
     Ok(())
 }
 

@@ -17,14 +17,25 @@ pub(crate) fn doubled_term(
     Ok(term)
 }
 
-/// A term of labels, each for a pair of two lambda calls whose bodies are the one before it: on each of the 2^times ways down it stands in
-/// another scope, and is laid out there.
-pub(crate) fn scoped_term(alloc: Global, times: usize) -> Result<String, AllocError> {
-    let mut term = String::from_str(alloc, "#1=(cons 1 1)")?;
-    for k in 1..times.saturating_add(1) {
-        let next = k.saturating_add(1);
-        term = format!(in alloc; "#{next}=(cons ((lambda (x) {term}) 1) ((lambda (y) #{k}#) 1))")?;
+/// A term of this many calls of CAR within one another, which stands in as many lambdas within one another: to find the variables of each
+/// lambda's body takes looks by the square of the number.
+pub(crate) fn crowded_term(alloc: Global, size: usize) -> Result<String, AllocError> {
+    let mut term = String::from_str(alloc, "((lambda (x) (cons #1=")?;
+    for _ in 0..size {
+        term.push_str("(car ")?;
     }
+    term.push_str("x")?;
+    for _ in 0..size {
+        term.push_str(")")?;
+    }
+    for _ in 1..size {
+        term.push_str("((lambda (x) (cons #1#")?;
+    }
+    term.push_str(" 1")?;
+    for _ in 1..size {
+        term.push_str(")) x)")?;
+    }
+    term.push_str(")) 1)")?;
     Ok(term)
 }
 
