@@ -25,7 +25,7 @@ BOXES = [
     (MIDDLE + 10, 349, 280, 63, "",
      ["Rules", "mw_rules  mw_axioms  mw_induct", "mw_prop  mw_base  mw_equal"]),
     (MIDDLE + 10, 417, 280, 46, "", ["Terms", "mw_term  mw_subst  mw_translate"]),
-    (MIDDLE, 510, 300, 56, "Objects", ["mw_heap  mw_build"]),
+    (MIDDLE, 510, 300, 56, "Objects", ["mw_heap  mw_build  mw_ordinal"]),
     (MIDDLE, 606, 300, 74, "Text", ["mw_read  mw_lex  mw_print", "mw_port"]),
     (LEFT, 154, 188, 124, "Further commands",
      ["mw_taut  mw_lower", "mw_slice", "mw_flat", "mw_explain", "mw_bad_steps"]),
@@ -37,7 +37,7 @@ BOXES = [
     (RIGHT + 12, 110, 170, 124, "Definitions",
      ["mw_model", "mw_commands", "", "what a reader", "has to believe"]),
     (RIGHT + 12, 400, 170, 158, "Laws, examples",
-     ["mw_truth", "mw_ordinal", "mw_reflect", "mw_examples", "", "proved about",
+     ["mw_truth", "mw_descent", "mw_reflect", "mw_examples", "", "proved about",
       "the definitions"]),
 ]
 
