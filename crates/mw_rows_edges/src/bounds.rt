@@ -1,4 +1,5 @@
 //! Books at the bounds of turns and of code: one within them gives the expected answer, and one past them ends out of memory.
+use crate::shared::labelled_term;
 use mw_book::Status;
 use mw_rows::{Answer, answer_of_check, answer_of_command};
 use std::alloc::{AllocError, Global};
@@ -7,12 +8,7 @@ use std::test::Fail;
 // A term of the given number of tests within one another by labels, each of the one before it, twice: of X, if that is not NIL, it runs
 // 5 * 2^(times - 1) - 2 - times entries of code, and takes no unit.
 fn tested_term(alloc: Global, times: usize) -> Result<String, AllocError> {
-    let mut term = String::from_str(alloc, "#1=x")?;
-    for k in 1..times.saturating_add(1) {
-        let next = k.saturating_add(1);
-        term = format!(in alloc; "#{next}=(if {term} #{k}# x)")?;
-    }
-    Ok(term)
+    labelled_term(alloc, "x", times, ["(if ", " ", " x)"])
 }
 
 // An EVAL of 2^13 calls of a function of twelve tests: with those that lead to them 2^14 - 1 calls, which take a unit each. It runs
@@ -54,13 +50,13 @@ fn a_run_has_turns_for_the_units_of_its_limit(rt: HostRuntime) -> Result<(), Fai
     Ok(())
 }
 
-// A term of twelve tests, each of the one before it twice, whose text as a tree has fewer than 65,536 bytes: it is laid out as a tree, of some
-// 16,000 instructions, and has some sixty cells.
+// A body of twelve tests, whose text as a tree has fewer than 65,536 bytes: it is laid out as a tree, of some 16,000 instructions, and has
+// some sixty cells.
 fn large_body(alloc: Global) -> Result<String, AllocError> {
     tested_term(alloc, 12)
 }
 
-// As many definitions of such a body, a small one, and an EVAL of that.
+// This many definitions of such a body, a small one, and an EVAL of that.
 fn book_of_code(alloc: Global, count: usize) -> Result<String, AllocError> {
     let term = large_body(alloc)?;
     let mut book = String::new(alloc);

@@ -1,7 +1,7 @@
 //! Books whose terms would be large if labels and abbreviations were written out: each ends in time that is linear in what is written and in
 //! the units that it uses, or out of memory at once.
 use crate::nested::{Nested, other_report_on_nested, text_of};
-use crate::shared::{crowded_term, doubled_term};
+use crate::shared::{crowded_term, doubled_term, labelled_term};
 use mw_book::Status;
 use mw_rows::{Answer, answer_of_check, expect_empty, other_answer, other_report};
 use std::alloc::{AllocError, Global};
@@ -22,17 +22,6 @@ fn book_of_calls(
 ) -> Result<String, AllocError> {
     let term = doubled_term(alloc, function, "1")?;
     format!(in alloc; "{before}{term}{after}")
-}
-
-// Whether the program ends out of memory on it.
-fn ends_out_of_memory_on_calls(
-    alloc: Global,
-    before: &str,
-    function: &str,
-    after: &str,
-) -> Result<bool, AllocError> {
-    let book = book_of_calls(alloc, before, function, after)?;
-    ends_out_of_memory(alloc, book.as_str())
 }
 
 // The answer to a book whose third event takes too much memory, where it is not the answers to the first two, in pieces of the given number of bytes.
@@ -65,10 +54,10 @@ fn other_report_on_choices(
     alloc: Global,
     function: &str,
     atom: &str,
+    value: &str,
 ) -> Result<String, AllocError> {
     let term = doubled_term(alloc, function, atom)?;
     let book = format!(in alloc; "(eval {term})")?;
-    let value = if atom == "1" { "1" } else { "NIL" };
     let expected = format!(in alloc; "0\n1 EVAL - accepted {value}\n")?;
     other_report(alloc, "1", book.as_str(), expected.as_str())
 }
@@ -76,11 +65,8 @@ fn other_report_on_choices(
 // The report on twenty alternatives of a test and CONSP of it, at this step limit, where it is not this one. The innermost test takes two
 // units, and each further one twice as many as the one before, since the value of what holds is evaluated again.
 fn other_report_on_units(alloc: Global, steps: &str, expected: &str) -> Result<String, AllocError> {
-    let mut term = String::from_str(alloc, "#1=(consp (cons 1 1))")?;
-    for k in 1..21 {
-        let next = k + 1;
-        term = format!(in alloc; "#{next}=(or {term} (consp #{k}#))")?;
-    }
+    let innermost = "(consp (cons 1 1))";
+    let term = labelled_term(alloc, innermost, 20, ["(or ", " (consp ", "))"])?;
     let book = format!(in alloc; "(eval {term})")?;
     other_report(alloc, steps, book.as_str(), expected)
 }
@@ -88,11 +74,7 @@ fn other_report_on_units(alloc: Global, steps: &str, expected: &str) -> Result<S
 // Whether the program ends out of memory on a test of sixty tests within one another, each of which comes to the one before it once more, but
 // not at once.
 fn ends_out_of_memory_on_tests(alloc: Global) -> Result<bool, AllocError> {
-    let mut term = String::from_str(alloc, "#1=(if 1 1 nil)")?;
-    for k in 1..60 {
-        let next = k + 1;
-        term = format!(in alloc; "#{next}=(if {term} (if 1 #{k}# nil) nil)")?;
-    }
+    let term = labelled_term(alloc, "(if 1 1 nil)", 59, ["(if ", " (if 1 ", " nil) nil)"])?;
     let book = format!(in alloc; "(eval {term})")?;
     ends_out_of_memory(alloc, book.as_str())
 }
@@ -244,12 +226,12 @@ fn a_deep_term_takes_a_unit_for_each_call(rt: HostRuntime) -> Result<(), Fail> {
 fn shared_alternatives_run_once(rt: HostRuntime) -> Result<(), Fail> {
     let alloc = rt.alloc();
     expect_empty(other_report_on_nested(alloc, "1", &CHOICES, "0\n1 EVAL - accepted 1\n")?)?;
-    expect_empty(other_report_on_choices(alloc, "or", "1")?)?;
-    expect_empty(other_report_on_choices(alloc, "and", "1")?)?;
-    expect_empty(other_report_on_choices(alloc, "or", "nil")?)
+    expect_empty(other_report_on_choices(alloc, "or", "1", "1")?)?;
+    expect_empty(other_report_on_choices(alloc, "and", "1", "1")?)?;
+    expect_empty(other_report_on_choices(alloc, "or", "nil", "NIL")?)
 }
 
-// What is not run again takes its units again.
+// A part that is not run again takes its units all the same.
 #[test]
 fn shared_alternatives_take_the_units_of_the_tree(rt: HostRuntime) -> Result<(), Fail> {
     let alloc = rt.alloc();

@@ -1,7 +1,23 @@
-//! Books whose labels make a term or a proof of 2^60 parts out of sixty.
+//! Books whose labels make a term or a proof of 2^60 parts out of sixty, and terms that labels make large.
 use mw_rows::{book_of_the_proof, expect_empty, other_answer};
 use std::alloc::{AllocError, Global};
 use std::test::Fail;
+
+/// A term of labels, each for these three texts with the term before it and its label between them: `times` of them, after the innermost.
+pub(crate) fn labelled_term(
+    alloc: Global,
+    innermost: &str,
+    times: usize,
+    texts: [&str; 3],
+) -> Result<String, AllocError> {
+    let [before, between, after] = texts;
+    let mut term = format!(in alloc; "#1={innermost}")?;
+    for k in 1..times.saturating_add(1) {
+        let next = k.saturating_add(1);
+        term = format!(in alloc; "#{next}={before}{term}{between}#{k}#{after}")?;
+    }
+    Ok(term)
+}
 
 /// A term of sixty labels, each for a call of this function on the one before it twice, down to an atom.
 pub(crate) fn doubled_term(
@@ -9,12 +25,14 @@ pub(crate) fn doubled_term(
     function: &str,
     atom: &str,
 ) -> Result<String, AllocError> {
-    let mut term = format!(in alloc; "#1=({function} {atom} {atom})")?;
-    for k in 1..60 {
-        let next = k + 1;
-        term = format!(in alloc; "#{next}=({function} {term} #{k}#)")?;
-    }
-    Ok(term)
+    let innermost = format!(in alloc; "({function} {atom} {atom})")?;
+    let before = format!(in alloc; "({function} ")?;
+    labelled_term(
+        alloc,
+        innermost.as_str(),
+        59,
+        [before.as_str(), " ", ")"],
+    )
 }
 
 /// A term of this many calls of CAR within one another, which stands in as many lambdas within one another: to find the variables of each
