@@ -1,10 +1,10 @@
--- What comes of the whole formula is the decision that is due.
+-- What comes of the whole formula is the expected decision.
 use Rattle.std.proofs.Common.{◌≡◌, ℕ, Bool, true, false, ltb, List, [], length, Option, Some, None, refl, sym, ap, ◌∙◌, subst}
 use Rattle.std.specs.Prelude.{if◌then◌else◌}
 use Rattle.mw_model.specs.Terms.Object.{Object}
 use Rattle.mw_model.specs.Terms.Term.{Formula, Equal, Not, Or, formula_object, ArityTable, is_formula}
 use Rattle.mw_model.specs.Values.Truth.{Each}
-use Rattle.mw_commands.specs.Commands.Tautology.{all_equations, equations, choices, first_against, falsifying, decided, decision, most_equations, Choice as Chosen, Many as ManyDue}
+use Rattle.mw_commands.specs.Commands.Tautology.{all_equations, equations, choices, first_against, falsifying, decided, decision, most_equations, Choice as Chosen, Many as ManyExpected}
 use Rattle.mw_commands.proofs.Tautologies.{tautology_exact}
 use Rattle.mw_heap.specs.Objects.{object_at}
 use Rattle.mw_taut.specs.declared.table.Table.{Table}
@@ -36,19 +36,19 @@ first_posed A os f F t e formed h = record {
 }
 
 module _ (A : ArityTable) (F : Formula) where
-  due : (os : List Object) (o : Outcome) (u : Option Chosen) → falsifying F ≡ u → Decides A [] (equations F) F (answer_at os o) → IsOutcomeIn os o → IsInRange os o → IsDecision os A F (decided u) (decision_of o)
-  due os (Proven r) None e h i range = (i, record { proves = h.0; in_range = λ k. range })
-  due os (Proven r) (Some c) e h i range = absurd (never (sym e ∙ (tautology_exact F).1 h.1))
+  expected : (os : List Object) (o : Outcome) (u : Option Chosen) → falsifying F ≡ u → Decides A [] (equations F) F (answer_at os o) → IsOutcomeIn os o → IsInRange os o → IsDecision os A F (decided u) (decision_of o)
+  expected os (Proven r) None e h i range = (i, record { proves = h.0; in_range = λ k. range })
+  expected os (Proven r) (Some c) e h i range = absurd (never (sym e ∙ (tautology_exact F).1 h.1))
     where
       never : Some c ≡ None → ⊥
       never k = cc
-  due os (Against r) u e h i range =
+  expected os (Against r) u e h i range =
       let is : u ≡ Some h.0 = sym e ∙ (sym (ap (λ cs. first_against cs F) (going_on-nothing (choices (equations F)))) ∙ h.1) in
       subst (λ w. IsDecision os A F (decided w) (decision_of (Against r))) (sym is) (i, h.2)
 
   pub few_decided : (os : List Object) (o : Outcome) → Decides A [] (equations F) F (answer_at os o) → IsOutcomeIn os o → IsInRange os o → ltb most_equations (length (equations F)) ≡ false → IsDecision os A F (decision F) (decision_of o)
   few_decided os o h i range few = few_case (ltb most_equations (length (equations F))) few
     where
-      few_case : (b : Bool) → b ≡ false → IsDecision os A F (if b then ManyDue else decided (falsifying F)) (decision_of o)
+      few_case : (b : Bool) → b ≡ false → IsDecision os A F (if b then ManyExpected else decided (falsifying F)) (decision_of o)
       few_case true e = cc
-      few_case false e = due os o (falsifying F) refl h i range
+      few_case false e = expected os o (falsifying F) refl h i range

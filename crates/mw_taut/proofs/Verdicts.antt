@@ -7,7 +7,7 @@ use Rattle.mw_model.specs.Values.Primitive.{is_symbol}
 use Rattle.mw_model.specs.Events.Fate.{is_out_of_range}
 use Rattle.mw_model.specs.Reports.Report.{spaced}
 use Rattle.mw_model.specs.Texts.Written.{IsWritten}
-use Rattle.mw_commands.specs.Commands.Tautology.{Choice, Decision as Due, Many as HasMany, FailsUnder, Holds, decision, choice_object}
+use Rattle.mw_commands.specs.Commands.Tautology.{Choice, Decision as Expected, Many as HasMany, FailsUnder, Holds, decision, choice_object}
 use Rattle.mw_commands.specs.Commands.TautologyBook.{IsPureProof, OwesDecided, OwesGiven, OwesTautology, decision_on, formula_given, initial_arities, is_holding, is_proved, remark}
 use Rattle.mw_heap.specs.Objects.{object_at, IsIn, Grows}
 use Rattle.mw_heap.proofs.Objects.{object_at-Grows}
@@ -61,20 +61,20 @@ no_formula_given os x name formula A named arity none =
 -- ---- what a decision is
 
 module _ (os : List Object) (A : ArityTable) (F : Formula) where
-  pub proof_holds : (d : Due) (r : ℕ) → IsDecision os A F d (Proof r) → (d ≡ Holds) × IsIn os r × IsPureProof A (object_at os r) F
+  pub proof_holds : (d : Expected) (r : ℕ) → IsDecision os A F d (Proof r) → (d ≡ Holds) × IsIn os r × IsPureProof A (object_at os r) F
   proof_holds HasMany r h = absurd h
   proof_holds (FailsUnder c) r h = absurd h
   proof_holds Holds r h = (refl, h.0, h.1)
 
-  pub choice_fails : (d : Due) (r : ℕ) → IsDecision os A F d (Against r) → (c : Choice) × (d ≡ FailsUnder c) × IsIn os r × (object_at os r ≡ choice_object c)
+  pub choice_fails : (d : Expected) (r : ℕ) → IsDecision os A F d (Against r) → (c : Choice) × (d ≡ FailsUnder c) × IsIn os r × (object_at os r ≡ choice_object c)
   choice_fails HasMany r h = absurd h
   choice_fails (FailsUnder c) r h = (c, refl, h.0, h.1)
   choice_fails Holds r h = absurd h
 
-  pub many_due : (d : Due) → IsDecision os A F d Many → d ≡ HasMany
-  many_due HasMany h = refl
-  many_due (FailsUnder c) h = absurd h
-  many_due Holds h = absurd h
+  pub many_expected : (d : Expected) → IsDecision os A F d Many → d ≡ HasMany
+  many_expected HasMany h = refl
+  many_expected (FailsUnder c) h = absurd h
+  many_expected Holds h = absurd h
 
 -- ---- what is owed
 
@@ -82,7 +82,7 @@ module _ (k : ℕ) (x : Object) where
   pub owes_shape : formula_given x ≡ None → OwesTautology (k, x) (remark k x (codes "SHAPE"))
   owes_shape h = subst (λ o. OwesGiven k x o (remark k x (codes "SHAPE"))) (sym h) refl
 
-  owes_decided : (F : Formula) (d : Due) (piece : List ℕ) → formula_given x ≡ Some F → decision F ≡ d → OwesDecided k x F d piece → OwesTautology (k, x) piece
+  owes_decided : (F : Formula) (d : Expected) (piece : List ℕ) → formula_given x ≡ Some F → decision F ≡ d → OwesDecided k x F d piece → OwesTautology (k, x) piece
   owes_decided F d piece g e h = subst (λ o. OwesGiven k x o piece) (sym g) (subst (λ v. OwesDecided k x F v piece) (sym e) h)
 
   pub owes_many : (F : Formula) → formula_given x ≡ Some F → decision F ≡ HasMany → OwesTautology (k, x) (remark k x (codes "MANY"))
@@ -118,4 +118,4 @@ module _ (os mid new : List Object) (grows : Grows os mid) (A : ArityTable) (sam
   choice_found r d = let h = choice_fails mid A F (decision F) r d in (F, h.0, here, h.1, h.2, h.3)
 
   pub many_found : IsDecision mid A F (decision F) Many → IsVerdict mid x verdict.Many
-  many_found d = (F, here, many_due mid A F (decision F) d)
+  many_found d = (F, here, many_expected mid A F (decision F) d)

@@ -3,7 +3,7 @@ use Rattle.std.specs.Prelude.{◌≡◌, false, List, [], Some, map, slice_get}
 use Rattle.mw_model.specs.Terms.Object.{Object}
 use Rattle.mw_model.specs.Terms.Term.{Formula, formula_object, ArityTable}
 use Rattle.mw_model.specs.Events.Fate.{is_out_of_range}
-use Rattle.mw_commands.specs.Commands.Tautology.{equations, choice_object, Decision as Due, Many as ManyDue, FailsUnder, Holds}
+use Rattle.mw_commands.specs.Commands.Tautology.{equations, choice_object, Decision as Expected, Many as ManyExpected, FailsUnder, Holds}
 use Rattle.mw_commands.specs.Commands.TautologyBook.{IsPureProof}
 use Rattle.mw_heap.specs.Objects.{object_at, IsIn}
 use Rattle.mw_taut.specs.declared.table.Table.{Table}
@@ -23,12 +23,12 @@ pub record IsTableOf (os : List Object) (F : Formula) (t : Table) : Type 0 where
   pub equations_are : map (object_at os) t.equations.items ≡ map formula_object (equations F)
   pub inside : IsTableIn os t
 
--- the answer is the decision that is due for the formula, or out of memory
-abbrev pub IsDecision : List Object → ArityTable → Formula → Due → Decision → Type 0
-IsDecision os A F due Memory = Unit {0}
-IsDecision os A F ManyDue Many = Unit {0}
-IsDecision os A F ManyDue (Proof r) = ⊥
-IsDecision os A F ManyDue (Choice r) = ⊥
+-- the answer is the expected decision for the formula, or out of memory
+abbrev pub IsDecision : List Object → ArityTable → Formula → Expected → Decision → Type 0
+IsDecision os A F expected Memory = Unit {0}
+IsDecision os A F ManyExpected Many = Unit {0}
+IsDecision os A F ManyExpected (Proof r) = ⊥
+IsDecision os A F ManyExpected (Choice r) = ⊥
 IsDecision os A F (FailsUnder c) Many = ⊥
 IsDecision os A F (FailsUnder c) (Proof r) = ⊥
 IsDecision os A F (FailsUnder c) (Choice r) = IsIn os r × (object_at os r ≡ choice_object c)

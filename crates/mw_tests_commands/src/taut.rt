@@ -52,11 +52,11 @@ fn proved(heap: &mut Heap, formula: &[u8]) -> Result<Result<Judged, Decision>, M
 
 // Whether of X = X or not Y = Y the choice is found in which only Y = Y is true, of the four the second.
 fn is_second_choice_found(heap: &mut Heap) -> Result<bool, Memory> {
-    let (either, due) = read_two(
+    let (either, expected) = read_two(
         heap,
         b"((POR* (PEQUAL* X X) (PNOT* (PEQUAL* Y Y))) (((PEQUAL* X X)) ((PEQUAL* Y Y) . T)))",
     )?;
-    Ok(decided(heap, either)? == Decision::Choice(due))
+    Ok(decided(heap, either)? == Decision::Choice(expected))
 }
 
 // The disjunction of the given number of equations 'k = 'k, and the denial of the first one.

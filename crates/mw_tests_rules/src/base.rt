@@ -82,7 +82,7 @@ fn primitives(heap: &mut Heap) -> Result<[[bool; 4]; 4], Memory> {
 }
 
 #[test]
-fn primitive_functions_have_the_values_that_are_due(rt: HostRuntime) -> Result<(), Fail> {
+fn primitive_functions_have_the_expected_values(rt: HostRuntime) -> Result<(), Fail> {
     let mut heap = boxed(rt.alloc())?;
     assert_eq!(rt; primitives(&mut heap)?, [[true; 4]; 4]);
     Ok(())

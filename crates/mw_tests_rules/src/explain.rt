@@ -149,7 +149,7 @@ fn conditions(heap: &mut Heap, arity: &Arity) -> Result<[Wrong; 7], Memory> {
 fn first_condition_that_fails_is_told(rt: HostRuntime) -> Result<(), Fail> {
     let mut heap = boxed(rt.alloc())?;
     let arity = arities(rt.alloc())?;
-    let due = [
+    let expected = [
         Wrong::Shape,
         Wrong::Method,
         Wrong::Subproofs,
@@ -158,7 +158,7 @@ fn first_condition_that_fails_is_told(rt: HostRuntime) -> Result<(), Fail> {
         Wrong::Induction,
         Wrong::Rule,
     ];
-    assert_eq!(rt; conditions(&mut heap, &arity)?, due);
+    assert_eq!(rt; conditions(&mut heap, &arity)?, expected);
     assert!(rt;
         is_wrong_for(
             &mut heap,
@@ -173,9 +173,9 @@ fn first_condition_that_fails_is_told(rt: HostRuntime) -> Result<(), Fail> {
 fn first_bad_part_is_found(rt: HostRuntime) -> Result<(), Fail> {
     let mut heap = boxed(rt.alloc())?;
     let arity = arities(rt.alloc())?;
-    let due = [true, true, true, true, false];
-    assert_eq!(rt; parts_of_terms(&mut heap, &arity)?, due);
-    assert_eq!(rt; parts_of_formulas(&mut heap, &arity)?, due);
+    let expected = [true, true, true, true, false];
+    assert_eq!(rt; parts_of_terms(&mut heap, &arity)?, expected);
+    assert_eq!(rt; parts_of_formulas(&mut heap, &arity)?, expected);
     Ok(())
 }
 

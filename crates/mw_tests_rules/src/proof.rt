@@ -133,7 +133,7 @@ fn proofs_are_judged_once_by_what_is_known(rt: HostRuntime) -> Result<(), Fail> 
         proofs_judged(&mut heap)?,
         [Judged::Good, Judged::Bad, Judged::Good]
     );
-    let due = [(0, false, false), (3, true, true), (1, true, false)];
-    assert_eq!(rt; known_at_each(&mut heap)?, due);
+    let expected = [(0, false, false), (3, true, true), (1, true, false)];
+    assert_eq!(rt; known_at_each(&mut heap)?, expected);
     Ok(())
 }

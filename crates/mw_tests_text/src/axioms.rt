@@ -4,8 +4,8 @@ use mw_axioms::{Axioms, build};
 use mw_forms::read;
 use mw_heap::{Heap, Memory, Profile, Ref};
 
-// Whether the axioms of both profiles are as they are due, of which this formula is the first.
-fn are_as_due(one: &Axioms, two: &Axioms, formula: Ref) -> bool {
+// Whether the axioms of both profiles are the expected ones, of which this formula is the first.
+fn are_as_expected(one: &Axioms, two: &Axioms, formula: Ref) -> bool {
     let one = one.as_slice();
     let two = two.as_slice();
     [
@@ -21,7 +21,7 @@ fn builds_both(heap: &mut Heap) -> Result<bool, Memory> {
     let formula = read(heap, b"(PEQUAL* X X)")?;
     let one = build(heap, Profile::One)?;
     let two = build(heap, Profile::Two)?;
-    Ok(are_as_due(&one, &two, formula))
+    Ok(are_as_expected(&one, &two, formula))
 }
 
 #[test]

@@ -5,15 +5,15 @@ use mw_heap::{Heap, Memory};
 use mw_ordinal::{is_ordinal, ordinal_less};
 
 // Whether the test for an ordinal gives the expected answer on the datum of a text.
-fn tells_ordinal(heap: &mut Heap, text: &[u8], due: bool) -> Result<bool, Memory> {
+fn tells_ordinal(heap: &mut Heap, text: &[u8], expected: bool) -> Result<bool, Memory> {
     let x = read(heap, text)?;
-    Ok(is_ordinal(heap, x) == due)
+    Ok(is_ordinal(heap, x) == expected)
 }
 
 // Whether the order gives the expected answer on the first two members of a list.
-fn tells_below(heap: &mut Heap, text: &[u8], due: bool) -> Result<bool, Memory> {
+fn tells_below(heap: &mut Heap, text: &[u8], expected: bool) -> Result<bool, Memory> {
     let (x, y) = read_two(heap, text)?;
-    Ok(ordinal_less(heap, x, y) == due)
+    Ok(ordinal_less(heap, x, y) == expected)
 }
 
 // Whether w ^ w + w is an ordinal, and w + w as a sum of two terms; and whether 1 is below w, w below w ^ w + w, and the other way.

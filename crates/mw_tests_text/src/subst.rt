@@ -179,9 +179,9 @@ fn is_with_term(heap: &mut Heap, x: Ref, variable: Ref, term: Ref, y: Ref) -> Re
 }
 
 // Whether the test that the first of two terms with 'A for X is the second gives the expected answer.
-fn tells_instance(heap: &mut Heap, text: &[u8], due: bool) -> Result<bool, Memory> {
+fn tells_instance(heap: &mut Heap, text: &[u8], expected: bool) -> Result<bool, Memory> {
     let (x, quoted_a, before, after) = read_four(heap, text)?;
-    Ok(is_with_term(heap, before, x, quoted_a, after)? == due)
+    Ok(is_with_term(heap, before, x, quoted_a, after)? == expected)
 }
 
 // Whether (F X 'X) with 'A for X is (F 'A 'X), and whether it is (F 'A 'A).

@@ -112,7 +112,7 @@ fn extends_and_cuts(
     Ok([all, fewer, anew, marks.len()])
 }
 
-// Whether one object of three is marked up to a mark after it, and then as many as are due.
+// Whether one object of three is marked up to a mark after it, and then as many as are expected.
 fn extends_after_the_first(heap: &mut Heap, arity: &mut Arity) -> Result<bool, Memory> {
     let first = heap.symbol(b"X")?;
     let to = heap.mark_after(first);
@@ -153,12 +153,12 @@ fn variables_come_in_order_of_first_occurrence(rt: HostRuntime) {
 }
 
 // Whether this is the answer about formals: how many there are, whether the symbol x is one of them, and whether they close a term.
-fn are_as_due(
+fn are_as_expected(
     heap: &Heap,
     formals: &Formals,
     x: Ref,
     term: Ref,
-    due: Option<(usize, bool, bool)>,
+    expected: Option<(usize, bool, bool)>,
 ) -> Result<bool, Memory>
     requires x_in { IsIn heap.now.objects x }
     requires term_in { IsIn heap.now.objects term }
@@ -166,19 +166,19 @@ fn are_as_due(
 {
     let is_one = matches!(heap.view(x), View::Symbol) && formals.contains(heap, x);
     let closes = formals.closes(heap, term)?;
-    Ok(due == Some((formals.as_slice().len(), is_one, closes)))
+    Ok(expected == Some((formals.as_slice().len(), is_one, closes)))
 }
 
 // The same of the formals in a list, with no answer if it is not a list of formals; a text gives the list, x and the term.
 fn tells_list(
     heap: &mut Heap,
     text: &[u8],
-    due: Option<(usize, bool, bool)>,
+    expected: Option<(usize, bool, bool)>,
 ) -> Result<bool, Memory> {
     let (list, x, term) = read_three(heap, text)?;
     match Formals::of_list(heap, list)? {
-        Some(formals) => are_as_due(heap, &formals, x, term, due),
-        None => Ok(due.is_none()),
+        Some(formals) => are_as_expected(heap, &formals, x, term, expected),
+        None => Ok(expected.is_none()),
     }
 }
 

@@ -1,4 +1,4 @@
--- What comes of a case is what is due, and what is kept is proved.
+-- What comes of a case is what is expected, and what is kept is proved.
 use Rattle.std.proofs.Common.{◌++◌, [], ◌∷◌, length, sym, ap, ap₂, ◌∙◌, subst, arith, false, length-append}
 use Rattle.mw_model.specs.Terms.Term.{formula_object}
 use Rattle.mw_heap.specs.Objects.{object_at}
@@ -97,9 +97,9 @@ branch-returns-in_ok-outcome-in-Goes-clause-decides t c =
     let entered = subst (λ r. IsEntered A (choice_of before chosen) E b rest F (step_at h1 r)) c.in-Goes.is (c.in_ok-outcome.ensures.entered A F before E rest p table) in
     let H = entered.0 in
     let posed = next_posed A old h1 g1 c.args.at.now.equations.now chosen c.args.at.now.formula s.formula b F H before E rest (object_at h1 s.context) (object_at h1 s.from) c.requires.at_in.equations p entered.1 in
-    let due = c.in_ok-outcome-in-Goes.ensures.decides H (before ++ E ∷ []) rest (subst (λ l. IsPosed A h1 c.args.at.now.equations.now l s.formula H (before ++ E ∷ []) rest) (sym longer) posed) in
-    let due_here = subst (λ z. Decides A z rest H (answer_at h2 o)) (ap (choice_of (before ++ E ∷ [])) longer ∙ longer_choice before chosen E b p.many) due in
-    let done = decided_carried A F before E rest b chosen p.apart (middle IsEquation before E rest p.all) p.many (object_at h1 s.context) (object_at h1 s.formula) (object_at h1 s.from) H (answer_at h2 o) entered.1 due_here in
+    let expected = c.in_ok-outcome-in-Goes.ensures.decides H (before ++ E ∷ []) rest (subst (λ l. IsPosed A h1 c.args.at.now.equations.now l s.formula H (before ++ E ∷ []) rest) (sym longer) posed) in
+    let expected_here = subst (λ z. Decides A z rest H (answer_at h2 o)) (ap (choice_of (before ++ E ∷ [])) longer ∙ longer_choice before chosen E b p.many) expected in
+    let done = decided_carried A F before E rest b chosen p.apart (middle IsEquation before E rest p.all) p.many (object_at h1 s.context) (object_at h1 s.formula) (object_at h1 s.from) H (answer_at h2 o) entered.1 expected_here in
     let same = made ∙ carried_same (object_at h2 s.context) (object_at h1 s.context) (object_at h2 c.args.at.now.formula) (formula_object F) (object_at h2 s.formula) (object_at h1 s.formula) (object_at h2 s.from) (object_at h1 s.from) (answer_at h2 o) at_d (at_f ∙ p.object) at_y at_q in
     subst (DecidesWhere A (choice_of before chosen) E b rest F) (sym same) done)
 
@@ -135,10 +135,10 @@ by_cases-returns-clause-proved t c =
     let had = c.by_both.new.proved in
     let next = has_next c.args.arity.now old c.args.at.now.equations.now c.args.at.now.chosen.now f w.0 w.1 w.2 w.3 in
     let table = c.in_ok-table.ensures c.args.arity.now w.0 w.3.object w.3.formed in
-    let due = subst (λ es. Decides c.args.arity.now (choice_of w.1 c.args.at.now.chosen.now) es w.0 (answer_at h1 c.in_ok-outcome.outcome)) (sym next.is) (c.in_ok-outcome.ensures.decides w.0 w.1 next.first next.others next.posed table) in
+    let expected = subst (λ es. Decides c.args.arity.now (choice_of w.1 c.args.at.now.chosen.now) es w.0 (answer_at h1 c.in_ok-outcome.outcome)) (sym next.is) (c.in_ok-outcome.ensures.decides w.0 w.1 next.first next.others next.posed table) in
     on_ok_from _ c.keep.result (both_ok _ _ c.keep.result c.keep.ensures.same c.keep.ensures.keeps) (λ r h.
     proof_kept c.args.arity.now h1 had c.keep.new.proved c.args.at.now.equations.now c.args.at.now.chosen.now f w.0 w.1 w.2 c.in_ok-outcome.outcome c.in_ok-outcome.ensures.proved (subst (Keeps had c.keep.new.proved f) h.0 h.1)
-    (IsIn-Grows old h1 g1 f c.requires.at_in.formula) c.in_ok-outcome.ensures.within (object_at-Grows old h1 g1 f c.requires.at_in.formula ∙ w.3.object) w.3.formed due)
+    (IsIn-Grows old h1 g1 f c.requires.at_in.formula) c.in_ok-outcome.ensures.within (object_at-Grows old h1 g1 f c.requires.at_in.formula ∙ w.3.object) w.3.formed expected)
 
 pub by_cases-returns-clause-decides : goal.by_cases-returns-clause-decides
 by_cases-returns-clause-decides t c =
@@ -148,8 +148,8 @@ by_cases-returns-clause-decides t c =
     if_ok _ _ c.keep.result c.keep.ensures.same (λ r same F before rest p.
     let next = has_next A c.args.heap.now.objects c.args.at.now.equations.now chosen c.args.at.now.formula F before rest p in
     let table = c.in_ok-table.ensures A F p.object p.formed in
-    let due = subst (λ es. Decides A (choice_of before chosen) es F (answer_at h1 c.in_ok-outcome.outcome)) (sym next.is) (c.in_ok-outcome.ensures.decides F before next.first next.others next.posed table) in
-    subst (λ o. Decides A (choice_of before chosen) rest F (answer_at h1 o)) (sym same) due)
+    let expected = subst (λ es. Decides A (choice_of before chosen) es F (answer_at h1 c.in_ok-outcome.outcome)) (sym next.is) (c.in_ok-outcome.ensures.decides F before next.first next.others next.posed table) in
+    subst (λ o. Decides A (choice_of before chosen) rest F (answer_at h1 o)) (sym same) expected)
 
 pub by_both-branch-heap-requires : goal.by_both-branch-heap-requires
 by_both-branch-heap-requires t c = (omega (arith, c.decreases), (c.requires.at_in, (c.requires.proved, c.requires.posed)))

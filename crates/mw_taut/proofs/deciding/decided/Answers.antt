@@ -1,4 +1,4 @@
--- What comes of the proof by cases is the decision that is due.
+-- What comes of the proof by cases is the expected decision.
 use Rattle.std.proofs.Common.{◌≡◌, length, sym, ap, ◌∙◌, subst, arith}
 use Rattle.std.proofs.lemmas.Bool.{le-ltb}
 use Rattle.std.proofs.lemmas.List.{length-map}
