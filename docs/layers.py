@@ -28,7 +28,7 @@ BOXES = [
     (MIDDLE, 510, 300, 56, "Objects", ["mw_heap  mw_build  mw_ordinal"]),
     (MIDDLE, 606, 300, 74, "Text", ["mw_read  mw_lex  mw_print", "mw_port"]),
     (LEFT, 154, 188, 124, "Further commands",
-     ["mw_taut  mw_lower", "mw_slice", "mw_flat", "mw_explain", "mw_bad_steps"]),
+     ["mw_taut  mw_lower", "mw_slice  mw_flat", "mw_explain_events", "mw_explain", "mw_bad_steps"]),
     (LEFT, 412, 188, 268, "Tests",
      ["mw_forms", "mw_tests_text", "mw_tests_rules", "mw_tests_kernel", "mw_tests_commands",
       "mw_tests_functions", "", "mw_rows", "mw_rows_guide", "mw_rows_events", "mw_rows_edges",

@@ -16,7 +16,7 @@ module _ {P : Type 0} (make : P → Request) where
       Writes (λ a. AnsweredBy make (holds a)) old given new more text
   writes_by holds old new given more text f g = record {
     known = λ q h. (h.0, h.1, f h.0 h.2);
-    due = λ q h w a. subst (λ r. AreAnswers r more (w ++ text)) (sym h.1) (g h.0 h.2 w (subst (λ r. AreAnswers r given w) h.1 a));
+    expected = λ q h w a. subst (λ r. AreAnswers r more (w ++ text)) (sym h.1) (g h.0 h.2 w (subst (λ r. AreAnswers r given w) h.1 a));
   }
 
   module _ (holds : P → List Object → Type 0) (q : Request) (given : List Object) (h : AnsweredBy make holds q given) where

@@ -1,4 +1,4 @@
--- Whatever the words ask for, nothing is a part of what is due.
+-- Whatever the words ask for, nothing is a part of what is expected.
 use Rattle.std.proofs.Common.{List, ℕ, Option, refl}
 use Rattle.mw_model.specs.Reports.Request.{Request, Check, Trial, Taut, Lower, Slice, Flat, Recheck, Explain, Help, Usage}
 use Rattle.mw_request.specs.Commands.{asked, help_text}

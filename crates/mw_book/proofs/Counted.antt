@@ -46,10 +46,10 @@ answers_one old new k l x b piece owed proved counted unproved proving given =
         unproved_counted = unproved ∙ ap₂ (λ m n. m + n) a.unproved_counted (by_value b (is_proved x) proved) ∙ sym (how_many-append is_unproved given x);
       },
     ))
-    (λ h a written due.
+    (λ h a written expected.
     let number : old.formulas + 1 ≡ 1 + length given = omega (arith, a.counted) in
     let one = subst (λ n. OwesTautology (n, x) piece) number owed in
-    answers_both given (x ∷ []) written piece due (piece, [], sym (append-nil piece), one, refl))
+    answers_both given (x ∷ []) written piece expected (piece, [], sym (append-nil piece), one, refl))
   where
     by_value : (c d : Bool) → d ≡ c → ◌≡◌ {A = ℕ} (cond c 0 1) (cond (not d) 1 0)
     by_value true true e = refl

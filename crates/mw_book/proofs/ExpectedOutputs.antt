@@ -16,12 +16,12 @@ module _ (q : Request) where
   kept_told : (book before after : List ℕ) (s : Status) → Keeps q (Some book) (Some before) (Some after) s → (text : List ℕ) × (after ≡ before ++ text) × Promised q book text s
   kept_told book before after s k = (k.2, k.3, subst (λ bytes. Promised q bytes k.2 s) (sym k.1) k.4)
 
-  pub all_due : (e : Ending) (book before after : List ℕ) (left : Option (List ℕ)) (a b m n k l : ℕ) → Fulfils q e (Some book) left (Some before) (Some after) a b m n k l → (Rises a b → ⊥) → (Rises m n → ⊥) → (e ≡ ending.Memory) ⊎ ((text : List ℕ) × (after ≡ before ++ text) × IsExpected e q book text)
-  all_due ending.Done book before after left a b m n k l f reads writes = inr (kept_told book before after _ f.report)
-  all_due ending.SomeRefused book before after left a b m n k l f reads writes = inr (kept_told book before after _ f.report)
-  all_due (ending.Syntax x o) book before after left a b m n k l f reads writes = inr (kept_told book before after _ f.report)
-  all_due ending.Help book before after left a b m n k l f reads writes = let h = f.help refl in inr (help_text, h.1, (h.0, refl))
-  all_due ending.Usage book before after left a b m n k l f reads writes = let h = f.usage refl in inr (help_text, h.1, (h.0, refl))
-  all_due ending.ReadFault book before after left a b m n k l f reads writes = absurd (reads (f.read_fault refl).0)
-  all_due ending.WriteFault book before after left a b m n k l f reads writes = absurd (writes (f.write_fault refl).0)
-  all_due ending.Memory book before after left a b m n k l f reads writes = inl refl
+  pub all_expected : (e : Ending) (book before after : List ℕ) (left : Option (List ℕ)) (a b m n k l : ℕ) → Fulfils q e (Some book) left (Some before) (Some after) a b m n k l → (Rises a b → ⊥) → (Rises m n → ⊥) → (e ≡ ending.Memory) ⊎ ((text : List ℕ) × (after ≡ before ++ text) × IsExpected e q book text)
+  all_expected ending.Done book before after left a b m n k l f reads writes = inr (kept_told book before after _ f.report)
+  all_expected ending.SomeRefused book before after left a b m n k l f reads writes = inr (kept_told book before after _ f.report)
+  all_expected (ending.Syntax x o) book before after left a b m n k l f reads writes = inr (kept_told book before after _ f.report)
+  all_expected ending.Help book before after left a b m n k l f reads writes = let h = f.help refl in inr (help_text, h.1, (h.0, refl))
+  all_expected ending.Usage book before after left a b m n k l f reads writes = let h = f.usage refl in inr (help_text, h.1, (h.0, refl))
+  all_expected ending.ReadFault book before after left a b m n k l f reads writes = absurd (reads (f.read_fault refl).0)
+  all_expected ending.WriteFault book before after left a b m n k l f reads writes = absurd (writes (f.write_fault refl).0)
+  all_expected ending.Memory book before after left a b m n k l f reads writes = inl refl

@@ -39,7 +39,7 @@ pub explained_one : (k l : Knowledge) (number : ℕ) (y : Object) (f : Fate) (be
     Tells Explain plain k number y f l piece
 explained_one k l number y f begun cleared datum piece comes goes kept first none puts written =
     tells_plain Explain k l number y f piece comes goes kept
-    (λ N given stands steps count fate_is text due.
+    (λ N given stands steps count fate_is text expected.
     let s = event_after (plain N) given y in
     let why =
     subst (λ c. PutsWhy s.number f s.before N y c datum) none
@@ -47,7 +47,7 @@ explained_one k l number y f begun cleared datum piece comes goes kept first non
     (subst (λ m. PutsWhy number f s.before m y cleared datum) steps (subst (λ t. PutsWhy number f t k.steps y cleared datum) stands puts)))
     in
     let owed = piece_owed N s f begun datum (first ∙ ap (λ n. codes "; " ++ line_begun n y) count) why in
-    pieces_more (plain N) given y (OwesExplained N) text piece due (subst (OwesWhy N s s.fate) (sym written) (subst (λ g. OwesWhy N s g (explained_piece f begun datum)) fate_is owed)))
+    pieces_more (plain N) given y (OwesExplained N) text piece expected (subst (OwesWhy N s s.fate) (sym written) (subst (λ g. OwesWhy N s g (explained_piece f begun datum)) fate_is owed)))
 
 -- the same where the event has a natural past the range
 pub explained_large : (k l : Knowledge) (number : ℕ) (y : Object) (begun cleared datum piece : List ℕ) → is_out_of_range y ≡ true →

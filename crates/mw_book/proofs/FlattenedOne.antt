@@ -91,12 +91,12 @@ event_more old new k l y piece steps counted one given =
           ∙ ap (nat_lt 0) (sym (how_many-append has_no_place ss s) ∙ ap (how_many has_no_place) goes_on);
       switched = m.switched ∙ ap (λ b. b || is_switch s) h.switched ∙ sym (some_more is_switch ss s) ∙ ap (some_passes is_switch) goes_on;
     })
-    (λ N h text due.
+    (λ N h text expected.
     let m = one N given h in
     let ss = plain_course given N in
     subst (λ u. InOrder OwesFlat (flat_events (plain_course (given ++ y ∷ []) N)) (text ++ u)) (sym m.line)
     (subst (λ es. InOrder OwesFlat es (text ++ cond m.put piece [])) (sym (events_are N h))
-    (in_order_both OwesFlat (flat_events ss) (cond m.put (y ∷ []) []) text (cond m.put piece []) due (piece_one m.put y piece m.owed))))
+    (in_order_both OwesFlat (flat_events ss) (cond m.put (y ∷ []) []) text (cond m.put piece []) expected (piece_one m.put y piece m.owed))))
   where
     events_are : (N : ℕ) (h : Flattened old k N given) → flat_events (plain_course (given ++ y ∷ []) N) ≡ flat_events (plain_course given N) ++ cond (one N given h).put (y ∷ []) []
     events_are N h =

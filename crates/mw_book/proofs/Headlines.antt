@@ -44,25 +44,25 @@ abbrev pub AreKept : Type 0
 AreKept = (q : Request) (bytes text last : List ℕ) → AreAnswers q (trees bytes).events text → IsLastText q (trees bytes).events (trees bytes).fault last → Promised q bytes (text ++ last) (status_of (trees bytes).fault (refused_for q (trees bytes).events))
 
 module _ {A : Type 0} {answered : A → Request → List Object → Type 0} {q : Request} {input now first middle : Option (List ℕ)} {f : Option (SyntaxKind × ℕ)} {j : A} (w : ReadWhole answered q input now first middle f j) where
-  abbrev due_status : Status
-  due_status = status_of (fault_of f) (refused_for q w.given)
+  abbrev expected_status : Status
+  expected_status = status_of (fault_of f) (refused_for q w.given)
 
   -- this was written last
-  module _ (kept : AreKept) (last : List ℕ) (due : IsLastText q w.given (fault_of f) last) where
-    promised : Promised q w.bytes (w.written ++ last) due_status
+  module _ (kept : AreKept) (last : List ℕ) (expected : IsLastText q w.given (fault_of f) last) where
+    promised : Promised q w.bytes (w.written ++ last) expected_status
     promised =
         let all : (b : Book) → b ≡ trees w.bytes → AreAnswers q b.events w.written → IsLastText q b.events b.fault last → Promised q w.bytes (w.written ++ last) (status_of b.fault (refused_for q b.events)) =
         λ b e a l. subst (λ (x : Book). Promised q w.bytes (w.written ++ last) (status_of x.fault (refused_for q x.events))) (sym e) (kept q w.bytes w.written last (subst (λ (x : Book). AreAnswers q x.events w.written) e a) (subst (λ (x : Book). IsLastText q x.events x.fault last) e l)) in
-        all (book w.given (fault_of f)) (sym w.read) w.due due
+        all (book w.given (fault_of f)) (sym w.read) w.expected expected
 
-    keeps : (after : Option (List ℕ)) (s : Status) → s ≡ due_status → Takes middle after last → Keeps q input first after s
+    keeps : (after : Option (List ℕ)) (s : Status) → s ≡ expected_status → Takes middle after last → Keeps q input first after s
     keeps after s e t = (w.bytes, w.has, w.written ++ last, takes_both first middle after w.written last w.takes t, subst (Promised q w.bytes (w.written ++ last)) (sym e) promised)
 
     part : (after : Option (List ℕ)) → TakesSome middle after last → IsPartOf q input first after
     part after t =
         let text = w.written ++ last in
-        let some = begun_part q w.bytes text first after ([], due_status, subst (λ u. Promised q w.bytes u due_status) (sym (append-nil text)) promised) (takes_then first middle after w.written last w.takes t) in
-        begun_is_part q w.given w.written w.due input first after (w.bytes, w.has, some.0, some.1, some.2)
+        let some = begun_part q w.bytes text first after ([], expected_status, subst (λ u. Promised q w.bytes u expected_status) (sym (append-nil text)) promised) (takes_then first middle after w.written last w.takes t) in
+        begun_is_part q w.given w.written w.expected input first after (w.bytes, w.has, some.0, some.1, some.2)
 
   -- there was none yet
   module _ (after : Option (List ℕ)) (t : Takes middle after []) where
@@ -74,19 +74,19 @@ module _ {A : Type 0} {answered : A → Request → List Object → Type 0} {q :
 
     part_of_answers : Begins → IsPartOf q input first after
     part_of_answers begins =
-        let some = begun_part q w.bytes w.written first after (begins q w.bytes w.written w.given [] all_events w.due) (takes_some first after w.written all_taken) in
-        begun_is_part q w.given w.written w.due input first after (w.bytes, w.has, some.0, some.1, some.2)
+        let some = begun_part q w.bytes w.written first after (begins q w.bytes w.written w.given [] all_events w.expected) (takes_some first after w.written all_taken) in
+        begun_is_part q w.given w.written w.expected input first after (w.bytes, w.has, some.0, some.1, some.2)
 
     answers_alone : WritesFirst q input first after
-    answers_alone = first_written q w.given w.written w.due input first after (w.bytes, w.has, w.given, [], all_events, w.written, all_taken, w.due)
+    answers_alone = first_written q w.given w.written w.expected input first after (w.bytes, w.has, w.given, [], all_events, w.written, all_taken, w.expected)
 
-  pub ends_with : AreKept → Begins → (e : Ending) (after : Option (List ℕ)) (m n : ℕ) → ConcludesWith e due_status (IsLastText q w.given (fault_of f)) middle after m n → BookEnds e q input now first after m n
-  ends_with kept begins ending.Done after m n c = (w.ended (done_none f _ c.2.0), keeps kept c.0 c.1 after Done (same_some Done due_status c.2.0) c.2.1)
-  ends_with kept begins ending.SomeRefused after m n c = (w.ended (some_refused_none f _ c.2.0), keeps kept c.0 c.1 after SomeRefused (same_some SomeRefused due_status c.2.0) c.2.1)
-  ends_with kept begins (ending.Syntax k o) after m n c = keeps kept c.0 c.1 after (Syntax (kind_of k) o) (same_some (Syntax (kind_of k) o) due_status c.2.0) c.2.1
-  ends_with kept begins ending.Help after m n c = absurd (let h : None ≡ Some due_status = c.2.0 in cc)
-  ends_with kept begins ending.Usage after m n c = absurd (let h : None ≡ Some due_status = c.2.0 in cc)
-  ends_with kept begins ending.ReadFault after m n c = absurd (let h : None ≡ Some due_status = c.2.0 in cc)
+  pub ends_with : AreKept → Begins → (e : Ending) (after : Option (List ℕ)) (m n : ℕ) → ConcludesWith e expected_status (IsLastText q w.given (fault_of f)) middle after m n → BookEnds e q input now first after m n
+  ends_with kept begins ending.Done after m n c = (w.ended (done_none f _ c.2.0), keeps kept c.0 c.1 after Done (same_some Done expected_status c.2.0) c.2.1)
+  ends_with kept begins ending.SomeRefused after m n c = (w.ended (some_refused_none f _ c.2.0), keeps kept c.0 c.1 after SomeRefused (same_some SomeRefused expected_status c.2.0) c.2.1)
+  ends_with kept begins (ending.Syntax k o) after m n c = keeps kept c.0 c.1 after (Syntax (kind_of k) o) (same_some (Syntax (kind_of k) o) expected_status c.2.0) c.2.1
+  ends_with kept begins ending.Help after m n c = absurd (let h : None ≡ Some expected_status = c.2.0 in cc)
+  ends_with kept begins ending.Usage after m n c = absurd (let h : None ≡ Some expected_status = c.2.0 in cc)
+  ends_with kept begins ending.ReadFault after m n c = absurd (let h : None ≡ Some expected_status = c.2.0 in cc)
   ends_with kept begins ending.WriteFault after m n c = part kept c.0 c.1 after c.2
   ends_with kept begins ending.Memory after m n (inl t) = (part_of_answers after t begins, inr (answers_alone after t))
   ends_with kept begins ending.Memory after m n (inr c) = (part kept c.1 c.2 after c.3, inl c.0)

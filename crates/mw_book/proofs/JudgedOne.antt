@@ -39,7 +39,7 @@ module _ (request : ℕ → Request) (effect : ℕ → Effect) where
         counted = counted ∙ ap (λ n. n + 1) h.counted ∙ sym (length_push given y);
         refused_counted = refused_more (effect N) given y f (tally old).refused (tally new).refused t.fate h.refused_counted refused;
       })
-      (λ N h. (told N h).due)
+      (λ N h. (told N h).expected)
     where
       told : (N : ℕ) → Judged effect (tally old) k N given → Told request effect N given y f l piece
       told N h = tells N given h.theory h.steps (let c = h.counted in omega (arith, c))

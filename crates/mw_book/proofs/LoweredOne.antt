@@ -51,7 +51,7 @@ told_lowered N given y f l piece comes goes steps owed = record {
   fate = comes;
   theory = goes;
   steps = steps;
-  due = λ text due. let s = event_after (derived N) given y in pieces_more (derived N) given y OwesLowered text piece due (subst (λ g. OwesByFate g s piece) comes owed);
+  expected = λ text expected. let s = event_after (derived N) given y in pieces_more (derived N) given y OwesLowered text piece expected (subst (λ g. OwesByFate g s piece) comes owed);
 }
 
 -- An event was lowered, and the kernel judged what it became.

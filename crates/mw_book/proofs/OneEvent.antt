@@ -40,9 +40,9 @@ module _ (effect : Effect) (given : List Object) (y : Object) where
       ∙ ap refused_in (sym (course_more effect given y))
 
   pub pieces_more : (Owes : Transition → List ℕ → Type 0) (text piece : List ℕ) → InOrder Owes (course effect given) text → Owes (event_after effect given y) piece → InOrder Owes (course effect (given ++ y ∷ [])) (text ++ piece)
-  pieces_more Owes text piece due owed =
+  pieces_more Owes text piece expected owed =
       subst (λ l. InOrder Owes l (text ++ piece)) (sym (course_more effect given y))
-      (in_order_both Owes (course effect given) (event_after effect given y ∷ []) text piece due (piece, [], sym (append-nil piece), owed, refl))
+      (in_order_both Owes (course effect given) (event_after effect given y ∷ []) text piece expected (piece, [], sym (append-nil piece), owed, refl))
 
 -- the comment on an event that is refused
 pub refused_text : (r : Refusal) (s : Transition) (remark : List ℕ) → remark ≡ codes "; " ++ line_begun s.number s.event → remark ++ (fate_text (Refused r) ++ 10 ∷ []) ≡ codes "; " ++ line s.number s.event (Refused r)
@@ -58,14 +58,14 @@ pub tells_plain : (request : ℕ → Request) (k l : Knowledge) (number : ℕ) (
     l.steps ≡ k.steps →
     ((N : ℕ) (given : List Object) → theory_of k ≡ last_theory (course (plain N) given) → k.steps ≡ N → number ≡ 1 + length given → f ≡ (event_after (plain N) given y).fate → (written : List ℕ) → AreAnswers (request N) given written → AreAnswers (request N) (given ++ y ∷ []) (written ++ piece)) →
     Tells request plain k number y f l piece
-tells_plain request k l number y f piece comes goes kept due N given stands steps count =
+tells_plain request k l number y f piece comes goes kept expected N given stands steps count =
     let s = event_after (plain N) given y in
     let fate_is : f ≡ s.fate = comes ∙ ap (λ t. fate t y k.steps) stands ∙ ap (λ n. fate s.before y n) steps in
     record {
       fate = fate_is;
       theory = goes ∙ ap (λ t. next t y k.steps) stands ∙ ap (λ n. next s.before y n) steps;
       steps = kept ∙ steps;
-      due = due N given stands steps count fate_is;
+      expected = expected N given stands steps count fate_is;
     }
 
 -- ---- the last line

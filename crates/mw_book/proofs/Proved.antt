@@ -44,7 +44,7 @@ pub puts_after : (old new : Proving) (k l m : Contents) (marks : List ObjectMark
     Puts ProvedFor (record old { marks = marks }) l given new m more piece → Puts ProvedFor old k given new m more piece
 puts_after old new k l m marks given more piece g marked w = record {
   known = λ q h. w.known q (before q h);
-  due = λ q h. w.due q (before q h);
+  expected = λ q h. w.expected q (before q h);
 }
   where
     before : (q : Request) → ProvedFor old k q given → ProvedFor (record old { marks = marks }) l q given

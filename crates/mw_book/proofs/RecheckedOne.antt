@@ -93,8 +93,8 @@ module _ (old new : Rechecking) (f g : Going) (x : Object) (said : Option Answer
         denied_counted = denied_counted ∙ ap₂ (λ k s. k + denied_said s) h.denied_counted noted.answer ∙ add-zero (denied log) ∙ ap denied (sym one_step);
       }
 
-      step_due : (written piece : List ℕ) → written ≡ log_lines log.entered → piece ≡ said_text said → written ++ piece ≡ log_lines (log_of (given ++ x ∷ [])).entered
-      step_due written piece due line = ap (λ l. written ++ l) (line ∙ ap said_text noted.answer) ∙ append-nil written ∙ due ∙ ap (λ l. log_lines l.entered) (sym one_step)
+      step_expected : (written piece : List ℕ) → written ≡ log_lines log.entered → piece ≡ said_text said → written ++ piece ≡ log_lines (log_of (given ++ x ∷ [])).entered
+      step_expected written piece expected line = ap (λ l. written ++ l) (line ∙ ap said_text noted.answer) ∙ append-nil written ∙ expected ∙ ap (λ l. log_lines l.entered) (sym one_step)
 
     -- an event
     module _ (event : is_step x ≡ false) (answered : IsAnswered f g log.left x said) where
@@ -124,14 +124,14 @@ module _ (old new : Rechecking) (f g : Going) (x : Object) (said : Option Answer
             ∙ ap denied (sym one_event);
       }
 
-      event_due : (written piece : List ℕ) → written ≡ log_lines log.entered → piece ≡ line_begun (old.events + 1) x ++ said_text said → written ++ piece ≡ log_lines (log_of (given ++ x ∷ [])).entered
-      event_due written piece due line =
+      event_expected : (written piece : List ℕ) → written ≡ log_lines log.entered → piece ≡ line_begun (old.events + 1) x ++ said_text said → written ++ piece ≡ log_lines (log_of (given ++ x ∷ [])).entered
+      event_expected written piece expected line =
           let number : old.events + 1 ≡ 1 + length log.entered = omega (arith, h.events_counted) in
           ap (λ l. written ++ l) (line
           ∙ ap (λ s. line_begun (old.events + 1) x ++ said_text s) said_is
           ∙ ap (λ n. line_begun n x ++ (answer_text here.answer ++ 10 ∷ [])) number
           ∙ line-parts (1 + length log.entered) x here.answer)
-          ∙ ap (λ l. l ++ log_lines (here ∷ [])) due
+          ∙ ap (λ l. l ++ log_lines (here ∷ [])) expected
           ∙ sym (log_lines-append log.entered (here ∷ []))
           ∙ ap (λ l. log_lines l.entered) (sym one_event)
 
@@ -151,11 +151,11 @@ rechecked_one old new f g x said piece comes e line given = go (is_step x) refl 
     go true is noted l =
         writes_by {P = Unit {0}} (λ u. Recheck) IsRechecked (old, f) (new, g) given (given ++ x ∷ []) piece
         (λ u h. step_rechecked old new f g x said e.counted e.events_counted e.denied_counted given h is (noted (log_of given).left h.collected))
-        (λ u h written due. step_due old new f g x said e.counted e.events_counted e.denied_counted given h is (noted (log_of given).left h.collected) written piece due l)
+        (λ u h written expected. step_expected old new f g x said e.counted e.events_counted e.denied_counted given h is (noted (log_of given).left h.collected) written piece expected l)
     go false is answered l =
         writes_by {P = Unit {0}} (λ u. Recheck) IsRechecked (old, f) (new, g) given (given ++ x ∷ []) piece
         (λ u h. event_rechecked old new f g x said e.counted e.events_counted e.denied_counted given h is (answered (log_of given).left h.collected))
-        (λ u h written due. event_due old new f g x said e.counted e.events_counted e.denied_counted given h is (answered (log_of given).left h.collected) written piece due l)
+        (λ u h written expected. event_expected old new f g x said e.counted e.events_counted e.denied_counted given h is (answered (log_of given).left h.collected) written piece expected l)
 
 -- The line of a datum was begun, if it is an event; then it was answered, and the line ended.
 pub ended_one : (old new : Rechecking) (f g : Going) (x : Object) (b : Bool) (v : Verdict) (none begun piece : List ℕ) →

@@ -29,11 +29,11 @@ pub reported_one : (k l : Knowledge) (number : ℕ) (y : Object) (f : Fate) (beg
     Tells Check plain k number y f l piece
 reported_one k l number y f begun piece comes goes kept first whole =
     tells_plain Check k l number y f piece comes goes kept
-    (λ N given stands steps count fate_is written due.
+    (λ N given stands steps count fate_is written expected.
     let i = initial One in
     let here : f ≡ fate (after i given N) y N = fate_is ∙ ap (λ t. fate t y N) (course_leads N 1 i given) in
     ap (λ l. written ++ l) (whole ∙ ap (λ l. l ++ (fate_text f ++ 10 ∷ [])) first ∙ line-parts number y f)
-    ∙ ap (λ l. l ++ line number y f) due
+    ∙ ap (λ l. l ++ line number y f) expected
     ∙ ap (λ n. lines 1 i given N ++ line n y f) count
     ∙ ap (λ v. lines 1 i given N ++ line (1 + length given) y v) here
     ∙ sym (lines-append 1 i given y N))

@@ -36,7 +36,7 @@ begun_part q bytes text old new b t = (
   (t.1 ++ b.0, b.1, subst (λ u. Promised q bytes u b.1) (ap (λ u. u ++ b.0) t.2 ∙ append_assoc t.0 t.1 b.0) b.2),
 )
 
--- what begins such a text is part of what is due, where the request asks for answers
+-- what begins such a text is part of what is expected, where the request asks for answers
 pub begun_is_part : (q : Request) (given : List Object) (text : List ℕ) → AreAnswers q given text → (input old new : Option (List ℕ)) → (bytes : List ℕ) × Has input bytes × (written : List ℕ) × SinkTakes old new written × IsBegun q bytes written → IsPartOf q input old new
 begun_is_part (Check N) given text a input old new b = b
 begun_is_part Taut given text a input old new b = b
@@ -123,7 +123,7 @@ module _ {A : Type 0} {objects : A → List Object} {lines : A → List ℕ} {nu
     pub room_for : (piece : List ℕ) → length piece ≤ 4096 → number j + work p piece < 2 ^ 62
     room_for piece l = omega (arith, between.amount, between.stands.short, weight_small p.begun, l)
 
-    -- what was written begins a text that is due, whatever bytes follow
+    -- what was written begins a text that is expected, whatever bytes follow
     begun_here : Begins → IsPartOf q input first sink
     begun_here begins =
         let bytes = between.bytes ++ left_of left in
@@ -150,7 +150,7 @@ module _ {A : Type 0} {objects : A → List Object} {lines : A → List ℕ} {nu
       begun_here begins,
     )
 
-    -- A write stopped, or memory ran out: the answers to first data begin a text that is due, and are whole where memory ran out.
+    -- A write stopped, or memory ran out: the answers to first data begin a text that is expected, and are whole where memory ran out.
     module _ (begins : Begins) (bytes : List ℕ) (has : Has input bytes) (First : List Object → Type 0) (first_of : (more : List Object) → First more → IsBegunBy bytes more) (s : Ending) (after : Option (List ℕ)) (m n : ℕ) (stops : StopsWritten answered s j between.given First sink after m n) (now : Option (List ℕ)) where
       owed : AreAnswers q stops.0 (between.written ++ stops.2)
       owed = stops.3 q between.known between.written between.answers
@@ -198,7 +198,7 @@ module _ {A : Type 0} {objects : A → List Object} {lines : A → List ℕ} {nu
         known = h.3.known q between.known;
         written = between.written ++ h.1;
         takes = takes_both first sink after between.written h.1 between.takes h.2;
-        due = h.3.due q between.known between.written between.answers;
+        expected = h.3.expected q between.known between.written between.answers;
       }
 
       pub end_stops : Begins → (s : Ending) → IsHalt s → (after : Option (List ℕ)) (m n : ℕ) → ((g : List ℕ) (given : List Object) → Stands (objects j) p g given → StopsWritten answered s j given (IsBegunBy g) sink after m n) → BookEnds s q input now first after m n
@@ -230,7 +230,7 @@ module _ {A : Type 0} {objects : A → List Object} {lines : A → List ℕ} {nu
               known = x.3.known q between.known;
               written = between.written ++ x.1;
               takes = takes_both first sink after between.written x.1 between.takes x.2;
-              due = x.3.due q between.known between.written between.answers;
+              expected = x.3.expected q between.known between.written between.answers;
             }
           where
             some_is_not_none : (x : SyntaxKind × ℕ) → Some x ≡ None → ⊥
@@ -259,7 +259,7 @@ module _ {A : Type 0} {objects : A → List Object} {lines : A → List ℕ} {nu
               known = x.3.known q between.known;
               written = between.written ++ x.1;
               takes = takes_both first sink after between.written x.1 between.takes x.2;
-              answers = x.3.due q between.known between.written between.answers;
+              answers = x.3.expected q between.known between.written between.answers;
               none_left = h.none_left;
               many = (let m : count + 1 ≤ length (between.bytes ++ piece) = omega (arith, size, some, between.many) in m);
               amount = (let m : number new ≤ 3 * length (between.bytes ++ piece) = omega (arith, size, some, h.counted, weight_small p.begun, between.amount) in m);

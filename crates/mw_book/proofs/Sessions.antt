@@ -11,5 +11,5 @@ pub answers_with : {A B : Type 0} (lines : A → List ℕ) (state : A → B) (an
     Writes answered (state old) given (state new) more piece → lines new ≡ lines old ++ piece → Answers lines (λ a. answered (state a)) old given new more
 answers_with lines state answered old new given more piece w line = record {
   known = w.known;
-  due = λ q h written due. subst (AreAnswers q more) (append_assoc written (lines old) piece ∙ ap (λ l. written ++ l) (sym line)) (w.due q h (written ++ lines old) due);
+  expected = λ q h written expected. subst (AreAnswers q more) (append_assoc written (lines old) piece ∙ ap (λ l. written ++ l) (sym line)) (w.expected q h (written ++ lines old) expected);
 }

@@ -81,7 +81,7 @@ sliced_one old new k l y piece goes steps kept counted named none given =
           ∙ ap₂ (λ es b. es ++ where_accepted b y) h.accepted (ap (λ u. is_accepted (fate u y k.steps)) h.theory ∙ ap (λ n. is_accepted (fate t y n)) h.steps)
           ∙ sym (accepted_more N given y);
     })
-    (λ p h written due. ap (λ l. written ++ l) none ∙ append-nil written ∙ due)
+    (λ p h written expected. ap (λ l. written ++ l) none ∙ append-nil written ∙ expected)
 
 -- the same where the event has a natural past the range
 pub sliced_large : (old : Slicing) (k : Knowledge) (y : Object) (piece : List ℕ) → is_out_of_range y ≡ true → piece ≡ [] →

@@ -15,7 +15,7 @@ use Rattle.mw_read.specs.declared.step.SyntaxKind.{SyntaxKind}
 use Rattle.mw_read.proofs.Bare.{take_cut}
 use Rattle.mw_read.proofs.Beginning.{weight_small}
 use Rattle.mw_read.proofs.Feeding.{last_left, last_stands, last_whole, last_fault}
-use Rattle.mw_book.specs.Answering.{Answers, HasAnswered, fault_of, Taking, HasTaken, Ends, IsBegunBy, AreFirst, AreDueFirst}
+use Rattle.mw_book.specs.Answering.{Answers, HasAnswered, fault_of, Taking, HasTaken, Ends, IsBegunBy, AreFirst, AreExpectedFirst}
 use Rattle.mw_book.specs.Statuses.{AreAnswers}
 use Rattle.mw_book.specs.declared.reading.Taken.TheVariants as takings
 use Rattle.mw_book.proofs.FirstData.{data_of_first, data_of_ended}
@@ -34,12 +34,12 @@ pub record Finishing {A : Type 0} (objects : A → List Object) (lines : A → L
 
 module _ {A : Type 0} {lines : A → List ℕ} {answered : A → Request → List Object → Type 0} where
   pub answers_none : (j : A) (given : List Object) → Answers lines answered j given j given
-  answers_none j given = record { known = λ q h. h; due = λ q h w e. e }
+  answers_none j given = record { known = λ q h. h; expected = λ q h w e. e }
 
   pub answers_more : (a b c : A) (x y z : List Object) → Answers lines answered a x b y → Answers lines answered b y c z → Answers lines answered a x c z
   answers_more a b c x y z f g = record {
     known = λ q h. g.known q (f.known q h);
-    due = λ q h w e. g.due q (f.known q h) w (f.due q h w e);
+    expected = λ q h w e. g.expected q (f.known q h) w (f.expected q h w e);
   }
 
   pub known_more : (a b : A) → ((given : List Object) → (more : List Object) × Answers lines answered a given b more) → HasAnswered answered a → HasAnswered answered b
@@ -59,9 +59,9 @@ module _ {A : Type 0} {objects : A → List Object} {lines : A → List ℕ} {co
     pub standing : IsStanding (objects o) r → IsStanding (objects j) p
     standing s = let t = taking.reads s.0 s.1 s.2 in (s.0 ++ take at piece, t.0, t.2)
 
-    -- the lines are due
-    pub taking_due : (g : List ℕ) (given : List Object) → Stands (objects o) r g given → AreDueFirst lines answered o given (AreFirst (g ++ piece)) j
-    taking_due g given h = let x = taking.reads g given h in (x.0, data_of_first (objects j) p g piece at x.0 x.2 taking.follows, x.1.due)
+    -- the lines are expected
+    pub taking_expected : (g : List ℕ) (given : List Object) → Stands (objects o) r g given → AreExpectedFirst lines answered o given (AreFirst (g ++ piece)) j
+    taking_expected g given h = let x = taking.reads g given h in (x.0, data_of_first (objects j) p g piece at x.0 x.2 taking.follows, x.1.expected)
 
     -- k has read what comes next
     module _ (k : A) (kept : (given : List Object) → Answers lines answered j given k given) (same : count k ≡ count j) (t : Step) (n : ℕ) (q : Parser) where
@@ -104,13 +104,13 @@ module _ {A : Type 0} {objects : A → List Object} {lines : A → List ℕ} {co
             subst (λ u. work q u < work p (drop at piece)) (drop-drop n at piece) b.less,
           )
 
-      -- however far the step went, these lines are due that were due before it
-      pub taken_due : (g : List ℕ) (given : List Object) → Stands (objects o) r g given → (l : A) → lines l ≡ lines k → AreDueFirst lines answered o given (AreFirst (g ++ piece)) l
-      taken_due g given h l unchanged =
+      -- however far the step went, these lines are expected that were expected before it
+      pub taken_expected : (g : List ℕ) (given : List Object) → Stands (objects o) r g given → (l : A) → lines l ≡ lines k → AreExpectedFirst lines answered o given (AreFirst (g ++ piece)) l
+      taken_expected g given h l unchanged =
           let x = taking.reads g given h in (
             x.0,
             data_of_first (objects j) p g piece at x.0 x.2 taking.follows,
-            λ u a w e. subst (λ v. AreAnswers u x.0 (w ++ v)) (sym unchanged) ((kept x.0).due u (x.1.known u a) w (x.1.due u a w e)),
+            λ u a w e. subst (λ v. AreAnswers u x.0 (w ++ v)) (sym unchanged) ((kept x.0).expected u (x.1.known u a) w (x.1.expected u a w e)),
           )
 
       -- the rest of the piece, in which no datum ends
@@ -177,13 +177,13 @@ module _ {A : Type 0} {objects : A → List Object} {lines : A → List ℕ} {co
           let y = h (g ++ take at piece) x.0 x.2 in
           (y.0, answers_more o j k given x.0 y.0 x.1 y.1, λ rest. ap trees (take_cut g piece at rest) ∙ y.2 rest)
 
-      pub both_due : ((g : List ℕ) (given : List Object) → Stands (objects j) p g given → AreDueFirst lines answered j given (AreFirst (g ++ drop at piece)) k) → (g : List ℕ) (given : List Object) → Stands (objects o) r g given → AreDueFirst lines answered o given (AreFirst (g ++ piece)) k
-      both_due due g given s =
+      pub both_expected : ((g : List ℕ) (given : List Object) → Stands (objects j) p g given → AreExpectedFirst lines answered j given (AreFirst (g ++ drop at piece)) k) → (g : List ℕ) (given : List Object) → Stands (objects o) r g given → AreExpectedFirst lines answered o given (AreFirst (g ++ piece)) k
+      both_expected expected g given s =
           let x = taking.reads g given s in
-          let d = due (g ++ take at piece) x.0 x.2 in (
+          let d = expected (g ++ take at piece) x.0 x.2 in (
             d.0,
             λ rest. subst (IsBegunAs d.0) (append_assoc (g ++ take at piece) (drop at piece) rest ∙ sym (take_cut g piece at rest) ∙ sym (append_assoc g piece rest)) (d.1 rest),
-            λ u a w e. d.2 u (x.1.known u a) w (x.1.due u a w e),
+            λ u a w e. d.2 u (x.1.known u a) w (x.1.expected u a w e),
           )
 
   pub finishing_none : (o : A) (p : Reader) → p.unread ≡ [] → p.finished ≡ true → HasAnswered answered o → Finishing objects lines count answered o p.parser o p
@@ -204,13 +204,13 @@ module _ {A : Type 0} {objects : A → List Object} {lines : A → List ℕ} {co
       pub known_last : HasAnswered answered k
       known_last = known_more j k (λ given. (given, kept given)) finishing.known
 
-      -- however far the step went, these lines are due that were due before it
-      pub finishing_due : (g : List ℕ) (given : List Object) → Stands (objects o) r g given → (l : A) → lines l ≡ lines k → AreDueFirst lines answered o given (IsBegunBy g) l
-      finishing_due g given h l unchanged =
+      -- however far the step went, these lines are expected that were expected before it
+      pub finishing_expected : (g : List ℕ) (given : List Object) → Stands (objects o) r g given → (l : A) → lines l ≡ lines k → AreExpectedFirst lines answered o given (IsBegunBy g) l
+      finishing_expected g given h l unchanged =
           let x = finishing.reads g given h in (
             x.0,
             data_of_ended (objects j) p.parser g x.0 x.2,
-            λ u a w e. subst (λ v. AreAnswers u x.0 (w ++ v)) (sym unchanged) ((kept x.0).due u (x.1.known u a) w (x.1.due u a w e)),
+            λ u a w e. subst (λ v. AreAnswers u x.0 (w ++ v)) (sym unchanged) ((kept x.0).expected u (x.1.known u a) w (x.1.expected u a w e)),
           )
 
       pub finishing_more : IsStanding (objects o) r → (new : A) →
@@ -287,7 +287,7 @@ module _ {A : Type 0} (objects : A → List Object) (lines : A → List ℕ) (co
   pub known_taken : HasAnswered answered k
   known_taken = known_more o k (λ given. (given, kept given)) known
 
-  pub datum_due : (g : List ℕ) (given : List Object) → Stands (objects o) r g given → (l : A) → lines l ≡ lines k → AreDueFirst lines answered o given (AreFirst (g ++ piece)) l
-  datum_due =
+  pub datum_expected : (g : List ℕ) (given : List Object) → Stands (objects o) r g given → (l : A) → lines l ≡ lines k → AreExpectedFirst lines answered o given (AreFirst (g ++ piece)) l
+  datum_expected =
       let none : Taking objects lines count answered o r piece o r 0 = taking_none o r piece follows known in
-      taken_due none k kept same t n q
+      taken_expected none k kept same t n q

@@ -10,7 +10,7 @@ use Rattle.mw_read.specs.Standing.{Stands, IsStanding, Follows, work}
 use Rattle.mw_read.specs.declared.parser.Parser.{Parser}
 use Rattle.mw_read.specs.declared.step.SyntaxKind.{SyntaxKind}
 use Rattle.mw_read.proofs.Bare.{take_cut}
-use Rattle.mw_book.specs.Answering.{Answers, HasAnswered, HasTaken, Ends, AreFirst, AreDueFirst}
+use Rattle.mw_book.specs.Answering.{Answers, HasAnswered, HasTaken, Ends, AreFirst, AreExpectedFirst}
 use Rattle.mw_book.specs.Statuses.{TakesSome, AreAnswers}
 use Rattle.mw_book.specs.Checks.{SinkShortages}
 use Rattle.mw_book.specs.Writing.{GoesOn, Writes, Writing, HasWritten, EndsWritten, StopsWritten}
@@ -28,31 +28,31 @@ pub short_at : (e : Ending) (m n : ℕ) → SinkShortages e m n → e ≡ ending
 short_at e m n h i = subst (λ s. SinkShortages s m n) i h
 
 module _ {A : Type 0} (lines : A → List ℕ) (answered : A → Request → List Object → Type 0) where
-  -- with no lines left before, the lines that are due now are the text that is due
-  lines_due : (a b : A) (given more : List Object) → lines a ≡ [] → ((q : Request) → answered a q given → (written : List ℕ) → AreAnswers q given (written ++ lines a) → AreAnswers q more (written ++ lines b)) → GoesOn answered a given more (lines b)
-  lines_due a b given more none due q h w e = due q h w (subst (AreAnswers q given) (sym (ap (λ u. w ++ u) none ∙ append-nil w)) e)
+  -- with no lines left before, the lines that are expected now are the text that is expected
+  lines_expected : (a b : A) (given more : List Object) → lines a ≡ [] → ((q : Request) → answered a q given → (written : List ℕ) → AreAnswers q given (written ++ lines a) → AreAnswers q more (written ++ lines b)) → GoesOn answered a given more (lines b)
+  lines_expected a b given more none expected q h w e = expected q h w (subst (AreAnswers q given) (sym (ap (λ u. w ++ u) none ∙ append-nil w)) e)
 
   -- more data were answered, and the lines written
   pub writes_more : (o j k l : A) (given mid more : List Object) (text : List ℕ) → Writes answered o given j mid text → lines j ≡ [] → Answers lines answered j mid k more → ((q : Request) (xs : List Object) → answered k q xs → answered l q xs) → Writes answered o given l more (text ++ lines k)
   writes_more o j k l given mid more text w none a same = record {
     known = λ q h. same q more (a.known q (w.known q h));
-    due = λ q h written e. subst (AreAnswers q more) (append_assoc written text (lines k)) (lines_due j k mid more none a.due q (w.known q h) (written ++ text) (w.due q h written e));
+    expected = λ q h written e. subst (AreAnswers q more) (append_assoc written text (lines k)) (lines_expected j k mid more none a.expected q (w.known q h) (written ++ text) (w.expected q h written e));
   }
 
   -- writing, or answering, stopped where first data of the book were answered
   pub stops_more : (e : Ending) (o j k : A) (given mid : List Object) (text : List ℕ) (First Here : List Object → Type 0) (before between after : Option (List ℕ)) (m n : ℕ) →
-      Writes answered o given j mid text → lines j ≡ [] → AreDueFirst lines answered j mid Here k → ((more : List Object) → Here more → First more) → Takes before between text → TakesSome between after (lines k) → (e ≡ ending.Memory → Rises m n ⊎ Takes between after (lines k)) → StopsWritten answered e o given First before after m n
+      Writes answered o given j mid text → lines j ≡ [] → AreExpectedFirst lines answered j mid Here k → ((more : List Object) → Here more → First more) → Takes before between text → TakesSome between after (lines k) → (e ≡ ending.Memory → Rises m n ⊎ Takes between after (lines k)) → StopsWritten answered e o given First before after m n
   stops_more e o j k given mid text First Here before between after m n w none d first takes some all = (
     d.0,
     first d.0 d.1,
     text ++ lines k,
-    λ q h written a. subst (AreAnswers q d.0) (append_assoc written text (lines k)) (lines_due j k mid d.0 none d.2 q (w.known q h) (written ++ text) (w.due q h written a)),
+    λ q h written a. subst (AreAnswers q d.0) (append_assoc written text (lines k)) (lines_expected j k mid d.0 none d.2 q (w.known q h) (written ++ text) (w.expected q h written a)),
     takes_then before between after text (lines k) takes some,
     λ i. or_both (takes_both before between after text (lines k) takes) (all i),
   )
 
 pub writes_none : {A : Type 0} (answered : A → Request → List Object → Type 0) (o : A) (given : List Object) → Writes answered o given o given []
-writes_none answered o given = record { known = λ q h. h; due = λ q h w e. subst (AreAnswers q given) (sym (append-nil w)) e }
+writes_none answered o given = record { known = λ q h. h; expected = λ q h w e. subst (AreAnswers q given) (sym (append-nil w)) e }
 
 module _ {A : Type 0} {objects : A → List Object} {lines : A → List ℕ} {count : A → ℕ} {answered : A → Request → List Object → Type 0} where
   pub writing_none : (o : A) (r : Parser) (piece : List ℕ) (sink : Option (List ℕ)) → Follows r piece → HasAnswered answered o → lines o ≡ [] → Writing objects lines count answered o r piece sink o r 0 sink
@@ -111,12 +111,12 @@ module _ {A : Type 0} {objects : A → List Object} {lines : A → List ℕ} {co
     written_whole l = let e : at ≡ length piece = omega (arith, l, writing.within) in subst (λ n. Writing objects lines count answered o r piece before j p n sink) e writing
 
     -- writing, or answering, stopped
-    pub writing_stops : (s : Ending) (k : A) (after : Option (List ℕ)) (m n : ℕ) → ((g : List ℕ) (given : List Object) → Stands (objects j) p g given → AreDueFirst lines answered j given (AreFirst (g ++ drop at piece)) k) →
+    pub writing_stops : (s : Ending) (k : A) (after : Option (List ℕ)) (m n : ℕ) → ((g : List ℕ) (given : List Object) → Stands (objects j) p g given → AreExpectedFirst lines answered j given (AreFirst (g ++ drop at piece)) k) →
         TakesSome sink after (lines k) → (s ≡ ending.Memory → Rises m n ⊎ Takes sink after (lines k)) →
         (g : List ℕ) (given : List Object) → Stands (objects o) r g given → StopsWritten answered s o given (AreFirst (g ++ piece)) before after m n
-    writing_stops s k after m n due some all g given h =
+    writing_stops s k after m n expected some all g given h =
         let x = writing.reads g given h in
-        stops_more lines answered s o j k given x.0 x.1 (AreFirst (g ++ piece)) (AreFirst ((g ++ take at piece) ++ drop at piece)) before sink after m n x.3 writing.none_left (due (g ++ take at piece) x.0 x.4)
+        stops_more lines answered s o j k given x.0 x.1 (AreFirst (g ++ piece)) (AreFirst ((g ++ take at piece) ++ drop at piece)) before sink after m n x.3 writing.none_left (expected (g ++ take at piece) x.0 x.4)
         (λ more f rest. subst (λ u. (others : List Object) × ((trees u).events ≡ more ++ others)) (append_assoc (g ++ take at piece) (drop at piece) rest ∙ sym (take_cut g piece at rest) ∙ sym (append_assoc g piece rest)) (f rest))
         x.2 some all
 
@@ -126,5 +126,5 @@ ends_written {A} {lines} {answered} o k l g given f before after none t same h =
     (h.0, lines k, t, writes_more lines answered o o k l given given h.0 [] (writes_none answered o given) none h.1 same, h.2)
 
 -- or writing, or answering, stopped there
-pub end_stops : {A : Type 0} (lines : A → List ℕ) (answered : A → Request → List Object → Type 0) (e : Ending) (o k : A) (given : List Object) (First : List Object → Type 0) (before after : Option (List ℕ)) (m n : ℕ) → lines o ≡ [] → AreDueFirst lines answered o given First k → TakesSome before after (lines k) → (e ≡ ending.Memory → Rises m n ⊎ Takes before after (lines k)) → StopsWritten answered e o given First before after m n
+pub end_stops : {A : Type 0} (lines : A → List ℕ) (answered : A → Request → List Object → Type 0) (e : Ending) (o k : A) (given : List Object) (First : List Object → Type 0) (before after : Option (List ℕ)) (m n : ℕ) → lines o ≡ [] → AreExpectedFirst lines answered o given First k → TakesSome before after (lines k) → (e ≡ ending.Memory → Rises m n ⊎ Takes before after (lines k)) → StopsWritten answered e o given First before after m n
 end_stops lines answered e o k given First before after m n none d some all = stops_more lines answered e o o k given given [] First First before before after m n (writes_none answered o given) none d (λ more f. f) (takes_none before) some all

@@ -13,10 +13,10 @@ use Rattle.mw_book.specs.declared.reading.Taken.{Taken}
 use Rattle.mw_book.specs.declared.reading.Taken.TheVariants as takings
 use Rattle.mw_book.specs.Statuses.{Has, AreAnswers}
 
--- From the data given to more: where those were answered, these are, and after what was written the lines are due.
+-- From the data given to more: where those were answered, these are, and what was written is the expected output with the lines.
 pub record Answers {A : Type 0} (lines : A → List ℕ) (answered : A → Request → List Object → Type 0) (old : A) (given : List Object) (new : A) (more : List Object) : Type 0 where
   pub known : (q : Request) → answered old q given → answered new q more
-  pub due : (q : Request) → answered old q given → (written : List ℕ) → AreAnswers q given (written ++ lines old) → AreAnswers q more (written ++ lines new)
+  pub expected : (q : Request) → answered old q given → (written : List ℕ) → AreAnswers q given (written ++ lines old) → AreAnswers q more (written ++ lines new)
 
 -- The request is one that these make, and what holds there holds of the data: a way to say for which request data were answered.
 abbrev pub AnsweredBy : {P : Type 0} → (P → Request) → (P → List Object → Type 0) → Request → List Object → Type 0
@@ -53,9 +53,9 @@ IsBegunBy bytes given = (more : List Object) × ((trees bytes).events ≡ given 
 abbrev pub AreFirst : List ℕ → List Object → Type 0
 AreFirst g given = (rest : List ℕ) → IsBegunBy (g ++ rest) given
 
--- However far the book was read: after what was written the lines are due for first data.
-abbrev pub AreDueFirst : {A : Type 0} → (A → List ℕ) → (A → Request → List Object → Type 0) → A → List Object → (List Object → Type 0) → A → Type 0
-AreDueFirst lines answered old given First new =
+-- However far the book was read: what was written is, with the lines, the expected output for first data.
+abbrev pub AreExpectedFirst : {A : Type 0} → (A → List ℕ) → (A → Request → List Object → Type 0) → A → List Object → (List Object → Type 0) → A → Type 0
+AreExpectedFirst lines answered old given First new =
     (more : List Object) × First more × ((q : Request) → answered old q given → (written : List ℕ) → AreAnswers q given (written ++ lines old) → AreAnswers q more (written ++ lines new))
 
 -- After bytes g, of which these data were given, the book has ended.
@@ -72,4 +72,4 @@ pub record ReadWhole {A : Type 0} (answered : A → Request → List Object → 
   pub known : answered a q given
   pub written : List ℕ
   pub takes : SinkTakes old new written
-  pub due : AreAnswers q given written
+  pub expected : AreAnswers q given written

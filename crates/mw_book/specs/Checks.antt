@@ -58,7 +58,7 @@ abbrev pub Concludes : Ending → Status → List ℕ → Option (List ℕ) → 
 Concludes ending.WriteFault s text old new = TakesSome old new text
 Concludes e s text old new = (report_status e ≡ Some s) × Takes old new text
 
--- The same of a last text, one of those that are due. Where memory ran out nothing of one was written, or the sink counted a shortage.
+-- The same of a last text, one of the expected ones. Where memory ran out nothing of one was written, or the sink counted a shortage.
 abbrev pub ConcludesWith : Ending → Status → (List ℕ → Type 0) → Option (List ℕ) → Option (List ℕ) → (old_shortages new_shortages : ℕ) → Type 0
 ConcludesWith ending.Memory s IsLast old new m n = Takes old new [] ⊎ (Rises m n × (last : List ℕ) × IsLast last × TakesSome old new last)
 ConcludesWith e s IsLast old new m n = (last : List ℕ) × IsLast last × Concludes e s last old new

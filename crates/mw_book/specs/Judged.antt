@@ -42,7 +42,7 @@ pub record Told (request : ℕ → Request) (effect : ℕ → Effect) (N : ℕ) 
   pub fate : f ≡ (effect N (last_theory (course (effect N) given)) y).0
   pub theory : theory_of new ≡ (effect N (last_theory (course (effect N) given)) y).1
   pub steps : new.steps ≡ N
-  pub due : (written : List ℕ) → AreAnswers (request N) given written → AreAnswers (request N) (given ++ y ∷ []) (written ++ piece)
+  pub expected : (written : List ℕ) → AreAnswers (request N) given written → AreAnswers (request N) (given ++ y ∷ []) (written ++ piece)
 
 -- the same after any data that lead to the theory of the kernel, of which this is the number of the next
 abbrev pub Tells : (ℕ → Request) → (ℕ → Effect) → Knowledge → ℕ → Object → Fate → Knowledge → List ℕ → Type 0

@@ -24,6 +24,6 @@ pub record Fulfils (q : Request) (e : Ending) (old_book new_book old new : Optio
   pub sink_steady : e ≢ ending.WriteFault → new_writes ≡ old_writes
 
 -- the help text was written and the program ends as it was to, or the sink took a part of that
-abbrev pub HelpEnds : (due e : Ending) → (old new : Option (List ℕ)) → (old_writes new_writes old_shortages new_shortages : ℕ) → Type 0
-HelpEnds due e old new old_writes new_writes old_shortages new_shortages =
-    ((e ≡ due) × Takes old new help_text × (new_writes ≡ old_writes)) ⊎ (IsHalt e × TakesSome old new help_text × SinkCounts e old_writes new_writes × SinkShortages e old_shortages new_shortages)
+abbrev pub HelpEnds : (expected e : Ending) → (old new : Option (List ℕ)) → (old_writes new_writes old_shortages new_shortages : ℕ) → Type 0
+HelpEnds expected e old new old_writes new_writes old_shortages new_shortages =
+    ((e ≡ expected) × Takes old new help_text × (new_writes ≡ old_writes)) ⊎ (IsHalt e × TakesSome old new help_text × SinkCounts e old_writes new_writes × SinkShortages e old_shortages new_shortages)

@@ -26,7 +26,7 @@ GoesOn answered old given more text = (q : Request) → answered old q given →
 -- From the data given to more, with the text of their answers.
 pub record Writes {A : Type 0} (answered : A → Request → List Object → Type 0) (old : A) (given : List Object) (new : A) (more : List Object) (text : List ℕ) : Type 0 where
   pub known : (q : Request) → answered old q given → answered new q more
-  pub due : GoesOn answered old given more text
+  pub expected : GoesOn answered old given more text
 
 -- The same of two states at once.
 abbrev pub Puts : {A B : Type 0} → (A → B → Request → List Object → Type 0) → A → B → List Object → A → B → List Object → List ℕ → Type 0

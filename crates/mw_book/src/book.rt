@@ -36,7 +36,7 @@ pub(crate) fn answer_book<A: Answering, S: Source, K: Sink>(
     sink: &mut K,
 ) -> Status
     requires answered { A.answered answering.old (A.request answering.old) [] }
-    requires due { AreAnswers (A.request answering.old) [] [] }
+    requires expected { AreAnswers (A.request answering.old) [] [] }
     requires none_left { A.unwritten answering.old ≡ [] }
     requires count { A.count answering.old ≡ 0 }
     ensures ends { BookEnds result (A.request answering.old) (S.left source.old) (S.left source.new) (K.taken sink.old) (K.taken sink.new) (K.shortages sink.old) (K.shortages sink.new) }
@@ -58,7 +58,7 @@ pub(crate) fn read_all<A: Answering, S: Source, K: Sink>(
     sink: &mut K,
 ) -> Result<Option<(SyntaxKind, u64)>, Status>
     requires answered { A.answered answering.old (A.request answering.old) [] }
-    requires due { AreAnswers (A.request answering.old) [] [] }
+    requires expected { AreAnswers (A.request answering.old) [] [] }
     requires none_left { A.unwritten answering.old ≡ [] }
     requires count { A.count answering.old ≡ 0 }
     ensures whole { IfOk result (λ f. ReadWhole A.answered (A.request answering.old) (S.left source.old) (S.left source.new) (K.taken sink.old) (K.taken sink.new) f answering.new) }
@@ -82,7 +82,7 @@ fn read_pieces<A: Answering, S: Source, K: Sink>(
     reader: &mut Reader,
 ) -> Result<Option<(SyntaxKind, u64)>, Status>
     requires answered { A.answered answering.old (A.request answering.old) [] }
-    requires due { AreAnswers (A.request answering.old) [] [] }
+    requires expected { AreAnswers (A.request answering.old) [] [] }
     requires none_left { A.unwritten answering.old ≡ [] }
     requires count { A.count answering.old ≡ 0 }
     requires stands { (os : List Object) → Stands os reader.old.parser [] [] }

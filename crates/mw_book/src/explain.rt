@@ -10,6 +10,7 @@ use crate::Status;
 use crate::judging::{Judging, Telling};
 use crate::line::write_line;
 use crate::session::answer_by;
+use mw_explain_events::EventParts;
 use mw_heap::{Memory, Ref, Refusal};
 use mw_kernel::{Fate, Kernel};
 use mw_port::{Sink, Source};
@@ -55,7 +56,7 @@ impl Telling for Explaining {
         piece: &mut Vec<u8>,
     ) -> Result<Fate, Memory> {
         self.datum.clear();
-        let fate = kernel.explained(x, number, &mut self.datum)?;
+        let fate = kernel.explained(x, number, &EventParts, &mut self.datum)?;
         write_piece(piece, begun, &self.datum, &fate)?;
         Ok(fate)
     }

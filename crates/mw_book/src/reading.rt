@@ -3,7 +3,7 @@ ghost use Rattle.std.specs.Prelude.{◌≡◌, ℕ, ◌+◌, ◌≤◌, ◌<◌,
 ghost use Rattle.mw_model.specs.Terms.Object.{Object};
 ghost use Rattle.mw_read.specs.Standing.{Stands, IsStanding, Follows, work};
 ghost use Rattle.mw_read.specs.Feeding.{IsAwaiting};
-ghost use Rattle.mw_book.specs.Answering.{HasAnswered, HasTaken, Ends, IsBegunBy, AreFirst, AreDueFirst};
+ghost use Rattle.mw_book.specs.Answering.{HasAnswered, HasTaken, Ends, IsBegunBy, AreFirst, AreExpectedFirst};
 
 use crate::answering::Answering;
 use mw_heap::Memory;
@@ -32,7 +32,7 @@ fn take_datum<A: Answering>(
     requires known { HasAnswered A.answered answering.old }
     ensures takes { IfOk result (λ t. HasTaken A.objects A.unwritten A.count A.answered t answering.old reader.old.parser piece.now answering.new reader.new.parser) }
     ensures awaits { OnOk result (IsAwaiting reader.new) }
-    ensures due { (g : List ℕ) (given : List Object) → Stands (A.objects answering.old) reader.old.parser g given → AreDueFirst A.unwritten A.answered answering.old given (AreFirst (g ++ piece.now)) answering.new }
+    ensures expected { (g : List ℕ) (given : List Object) → Stands (A.objects answering.old) reader.old.parser g given → AreExpectedFirst A.unwritten A.answered answering.old given (AreFirst (g ++ piece.now)) answering.new }
 {
     let (step, n) = answering.step(reader, piece);
     match step {
@@ -66,7 +66,7 @@ pub(crate) fn take_piece<A: Answering>(
     requires known { HasAnswered A.answered answering.old }
     ensures takes { IfOk result (λ t. HasTaken A.objects A.unwritten A.count A.answered t answering.old reader.old.parser piece.now answering.new reader.new.parser) }
     ensures awaits { OnOk result (IsAwaiting reader.new) }
-    ensures due { (g : List ℕ) (given : List Object) → Stands (A.objects answering.old) reader.old.parser g given → AreDueFirst A.unwritten A.answered answering.old given (AreFirst (g ++ piece.now)) answering.new }
+    ensures expected { (g : List ℕ) (given : List Object) → Stands (A.objects answering.old) reader.old.parser g given → AreExpectedFirst A.unwritten A.answered answering.old given (AreFirst (g ++ piece.now)) answering.new }
 {
     let mut at = 0;
     while at < piece.len() {
@@ -92,7 +92,7 @@ pub(crate) fn finish<A: Answering>(
     requires room { A.count answering.old + work reader.old.parser [] < 2 ^ 62 }
     requires known { HasAnswered A.answered answering.old }
     ensures ends { IfOk result (λ f. (g : List ℕ) (given : List Object) → Stands (A.objects answering.old) reader.old.parser g given → Ends A.unwritten A.answered f answering.old g given answering.new) }
-    ensures due { (g : List ℕ) (given : List Object) → Stands (A.objects answering.old) reader.old.parser g given → AreDueFirst A.unwritten A.answered answering.old given (IsBegunBy g) answering.new }
+    ensures expected { (g : List ℕ) (given : List Object) → Stands (A.objects answering.old) reader.old.parser g given → AreExpectedFirst A.unwritten A.answered answering.old given (IsBegunBy g) answering.new }
 {
     reader.finish();
     loop {

@@ -169,7 +169,7 @@ pub(crate) fn answer_by<T: Store, C: Command<T>, S: Source, K: Sink>(
     sink: &mut K,
 ) -> Status
     requires answered { IfOk store (λ s. C.answered command s (C.request command s) []) }
-    requires due { IfOk store (λ s. AreAnswers (C.request command s) [] []) }
+    requires expected { IfOk store (λ s. AreAnswers (C.request command s) [] []) }
     requires count { C.count command ≡ 0 }
     ensures ends { (q : Request) → AreAnswers q [] [] → IfOk store (λ s. C.request command s ≡ q) → BookEnds result q (S.left source.old) (S.left source.new) (K.taken sink.old) (K.taken sink.new) (K.shortages sink.old) (K.shortages sink.new) }
     ensures source_counts { SourceCounts result (S.faults source.old) (S.faults source.new) }

@@ -6,15 +6,9 @@ pub mod Refusing
 pub mod Rewritten
 pub mod Switching
 pub mod Told
-pub mod ProofReasons
-pub mod DefinitionReasons
-pub mod EventReasons
-pub mod Showing
-pub mod RefusedProofs
 pub mod KeptObjects
 pub mod Comings
 pub mod ReasonNames
 pub mod BareReasons
-pub mod ReasonsMeant
-pub mod Owing
-pub mod ExplainedEvents
+pub mod Reasoned
+pub mod CallerLemmas

@@ -5,6 +5,4 @@ pub mod Explained
 pub mod Proofs
 pub mod Switching
 pub mod Evaluating
-pub mod Reasons
-pub mod Defining
 pub mod Rewriting

@@ -9,8 +9,8 @@ use mw_theory::{Judge, Theory};
 
 /// What runs the theory's checker, where that is not the built-in one, and with how many units it does for each proof.
 #[derive(Drop)]
-pub(crate) struct Checker {
-    pub machine: Machine,
+pub struct Checker {
+    pub(crate) machine: Machine,
     pub steps: u64,
 }
 

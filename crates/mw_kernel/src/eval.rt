@@ -4,7 +4,7 @@ ghost use Rattle.mw_model.specs.Terms.Object.{Object};
 ghost use Rattle.mw_model.specs.Terms.Term.{Term, is_closed};
 ghost use Rattle.mw_model.specs.Terms.Reading.{term_of};
 ghost use Rattle.mw_model.specs.Values.Definition.{Definitions, arity_table};
-ghost use Rattle.mw_model.specs.Events.Evaluation.{Outcome as Due, evaluate};
+ghost use Rattle.mw_model.specs.Events.Evaluation.{Outcome as Evaluated, evaluate};
 ghost use Rattle.mw_model.specs.Events.Theory.{Theory};
 ghost use Rattle.mw_model.specs.Events.Fate.{eval, show_outcome};
 ghost use Rattle.mw_heap.specs.Objects.{object_at, IsIn, Grows};
@@ -59,8 +59,8 @@ fn closed_term(heap: &mut Heap, raw: Ref, arity: &Arity) -> Result<Tried, Memory
 
 // The fate of an EVAL whose run came to this.
 fn fate_of_run(heap: &Heap, outcome: Outcome) -> Result<Fate, Memory>
-    requires { (o : Due) × Answers heap.now.objects o outcome }
-    ensures { IfOk result (λ f. (t : Theory) (o : Due) → Answers heap.now.objects o outcome → fate_of f ≡ (show_outcome t o).0) }
+    requires { (o : Evaluated) × Answers heap.now.objects o outcome }
+    ensures { IfOk result (λ f. (t : Theory) (o : Evaluated) → Answers heap.now.objects o outcome → fate_of f ≡ (show_outcome t o).0) }
 {
     match outcome {
         Outcome::Value(value, _) => shown(heap, value),

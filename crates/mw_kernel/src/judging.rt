@@ -1,6 +1,6 @@
 //! The verdict of a theory's checker on a proof.
 ghost use Rattle.std.specs.Prelude.{◌≡◌, ℕ, None, Some, IfOk, option_map};
-ghost use Rattle.mw_model.specs.Events.Evaluation.{Outcome as Due, Value};
+ghost use Rattle.mw_model.specs.Events.Evaluation.{Outcome as Evaluated, Value};
 ghost use Rattle.mw_model.specs.Events.Checking.{verdict, judged_by};
 ghost use Rattle.mw_heap.specs.Objects.{object_at, IsIn, Grows};
 ghost use Rattle.mw_heap.specs.Variants.{refusal_of};
@@ -101,8 +101,8 @@ fn refusal_by_run(
 
 // Why a proof on which a checker's run came to this is refused, where it is.
 fn refusal_of_outcome(heap: &Heap, outcome: Outcome) -> Result<Option<Refusal>, Memory>
-    requires { (o : Due) × Answers heap.now.objects o outcome }
-    ensures { (o : Due) → Answers heap.now.objects o outcome → IfOk result (λ r. option_map refusal_of r ≡ verdict o) }
+    requires { (o : Evaluated) × Answers heap.now.objects o outcome }
+    ensures { (o : Evaluated) → Answers heap.now.objects o outcome → IfOk result (λ r. option_map refusal_of r ≡ verdict o) }
 {
     match outcome {
         Outcome::Value(value, _) => Ok(refusal_of_value(heap, value)),

@@ -16,11 +16,14 @@ ghost use Rattle.mw_commands.specs.Commands.Explanation.{why};
 ghost use Rattle.mw_kernel.specs.Explained.{PutsLine, PutsWhy};
 ghost use Rattle.mw_kernel.specs.Fates.{fate_of, KeepsRoom};
 
+mod events;
+
 use crate::Fate;
 use crate::checker::Checker;
-use crate::claim::claim;
-use crate::explaining::why::put_reason;
+use crate::claims::claim;
+use crate::explainer::Explainer;
 use crate::rewriting::rewritten;
+use crate::why::put_reason;
 use mw_heap::{Heap, Memory, Ref, Refusal};
 use mw_machine::Machine;
 use mw_proof::Rewriter;
@@ -34,8 +37,8 @@ use std::marker::Model;
 /// alone. So after an event that is refused, and after running out of memory, all six show what they showed before.
 #[derive(Drop)]
 pub struct Kernel {
-    pub(crate) world: World,
-    pub(crate) checker: Checker,
+    world: World,
+    checker: Checker,
     took_long: bool,
 }
 
@@ -131,9 +134,14 @@ impl Kernel {
     }
 
     /// The fate of an event, as `event` gives it. Of an event that is refused the line of the datum (WHY number REASON part ..) is put behind
-    /// `out`, with what its author has to know. Its proofs are judged at most once more for that. After the error, which is out of memory,
-    /// `out` may have more bytes.
-    pub fn explained(&mut self, event: Ref, number: u64, out: &mut Vec<u8>) -> Result<Fate, Memory>
+    /// `out`, with the parts that `by` finds. After the error, which is out of memory, `out` may have more bytes.
+    pub fn explained<E: Explainer>(
+        &mut self,
+        event: Ref,
+        number: u64,
+        by: &E,
+        out: &mut Vec<u8>,
+    ) -> Result<Fate, Memory>
         requires { IsIn self.old.objects event }
         ensures fate { IfOk result (λ f. fate_of f ≡ fate (theory_of self.old) (object_at self.old.objects event) self.old.steps) }
         ensures theory { OnOk result (theory_of self.new ≡ next (theory_of self.old) (object_at self.old.objects event) self.old.steps) }
@@ -146,7 +154,7 @@ impl Kernel {
     {
         let turns = self.checker.machine.turns();
         let looks = self.world.allow_looks();
-        let fate = self.happens_explained(event, number, out);
+        let fate = self.happens_explained(event, number, by, out);
         self.note_time(turns, looks);
         self.world.cut();
         fate

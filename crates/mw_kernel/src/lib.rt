@@ -2,17 +2,20 @@
 #![tactic(auto)]
 
 mod checker;
-mod claim;
+mod claims;
 mod eval;
-mod events;
-mod explaining;
+mod explainer;
 mod fate;
 mod judging;
 mod kernel;
 mod rewriting;
 mod running;
 mod switch;
+mod why;
 
+pub use checker::Checker;
+pub use claims::claim;
+pub use explainer::Explainer;
 pub use fate::Fate;
 pub use kernel::Kernel;
 pub use mw_theory::{Event, event_of};

@@ -9,7 +9,7 @@ ghost use Rattle.mw_code.specs.Tables.{StandsFor};
 ghost use Rattle.mw_theory.specs.Knowledge.{parts_of, meant, IsHeld};
 ghost use Rattle.mw_kernel.specs.Switching.{switch_refusal};
 
-use crate::claim::claim;
+use crate::claims::claim;
 use mw_code::Table;
 use mw_heap::{Heap, Memory, Ref, Refusal};
 use mw_rules::is_known;

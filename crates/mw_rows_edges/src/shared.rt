@@ -27,12 +27,7 @@ pub(crate) fn doubled_term(
 ) -> Result<String, AllocError> {
     let innermost = format!(in alloc; "({function} {atom} {atom})")?;
     let before = format!(in alloc; "({function} ")?;
-    labelled_term(
-        alloc,
-        innermost.as_str(),
-        59,
-        [before.as_str(), " ", ")"],
-    )
+    labelled_term(alloc, innermost.as_str(), 59, [before.as_str(), " ", ")"])
 }
 
 /// A term of this many calls of CAR within one another, which stands in as many lambdas within one another: to find the variables of each

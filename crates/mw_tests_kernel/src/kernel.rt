@@ -3,6 +3,7 @@
 ghost use Rattle.std.specs.Prelude.{IfOk};
 ghost use Rattle.mw_heap.specs.Objects.{IsIn};
 
+use mw_explain_events::EventParts;
 use mw_forms::is_in;
 use mw_heap::{Heap, Memory, Ref, Refusal, View, Word};
 use mw_kernel::{Fate, Kernel};
@@ -117,10 +118,15 @@ fn refusal(kernel: &mut Kernel, event: &[u8]) -> Result<Option<Refusal>, Memory>
 }
 
 // Whether an event is refused for this reason, where a kernel shows the initial theory before it, and the given number of theorems with it after it.
-fn shows_around(kernel: &mut Kernel, event: &[u8], due: Option<Refusal>, theorems: usize) -> bool {
+fn shows_around(
+    kernel: &mut Kernel,
+    event: &[u8],
+    expected: Option<Refusal>,
+    theorems: usize,
+) -> bool {
     [
         shows(kernel, 0) == Ok(true),
-        refusal(kernel, event) == Ok(due),
+        refusal(kernel, event) == Ok(expected),
         shows(kernel, theorems) == Ok(true),
     ] == [true; 3]
 }
@@ -311,7 +317,7 @@ fn names_may_be_defined_in_the_other_order(rt: HostRuntime) {
 fn explains(kernel: &mut Kernel, event: &[u8], number: u64, text: &[u8]) -> Result<bool, Memory> {
     let event = read(kernel, event)?;
     let mut out = Vec::from_slice(kernel.heap().alloc(), b"; ")?;
-    kernel.explained(event, number, &mut out)?;
+    kernel.explained(event, number, &EventParts, &mut out)?;
     Ok(out.as_slice() == text)
 }
 

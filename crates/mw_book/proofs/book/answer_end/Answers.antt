@@ -10,7 +10,7 @@ pub returns-in_err-write_lines-clause-stops : goal.returns-in_err-write_lines-cl
 returns-in_err-write_lines-clause-stops g c =
     let p = err_from_is_err_and c.from_residual.result c.from_residual.ensures.1 in
     rw (p.1, p.2) (λ h given s.
-    end_stops g.A.Answering.unwritten g.A.Answering.answered c.in_err-write_lines.field-0.0 c.args.answering.now c.finish-finished.new.answering given _ _ _ _ _ c.requires.none_left (c.finish-finished.ensures.due h given s) c.in_err-write_lines.ensures.some
+    end_stops g.A.Answering.unwritten g.A.Answering.answered c.in_err-write_lines.field-0.0 c.args.answering.now c.finish-finished.new.answering given _ _ _ _ _ c.requires.none_left (c.finish-finished.ensures.expected h given s) c.in_err-write_lines.ensures.some
     (λ i. inl (short_at c.in_err-write_lines.field-0.0 _ _ c.in_err-write_lines.ensures.short i)))
 
 pub returns-in-Ok-clause-ends : goal.returns-in-Ok-clause-ends
@@ -20,4 +20,4 @@ returns-in-Ok-clause-ends g c h given s =
 pub returns-in-Err-clause-stops : goal.returns-in-Err-clause-stops
 returns-in-Err-clause-stops g c h given s =
     let t = c.in_ok-write_lines.ensures.written in
-    end_stops g.A.Answering.unwritten g.A.Answering.answered ending.Memory c.args.answering.now c.finish-finished.new.answering given _ (g.K.Sink.taken c.args.sink.now) (g.K.Sink.taken c.write_lines.new.sink) _ _ c.requires.none_left (c.finish-finished.ensures.due h given s) (takes_some _ _ _ t) (λ i. inr t)
+    end_stops g.A.Answering.unwritten g.A.Answering.answered ending.Memory c.args.answering.now c.finish-finished.new.answering given _ (g.K.Sink.taken c.args.sink.now) (g.K.Sink.taken c.write_lines.new.sink) _ _ c.requires.none_left (c.finish-finished.ensures.expected h given s) (takes_some _ _ _ t) (λ i. inr t)

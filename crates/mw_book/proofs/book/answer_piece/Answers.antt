@@ -3,7 +3,7 @@ use Rattle.std.proofs.Common.{◌∙◌, ◌-◌, ◌++◌, inl, inr, refl, subs
 use Rattle.std.proofs.lemmas.Result.{err_from_is_err_and}
 use Rattle.mw_port.specs.Ports.{Rises}
 use Rattle.mw_read.proofs.Beginning.{rest_is}
-use Rattle.mw_book.specs.Answering.{HasTaken, AreFirst, AreDueFirst}
+use Rattle.mw_book.specs.Answering.{HasTaken, AreFirst, AreExpectedFirst}
 use Rattle.mw_book.specs.declared.reading.Taken.TheVariants as takings
 use Rattle.mw_book.specs.declared.status.Status.TheVariants as ending
 use Rattle.mw_book.proofs.Writings.{writing_none, standing_after, writing_more, written_fault, writing_stops, short_at}
@@ -27,7 +27,7 @@ returns-in_err-write_lines-clause-stops g c =
     let s = c.in_err-write_lines.field-0.0 in
     let count = g.K.Sink.shortages c.write_lines.new.sink in
     rw (p.1, p.2) (writing_stops c.loop-at.invariant.writing s c.take_piece-taken.new.answering (g.K.Sink.taken c.write_lines.new.sink) (g.K.Sink.shortages c.args.sink.now) count
-    (λ h given s. subst (λ u. AreDueFirst g.A.Answering.unwritten g.A.Answering.answered c.loop-at.answering given (AreFirst (h ++ u)) c.take_piece-taken.new.answering) (rest_is c.loop-at.at c.args.piece.now) (c.take_piece-taken.ensures.due h given s))
+    (λ h given s. subst (λ u. AreExpectedFirst g.A.Answering.unwritten g.A.Answering.answered c.loop-at.answering given (AreFirst (h ++ u)) c.take_piece-taken.new.answering) (rest_is c.loop-at.at c.args.piece.now) (c.take_piece-taken.ensures.expected h given s))
     c.in_err-write_lines.ensures.some
     (λ i. inl (subst (λ m. Rises m count) c.loop-at.invariant.enough (short_at s (g.K.Sink.shortages c.loop-at.sink) count c.in_err-write_lines.ensures.short i))))
 
@@ -61,5 +61,5 @@ pub returns-in_default-clause-stops : goal.returns-in_default-clause-stops
 returns-in_default-clause-stops g c =
     let t = c.in_ok-write_lines.ensures.written in
     writing_stops c.loop-at.invariant.writing ending.Memory c.take_piece-taken.new.answering (g.K.Sink.taken c.write_lines.new.sink) (g.K.Sink.shortages c.args.sink.now) (g.K.Sink.shortages c.write_lines.new.sink)
-    (λ h given s. subst (λ u. AreDueFirst g.A.Answering.unwritten g.A.Answering.answered c.loop-at.answering given (AreFirst (h ++ u)) c.take_piece-taken.new.answering) (rest_is c.loop-at.at c.args.piece.now) (c.take_piece-taken.ensures.due h given s))
+    (λ h given s. subst (λ u. AreExpectedFirst g.A.Answering.unwritten g.A.Answering.answered c.loop-at.answering given (AreFirst (h ++ u)) c.take_piece-taken.new.answering) (rest_is c.loop-at.at c.args.piece.now) (c.take_piece-taken.ensures.expected h given s))
     (takes_some (g.K.Sink.taken c.loop-at.sink) (g.K.Sink.taken c.write_lines.new.sink) (g.A.Answering.unwritten c.take_piece-taken.new.answering) t) (λ i. inr t)

@@ -10,7 +10,7 @@ use Rattle.mw_book.proofs.book.read_pieces.Goals as goal
 
 pub loop-init : goal.loop-init
 loop-init g c = record {
-  between = between_none c.args.answering.now c.args.reader.now.parser c.requires.answered c.requires.due c.requires.none_left c.requires.count c.requires.stands c.requires.free;
+  between = between_none c.args.answering.now c.args.reader.now.parser c.requires.answered c.requires.expected c.requires.none_left c.requires.count c.requires.stands c.requires.free;
   awaits = c.requires.awaits;
   source_steady = refl;
   size = refl;

@@ -4,7 +4,7 @@ use Rattle.mw_model.specs.Events.Fate.{is_out_of_range}
 use Rattle.mw_read.specs.Feeding.{Continues}
 use Rattle.mw_read.specs.declared.step.Step.TheVariants as steps
 use Rattle.mw_book.specs.Answering.{Answers}
-use Rattle.mw_book.proofs.Taken.{Finishing, finishing_none, standing_last, known_last, finishing_more, finishing_next, finishing_due, finished_whole, finished_fault}
+use Rattle.mw_book.proofs.Taken.{Finishing, finishing_none, standing_last, known_last, finishing_more, finishing_next, finishing_expected, finished_whole, finished_fault}
 use Rattle.mw_book.proofs.reading.finish.Goals as goal
 
 pub loop-x-init : goal.loop-x-init
@@ -85,8 +85,8 @@ returns-in-End-clause-ends g c =
     finished_whole c.loop-x.invariant c.next.new.self k.kept k.count steps.End c.next.new.reader
     (λ h given s. subst (λ t. Continues (g.A.Answering.objects c.next.new.self) c.loop-x.reader h given t c.next.new.reader) c.in-End.is (k.continues h given s))
 
-pub returns-in-End-clause-due : goal.returns-in-End-clause-due
-returns-in-End-clause-due g c h given s = finishing_due c.loop-x.invariant c.next.new.self c.next.ensures.kept c.next.ensures.count steps.End c.next.new.reader h given s c.next.new.self refl
+pub returns-in-End-clause-expected : goal.returns-in-End-clause-expected
+returns-in-End-clause-expected g c h given s = finishing_expected c.loop-x.invariant c.next.new.self c.next.ensures.kept c.next.ensures.count steps.End c.next.new.reader h given s c.next.new.self refl
 
 pub returns-in-Syntax-clause-ends : goal.returns-in-Syntax-clause-ends
 returns-in-Syntax-clause-ends g c =
@@ -94,15 +94,15 @@ returns-in-Syntax-clause-ends g c =
     finished_fault c.loop-x.invariant c.next.new.self k.kept k.count (steps.Syntax c.in-Syntax.kind c.in-Syntax.offset) c.next.new.reader c.in-Syntax.kind c.in-Syntax.offset
     (λ h given s. subst (λ t. Continues (g.A.Answering.objects c.next.new.self) c.loop-x.reader h given t c.next.new.reader) c.in-Syntax.is (k.continues h given s))
 
-pub returns-in-Syntax-clause-due : goal.returns-in-Syntax-clause-due
-returns-in-Syntax-clause-due g c h given s = finishing_due c.loop-x.invariant c.next.new.self c.next.ensures.kept c.next.ensures.count (steps.Syntax c.in-Syntax.kind c.in-Syntax.offset) c.next.new.reader h given s c.next.new.self refl
+pub returns-in-Syntax-clause-expected : goal.returns-in-Syntax-clause-expected
+returns-in-Syntax-clause-expected g c h given s = finishing_expected c.loop-x.invariant c.next.new.self c.next.ensures.kept c.next.ensures.count (steps.Syntax c.in-Syntax.kind c.in-Syntax.offset) c.next.new.reader h given s c.next.new.self refl
 
-pub returns-in-Memory-clause-due : goal.returns-in-Memory-clause-due
-returns-in-Memory-clause-due g c h given s = finishing_due c.loop-x.invariant c.next.new.self c.next.ensures.kept c.next.ensures.count steps.Memory c.next.new.reader h given s c.next.new.self refl
+pub returns-in-Memory-clause-expected : goal.returns-in-Memory-clause-expected
+returns-in-Memory-clause-expected g c h given s = finishing_expected c.loop-x.invariant c.next.new.self c.next.ensures.kept c.next.ensures.count steps.Memory c.next.new.reader h given s c.next.new.self refl
 
-pub returns-in_err-answer-in-Datum-clause-due : goal.returns-in_err-answer-in-Datum-clause-due
-returns-in_err-answer-in-Datum-clause-due g c h given s = finishing_due c.loop-x.invariant c.next.new.self c.next.ensures.kept c.next.ensures.count (steps.Datum c.in-Datum.x) c.next.new.reader h given s c.answer.new.self c.in_err-answer-in-Datum.ensures.kept
+pub returns-in_err-answer-in-Datum-clause-expected : goal.returns-in_err-answer-in-Datum-clause-expected
+returns-in_err-answer-in-Datum-clause-expected g c h given s = finishing_expected c.loop-x.invariant c.next.new.self c.next.ensures.kept c.next.ensures.count (steps.Datum c.in-Datum.x) c.next.new.reader h given s c.answer.new.self c.in_err-answer-in-Datum.ensures.kept
 
-pub returns-in_err-answer_large-in-TooBig-clause-due : goal.returns-in_err-answer_large-in-TooBig-clause-due
-returns-in_err-answer_large-in-TooBig-clause-due g c h given s =
-    finishing_due c.loop-x.invariant c.next.new.self c.next.ensures.kept c.next.ensures.count (steps.TooBig c.in-TooBig.word c.in-TooBig.label) c.next.new.reader h given s c.answer_large.new.self c.in_err-answer_large-in-TooBig.ensures.kept
+pub returns-in_err-answer_large-in-TooBig-clause-expected : goal.returns-in_err-answer_large-in-TooBig-clause-expected
+returns-in_err-answer_large-in-TooBig-clause-expected g c h given s =
+    finishing_expected c.loop-x.invariant c.next.new.self c.next.ensures.kept c.next.ensures.count (steps.TooBig c.in-TooBig.word c.in-TooBig.label) c.next.new.reader h given s c.answer_large.new.self c.in_err-answer_large-in-TooBig.ensures.kept

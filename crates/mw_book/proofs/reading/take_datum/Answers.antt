@@ -4,7 +4,7 @@ use Rattle.mw_model.specs.Events.Fate.{is_out_of_range}
 use Rattle.mw_read.specs.Standing.{Says}
 use Rattle.mw_read.specs.declared.step.Step.TheVariants as steps
 use Rattle.mw_book.specs.Answering.{Answers}
-use Rattle.mw_book.proofs.Taken.{taking_due, datum_taken, rest_taken, fault_taken, known_taken, datum_due}
+use Rattle.mw_book.proofs.Taken.{taking_expected, datum_taken, rest_taken, fault_taken, known_taken, datum_expected}
 use Rattle.mw_book.proofs.reading.take_datum.Goals as goal
 
 pub answer-requires-clause-within : goal.answer-requires-clause-within
@@ -46,18 +46,18 @@ returns-in_ok-answer-in-Datum-clause-takes g c =
     (λ y h given. subst (λ x. Answers g.A.Answering.unwritten g.A.Answering.answered c.step-step.new.self given c.answer.new.self (given ++ x ∷ [])) h.1 (v.answers given))
     v.counted
 
-pub returns-in_ok-answer-in-Datum-clause-due : goal.returns-in_ok-answer-in-Datum-clause-due
-returns-in_ok-answer-in-Datum-clause-due g c =
+pub returns-in_ok-answer-in-Datum-clause-expected : goal.returns-in_ok-answer-in-Datum-clause-expected
+returns-in_ok-answer-in-Datum-clause-expected g c =
     let k = c.step-step.ensures in
     let v = c.in_ok-answer-in-Datum.ensures in
-    taking_due (datum_taken g.A.Answering.objects g.A.Answering.unwritten g.A.Answering.count g.A.Answering.answered c.args.answering.now c.args.reader.now.parser c.args.piece.now c.requires.follows c.requires.known c.step-step.new.self k.kept k.count (steps.Datum c.in-Datum.x) c.step-step.result.1 c.step-step.new.reader.parser c.requires.stands c.answer.new.self
+    taking_expected (datum_taken g.A.Answering.objects g.A.Answering.unwritten g.A.Answering.count g.A.Answering.answered c.args.answering.now c.args.reader.now.parser c.args.piece.now c.requires.follows c.requires.known c.step-step.new.self k.kept k.count (steps.Datum c.in-Datum.x) c.step-step.result.1 c.step-step.new.reader.parser c.requires.stands c.answer.new.self
     (λ h given s. subst (λ t. Says (g.A.Answering.objects c.step-step.new.self) c.args.reader.now.parser h given c.args.piece.now t c.step-step.result.1 c.step-step.new.reader.parser) c.in-Datum.is (k.says h given s))
     (λ y h given. subst (λ x. Answers g.A.Answering.unwritten g.A.Answering.answered c.step-step.new.self given c.answer.new.self (given ++ x ∷ [])) h.1 (v.answers given))
     v.counted).0
 
-pub returns-in_err-answer-in-Datum-clause-due : goal.returns-in_err-answer-in-Datum-clause-due
-returns-in_err-answer-in-Datum-clause-due g c h given s =
-    datum_due g.A.Answering.objects g.A.Answering.unwritten g.A.Answering.count g.A.Answering.answered c.args.answering.now c.args.reader.now.parser c.args.piece.now c.requires.follows c.requires.known c.step-step.new.self c.step-step.ensures.kept c.step-step.ensures.count c.step-step.result.0 c.step-step.result.1 c.step-step.new.reader.parser h given s c.answer.new.self c.in_err-answer-in-Datum.ensures.kept
+pub returns-in_err-answer-in-Datum-clause-expected : goal.returns-in_err-answer-in-Datum-clause-expected
+returns-in_err-answer-in-Datum-clause-expected g c h given s =
+    datum_expected g.A.Answering.objects g.A.Answering.unwritten g.A.Answering.count g.A.Answering.answered c.args.answering.now c.args.reader.now.parser c.args.piece.now c.requires.follows c.requires.known c.step-step.new.self c.step-step.ensures.kept c.step-step.ensures.count c.step-step.result.0 c.step-step.result.1 c.step-step.new.reader.parser h given s c.answer.new.self c.in_err-answer-in-Datum.ensures.kept
 
 pub returns-in_ok-answer_large-in-TooBig-clause-takes : goal.returns-in_ok-answer_large-in-TooBig-clause-takes
 returns-in_ok-answer_large-in-TooBig-clause-takes g c =
@@ -68,18 +68,18 @@ returns-in_ok-answer_large-in-TooBig-clause-takes g c =
     (λ y h given. v.answers y h.0 h.1 given)
     v.counted
 
-pub returns-in_ok-answer_large-in-TooBig-clause-due : goal.returns-in_ok-answer_large-in-TooBig-clause-due
-returns-in_ok-answer_large-in-TooBig-clause-due g c =
+pub returns-in_ok-answer_large-in-TooBig-clause-expected : goal.returns-in_ok-answer_large-in-TooBig-clause-expected
+returns-in_ok-answer_large-in-TooBig-clause-expected g c =
     let k = c.step-step.ensures in
     let v = c.in_ok-answer_large-in-TooBig.ensures in
-    taking_due (datum_taken g.A.Answering.objects g.A.Answering.unwritten g.A.Answering.count g.A.Answering.answered c.args.answering.now c.args.reader.now.parser c.args.piece.now c.requires.follows c.requires.known c.step-step.new.self k.kept k.count (steps.TooBig c.in-TooBig.word c.in-TooBig.label) c.step-step.result.1 c.step-step.new.reader.parser c.requires.stands c.answer_large.new.self
+    taking_expected (datum_taken g.A.Answering.objects g.A.Answering.unwritten g.A.Answering.count g.A.Answering.answered c.args.answering.now c.args.reader.now.parser c.args.piece.now c.requires.follows c.requires.known c.step-step.new.self k.kept k.count (steps.TooBig c.in-TooBig.word c.in-TooBig.label) c.step-step.result.1 c.step-step.new.reader.parser c.requires.stands c.answer_large.new.self
     (λ h given s. subst (λ t. Says (g.A.Answering.objects c.step-step.new.self) c.args.reader.now.parser h given c.args.piece.now t c.step-step.result.1 c.step-step.new.reader.parser) c.in-TooBig.is (k.says h given s))
     (λ y h given. v.answers y h.0 h.1 given)
     v.counted).0
 
-pub returns-in_err-answer_large-in-TooBig-clause-due : goal.returns-in_err-answer_large-in-TooBig-clause-due
-returns-in_err-answer_large-in-TooBig-clause-due g c h given s =
-    datum_due g.A.Answering.objects g.A.Answering.unwritten g.A.Answering.count g.A.Answering.answered c.args.answering.now c.args.reader.now.parser c.args.piece.now c.requires.follows c.requires.known c.step-step.new.self c.step-step.ensures.kept c.step-step.ensures.count c.step-step.result.0 c.step-step.result.1 c.step-step.new.reader.parser h given s c.answer_large.new.self c.in_err-answer_large-in-TooBig.ensures.kept
+pub returns-in_err-answer_large-in-TooBig-clause-expected : goal.returns-in_err-answer_large-in-TooBig-clause-expected
+returns-in_err-answer_large-in-TooBig-clause-expected g c h given s =
+    datum_expected g.A.Answering.objects g.A.Answering.unwritten g.A.Answering.count g.A.Answering.answered c.args.answering.now c.args.reader.now.parser c.args.piece.now c.requires.follows c.requires.known c.step-step.new.self c.step-step.ensures.kept c.step-step.ensures.count c.step-step.result.0 c.step-step.result.1 c.step-step.new.reader.parser h given s c.answer_large.new.self c.in_err-answer_large-in-TooBig.ensures.kept
 
 pub returns-in-More-clause-takes : goal.returns-in-More-clause-takes
 returns-in-More-clause-takes g c =
@@ -87,9 +87,9 @@ returns-in-More-clause-takes g c =
     rest_taken g.A.Answering.objects g.A.Answering.unwritten g.A.Answering.count g.A.Answering.answered c.args.answering.now c.args.reader.now.parser c.args.piece.now c.requires.follows c.requires.known c.step-step.new.self k.kept k.count steps.More c.step-step.result.1 c.step-step.new.reader.parser c.requires.stands c.requires.some
     (λ h given s. subst (λ t. Says (g.A.Answering.objects c.step-step.new.self) c.args.reader.now.parser h given c.args.piece.now t c.step-step.result.1 c.step-step.new.reader.parser) c.in-More.is (k.says h given s))
 
-pub returns-in-More-clause-due : goal.returns-in-More-clause-due
-returns-in-More-clause-due g c h given s =
-    datum_due g.A.Answering.objects g.A.Answering.unwritten g.A.Answering.count g.A.Answering.answered c.args.answering.now c.args.reader.now.parser c.args.piece.now c.requires.follows c.requires.known c.step-step.new.self c.step-step.ensures.kept c.step-step.ensures.count c.step-step.result.0 c.step-step.result.1 c.step-step.new.reader.parser h given s c.step-step.new.self refl
+pub returns-in-More-clause-expected : goal.returns-in-More-clause-expected
+returns-in-More-clause-expected g c h given s =
+    datum_expected g.A.Answering.objects g.A.Answering.unwritten g.A.Answering.count g.A.Answering.answered c.args.answering.now c.args.reader.now.parser c.args.piece.now c.requires.follows c.requires.known c.step-step.new.self c.step-step.ensures.kept c.step-step.ensures.count c.step-step.result.0 c.step-step.result.1 c.step-step.new.reader.parser h given s c.step-step.new.self refl
 
 pub returns-in-Syntax-clause-takes : goal.returns-in-Syntax-clause-takes
 returns-in-Syntax-clause-takes g c =
@@ -97,10 +97,10 @@ returns-in-Syntax-clause-takes g c =
     fault_taken g.A.Answering.objects g.A.Answering.unwritten g.A.Answering.count g.A.Answering.answered c.args.answering.now c.args.reader.now.parser c.args.piece.now c.requires.follows c.requires.known c.step-step.new.self k.kept k.count (steps.Syntax c.in-Syntax.kind c.in-Syntax.offset) c.step-step.result.1 c.step-step.new.reader.parser c.in-Syntax.kind c.in-Syntax.offset
     (λ h given s. subst (λ t. Says (g.A.Answering.objects c.step-step.new.self) c.args.reader.now.parser h given c.args.piece.now t c.step-step.result.1 c.step-step.new.reader.parser) c.in-Syntax.is (k.says h given s))
 
-pub returns-in-Syntax-clause-due : goal.returns-in-Syntax-clause-due
-returns-in-Syntax-clause-due g c h given s =
-    datum_due g.A.Answering.objects g.A.Answering.unwritten g.A.Answering.count g.A.Answering.answered c.args.answering.now c.args.reader.now.parser c.args.piece.now c.requires.follows c.requires.known c.step-step.new.self c.step-step.ensures.kept c.step-step.ensures.count c.step-step.result.0 c.step-step.result.1 c.step-step.new.reader.parser h given s c.step-step.new.self refl
+pub returns-in-Syntax-clause-expected : goal.returns-in-Syntax-clause-expected
+returns-in-Syntax-clause-expected g c h given s =
+    datum_expected g.A.Answering.objects g.A.Answering.unwritten g.A.Answering.count g.A.Answering.answered c.args.answering.now c.args.reader.now.parser c.args.piece.now c.requires.follows c.requires.known c.step-step.new.self c.step-step.ensures.kept c.step-step.ensures.count c.step-step.result.0 c.step-step.result.1 c.step-step.new.reader.parser h given s c.step-step.new.self refl
 
-pub returns-in-Memory-clause-due : goal.returns-in-Memory-clause-due
-returns-in-Memory-clause-due g c h given s =
-    datum_due g.A.Answering.objects g.A.Answering.unwritten g.A.Answering.count g.A.Answering.answered c.args.answering.now c.args.reader.now.parser c.args.piece.now c.requires.follows c.requires.known c.step-step.new.self c.step-step.ensures.kept c.step-step.ensures.count c.step-step.result.0 c.step-step.result.1 c.step-step.new.reader.parser h given s c.step-step.new.self refl
+pub returns-in-Memory-clause-expected : goal.returns-in-Memory-clause-expected
+returns-in-Memory-clause-expected g c h given s =
+    datum_expected g.A.Answering.objects g.A.Answering.unwritten g.A.Answering.count g.A.Answering.answered c.args.answering.now c.args.reader.now.parser c.args.piece.now c.requires.follows c.requires.known c.step-step.new.self c.step-step.ensures.kept c.step-step.ensures.count c.step-step.result.0 c.step-step.result.1 c.step-step.new.reader.parser h given s c.step-step.new.self refl

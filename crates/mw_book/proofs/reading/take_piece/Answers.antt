@@ -3,9 +3,9 @@ use Rattle.std.proofs.Common.{◌+◌, ◌-◌, ◌<◌, ◌^◌, ◌++◌, inl,
 use Rattle.std.proofs.lemmas.List.{length-drop}
 use Rattle.mw_read.specs.Standing.{Follows, work}
 use Rattle.mw_read.proofs.Beginning.{rest_is}
-use Rattle.mw_book.specs.Answering.{HasTaken, AreFirst, AreDueFirst}
+use Rattle.mw_book.specs.Answering.{HasTaken, AreFirst, AreExpectedFirst}
 use Rattle.mw_book.specs.declared.reading.Taken.TheVariants as takings
-use Rattle.mw_book.proofs.Taken.{taking_none, standing, taking_due, taking_both, taking_fault, both_due}
+use Rattle.mw_book.proofs.Taken.{taking_none, standing, taking_expected, taking_both, taking_fault, both_expected}
 use Rattle.mw_book.proofs.reading.take_piece.Goals as goal
 
 pub loop-at-init : goal.loop-at-init
@@ -50,10 +50,10 @@ returns-then-is_urgent-clause-takes g c =
     let b = taking_both c.loop-at.invariant.taking c.take_datum.new.answering c.take_datum.new.reader.parser c.in-Bytes.n taken in
     (b.0, omega (arith, b.1, c.loop-at.invariant.no_more))
 
-pub returns-then-is_urgent-clause-due : goal.returns-then-is_urgent-clause-due
-returns-then-is_urgent-clause-due g c =
-    both_due c.loop-at.invariant.taking c.take_datum.new.answering c.take_datum.new.reader.parser
-    (λ h given s. subst (λ u. AreDueFirst g.A.Answering.unwritten g.A.Answering.answered c.loop-at.answering given (AreFirst (h ++ u)) c.take_datum.new.answering) (rest_is c.loop-at.at c.args.piece.now) (c.take_datum.ensures.due h given s))
+pub returns-then-is_urgent-clause-expected : goal.returns-then-is_urgent-clause-expected
+returns-then-is_urgent-clause-expected g c =
+    both_expected c.loop-at.invariant.taking c.take_datum.new.answering c.take_datum.new.reader.parser
+    (λ h given s. subst (λ u. AreExpectedFirst g.A.Answering.unwritten g.A.Answering.answered c.loop-at.answering given (AreFirst (h ++ u)) c.take_datum.new.answering) (rest_is c.loop-at.at c.args.piece.now) (c.take_datum.ensures.expected h given s))
 
 pub returns-in-Fault-clause-takes : goal.returns-in-Fault-clause-takes
 returns-in-Fault-clause-takes g c =
@@ -62,15 +62,15 @@ returns-in-Fault-clause-takes g c =
     (subst (λ t. HasTaken g.A.Answering.objects g.A.Answering.unwritten g.A.Answering.count g.A.Answering.answered t c.loop-at.answering c.loop-at.reader.parser (take (length c.args.piece.now - c.loop-at.at) (drop c.loop-at.at c.args.piece.now)) c.take_datum.new.answering c.take_datum.new.reader.parser) c.in-Fault.is c.in_ok-n.ensures.takes) in
     taking_fault c.loop-at.invariant.taking c.take_datum.new.answering c.take_datum.new.reader.parser c.in-Fault.kind c.in-Fault.offset taken
 
-pub returns-in-Fault-clause-due : goal.returns-in-Fault-clause-due
-returns-in-Fault-clause-due g c =
-    both_due c.loop-at.invariant.taking c.take_datum.new.answering c.take_datum.new.reader.parser
-    (λ h given s. subst (λ u. AreDueFirst g.A.Answering.unwritten g.A.Answering.answered c.loop-at.answering given (AreFirst (h ++ u)) c.take_datum.new.answering) (rest_is c.loop-at.at c.args.piece.now) (c.take_datum.ensures.due h given s))
+pub returns-in-Fault-clause-expected : goal.returns-in-Fault-clause-expected
+returns-in-Fault-clause-expected g c =
+    both_expected c.loop-at.invariant.taking c.take_datum.new.answering c.take_datum.new.reader.parser
+    (λ h given s. subst (λ u. AreExpectedFirst g.A.Answering.unwritten g.A.Answering.answered c.loop-at.answering given (AreFirst (h ++ u)) c.take_datum.new.answering) (rest_is c.loop-at.at c.args.piece.now) (c.take_datum.ensures.expected h given s))
 
-pub returns-in_err-n-clause-due : goal.returns-in_err-n-clause-due
-returns-in_err-n-clause-due g c =
-    both_due c.loop-at.invariant.taking c.take_datum.new.answering c.take_datum.new.reader.parser
-    (λ h given s. subst (λ u. AreDueFirst g.A.Answering.unwritten g.A.Answering.answered c.loop-at.answering given (AreFirst (h ++ u)) c.take_datum.new.answering) (rest_is c.loop-at.at c.args.piece.now) (c.take_datum.ensures.due h given s))
+pub returns-in_err-n-clause-expected : goal.returns-in_err-n-clause-expected
+returns-in_err-n-clause-expected g c =
+    both_expected c.loop-at.invariant.taking c.take_datum.new.answering c.take_datum.new.reader.parser
+    (λ h given s. subst (λ u. AreExpectedFirst g.A.Answering.unwritten g.A.Answering.answered c.loop-at.answering given (AreFirst (h ++ u)) c.take_datum.new.answering) (rest_is c.loop-at.at c.args.piece.now) (c.take_datum.ensures.expected h given s))
 
-pub returns-after-loop-at-clause-due : goal.returns-after-loop-at-clause-due
-returns-after-loop-at-clause-due g c = taking_due c.loop-at.invariant.taking
+pub returns-after-loop-at-clause-expected : goal.returns-after-loop-at-clause-expected
+returns-after-loop-at-clause-expected g c = taking_expected c.loop-at.invariant.taking

@@ -3,7 +3,7 @@ use Rattle.std.proofs.Common.{[], ◌∙◌, subst}
 use Rattle.mw_model.specs.Events.Refusal.{RANGE}
 use Rattle.mw_theory.proofs.CallerLemmas.{OnOk-map}
 use Rattle.mw_kernel.specs.Explained.{PutsLine}
-use Rattle.mw_kernel.proofs.ExplainedEvents.{datum-why, range-shown}
+use Rattle.mw_kernel.proofs.Reasoned.{datum-why, range-shown}
 use Rattle.mw_kernel.proofs.Told.{told-theory}
 use Rattle.mw_kernel.proofs.kernel.Kernel.explained_range.Goals as goal
 

@@ -15,12 +15,12 @@ use Rattle.mw_kernel.proofs.KeptObjects.{puts-refused}
 use Rattle.mw_kernel.proofs.kernel.Kernel.happens_explained.Goals as goal
 
 pub refused_for-requires-clause-event : goal.refused_for-requires-clause-event
-refused_for-requires-clause-event c =
+refused_for-requires-clause-event g c =
     let grows = subst (λ f. KeepsObjects f c.args.self.now.objects c.happens.new.self.objects) c.in-Refused.is c.in_ok-fate.ensures.objects in
     IsIn-Grows _ _ grows _ c.requires
 
 pub refused_for-requires-clause-refused : goal.refused_for-requires-clause-refused
-refused_for-requires-clause-refused c =
+refused_for-requires-clause-refused g c =
     let old = c.args.self.now in
     let now = c.happens.new.self in
     let e = c.args.event in
@@ -31,7 +31,7 @@ refused_for-requires-clause-refused c =
     subst (λ N. fate (theory_of now) (object_at now.objects e) N ≡ Refused r) (sym c.happens.ensures.steps) (ap₂ (λ t x. fate t x old.steps) stays (object_at-Grows _ _ grows e c.requires) ∙ told)
 
 pub returns-in-Refused-clause-comes : goal.returns-in-Refused-clause-comes
-returns-in-Refused-clause-comes c =
+returns-in-Refused-clause-comes g c =
     let old = c.args.self.now in
     let new = c.refused_for.new.self in
     let came = c.in_ok-fate.ensures in
@@ -45,11 +45,11 @@ returns-in-Refused-clause-comes c =
     (IfOk-map c.refused_for.result _ _ (λ f h. h ∙ sym told) c.refused_for.ensures.fate)
 
 pub returns-in-Accepted-clause-comes : goal.returns-in-Accepted-clause-comes
-returns-in-Accepted-clause-comes c =
+returns-in-Accepted-clause-comes g c =
     subst (λ f. Comes (Ok f) c.args.self.now c.happens.new.self (happens (theory_of c.args.self.now) c.args.self.now.steps (object_at c.args.self.now.objects c.args.event))) c.in-Accepted.is c.in_ok-fate.ensures
 
 pub returns-in-Refused-clause-why : goal.returns-in-Refused-clause-why
-returns-in-Refused-clause-why c =
+returns-in-Refused-clause-why g c =
     let old = c.args.self.now in
     let now = c.happens.new.self in
     let e = c.args.event in

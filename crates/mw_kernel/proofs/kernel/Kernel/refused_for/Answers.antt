@@ -10,53 +10,53 @@ use Rattle.mw_theory.proofs.CallerLemmas.{held, grown-marked}
 use Rattle.mw_commands.specs.Commands.Explanation.{why}
 use Rattle.mw_kernel.specs.Explained.{PutsLine}
 use Rattle.mw_kernel.specs.Knowledge.{theory_of}
-use Rattle.mw_kernel.proofs.ExplainedEvents.{datum-why}
+use Rattle.mw_kernel.proofs.Reasoned.{datum-why}
 use Rattle.mw_kernel.proofs.Told.{held-by, told-theory}
 use Rattle.mw_kernel.proofs.kernel.Kernel.refused_for.Goals as goal
 
 pub parts_shown-requires-clause-held : goal.parts_shown-requires-clause-held
-parts_shown-requires-clause-held c = held _ _ _ _ c.self.invariant
+parts_shown-requires-clause-held g c = held _ _ _ _ c.self.invariant
 
 pub parts_shown-requires-clause-marked : goal.parts_shown-requires-clause-marked
-parts_shown-requires-clause-marked c = c.self.invariant.marked
+parts_shown-requires-clause-marked g c = c.self.invariant.marked
 
 pub parts_shown-requires-clause-refused : goal.parts_shown-requires-clause-refused
-parts_shown-requires-clause-refused c = subst (λ v. fate (theory_of v) (object_at v.objects c.args.event) v.steps ≡ Refused (refusal_of c.args.reason)) (sym c.self.view_is) c.requires.refused
+parts_shown-requires-clause-refused g c = subst (λ v. fate (theory_of v) (object_at v.objects c.args.event) v.steps ≡ Refused (refusal_of c.args.reason)) (sym c.self.view_is) c.requires.refused
 
 pub put_reason-requires : goal.put_reason-requires
-put_reason-requires c = subst (λ l. All (IsIn c.parts_shown.new.heap.objects) l) (sym c.as_slice.ensures.value) c.in_ok-parts.ensures.shown.0
+put_reason-requires g c = subst (λ l. All (IsIn c.parts_shown.new.heap.objects) l) (sym c.as_slice.ensures.value) c.in_ok-parts.ensures.shown.0
 
 pub invariant_of-self-in_err-put_reason : goal.invariant_of-self-in_err-put_reason
-invariant_of-self-in_err-put_reason c =
+invariant_of-self-in_err-put_reason g c =
     grown-marked _ _ _ _ c.self.invariant c.put_reason.new.heap.objects (Grows-trans _ _ _ c.parts_shown.ensures.grows c.put_reason.ensures.grows) c.parts_shown.new.marks (AreMarks-grows _ _ _ _ c.put_reason.ensures.grows c.parts_shown.ensures.marked)
 
 pub invariant_of-self-2 : goal.invariant_of-self-2
-invariant_of-self-2 c =
+invariant_of-self-2 g c =
     grown-marked _ _ _ _ c.self.invariant c.put_reason.new.heap.objects (Grows-trans _ _ _ c.parts_shown.ensures.grows c.put_reason.ensures.grows) c.parts_shown.new.marks (AreMarks-grows _ _ _ _ c.put_reason.ensures.grows c.parts_shown.ensures.marked)
 
 pub returns-in_err-parts-clause-theory : goal.returns-in_err-parts-clause-theory
-returns-in_err-parts-clause-theory c = told-theory c.self.inside.world c.self.invariant c.args.self.now c.self.view_is c.parts_shown.new.heap.objects c.parts_shown.ensures.grows
+returns-in_err-parts-clause-theory g c = told-theory c.self.inside.world c.self.invariant c.args.self.now c.self.view_is c.parts_shown.new.heap.objects c.parts_shown.ensures.grows
 
 pub returns-in_err-put_reason-clause-theory : goal.returns-in_err-put_reason-clause-theory
-returns-in_err-put_reason-clause-theory c =
+returns-in_err-put_reason-clause-theory g c =
     told-theory c.self.inside.world c.self.invariant c.args.self.now c.self.view_is c.put_reason.new.heap.objects (Grows-trans _ _ _ c.parts_shown.ensures.grows c.put_reason.ensures.grows)
 
 pub returns-clause-theory : goal.returns-clause-theory
-returns-clause-theory c =
+returns-clause-theory g c =
     told-theory c.self.inside.world c.self.invariant c.args.self.now c.self.view_is c.put_reason.new.heap.objects (Grows-trans _ _ _ c.parts_shown.ensures.grows c.put_reason.ensures.grows)
 
 pub returns-in_err-parts-clause-grows : goal.returns-in_err-parts-clause-grows
-returns-in_err-parts-clause-grows c = subst (λ v. Grows v.objects c.parts_shown.new.heap.objects) c.self.view_is c.parts_shown.ensures.grows
+returns-in_err-parts-clause-grows g c = subst (λ v. Grows v.objects c.parts_shown.new.heap.objects) c.self.view_is c.parts_shown.ensures.grows
 
 pub returns-in_err-put_reason-clause-grows : goal.returns-in_err-put_reason-clause-grows
-returns-in_err-put_reason-clause-grows c =
+returns-in_err-put_reason-clause-grows g c =
     subst (λ v. Grows v.objects c.put_reason.new.heap.objects) c.self.view_is (Grows-trans _ _ _ c.parts_shown.ensures.grows c.put_reason.ensures.grows)
 
 pub returns-clause-grows : goal.returns-clause-grows
-returns-clause-grows c = subst (λ v. Grows v.objects c.put_reason.new.heap.objects) c.self.view_is (Grows-trans _ _ _ c.parts_shown.ensures.grows c.put_reason.ensures.grows)
+returns-clause-grows g c = subst (λ v. Grows v.objects c.put_reason.new.heap.objects) c.self.view_is (Grows-trans _ _ _ c.parts_shown.ensures.grows c.put_reason.ensures.grows)
 
 pub returns-clause-why : goal.returns-clause-why
-returns-clause-why c =
+returns-clause-why g c =
     let old = c.args.self.now in
     let inside = c.self.inside in
     let mid = c.parts_shown.new.heap.objects in
