@@ -17,7 +17,7 @@ TITLE, SMALL, LINE, BOLD = 15, 12, 17, 1.1
 LEFT, MIDDLE, RIGHT = 12, 240, 590
 # Left, top, width, height, title, lines. A box that lies in another one comes after it.
 BOXES = [
-    (MIDDLE, 58, 300, 56, "Program", ["milawa  mw_book  mw_request"]),
+    (MIDDLE, 40, 300, 74, "Program", ["milawa  mw_book", "mw_answers  mw_request"]),
     (MIDDLE, 154, 300, 74, "Theory and kernel",
      ["mw_kernel  mw_theory  mw_preamble", "mw_define  mw_code  mw_machine"]),
     (MIDDLE, 268, 300, 202, "Logic", []),
@@ -49,7 +49,7 @@ DATA = [
     [(CENTRE, 510), (CENTRE, 472)],
     [(CENTRE, 268), (CENTRE, 230)],
     [(CENTRE, 154), (CENTRE, 116)],
-    [(CENTRE, 58), (CENTRE, 34)],
+    [(CENTRE, 40), (CENTRE, 16)],
     [(MIDDLE + 150, 249), (LEFT + 190, 249)],
     [(LEFT + 94, 154), (LEFT + 94, 86), (MIDDLE - 2, 86)],
     [(LEFT + 188, 643), (MIDDLE - 2, 643)],
@@ -58,7 +58,7 @@ TRUST = [[(EDGE, y), (RIGHT - 2, y)] for y in (86, 191, 369, 538, 643)]
 TRUST += [[(RIGHT + 97, 400), (RIGHT + 97, 236)]]
 # Words beside the arrows: the place where they begin.
 WORDS = [
-    (CENTRE + 10, 30, "the report"),
+    (CENTRE + 10, 26, "the report"),
     (CENTRE + 10, 139, "verdicts, the next theory"),
     (CENTRE + 10, 253, "formulas, judged proofs"),
     (CENTRE + 10, 495, "shared cells"),

@@ -3,10 +3,10 @@ use Rattle.std.proofs.Common.{◌≡◌, ℕ, Bool, nat_lt, List, ◌++◌, Opti
 use Rattle.mw_model.specs.Terms.Object.{Object}
 use Rattle.mw_model.specs.Texts.Lexemes.{Fault}
 use Rattle.mw_model.specs.Reports.Request.{Request}
-use Rattle.mw_book.specs.Answering.{AnsweredBy}
-use Rattle.mw_book.specs.Writing.{Writes}
-use Rattle.mw_book.specs.Statuses.{AreAnswers}
-use Rattle.mw_book.specs.LastTexts.{IsLastText, refused_for}
+use Rattle.mw_answers.specs.Answering.{AnsweredBy}
+use Rattle.mw_answers.specs.Writing.{Writes}
+use Rattle.mw_answers.specs.Statuses.{AreAnswers}
+use Rattle.mw_answers.specs.LastTexts.{IsLastText, refused_for}
 
 module _ {P : Type 0} (make : P → Request) where
   -- from one state to another

@@ -1,10 +1,10 @@
 -- What one event more adds: its line, its count, and its theory.
-use Rattle.std.proofs.Common.{◌≡◌, ℕ, suc, ◌+◌, cond, List, [], ◌∷◌, ◌++◌, length, refl, sym, ap, ◌∙◌, arith, append_assoc, add-zero, zero-add, add_assoc}
+use Rattle.std.proofs.Common.{◌≡◌, ℕ, suc, ◌+◌, List, [], ◌∷◌, ◌++◌, length, refl, sym, ap, ◌∙◌, arith, append_assoc, add-zero}
 use Rattle.std.proofs.lemmas.List.{append-nil}
 use Rattle.mw_model.specs.Terms.Object.{Object}
 use Rattle.mw_model.specs.Events.Theory.{Theory}
 use Rattle.mw_model.specs.Events.Fate.{fate, next, after}
-use Rattle.mw_model.specs.Reports.Report.{line, lines, is_accepted, refused_among}
+use Rattle.mw_model.specs.Reports.Report.{line, lines}
 
 pub after-append : (t : Theory) (es : List Object) (e : Object) (N : ℕ) → after t (es ++ e ∷ []) N ≡ next (after t es N) e N
 after-append t [] e N = refl

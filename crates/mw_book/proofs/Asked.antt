@@ -5,9 +5,8 @@ use Rattle.mw_request.specs.Commands.{asked, help_text}
 use Rattle.mw_model.specs.Reports.Trial.{trial_book}
 use Rattle.mw_model.specs.Texts.Grammar.{trees}
 use Rattle.mw_model.specs.Reports.Report.{last_line}
-use Rattle.mw_book.specs.Statuses.{IsPartOf, WritesFirst}
-use Rattle.mw_book.proofs.Written.{nothing_taken, takes_none}
-use Rattle.mw_book.proofs.Rounds.{Begins, part_none, first_none}
+use Rattle.mw_answers.specs.Statuses.{IsPartOf, WritesFirst}
+use Rattle.mw_answers.proofs.CallerLemmas.{nothing_taken, takes_none, Begins, part_none, first_none}
 
 none_of : Begins → (q : Request) (input sink : Option (List ℕ)) → IsPartOf q input sink sink
 none_of begins (Check N) input sink = part_none begins (Check N) refl input sink

@@ -7,10 +7,9 @@ use Rattle.mw_commands.specs.Commands.TautologyBook.{OwesTautology, is_proved, t
 use Rattle.mw_heap.specs.Contents.{Contents}
 use Rattle.mw_taut.specs.Counts.{formulas_line}
 use Rattle.mw_book.specs.Answered.{Answered, IsProving, ProvedFor}
-use Rattle.mw_book.specs.Writing.{Puts}
+use Rattle.mw_answers.specs.Writing.{Puts}
 use Rattle.mw_book.specs.declared.taut.Proving.{Proving}
-use Rattle.mw_book.proofs.Pieces.{how_many-append}
-use Rattle.mw_book.proofs.Promising.{answers_both}
+use Rattle.mw_answers.proofs.CallerLemmas.{how_many-append, answers_both}
 use Rattle.mw_book.proofs.Proved.{proved_by}
 
 abbrev pub is_unproved : Object → Bool

@@ -5,11 +5,11 @@ use Rattle.mw_model.specs.Reports.Report.{Status}
 use Rattle.mw_commands.specs.Headlines.{Promised}
 use Rattle.mw_request.specs.Commands.{help_text}
 use Rattle.mw_port.specs.Ports.{Rises}
-use Rattle.mw_book.specs.Statuses.{Keeps}
+use Rattle.mw_answers.specs.Statuses.{Keeps}
 use Rattle.mw_book.specs.Runs.{Fulfils}
 use Rattle.mw_book.specs.Complete.{IsExpected}
-use Rattle.mw_book.specs.declared.status.Status.{Status as Ending}
-use Rattle.mw_book.specs.declared.status.Status.TheVariants as ending
+use Rattle.mw_answers.specs.declared.status.Status.{Status as Ending}
+use Rattle.mw_answers.specs.declared.status.Status.TheVariants as ending
 
 module _ (q : Request) where
   -- what is kept where the source and the sink tell their bytes

@@ -1,5 +1,5 @@
 -- One event more of an explained book.
-use Rattle.std.proofs.Common.{◌≡◌, ℕ, true, List, [], ◌∷◌, ◌++◌, codes, refl, sym, ap, ◌∙◌, subst, append_assoc}
+use Rattle.std.proofs.Common.{◌≡◌, ℕ, true, List, [], ◌++◌, codes, refl, sym, ap, ◌∙◌, subst, append_assoc}
 use Rattle.mw_model.specs.Terms.Object.{Object}
 use Rattle.mw_model.specs.Reports.Request.{Explain}
 use Rattle.mw_model.specs.Events.Refusal.{RANGE, Fate, Accepted, Refused}
@@ -10,10 +10,10 @@ use Rattle.mw_commands.specs.Commands.ExplanationBook.{OwesExplained, OwesWhy}
 use Rattle.mw_kernel.specs.Knowledge.{Knowledge, theory_of}
 use Rattle.mw_kernel.specs.Explained.{PutsWhy}
 use Rattle.mw_book.specs.Lines.{line_begun}
-use Rattle.mw_book.specs.Effects.{plain}
+use Rattle.mw_answers.specs.Effects.{plain}
 use Rattle.mw_book.specs.Judged.{Tells}
 use Rattle.mw_book.specs.Pieces.{explained_piece}
-use Rattle.mw_book.proofs.Courses.{event_after}
+use Rattle.mw_answers.proofs.CallerLemmas.{event_after}
 use Rattle.mw_book.proofs.OneEvent.{pieces_more, refused_text, tells_plain}
 use Rattle.mw_book.proofs.Showing.{fate-large, next-large}
 

@@ -15,15 +15,13 @@ use Rattle.mw_commands.specs.Commands.Slice.{begins_with, some_passes}
 use Rattle.mw_commands.specs.Commands.Flattening.{OwesFlat, flat_events, flat_summary, is_logged_word, is_switch, plain_course}
 use Rattle.mw_kernel.specs.Knowledge.{Knowledge, theory_of}
 use Rattle.mw_book.specs.Lines.{flat_line}
-use Rattle.mw_book.specs.Answering.{HasAnswered}
-use Rattle.mw_book.specs.Writing.{Puts}
+use Rattle.mw_answers.specs.Answering.{HasAnswered}
+use Rattle.mw_answers.specs.Writing.{Puts}
 use Rattle.mw_book.specs.Flattened.{Flattened, FlattenedFor, HasEndedEvent, has_no_place, is_known_logged}
 use Rattle.mw_book.specs.declared.flat.Flattening.{Flattening}
 use Rattle.mw_book.proofs.AnsweredBy.{writes_by}
-use Rattle.mw_book.specs.Effects.{plain}
-use Rattle.mw_book.proofs.Courses.{event_after, course_more, last-append, length-course}
-use Rattle.mw_book.proofs.FlatPieces.{few_flat, flat_more, flat_one, some_more}
-use Rattle.mw_book.proofs.Pieces.{in_order_both, how_many-append}
+use Rattle.mw_answers.specs.Effects.{plain}
+use Rattle.mw_answers.proofs.CallerLemmas.{event_after, course_more, last-append, length-course, few_flat, flat_more, flat_one, some_more, in_order_both, how_many-append}
 use Rattle.mw_book.proofs.Showing.{fate-large, next-large}
 
 length_one : (b : Bool) (y : Object) → length (cond b (y ∷ []) []) ≡ cond b 1 0

@@ -2,13 +2,13 @@
 use Rattle.std.proofs.Common.{◌≡◌, ◌≢◌, ◌⊎◌, ◌∙◌, ℕ, Bool, true, false, List, [], Option, IfSome, inl, inr, refl, sym, ap, subst, true≢false}
 use Rattle.mw_model.specs.Reports.Request.{Request, Trial, Help, Usage}
 use Rattle.mw_port.specs.Ports.{HasEnded}
-use Rattle.mw_book.specs.Statuses.{report_status, reads_book, Keeps, IsPartOf}
-use Rattle.mw_book.specs.Checks.{BookEnds, TrialEnds, LastReported, SourceCounts, SinkCounts, SinkShortages, IsHalt}
+use Rattle.mw_answers.specs.Statuses.{report_status, reads_book, Keeps, IsPartOf}
+use Rattle.mw_answers.specs.Checks.{BookEnds, TrialEnds, LastReported, SourceCounts, SinkCounts, SinkShortages, IsHalt}
 use Rattle.mw_book.specs.Runs.{Fulfils, HelpEnds}
 use Rattle.mw_model.specs.Reports.Report.{Status}
-use Rattle.mw_book.specs.declared.status.Status.{Status as Ending}
-use Rattle.mw_book.specs.declared.status.Status.TheVariants as ending
-use Rattle.mw_book.proofs.Written.{gives_none, left_of, gives_has}
+use Rattle.mw_answers.specs.declared.status.Status.{Status as Ending}
+use Rattle.mw_answers.specs.declared.status.Status.TheVariants as ending
+use Rattle.mw_answers.proofs.CallerLemmas.{gives_none, left_of, gives_has}
 
 pub book_kept : (q : Request) (e : Ending) (input now first after : Option (List ℕ)) (m n : ℕ) → BookEnds e q input now first after m n → IfSome (report_status e) (Keeps q input first after)
 book_kept q ending.Done input now first after m n h = h.1

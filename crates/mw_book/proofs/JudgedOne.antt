@@ -1,5 +1,5 @@
 -- What judging one event more makes of where a command stands that judges a book, and the last line of the book.
-use Rattle.std.proofs.Common.{◌≡◌, ℕ, ◌+◌, ◌≤◌, cond, List, [], ◌∷◌, ◌++◌, length, Some, None, sym, ap, ◌∙◌, subst, arith}
+use Rattle.std.proofs.Common.{◌≡◌, ℕ, ◌+◌, ◌≤◌, cond, List, [], ◌∷◌, ◌++◌, Some, None, sym, ap, ◌∙◌, subst, arith}
 use Rattle.std.proofs.lemmas.List.{length_push}
 use Rattle.mw_model.specs.Terms.Object.{Object}
 use Rattle.mw_model.specs.Events.Refusal.{Fate}
@@ -10,11 +10,11 @@ use Rattle.mw_commands.specs.Commands.Lowering.{course_summary, refused_in}
 use Rattle.mw_kernel.specs.Knowledge.{Knowledge, theory_of}
 use Rattle.mw_read.specs.Kinds.{kind_of}
 use Rattle.mw_read.specs.declared.step.SyntaxKind.{SyntaxKind}
-use Rattle.mw_book.specs.Answering.{HasAnswered, fault_of}
+use Rattle.mw_answers.specs.Answering.{HasAnswered, fault_of}
 use Rattle.mw_book.specs.Judged.{Judged, JudgedFor, Tells, Told}
-use Rattle.mw_book.specs.LastTexts.{IsLastText, refused_for}
+use Rattle.mw_answers.specs.LastTexts.{IsLastText, refused_for}
 use Rattle.mw_book.specs.Lines.{fault_line, summary_of}
-use Rattle.mw_book.specs.Writing.{Puts}
+use Rattle.mw_answers.specs.Writing.{Puts}
 use Rattle.mw_book.specs.declared.tally.Tally.{Tally}
 use Rattle.mw_book.proofs.AnsweredBy.{last_by, refused_by, writes_by}
 use Rattle.mw_book.proofs.OneEvent.{course_summary_is, refused_few, refused_more, theory_more}

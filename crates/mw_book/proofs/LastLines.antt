@@ -10,8 +10,8 @@ use Rattle.mw_read.specs.declared.step.SyntaxKind.{SyntaxKind}
 use Rattle.mw_taut.specs.Counts.{formulas_line}
 use Rattle.mw_book.specs.Lines.{answers_line, fault_line, flat_line}
 use Rattle.mw_book.specs.Answered.{Answered, IsProving, ProvedFor}
-use Rattle.mw_book.specs.Answering.{fault_of}
-use Rattle.mw_book.specs.LastTexts.{IsLastText, refused_for}
+use Rattle.mw_answers.specs.Answering.{fault_of}
+use Rattle.mw_answers.specs.LastTexts.{IsLastText, refused_for}
 use Rattle.mw_book.specs.Flattened.{Flattened, FlattenedFor}
 use Rattle.mw_book.specs.Rechecked.{Rechecked, RecheckedFor}
 use Rattle.mw_book.specs.declared.flat.Flattening.{Flattening}

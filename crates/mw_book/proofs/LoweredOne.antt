@@ -1,5 +1,5 @@
 -- One event more of a lowered book.
-use Rattle.std.proofs.Common.{◌≡◌, ℕ, ◌+◌, ◌≤◌, true, false, not, cond, List, [], ◌∷◌, ◌++◌, Some, codes, refl, sym, ap, ◌∙◌, subst, arith}
+use Rattle.std.proofs.Common.{◌≡◌, ℕ, ◌+◌, true, false, not, List, [], ◌∷◌, ◌++◌, Some, codes, refl, sym, ap, ◌∙◌, subst}
 use Rattle.mw_model.specs.Terms.Object.{Object, Member}
 use Rattle.mw_model.specs.Terms.Term.{formula_object}
 use Rattle.mw_model.specs.Proofs.Axioms.{axiom_1, axiom_2}
@@ -18,10 +18,10 @@ use Rattle.mw_commands.specs.Commands.Transition.{Transition, last_theory}
 use Rattle.mw_commands.specs.Commands.Lowering.{IsLoweredBy, OwesByFate, OwesLowered, derived_course}
 use Rattle.mw_kernel.specs.Knowledge.{Knowledge, theory_of}
 use Rattle.mw_book.specs.Lines.{line_begun}
-use Rattle.mw_book.specs.Effects.{derived}
+use Rattle.mw_answers.specs.Effects.{derived}
 use Rattle.mw_book.specs.Judged.{Tells, Told}
 use Rattle.mw_book.specs.Pieces.{lowered_piece}
-use Rattle.mw_book.proofs.Courses.{event_after}
+use Rattle.mw_answers.proofs.CallerLemmas.{event_after}
 use Rattle.mw_book.proofs.OneEvent.{pieces_more, refused_text}
 
 piece_owed : (f : Fate) (s : Transition) (datum begun : List ℕ) (lowered : Object) →

@@ -13,12 +13,11 @@ use Rattle.mw_commands.specs.Commands.Transition.{Transition, Effect, course, la
 use Rattle.mw_commands.specs.Commands.Lowering.{refused_in, course_summary}
 use Rattle.mw_kernel.specs.Knowledge.{Knowledge, theory_of}
 use Rattle.mw_book.specs.Lines.{line_begun, summary_of}
-use Rattle.mw_book.specs.Statuses.{AreAnswers}
-use Rattle.mw_book.specs.Effects.{plain}
+use Rattle.mw_answers.specs.Statuses.{AreAnswers}
+use Rattle.mw_answers.specs.Effects.{plain}
 use Rattle.mw_book.specs.Judged.{Tells}
-use Rattle.mw_book.proofs.Courses.{event_after, course_more, last-append, length-course}
+use Rattle.mw_answers.proofs.CallerLemmas.{event_after, course_more, last-append, length-course, in_order_both, how_many-append}
 use Rattle.mw_book.proofs.OneMore.{line-parts}
-use Rattle.mw_book.proofs.Pieces.{in_order_both, how_many-append}
 
 turned : (b : Bool) → ◌≡◌ {A = ℕ} (cond b 0 1) (cond (not b) 1 0)
 turned true = refl

@@ -13,9 +13,9 @@ use Rattle.mw_heap.proofs.Objects.{length-Grows, IsIn-Grows, object_at-Grows}
 use Rattle.mw_term.proofs.CallerLemmas.{AreMarks-take, AreMarks-cut}
 use Rattle.mw_term.specs.Marking.{ObjectMark, AreMarks}
 use Rattle.mw_book.specs.Answered.{Answered, IsProving, ProvedFor, ShowsWord}
-use Rattle.mw_book.specs.Answering.{HasAnswered}
-use Rattle.mw_book.specs.Statuses.{AreAnswers}
-use Rattle.mw_book.specs.Writing.{Puts}
+use Rattle.mw_answers.specs.Answering.{HasAnswered}
+use Rattle.mw_answers.specs.Statuses.{AreAnswers}
+use Rattle.mw_answers.specs.Writing.{Puts}
 use Rattle.mw_book.proofs.AnsweredBy.{writes_by}
 use Rattle.mw_book.specs.declared.taut.Proving.{Proving}
 

@@ -16,14 +16,13 @@ use Rattle.mw_flat.specs.Going.{Going, theory_of, HasCollected, IsNoted, IsAnswe
 use Rattle.mw_flat.specs.Verdicts.{answer_of}
 use Rattle.mw_flat.specs.declared.verdict.Verdict.{Verdict}
 use Rattle.mw_book.specs.Lines.{answers_line, line_begun}
-use Rattle.mw_book.specs.Answering.{HasAnswered}
-use Rattle.mw_book.specs.Writing.{Puts}
+use Rattle.mw_answers.specs.Answering.{HasAnswered}
+use Rattle.mw_answers.specs.Writing.{Puts}
 use Rattle.mw_book.specs.Rechecked.{HasCounted, Rechecked, RecheckedFor, denied_said, events_said, said_text}
 use Rattle.mw_book.specs.declared.recheck.Rechecking.{Rechecking}
 use Rattle.mw_book.proofs.AnsweredBy.{writes_by}
-use Rattle.mw_book.proofs.Logs.{all_answered, event_more, few_entered, last_entered, log_lines-append, step_more, theory_after-last, with_last_event, with_last_step}
+use Rattle.mw_answers.proofs.CallerLemmas.{all_answered, event_more, few_entered, last_entered, log_lines-append, step_more, theory_after-last, with_last_event, with_last_step, how_many-append}
 use Rattle.mw_book.proofs.OneMore.{joined, two_parts}
-use Rattle.mw_book.proofs.Pieces.{how_many-append}
 
 -- ---- what is headed by STEP is a step
 

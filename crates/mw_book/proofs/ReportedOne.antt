@@ -12,10 +12,10 @@ use Rattle.mw_commands.specs.Commands.Transition.{course, course_from, is_accept
 use Rattle.mw_commands.specs.Commands.Lowering.{course_summary, refused_in}
 use Rattle.mw_kernel.specs.Knowledge.{Knowledge, theory_of}
 use Rattle.mw_book.specs.Lines.{line_begun}
-use Rattle.mw_book.specs.Effects.{plain, refused_as_reported}
+use Rattle.mw_answers.specs.Effects.{plain, refused_as_reported}
 use Rattle.mw_book.specs.Judged.{Tells}
 use Rattle.mw_book.proofs.Appending.{lines-append}
-use Rattle.mw_book.proofs.Courses.{course_leads, event_after, length-course}
+use Rattle.mw_answers.proofs.CallerLemmas.{course_leads, length-course}
 use Rattle.mw_book.proofs.OneEvent.{same_text, tells_plain}
 use Rattle.mw_book.proofs.OneMore.{line-parts}
 use Rattle.mw_book.proofs.Showing.{fate-large, next-large}

@@ -2,9 +2,9 @@
 use Rattle.std.proofs.Common.{◌≡◌, ℕ, List, ◌++◌, sym, ap, ◌∙◌, subst, append_assoc}
 use Rattle.mw_model.specs.Terms.Object.{Object}
 use Rattle.mw_model.specs.Reports.Request.{Request}
-use Rattle.mw_book.specs.Answering.{Answers}
-use Rattle.mw_book.specs.Statuses.{AreAnswers}
-use Rattle.mw_book.specs.Writing.{Writes}
+use Rattle.mw_answers.specs.Answering.{Answers}
+use Rattle.mw_answers.specs.Statuses.{AreAnswers}
+use Rattle.mw_answers.specs.Writing.{Writes}
 
 -- The piece of a datum was put after the lines; state is what was answered of a session.
 pub answers_with : {A B : Type 0} (lines : A → List ℕ) (state : A → B) (answered : B → Request → List Object → Type 0) (old new : A) (given more : List Object) (piece : List ℕ) →

@@ -13,13 +13,13 @@ use Rattle.mw_commands.specs.Commands.Transition.{Transition, course, last_theor
 use Rattle.mw_commands.specs.Commands.Slicing.{accepted_events}
 use Rattle.mw_kernel.specs.Knowledge.{Knowledge, theory_of}
 use Rattle.mw_slice.specs.Slices.{events_of}
-use Rattle.mw_book.specs.Writing.{Puts}
+use Rattle.mw_answers.specs.Writing.{Puts}
 use Rattle.mw_book.specs.Sliced.{Sliced, SlicedFor, name_asked}
 use Rattle.mw_book.specs.declared.slice.Slicing.{Slicing}
 use Rattle.mw_book.proofs.AnsweredBy.{writes_by}
 use Rattle.mw_book.proofs.Appending.{after-append}
-use Rattle.mw_book.specs.Effects.{plain}
-use Rattle.mw_book.proofs.Courses.{course-append, course_leads}
+use Rattle.mw_answers.specs.Effects.{plain}
+use Rattle.mw_answers.proofs.CallerLemmas.{course-append, course_leads}
 use Rattle.mw_book.proofs.Showing.{fate-large, next-large}
 
 -- ---- the events that are accepted

@@ -17,8 +17,8 @@ use Rattle.mw_read.specs.declared.step.SyntaxKind.{SyntaxKind}
 use Rattle.mw_kernel.specs.Knowledge.{Knowledge}
 use Rattle.mw_slice.specs.Slices.{events_of}
 use Rattle.mw_book.specs.Lines.{fault_line}
-use Rattle.mw_book.specs.Answering.{fault_of}
-use Rattle.mw_book.specs.LastTexts.{IsLastText, refused_for}
+use Rattle.mw_answers.specs.Answering.{fault_of}
+use Rattle.mw_answers.specs.LastTexts.{IsLastText, refused_for}
 use Rattle.mw_book.specs.Sliced.{SlicedFor, name_asked}
 use Rattle.mw_book.specs.declared.slice.Slicing.{Slicing}
 use Rattle.mw_book.proofs.AnsweredBy.{last_by, refused_by}

@@ -8,15 +8,14 @@ use Rattle.mw_port.specs.Ports.{Rises, Takes}
 use Rattle.mw_read.specs.Kinds.{kind_of}
 use Rattle.mw_read.specs.declared.step.SyntaxKind.{SyntaxKind}
 use Rattle.mw_reflect.specs.Laws.{EventsKeep}
-use Rattle.mw_book.specs.Statuses.{Has, TakesSome}
+use Rattle.mw_answers.specs.Statuses.{Has, TakesSome}
 use Rattle.mw_model.specs.Terms.Object.{Object}
 use Rattle.mw_model.specs.Reports.Request.{Request, Check}
-use Rattle.mw_book.specs.Answering.{fault_of, ReadWhole}
-use Rattle.mw_book.specs.Checks.{TrialEnds, LastReported, SourceCounts, SinkCounts, ConcludesWith, IsStop}
-use Rattle.mw_book.specs.declared.status.Status.{Status as Ending}
-use Rattle.mw_book.specs.declared.status.Status.TheVariants as ending
-use Rattle.mw_book.proofs.Headlines.{same_some}
-use Rattle.mw_book.proofs.Written.{some_then, takes_some}
+use Rattle.mw_answers.specs.Answering.{fault_of, ReadWhole}
+use Rattle.mw_answers.specs.Checks.{TrialEnds, LastReported, SourceCounts, SinkCounts, ConcludesWith, IsStop}
+use Rattle.mw_answers.specs.declared.status.Status.{Status as Ending}
+use Rattle.mw_answers.specs.declared.status.Status.TheVariants as ending
+use Rattle.mw_answers.proofs.CallerLemmas.{same_some, some_then, takes_some}
 
 -- what never fails counts no fault
 never_rises : (old new : ℕ) → old ≡ no_faults → new ≡ no_faults → Rises old new → ⊥

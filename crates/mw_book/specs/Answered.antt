@@ -12,7 +12,7 @@ use Rattle.mw_heap.specs.Objects.{Grows}
 use Rattle.mw_heap.proofs.Objects.{length-Grows}
 use Rattle.mw_term.proofs.CallerLemmas.{AreMarks-grows}
 use Rattle.mw_term.specs.Marking.{AreMarks}
-use Rattle.mw_book.specs.Answering.{AnsweredBy}
+use Rattle.mw_answers.specs.Answering.{AnsweredBy}
 use Rattle.mw_book.specs.declared.taut.Proving.{Proving}
 
 -- the reference is shown as the first member of the datum

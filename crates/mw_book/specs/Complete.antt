@@ -7,8 +7,8 @@ use Rattle.mw_request.specs.Commands.{asked, help_text}
 use Rattle.mw_port.specs.Ports.{Rises}
 use Rattle.mw_read.specs.Kinds.{kind_of}
 use Rattle.mw_book.specs.Runs.{Fulfils}
-use Rattle.mw_book.specs.declared.status.Status.{Status as Ending}
-use Rattle.mw_book.specs.declared.status.Status.TheVariants as ending
+use Rattle.mw_answers.specs.declared.status.Status.{Status as Ending}
+use Rattle.mw_answers.specs.declared.status.Status.TheVariants as ending
 
 -- the expected text with this ending: what the request promises for the book, with that status, or the help text
 abbrev pub IsExpected : Ending → Request → (book text : List ℕ) → Type 0

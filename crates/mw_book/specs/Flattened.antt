@@ -8,7 +8,7 @@ use Rattle.mw_commands.specs.Commands.Transition.{Transition, last_theory, is_ac
 use Rattle.mw_commands.specs.Commands.Slice.{some_passes}
 use Rattle.mw_commands.specs.Commands.Flattening.{flat_events, is_switch, plain_course}
 use Rattle.mw_kernel.specs.Knowledge.{Knowledge, theory_of}
-use Rattle.mw_book.specs.Answering.{AnsweredBy}
+use Rattle.mw_answers.specs.Answering.{AnsweredBy}
 use Rattle.mw_book.specs.Keeping.{KeepsTheory}
 use Rattle.mw_book.specs.declared.flat.Flattening.{Flattening}
 

@@ -7,9 +7,9 @@ use Rattle.mw_model.specs.Reports.Request.{Request}
 use Rattle.mw_commands.specs.Commands.Transition.{Effect, course, last_theory}
 use Rattle.mw_commands.specs.Commands.Lowering.{refused_in}
 use Rattle.mw_kernel.specs.Knowledge.{Knowledge, theory_of}
-use Rattle.mw_book.specs.Answering.{AnsweredBy}
+use Rattle.mw_answers.specs.Answering.{AnsweredBy}
 use Rattle.mw_book.specs.Keeping.{KeepsTheory}
-use Rattle.mw_book.specs.Statuses.{AreAnswers}
+use Rattle.mw_answers.specs.Statuses.{AreAnswers}
 use Rattle.mw_book.specs.declared.tally.Tally.{Tally}
 
 -- These data were judged: the kernel has the theory that they lead to, and the numbers count them.

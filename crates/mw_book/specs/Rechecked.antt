@@ -6,7 +6,7 @@ use Rattle.mw_commands.specs.Commands.Log.{Answer, Yes, No}
 use Rattle.mw_commands.specs.Commands.LogReport.{answer_text, denied, last_logged, log_of}
 use Rattle.std.proofs.Common.{◌∙◌}
 use Rattle.mw_flat.specs.Going.{Going, HasCollected, theory_of}
-use Rattle.mw_book.specs.Answering.{AnsweredBy}
+use Rattle.mw_answers.specs.Answering.{AnsweredBy}
 use Rattle.mw_book.specs.Keeping.{KeepsSteps}
 use Rattle.mw_book.specs.declared.recheck.Rechecking.{Rechecking}
 

@@ -3,10 +3,10 @@ use Rattle.std.specs.Prelude.{◌≡◌, ◌≢◌, ◌⊎◌, ℕ, true, false,
 use Rattle.mw_model.specs.Reports.Request.{Request, Help, Usage}
 use Rattle.mw_request.specs.Commands.{help_text}
 use Rattle.mw_port.specs.Ports.{Rises, Takes, HasEnded}
-use Rattle.mw_book.specs.Statuses.{TakesSome, report_status, reads_book, Keeps, IsPartOf, WritesFirst, WritesSoFar}
-use Rattle.mw_book.specs.Checks.{IsHalt, SinkCounts, SinkShortages}
-use Rattle.mw_book.specs.declared.status.Status.{Status as Ending}
-use Rattle.mw_book.specs.declared.status.Status.TheVariants as ending
+use Rattle.mw_answers.specs.Statuses.{TakesSome, report_status, reads_book, Keeps, IsPartOf, WritesFirst, WritesSoFar}
+use Rattle.mw_answers.specs.Checks.{IsHalt, SinkCounts, SinkShortages}
+use Rattle.mw_answers.specs.declared.status.Status.{Status as Ending}
+use Rattle.mw_answers.specs.declared.status.Status.TheVariants as ending
 
 -- The clauses of a run, of its request: of what the source had left, of what the sink had taken, of what both counted of faults, and the sink of
 -- shortages, before and afterwards.

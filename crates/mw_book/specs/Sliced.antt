@@ -9,7 +9,7 @@ use Rattle.mw_commands.specs.Commands.Slicing.{accepted_events}
 use Rattle.std.proofs.Common.{◌∙◌}
 use Rattle.mw_kernel.specs.Knowledge.{Knowledge, theory_of}
 use Rattle.mw_slice.specs.Slices.{events_of}
-use Rattle.mw_book.specs.Answering.{AnsweredBy}
+use Rattle.mw_answers.specs.Answering.{AnsweredBy}
 use Rattle.mw_book.specs.Keeping.{KeepsTheory}
 use Rattle.mw_book.specs.declared.slice.Slicing.{Slicing}
 

@@ -1,17 +1,16 @@
 //! The commands that judge a book, and what they tell of an event.
-ghost use Rattle.std.specs.Prelude.{◌≡◌, ◌∷◌, [], ℕ, Some};
+ghost use Rattle.std.specs.Prelude.{◌≡◌, [], ℕ, Some};
 ghost use Rattle.mw_model.specs.Reports.Request.{Check};
 ghost use Rattle.mw_model.specs.Reports.Trial.{trial_book};
 ghost use Rattle.mw_port.specs.Memories.{no_faults};
-ghost use Rattle.mw_book.specs.Effects.{plain, refused_as_reported};
-ghost use Rattle.mw_book.specs.Checks.{BookEnds, TrialEnds, SourceCounts, SinkCounts};
+ghost use Rattle.mw_answers.specs.Effects.{plain, refused_as_reported};
+ghost use Rattle.mw_answers.specs.Checks.{BookEnds, TrialEnds, SourceCounts, SinkCounts};
 
-use crate::Status;
-use crate::book::{conclude, read_all};
 use crate::judging::{Judging, Telling};
 use crate::line::write_line;
 use crate::nowhere::Nowhere;
 use crate::session::{Session, answer_by};
+use mw_answers::{Status, conclude, read_all};
 use mw_heap::{Memory, Ref, Refusal};
 use mw_kernel::{Fate, Kernel};
 use mw_port::{Sink, Source};

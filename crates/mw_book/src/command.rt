@@ -4,20 +4,18 @@ ghost use Rattle.mw_model.specs.Reports.Request.{Help, Usage};
 ghost use Rattle.mw_request.specs.Commands.{asked, help_text};
 ghost use Rattle.mw_request.specs.Words.{meaning_of};
 ghost use Rattle.mw_port.specs.Ports.{Rises, Takes, HasEnded};
-ghost use Rattle.mw_book.specs.Statuses.{TakesSome, report_status, reads_book, Keeps, WritesSoFar, IsPartOf, WritesFirst};
-ghost use Rattle.mw_book.specs.Checks.{TrialEnds, SinkCounts, SinkShortages, IsHalt};
+ghost use Rattle.mw_answers.specs.Statuses.{TakesSome, report_status, reads_book, Keeps, WritesSoFar, IsPartOf, WritesFirst};
+ghost use Rattle.mw_answers.specs.Checks.{TrialEnds, SinkCounts, SinkShortages, IsHalt};
 ghost use Rattle.mw_book.specs.Runs.{Fulfils, HelpEnds};
 
-use crate::Status;
 use crate::check::{check, trial};
 use crate::explain::explain;
 use crate::flat::flat;
 use crate::lower::lower;
-use crate::output::{status_of, write_all};
-use crate::promise::answers_promised;
 use crate::recheck::recheck;
 use crate::slice::slice;
 use crate::taut::taut;
+use mw_answers::{Status, answers_promised, status_of, write_all};
 use mw_port::{Sink, Source, Text, TrialSource};
 use mw_request::{Request, request_of};
 use std::alloc::Global;
@@ -117,5 +115,8 @@ fn write_help<K: Sink>(sink: &mut K) -> Result<(), Status>
     ensures sink_counts { IfErr result (λ s. SinkCounts s (K.faults sink.old) (K.faults sink.new)) }
     ensures short { IfErr result (λ s. SinkShortages s (K.shortages sink.old) (K.shortages sink.new)) }
 {
-    write_all(sink, HELP).map_err(status_of)
+    match write_all(sink, HELP) {
+        Ok(()) => Ok(()),
+        Err(halt) => Err(status_of(halt)),
+    }
 }

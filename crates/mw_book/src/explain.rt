@@ -1,15 +1,15 @@
 //! The command that says why events are refused, and what it tells of an event.
-ghost use Rattle.std.specs.Prelude.{◌≡◌, [], ◌∷◌, ◌++◌, codes, OnOk};
+ghost use Rattle.std.specs.Prelude.{◌≡◌, [], codes, OnOk};
 ghost use Rattle.mw_model.specs.Reports.Request.{Explain};
 ghost use Rattle.mw_kernel.specs.Fates.{fate_of};
-ghost use Rattle.mw_book.specs.Effects.{plain, refused_in_plain};
+ghost use Rattle.mw_answers.specs.Effects.{plain, refused_in_plain};
 ghost use Rattle.mw_book.specs.Pieces.{explained_piece};
-ghost use Rattle.mw_book.specs.Checks.{BookEnds, SourceCounts, SinkCounts};
+ghost use Rattle.mw_answers.specs.Checks.{BookEnds, SourceCounts, SinkCounts};
 
-use crate::Status;
 use crate::judging::{Judging, Telling};
 use crate::line::write_line;
 use crate::session::answer_by;
+use mw_answers::Status;
 use mw_explain_events::EventParts;
 use mw_heap::{Memory, Ref, Refusal};
 use mw_kernel::{Fate, Kernel};

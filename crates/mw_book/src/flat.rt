@@ -6,12 +6,12 @@ ghost use Rattle.mw_model.specs.Reports.Report.{is_accepted};
 ghost use Rattle.mw_heap.specs.Objects.{object_at, IsIn};
 ghost use Rattle.mw_kernel.specs.Fates.{fate_of};
 ghost use Rattle.mw_book.specs.Lines.{flat_line};
-ghost use Rattle.mw_book.specs.Writing.{Puts};
+ghost use Rattle.mw_answers.specs.Writing.{Puts};
 ghost use Rattle.mw_book.specs.Flattened.{FlattenedFor, HasEndedEvent, flattened_still};
-ghost use Rattle.mw_book.specs.Checks.{BookEnds, SourceCounts, SinkCounts};
+ghost use Rattle.mw_answers.specs.Checks.{BookEnds, SourceCounts, SinkCounts};
 
-use crate::Status;
 use crate::session::{Command, answer_by};
+use mw_answers::Status;
 use mw_flat::write_flat;
 use mw_heap::{Memory, Ref, Word};
 use mw_kernel::{Fate, Kernel};

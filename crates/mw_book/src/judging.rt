@@ -1,5 +1,5 @@
 //! The commands that judge a book event by event.
-ghost use Rattle.std.specs.Prelude.{◌≡◌, ℕ, ◌+◌, ◌<◌, ◌^◌, true, false, List, [], ◌∷◌, ◌++◌, None, Some, IfOk, OnOk};
+ghost use Rattle.std.specs.Prelude.{◌≡◌, ℕ, ◌+◌, ◌<◌, true, false, List, [], ◌∷◌, ◌++◌, None, Some, IfOk, OnOk};
 ghost use Rattle.mw_model.specs.Terms.Object.{Object};
 ghost use Rattle.mw_model.specs.Events.Refusal.{RANGE, Refused};
 ghost use Rattle.mw_model.specs.Events.Fate.{is_out_of_range};
@@ -11,8 +11,8 @@ ghost use Rattle.mw_read.specs.Kinds.{kind_of};
 ghost use Rattle.mw_read.specs.Shown.{ShowsEvent};
 ghost use Rattle.mw_read.specs.declared.step.SyntaxKind.{SyntaxKind as Kind};
 ghost use Rattle.mw_kernel.specs.Fates.{fate_of};
-ghost use Rattle.mw_book.specs.Answering.{fault_of};
-ghost use Rattle.mw_book.specs.LastTexts.{IsLastText, refused_for};
+ghost use Rattle.mw_answers.specs.Answering.{fault_of};
+ghost use Rattle.mw_answers.specs.LastTexts.{IsLastText, refused_for};
 ghost use Rattle.mw_book.specs.Lines.{fault_line, line_begun};
 ghost use Rattle.mw_book.specs.Judged.{JudgedFor, Tells, judged_still};
 

@@ -1,8 +1,6 @@
 //! Judging a book from its bytes to its report.
 #![tactic(auto)]
 
-mod answering;
-mod book;
 mod check;
 mod command;
 mod completeness;
@@ -12,17 +10,13 @@ mod judging;
 mod line;
 mod lower;
 mod nowhere;
-mod output;
-mod promise;
-mod reading;
 mod recheck;
 mod session;
 mod slice;
-mod status;
 mod store;
 mod tally;
 mod taut;
 
 pub use command::run;
 pub use completeness::runs_are_complete;
-pub use status::Status;
+pub use mw_answers::Status;

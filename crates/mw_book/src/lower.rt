@@ -1,5 +1,5 @@
 //! The command that turns the derivations of a book to proofs, and what it tells of an event.
-ghost use Rattle.std.specs.Prelude.{◌≡◌, [], ◌∷◌, ◌++◌, codes, OnOk, IfOk};
+ghost use Rattle.std.specs.Prelude.{◌≡◌, [], codes, OnOk, IfOk};
 ghost use Rattle.mw_model.specs.Reports.Request.{Lower as ToLower};
 ghost use Rattle.mw_model.specs.Laws.Rewriting.{IsRewritten};
 ghost use Rattle.mw_model.specs.Texts.Written.{IsDatumLine};
@@ -7,14 +7,14 @@ ghost use Rattle.mw_commands.specs.Commands.Derivation.{Turns};
 ghost use Rattle.mw_heap.specs.Objects.{object_at, IsIn};
 ghost use Rattle.mw_kernel.specs.Fates.{fate_of};
 ghost use Rattle.mw_kernel.specs.Knowledge.{theory_of};
-ghost use Rattle.mw_book.specs.Effects.{derived, refused_in_derived};
+ghost use Rattle.mw_answers.specs.Effects.{derived, refused_in_derived};
 ghost use Rattle.mw_book.specs.Pieces.{lowered_piece};
-ghost use Rattle.mw_book.specs.Checks.{BookEnds, SourceCounts, SinkCounts};
+ghost use Rattle.mw_answers.specs.Checks.{BookEnds, SourceCounts, SinkCounts};
 
-use crate::Status;
 use crate::judging::{Judging, Telling};
 use crate::line::write_line;
 use crate::session::answer_by;
+use mw_answers::Status;
 use mw_commands::lowering::{lowered_events, lowerings_possible};
 use mw_heap::{Memory, Ref, Refusal};
 use mw_kernel::{Fate, Kernel};

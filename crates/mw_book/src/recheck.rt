@@ -6,11 +6,11 @@ ghost use Rattle.mw_read.specs.Shown.{ShowsEvent};
 ghost use Rattle.mw_flat.specs.Verdicts.{answer_of};
 ghost use Rattle.mw_book.specs.Lines.{answers_line, line_begun};
 ghost use Rattle.mw_book.specs.Rechecked.{HasCounted, RecheckedFor, rechecked_still, said_text};
-ghost use Rattle.mw_book.specs.Checks.{BookEnds, SourceCounts, SinkCounts};
+ghost use Rattle.mw_answers.specs.Checks.{BookEnds, SourceCounts, SinkCounts};
 
-use crate::Status;
 use crate::line::begin_line;
 use crate::session::{Command, answer_by};
+use mw_answers::Status;
 use mw_flat::{Flat, Verdict, is_step_word};
 use mw_heap::{Memory, Ref, Word};
 use mw_port::{Sink, Source};

@@ -8,10 +8,10 @@ ghost use Rattle.mw_heap.specs.Objects.{object_at, IsIn};
 ghost use Rattle.mw_kernel.specs.Knowledge.{theory_of};
 ghost use Rattle.mw_slice.specs.Slices.{events_of};
 ghost use Rattle.mw_book.specs.Sliced.{SlicedFor, name_asked, sliced_still};
-ghost use Rattle.mw_book.specs.Checks.{BookEnds, SourceCounts, SinkCounts};
+ghost use Rattle.mw_answers.specs.Checks.{BookEnds, SourceCounts, SinkCounts};
 
-use crate::Status;
 use crate::session::{Command, answer_by};
+use mw_answers::Status;
 use mw_heap::{Memory, Ref};
 use mw_kernel::{Fate, Kernel};
 use mw_port::{Sink, Source};

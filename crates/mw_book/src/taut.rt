@@ -5,14 +5,12 @@ ghost use Rattle.mw_model.specs.Reports.Request.{Taut};
 ghost use Rattle.mw_commands.specs.Commands.TautologyBook.{initial_arities};
 ghost use Rattle.mw_taut.specs.Verdicts.{IsVerdict};
 ghost use Rattle.mw_book.specs.Answered.{IsProving, Answered, ProvedFor, ShowsWord, proved_still};
-ghost use Rattle.mw_book.specs.Writing.{Puts};
-ghost use Rattle.mw_book.specs.Checks.{BookEnds, SourceCounts, SinkCounts};
+ghost use Rattle.mw_answers.specs.Writing.{Puts};
+ghost use Rattle.mw_answers.specs.Checks.{BookEnds, SourceCounts, SinkCounts};
 
-use crate::Status;
-use crate::book::answer_book;
 use crate::line::write_shown;
-use crate::promise::answers_promised;
 use crate::session::{Command, Session};
+use mw_answers::{Status, answer_book, answers_promised};
 use mw_heap::{Heap, Mark, Memory, Profile, Ref};
 use mw_port::{Sink, Source};
 use mw_preamble::admit_all;

@@ -4,11 +4,11 @@ use Rattle.mw_model.specs.Reports.Request.{Check}
 use Rattle.mw_model.specs.Reports.Trial.{trial_book}
 use Rattle.mw_model.specs.Texts.Grammar.{trees}
 use Rattle.mw_model.specs.Reports.Report.{last_line}
-use Rattle.mw_book.specs.Answering.{ReadWhole}
-use Rattle.mw_book.specs.Checks.{TrialEnds}
-use Rattle.mw_book.specs.Effects.{plain}
+use Rattle.mw_answers.specs.Answering.{ReadWhole}
+use Rattle.mw_answers.specs.Checks.{TrialEnds}
+use Rattle.mw_answers.specs.Effects.{plain}
 use Rattle.mw_book.specs.Judged.{JudgedFor}
-use Rattle.mw_book.proofs.Written.{nothing_taken, takes_none}
+use Rattle.mw_answers.proofs.CallerLemmas.{nothing_taken, takes_none}
 use Rattle.mw_book.proofs.TrialHeadlines.{memory_alone, trial_ends}
 use Rattle.mw_book.proofs.check.trial.Goals as goal
 

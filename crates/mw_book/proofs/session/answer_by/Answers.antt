@@ -1,5 +1,5 @@
 -- Nothing was read.
-use Rattle.mw_book.proofs.Rounds.{ends_none}
+use Rattle.mw_answers.proofs.CallerLemmas.{ends_none}
 use Rattle.mw_book.proofs.session.answer_by.Goals as goal
 
 pub returns-in_default-clause-ends : goal.returns-in_default-clause-ends

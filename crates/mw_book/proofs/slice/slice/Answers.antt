@@ -1,5 +1,5 @@
 -- Nothing was read.
-use Rattle.std.proofs.Common.{◌≡◌, ℕ, [], Result, Ok, Err, IfOk, refl}
+use Rattle.std.proofs.Common.{◌≡◌, [], Result, Ok, Err, IfOk, refl}
 use Rattle.mw_model.specs.Reports.Request.{Slice}
 use Rattle.mw_model.specs.Events.Theory.{initial}
 use Rattle.mw_model.specs.Values.Primitive.{One}

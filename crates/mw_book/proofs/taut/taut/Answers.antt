@@ -1,7 +1,7 @@
 -- Nothing was read.
 use Rattle.std.proofs.Common.{refl}
 use Rattle.mw_model.specs.Reports.Request.{Taut}
-use Rattle.mw_book.proofs.Rounds.{ends_none}
+use Rattle.mw_answers.proofs.CallerLemmas.{ends_none}
 use Rattle.mw_book.proofs.taut.taut.Goals as goal
 
 pub returns-in_default-clause-ends : goal.returns-in_default-clause-ends

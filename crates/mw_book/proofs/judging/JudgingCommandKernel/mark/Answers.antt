@@ -1,8 +1,8 @@
 -- The last line of a book with a fault.
 use Rattle.std.proofs.Common.{◌++◌, Some, sym, subst}
 use Rattle.mw_read.specs.Kinds.{kind_of}
-use Rattle.mw_book.specs.Answering.{fault_of}
-use Rattle.mw_book.specs.LastTexts.{IsLastText}
+use Rattle.mw_answers.specs.Answering.{fault_of}
+use Rattle.mw_answers.specs.LastTexts.{IsLastText}
 use Rattle.mw_book.specs.Lines.{fault_line}
 use Rattle.mw_book.proofs.JudgedOne.{judged_fault}
 use Rattle.mw_book.proofs.judging.JudgingCommandKernel.mark.Goals as goal

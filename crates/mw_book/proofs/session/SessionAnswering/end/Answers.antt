@@ -2,8 +2,8 @@
 use Rattle.std.proofs.Common.{sym, ap, ◌∙◌, ◌++◌, subst, append_assoc}
 use Rattle.mw_read.specs.Kinds.{kind_of}
 use Rattle.mw_book.specs.Lines.{fault_line}
-use Rattle.mw_book.specs.Answering.{fault_of}
-use Rattle.mw_book.specs.LastTexts.{IsLastText}
+use Rattle.mw_answers.specs.Answering.{fault_of}
+use Rattle.mw_answers.specs.LastTexts.{IsLastText}
 use Rattle.mw_book.proofs.session.SessionAnswering.end.Goals as goal
 
 pub returns-in_ok-write_fault-in-Some-clause-last : goal.returns-in_ok-write_fault-in-Some-clause-last

@@ -1,0 +1,16 @@
+pub mod FirstData
+pub mod Taken
+pub mod Writings
+pub mod Written
+pub mod Rounds
+pub mod Headlines
+pub mod Pieces
+pub mod Courses
+pub mod LoweredPieces
+pub mod FlatPieces
+pub mod SlicedTexts
+pub mod Promising
+pub mod Logs
+pub mod Sinks
+pub mod Clauses
+pub mod CallerLemmas
