@@ -14,7 +14,7 @@ ghost use Rattle.mw_answers.specs.Checks.{BookEnds, SourceCounts, SinkCounts, Si
 
 use crate::Status;
 use crate::answering::Answering;
-use crate::output::{status_of, write_all};
+use crate::output::{halted, write_all};
 use crate::promise::answers_promised;
 use crate::reading::{Taken, finish, take_piece};
 use mw_heap::Memory;
@@ -195,7 +195,7 @@ fn write_lines<A: Answering, K: Sink>(answering: &mut A, sink: &mut K) -> Result
 {
     let written = write_all(sink, answering.lines());
     answering.drop_lines();
-    written.map_err(status_of)
+    written.map_err(halted)
 }
 
 /// Writes the last text.

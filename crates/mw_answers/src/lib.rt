@@ -10,6 +10,6 @@ mod status;
 
 pub use answering::Answering;
 pub use book::{answer_book, conclude, read_all};
-pub use output::{status_of, write_all};
+pub use output::{halted, write_all};
 pub use promise::answers_promised;
 pub use status::Status;

@@ -25,7 +25,7 @@ pub fn write_all<K: Sink>(sink: &mut K, text: &[u8]) -> Result<(), Halt>
 }
 
 /// How the program ends where a write moved nothing.
-pub fn status_of(halt: Halt) -> Status
+pub fn halted(halt: Halt) -> Status
     ensures { result ≡ halted halt }
 {
     match halt {

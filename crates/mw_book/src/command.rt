@@ -15,7 +15,7 @@ use crate::lower::lower;
 use crate::recheck::recheck;
 use crate::slice::slice;
 use crate::taut::taut;
-use mw_answers::{Status, answers_promised, status_of, write_all};
+use mw_answers::{Status, answers_promised, halted, write_all};
 use mw_port::{Sink, Source, Text, TrialSource};
 use mw_request::{Request, request_of};
 use std::alloc::Global;
@@ -117,6 +117,6 @@ fn write_help<K: Sink>(sink: &mut K) -> Result<(), Status>
 {
     match write_all(sink, HELP) {
         Ok(()) => Ok(()),
-        Err(halt) => Err(status_of(halt)),
+        Err(halt) => Err(halted(halt)),
     }
 }
