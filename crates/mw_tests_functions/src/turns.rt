@@ -23,10 +23,10 @@ fn turns(alloc: Global, recipe: Recipe, steps: u64) -> Result<u64, Memory> {
     turns_in(&mut heap, &mut table, recipe, steps)
 }
 
-// a constant, the calls, and the return, in rounds of 256
+// a constant and the calls, of which the last one returns too, in rounds of 256
 #[test]
 fn instructions_are_counted_by_rounds(rt: HostRuntime) {
-    assert!(rt; turns(rt.alloc(), Recipe::Nested(254), 254) == Ok(256));
-    assert!(rt; turns(rt.alloc(), Recipe::Nested(255), 255) == Ok(512));
-    assert!(rt; turns(rt.alloc(), Recipe::Nested(255), 10) == Ok(256));
+    assert!(rt; turns(rt.alloc(), Recipe::Nested(255), 255) == Ok(256));
+    assert!(rt; turns(rt.alloc(), Recipe::Nested(256), 256) == Ok(512));
+    assert!(rt; turns(rt.alloc(), Recipe::Nested(256), 10) == Ok(256));
 }
