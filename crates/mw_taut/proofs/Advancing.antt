@@ -4,8 +4,8 @@ use Rattle.mw_model.specs.Terms.Object.{Object}
 use Rattle.mw_model.specs.Terms.Term.{Formula, formula_object, ArityTable}
 use Rattle.mw_model.specs.Values.Truth.{Each}
 use Rattle.mw_heap.specs.Objects.{object_at, IsIn, AreDistinct}
-use Rattle.mw_taut.specs.declared.node.Node.{Node}
-use Rattle.mw_taut.specs.declared.progress.Progress.TheVariants.{Made, Wants}
+use Rattle.mw_taut.specs.declared.table.Node.{Node}
+use Rattle.mw_taut.specs.declared.table.Progress.TheVariants.{Made, Wants}
 use Rattle.mw_taut.specs.Building.{IsNew, IsProgress, IsBuilt, IsHere, here, IsWhole, equations_with, left_over}
 use Rattle.mw_taut.proofs.Building.{built_wants, built_puts, wanted, falling_front}
 use Rattle.mw_taut.proofs.Elements.{each_front}

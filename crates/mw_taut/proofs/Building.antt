@@ -11,8 +11,8 @@ use Rattle.mw_model.proofs.Read.{formula_read}
 use Rattle.std.proofs.lemmas.Bool.{and_parts}
 use Rattle.mw_commands.specs.Commands.Tautology.{all_equations, equations}
 use Rattle.mw_heap.specs.Objects.{object_at, IsIn, AreDistinct}
-use Rattle.mw_taut.specs.declared.node.Node.{Node}
-use Rattle.mw_taut.specs.declared.node.Node.TheVariants.{Equation, Not, Or}
+use Rattle.mw_taut.specs.declared.table.Node.{Node}
+use Rattle.mw_taut.specs.declared.table.Node.TheVariants.{Equation, Not, Or}
 use Rattle.mw_taut.specs.Connectives.{not_object, or_object}
 use Rattle.mw_taut.specs.Building.{IsAt, IsNew, IsPartOf, IsMade, equations_with, formula_or, here, IsHere, waiting, IsFalling, IsWhole, Covers, IsBuilt}
 use Rattle.mw_taut.specs.Nodes.{IsNode, AreNodes}

@@ -7,13 +7,13 @@ use Rattle.mw_model.specs.Terms.Same.{same_formula}
 use Rattle.mw_model.specs.Values.Truth.{Each}
 use Rattle.mw_model.proofs.SameTerms.{same_formula-refl}
 use Rattle.mw_commands.specs.Commands.Tautology.{Choice, choices, chosen, value_by, first_against, choice_object}
-use Rattle.mw_heap.specs.Objects.{object_at}
 use Rattle.mw_taut.specs.declared.case.Outcome.{Outcome}
 use Rattle.mw_taut.specs.declared.case.Outcome.TheVariants.{Proof, Against}
 use Rattle.mw_taut.specs.declared.rule.TheConstants.{COMMUTED, RESOLVED, CARRIED}
+use Rattle.mw_taut.specs.Rules.{rule_made}
 use Rattle.mw_taut.specs.Reducing.{ValueAndProof, Form, Fixed, Kept, Changed}
 use Rattle.mw_taut.specs.Meaning.{literal, IsEquation, AreApart, Over, IsFixed, IsForm}
-use Rattle.mw_taut.specs.Cases.{answer_at, Answer, Proved, Falsified, choice_list, ended, entered, carried, joined, IsEntered, going_on, choice_of, Follows, Decides, DecidesWhere}
+use Rattle.mw_taut.specs.Cases.{answer_at, Answer, Proved, Falsified, choice_list, ended, entered, carried, IsEntered, going_on, choice_of, Follows, Decides, DecidesWhere}
 use Rattle.mw_taut.proofs.Reduces.{literal_formed, from_kept}
 use Rattle.mw_taut.proofs.Proved.{Good, left_part, right_part, good_closed}
 use Rattle.mw_taut.proofs.Schemes.{letter, no, either, formula, known, itself, proved, rule_means}
@@ -107,22 +107,24 @@ carried_same d d' x x' y y' q q' a e f g h = ap₂ (λ u v. carried u v y q a) e
 
 module _ (A : ArityTable) (F : Formula) (c : Choice) (E : Formula) (rest : List Formula) where
   -- where an equation is false
-  decided_without : (x : Object) → DecidesWhere A c E false rest F (Falsified x) → Decides A c (E ∷ rest) F (Falsified x)
-  decided_without x h = (h.0, first_by_value c E rest F ∙ ap (λ o. or_else o (first_against (going_on (c ++ (E, true) ∷ []) (choices rest)) F)) h.1, h.2)
-
   pub decided_first : (os : List Object) (o : Outcome) → ((p : ℕ) → o ≡ Proof p → ⊥) → DecidesWhere A c E false rest F (answer_at os o) → Decides A c (E ∷ rest) F (answer_at os o)
   decided_first os (Proof p) none h = absurd (none p refl)
-  decided_first os (Against x) none h = decided_without (object_at os x) h
+  decided_first os (Against x) none h = (h.0, first_by_value c E rest F ∙ ap (λ o. or_else o (first_against (going_on (c ++ (E, true) ∷ []) (choices rest)) F)) h.1, h.2)
 
-  pub decided_joined : ((d : Choice) → chosen ((c ++ (E, false) ∷ []) ++ d) E ≡ false) → (p : Object) (a : Answer) → DecidesWhere A c E false rest F (Proved p) → DecidesWhere A c E true rest F a → Decides A c (E ∷ rest) F (joined (formula_object F) p a)
-  decided_joined at p (Proved q) h k = (
-    rule_means A (good_closed A) (F ∷ E ∷ []) RESOLVED (itself 0 (right_part A E F p h.0) ∷ proved (either (letter 1) (letter 0)) p h.0 ∷ proved (either (no (letter 1)) (letter 0)) q k.0 ∷ []),
-    λ w. by_value w (w E) refl,
-  )
-    where
-      by_value : (w : Formula → Bool) (b : Bool) → w E ≡ b → value_by w F ≡ true
-      by_value w true e = k.1 w e
-      by_value w false e = h.1 w e
-  decided_joined at p (Falsified x) h k =
-      let none = none_against (c ++ (E, false) ∷ []) (choices rest) F (λ d. sym (h.1 (chosen ((c ++ (E, false) ∷ []) ++ d)) (at d))) in
-      (k.0, first_by_value c E rest F ∙ (ap (λ o. or_else o (first_against (going_on (c ++ (E, true) ∷ []) (choices rest)) F)) none ∙ k.1), k.2)
+  -- where it is true, after a proof for where it is false
+  module _ (at : (d : Choice) → chosen ((c ++ (E, false) ∷ []) ++ d) E ≡ false) (p : Object) (h : DecidesWhere A c E false rest F (Proved p)) where
+    pub decided_both : (q : Object) → DecidesWhere A c E true rest F (Proved q) → Decides A c (E ∷ rest) F (Proved (rule_made RESOLVED (formula_object F ∷ p ∷ q ∷ [])))
+    decided_both q k = (
+      rule_means A (good_closed A) (F ∷ E ∷ []) RESOLVED (itself 0 (right_part A E F p h.0) ∷ proved (either (letter 1) (letter 0)) p h.0 ∷ proved (either (no (letter 1)) (letter 0)) q k.0 ∷ []),
+      λ w. by_value w (w E) refl,
+    )
+      where
+        by_value : (w : Formula → Bool) (b : Bool) → w E ≡ b → value_by w F ≡ true
+        by_value w true e = k.1 w e
+        by_value w false e = h.1 w e
+
+    pub decided_second : (os : List Object) (o : Outcome) → ((q : ℕ) → o ≡ Proof q → ⊥) → DecidesWhere A c E true rest F (answer_at os o) → Decides A c (E ∷ rest) F (answer_at os o)
+    decided_second os (Proof q) none k = absurd (none q refl)
+    decided_second os (Against x) none k =
+        let fixed = none_against (c ++ (E, false) ∷ []) (choices rest) F (λ d. sym (h.1 (chosen ((c ++ (E, false) ∷ []) ++ d)) (at d))) in
+        (k.0, first_by_value c E rest F ∙ (ap (λ o. or_else o (first_against (going_on (c ++ (E, true) ∷ []) (choices rest)) F)) fixed ∙ k.1), k.2)

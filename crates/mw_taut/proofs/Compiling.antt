@@ -1,13 +1,13 @@
 -- From what is built so far to the table.
 use Rattle.std.proofs.Common.{◌≡◌, ℕ, zero, suc, ◌+◌, ◌<◌, arith, List, [], ◌∷◌, ◌++◌, map, length, slice_get, Some, refl, ap, ap₂, ◌∙◌, subst, length-append}
 use Rattle.std.specs.Prelude.{All}
-use Rattle.std.proofs.lemmas.List.{map-append}
+use Rattle.std.proofs.lemmas.List.{map-append, append-nil}
 use Rattle.mw_model.specs.Terms.Object.{Object}
 use Rattle.mw_model.specs.Terms.Term.{Formula, formula_object, ArityTable}
 use Rattle.mw_model.specs.Values.Truth.{Each}
 use Rattle.mw_commands.specs.Commands.Tautology.{equations}
 use Rattle.mw_heap.specs.Objects.{object_at, IsIn}
-use Rattle.mw_taut.specs.declared.node.Node.{Node}
+use Rattle.mw_taut.specs.declared.table.Node.{Node}
 use Rattle.mw_taut.specs.declared.table.Table.{Table}
 use Rattle.mw_taut.specs.Meaning.{AreNodesOf}
 use Rattle.mw_taut.specs.Decided.{IsTableOf}
@@ -48,10 +48,14 @@ module _ (A : ArityTable) (os : List Object) where
       mapped [] = refl
       mapped (r ∷ rs) = ap suc (mapped rs)
 
--- a table that is built has a part
-pub built_some : (A : ArityTable) (os : List Object) (F : Formula) (keys : List ℕ) (nodes : List Node) (es : List ℕ) → IsBuilt A os F keys nodes es [] → 0 < length nodes
-built_some A os F keys nodes es h = omega (arith, h.many, ap length h.whole.2, length-append h.whole.0 (h.whole.1 ∷ []))
-
 pub empty_list : (xs : List ℕ) → length xs ≡ 0 → xs ≡ []
 empty_list [] h = refl
 empty_list (x ∷ xs) h = absurd (omega (arith, h))
+
+-- once nothing waits, the table has a part
+module _ (A : ArityTable) (os : List Object) (F : Formula) (keys : List ℕ) (nodes : List Node) (es path : List ℕ) (built : IsBuilt A os F keys nodes es path) (rest : List ℕ) (popped : path ≡ rest ++ []) (none : length rest ≡ 0) where
+  pub built_all : IsBuilt A os F keys nodes es []
+  built_all = subst (IsBuilt A os F keys nodes es) (popped ∙ (append-nil rest ∙ empty_list rest none)) built
+
+  pub built_some : 0 < length nodes
+  built_some = omega (arith, built_all.many, ap length built_all.whole.2, length-append built_all.whole.0 (built_all.whole.1 ∷ []))

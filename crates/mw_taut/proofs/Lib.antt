@@ -20,6 +20,7 @@ pub mod MoreNodes
 pub mod Shown
 pub mod Entering
 pub mod Posed
+pub mod Settling
 pub mod InRange
 pub mod PureProofs
 pub mod DecidedBy

@@ -2,8 +2,8 @@
 use Rattle.std.proofs.Common.{◌≡◌, ℕ, suc, ◌+◌, arith, List, [], ◌∷◌, ◌++◌, length, sym, subst, append_assoc}
 use Rattle.std.proofs.lemmas.List.{append-nil}
 use Rattle.mw_model.specs.Terms.Term.{Formula}
-use Rattle.mw_taut.specs.declared.node.Node.{Node}
-use Rattle.mw_taut.specs.declared.node.Node.TheVariants.{Equation, Not, Or}
+use Rattle.mw_taut.specs.declared.table.Node.{Node}
+use Rattle.mw_taut.specs.declared.table.Node.TheVariants.{Equation, Not, Or}
 use Rattle.mw_taut.specs.Nodes.{IsNode, AreNodes}
 use Rattle.mw_taut.specs.Meaning.{IsNodeOf, AreNodesOf}
 use Rattle.mw_taut.proofs.Elements.{at_more}

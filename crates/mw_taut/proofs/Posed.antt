@@ -1,5 +1,5 @@
 -- What is left to decide, in heaps that grow and after one more choice.
-use Rattle.std.proofs.Common.{◌≡◌, ℕ, ◌<◌, arith, nat_eq, Bool, true, false, not, cond, List, [], ◌∷◌, ◌++◌, map, length, Some, None, Result, Ok, Err, IfOk, OnOk, refl, sym, ap, ◌∙◌, subst, append_assoc, length-append}
+use Rattle.std.proofs.Common.{◌≡◌, ℕ, ◌<◌, arith, nat_eq, Bool, true, false, not, cond, List, [], ◌∷◌, ◌++◌, map, length, Some, None, Result, Ok, Err, OnOk, refl, sym, ap, ◌∙◌, subst, append_assoc, length-append}
 use Rattle.std.proofs.lemmas.List.{length-map}
 use Rattle.std.specs.Prelude.{All}
 use Rattle.std.proofs.Common.{eqb-true}
@@ -13,10 +13,8 @@ use Rattle.indexmap.specs.IndexMap.{IndexMap, get, IsEmpty}
 use Rattle.std.specs.Map.{lookup}
 use Rattle.mw_commands.specs.Commands.Tautology.{IsTautology}
 use Rattle.mw_taut.specs.declared.table.Table.{Table}
-use Rattle.mw_taut.specs.declared.case.Outcome.{Outcome}
-use Rattle.mw_taut.specs.declared.case.Outcome.TheVariants.{Proof, Against}
 use Rattle.mw_taut.specs.Meaning.{literal, IsEquation, AreApart}
-use Rattle.mw_taut.specs.Cases.{answer_at, Decides, choice_of, Follows, IsPosed, IsProvedAt, AreProved, Keeps, IsOutcomeIn}
+use Rattle.mw_taut.specs.Cases.{Follows, IsPosed, IsProvedAt, AreProved}
 use Rattle.mw_taut.specs.Decided.{IsTableOf}
 use Rattle.mw_taut.proofs.Proved.{Good, left_part}
 use Rattle.mw_taut.proofs.Kept.{map_kept, table_in_kept}
@@ -25,10 +23,6 @@ use Rattle.mw_taut.proofs.CaseDecided.{over_none}
 pub on_ok : {X Y P : Type 0} (r : Result X Y) → P → OnOk r P
 on_ok (Ok x) p = p
 on_ok (Err y) p = tt
-
-pub on_ok_from : {X Y P : Type 0} (Q : X → Type 0) (r : Result X Y) → IfOk r Q → ((x : X) → Q x → P) → OnOk r P
-on_ok_from Q (Ok x) h k = k x h
-on_ok_from Q (Err y) h k = tt
 
 module _ (A : ArityTable) (old new : List Object) (grows : Grows old new) where
   pub posed_kept : (equations : List ℕ) (chosen : List Bool) (f : ℕ) (F : Formula) (before rest : List Formula) → IsIn old f → All (IsIn old) equations → IsPosed A old equations chosen f F before rest → IsPosed A new equations chosen f F before rest
@@ -105,13 +99,12 @@ has_next A os equations chosen f F before (E ∷ rest) p = record {
 }
 
 -- a proof that is kept is one of the only formula of its object
-pub proof_kept : {S : Type 0} (A : ArityTable) (os : List Object) (m n : IndexMap ℕ ℕ S) (equations : List ℕ) (chosen : List Bool) (f : ℕ) (F : Formula) (before rest : List Formula) (o : Outcome) →
-    AreProved A os m → Keeps m n f o → IsIn os f → IsOutcomeIn os o → object_at os f ≡ formula_object F → is_formula A F ≡ true → Decides A (choice_of before chosen) rest F (answer_at os o) → AreProved A os n
-proof_kept A os m n equations chosen f F before rest (Against x) all keeps f_in o_in is formed decides = λ g q e. all g q (sym (keeps g) ∙ e)
-proof_kept A os m n equations chosen f F before rest (Proof p) all keeps f_in o_in is formed decides = λ g q e. go g q (nat_eq f g) refl (sym (keeps g) ∙ e)
+pub proof_kept : {S : Type 0} (A : ArityTable) (os : List Object) (m n : IndexMap ℕ ℕ S) (f p : ℕ) (F : Formula) →
+    AreProved A os m → ((g : ℕ) → get nat_eq n g ≡ cond (nat_eq f g) (Some p) (get nat_eq m g)) → IsIn os f → IsIn os p → object_at os f ≡ formula_object F → is_formula A F ≡ true → Good A (object_at os p) F × IsTautology F → AreProved A os n
+proof_kept A os m n f p F all keeps f_in p_in is formed holds = λ g q e. go g q (nat_eq f g) refl (sym (keeps g) ∙ e)
   where
     new_one : IsProvedAt A os f p
-    new_one = (f_in, o_in, λ G same formed_G. let e : F ≡ G = formula_object-one A A F G formed formed_G (sym is ∙ same) in subst (λ X. Good A (object_at os p) X × IsTautology X) e decides)
+    new_one = (f_in, p_in, λ G same formed_G. let e : F ≡ G = formula_object-one A A F G formed formed_G (sym is ∙ same) in subst (λ X. Good A (object_at os p) X × IsTautology X) e holds)
 
     go : (g q : ℕ) (b : Bool) → nat_eq f g ≡ b → cond (nat_eq f g) (Some p) (get nat_eq m g) ≡ Some q → IsProvedAt A os g q
     go g q true i e =

@@ -10,7 +10,7 @@ use Rattle.std.proofs.lemmas.Bool.{both_ways, and_from}
 use Rattle.mw_commands.specs.Commands.Tautology.{value_by}
 use Rattle.mw_taut.specs.declared.rule.TheConstants.{SCHEMA, DOUBLED, LEFT, RIGHT, NEITHER, LAW, KEPT, KEPT_FROM, DENIAL, UNDENIED, FIRST, SECOND, BOTH, FIRST_KEPT, SECOND_KEPT}
 use Rattle.mw_taut.specs.Rules.{rule_made}
-use Rattle.mw_taut.specs.Reducing.{ValueAndProof, Other, Form, Fixed, Kept, Changed, change_of, literal_object, literal_law, reduce_equation, kept, deny_value, deny_other, deny, either_value, either_both, either_after, either_before, either}
+use Rattle.mw_taut.specs.Reducing.{ValueAndProof, Other, Form, Fixed, Kept, Changed, change_of, literal_object, literal_law, reduce_equation, kept, deny_value, deny_other, deny, either_value, either_both, either_other, either}
 use Rattle.mw_taut.specs.Meaning.{literal, IsEquation, among, Over, IsDenialOf, IsFixed, ComesTo, IsForm}
 use Rattle.mw_taut.proofs.Proved.{Good, IsFormed, left_part, good_closed}
 use Rattle.mw_taut.proofs.Schemes.{AreClosed, Scheme, letter, no, either as or, formula, rule_value, Known, known, value, object, Means, itself, proved, meant, rule_means}
@@ -191,20 +191,20 @@ module _ (A : ArityTable) where
                 (itself 1 (formed_fixed (false, p) G h) ∷ itself 2 (formed_fixed (false, q) K i) ∷ itself 0 d ∷ proved (or (no first) context) p h.1 ∷ proved (or (no second) context) q i.1 ∷ []),
           )
 
-      fixed_before : (G K H : Formula) (s : ValueAndProof) (t : Other) → Fixes s G → Comes t K H → IsForm A E b rest (either_after (formula_object D) (formula_object G) (formula_object K) s t) (Either G K)
+      fixed_before : (G K H : Formula) (s : ValueAndProof) (t : Other) → Fixes s G → Comes t K H → IsForm A E b rest (either_other LEFT SECOND (formula_object D) (formula_object G) (formula_object K) s t) (Either G K)
       fixed_before G K H s t h i = go s.0 s.1 h
         where
-          go : (c : Bool) (p : Object) → Fixes (c, p) G → IsForm A E b rest (either_after (formula_object D) (formula_object G) (formula_object K) (c, p) t) (Either G K)
+          go : (c : Bool) (p : Object) → Fixes (c, p) G → IsForm A E b rest (either_other LEFT SECOND (formula_object D) (formula_object G) (formula_object K) (c, p) t) (Either G K)
           go true p h = left_fixed G K p (formed_first t K H i) h
           go false p h =
               let given : Given (D ∷ G ∷ K ∷ H ∷ []) = itself 0 d ∷ (itself 1 (formed_fixed (false, p) G h) ∷ (itself 2 (formed_first t K H i) ∷ changes (G ∷ K ∷ H ∷ []) second third t i (proved (or (no first) context) p h.1 ∷ []))) in
               let rule = made (D ∷ G ∷ K ∷ H ∷ []) in
               (H, record { formula = (rule SECOND given).0; denied = i.denied; over = i.over; same = λ v e. ap₂ (λ c d. c || d) (sym (h.0 v e)) (i.same v e); from = rule (SECOND + 1) given; to = rule (SECOND + 2) given })
 
-      fixed_after : (G K H : Formula) (s : Other) (t : ValueAndProof) → Comes s G H → Fixes t K → IsForm A E b rest (either_before (formula_object D) (formula_object G) (formula_object K) s t) (Either G K)
+      fixed_after : (G K H : Formula) (s : Other) (t : ValueAndProof) → Comes s G H → Fixes t K → IsForm A E b rest (either_other RIGHT FIRST (formula_object D) (formula_object G) (formula_object K) t s) (Either G K)
       fixed_after G K H s t h i = go t.0 t.1 i
         where
-          go : (c : Bool) (q : Object) → Fixes (c, q) K → IsForm A E b rest (either_before (formula_object D) (formula_object G) (formula_object K) s (c, q)) (Either G K)
+          go : (c : Bool) (q : Object) → Fixes (c, q) K → IsForm A E b rest (either_other RIGHT FIRST (formula_object D) (formula_object G) (formula_object K) (c, q) s) (Either G K)
           go true q i = right_fixed G K q (formed_first s G H h) i
           go false q i =
               let given : Given (D ∷ G ∷ K ∷ H ∷ []) = itself 0 d ∷ (itself 1 (formed_first s G H h) ∷ (itself 2 (formed_fixed (false, q) K i) ∷ changes (G ∷ K ∷ H ∷ []) first third s h (proved (or (no second) context) q i.1 ∷ []))) in

@@ -7,7 +7,7 @@ use Rattle.mw_model.specs.Terms.Object.{Object}
 use Rattle.mw_heap.specs.Objects.{object_at, IsIn, Grows}
 use Rattle.mw_heap.proofs.Objects.{object_at-Grows, Grows-refl, Grows-trans}
 use Rattle.mw_taut.specs.declared.reduced.Reduced.{Reduced}
-use Rattle.mw_taut.specs.declared.node.Node.{Node}
+use Rattle.mw_taut.specs.declared.table.Node.{Node}
 use Rattle.mw_taut.specs.Nodes.{IsNode, AreNodes}
 use Rattle.mw_taut.specs.Reducing.{form_at, each_at, IsFormIn, reduce, reduce_all}
 use Rattle.mw_taut.proofs.Elements.{dropped, all_dropped}

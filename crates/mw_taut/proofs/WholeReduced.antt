@@ -5,8 +5,8 @@ use Rattle.mw_model.specs.Terms.Object.{Object, NIL}
 use Rattle.mw_model.specs.Terms.Term.{Formula, Equal, Not as Denial, Or as Either, formula_object, ArityTable, is_formula}
 use Rattle.mw_model.specs.Values.Truth.{Each}
 use Rattle.mw_commands.specs.Commands.Tautology.{all_equations, equations}
-use Rattle.mw_taut.specs.declared.node.Node.{Node}
-use Rattle.mw_taut.specs.declared.node.Node.TheVariants.{Equation, Not, Or}
+use Rattle.mw_taut.specs.declared.table.Node.{Node}
+use Rattle.mw_taut.specs.declared.table.Node.TheVariants.{Equation, Not, Or}
 use Rattle.mw_taut.specs.Reducing.{Form, nothing, reduce_equation, deny, either, reduce, reduce_all}
 use Rattle.mw_taut.specs.Meaning.{IsNodeOf, AreNodesOf, literal, IsEquation, Over, IsForm, AreForms}
 use Rattle.mw_taut.proofs.Elements.{each_at}

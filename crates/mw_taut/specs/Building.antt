@@ -7,10 +7,10 @@ use Rattle.mw_model.specs.Values.Truth.{Each}
 use Rattle.mw_commands.specs.Commands.Tautology.{all_equations, equations}
 use Rattle.mw_heap.specs.Objects.{object_at, IsIn}
 use Rattle.mw_term.specs.Occurrences.{gather}
-use Rattle.mw_taut.specs.declared.node.Node.{Node}
-use Rattle.mw_taut.specs.declared.node.Node.TheVariants.{Equation, Not, Or}
-use Rattle.mw_taut.specs.declared.progress.Progress.{Progress}
-use Rattle.mw_taut.specs.declared.progress.Progress.TheVariants.{Made, Wants}
+use Rattle.mw_taut.specs.declared.table.Node.{Node}
+use Rattle.mw_taut.specs.declared.table.Node.TheVariants.{Equation, Not, Or}
+use Rattle.mw_taut.specs.declared.table.Progress.{Progress}
+use Rattle.mw_taut.specs.declared.table.Progress.TheVariants.{Made, Wants}
 use Rattle.mw_taut.specs.Connectives.{not_object, or_object}
 use Rattle.mw_taut.specs.Nodes.{AreNodes}
 use Rattle.mw_taut.specs.Meaning.{AreNodesOf, among}

@@ -15,7 +15,7 @@ use Rattle.mw_taut.specs.declared.case.Outcome.TheVariants.{Proof, Against}
 use Rattle.mw_taut.specs.declared.case.Follow.{Follow}
 use Rattle.mw_taut.specs.declared.case.Entered.{Entered}
 use Rattle.mw_taut.specs.declared.case.Entered.TheVariants.{Ended, Goes}
-use Rattle.mw_taut.specs.declared.rule.TheConstants.{COMMUTED, RESOLVED, KEPT_FROM, CARRIED}
+use Rattle.mw_taut.specs.declared.rule.TheConstants.{COMMUTED, KEPT_FROM, CARRIED}
 use Rattle.mw_taut.specs.Rules.{rule_made}
 use Rattle.mw_taut.specs.Nodes.{AreNodes}
 use Rattle.mw_taut.specs.Meaning.{literal, IsEquation, AreApart, Over}
@@ -64,11 +64,6 @@ entered d x es bs (Changed s) = Next d s.formula s.from
 abbrev pub carried : Object → Object → Object → Object → Answer → Answer
 carried d x y q (Proved p) = Proved (rule_made CARRIED (x ∷ d ∷ y ∷ p ∷ q ∷ []))
 carried d x y q (Falsified z) = Falsified z
-
--- of the case in which an equation is false, by the proof p, and that in which it is true
-abbrev pub joined : Object → Object → Answer → Answer
-joined x p (Proved q) = Proved (rule_made RESOLVED (x ∷ p ∷ q ∷ []))
-joined x p (Falsified z) = Falsified z
 
 abbrev pub answer_at : List Object → Outcome → Answer
 answer_at os (Proof r) = Proved (object_at os r)
@@ -152,8 +147,3 @@ IsProvedAt A os f p =
 
 abbrev pub AreProved : {S : Type 0} → ArityTable → List Object → IndexMap ℕ ℕ S → Type 0
 AreProved A os m = (f p : ℕ) → get nat_eq m f ≡ Some p → IsProvedAt A os f p
-
--- the formula f has this proof too, if the outcome is one
-abbrev pub Keeps : {S : Type 0} → IndexMap ℕ ℕ S → IndexMap ℕ ℕ S → ℕ → Outcome → Type 0
-Keeps old new f (Proof p) = (g : ℕ) → get nat_eq new g ≡ cond (nat_eq f g) (Some p) (get nat_eq old g)
-Keeps old new f (Against x) = (g : ℕ) → get nat_eq new g ≡ get nat_eq old g

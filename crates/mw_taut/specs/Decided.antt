@@ -1,8 +1,7 @@
 -- What the decision on a formula has to be, and its table.
-use Rattle.std.specs.Prelude.{◌≡◌, false, List, [], Some, map, slice_get}
+use Rattle.std.specs.Prelude.{◌≡◌, List, [], Some, map, slice_get}
 use Rattle.mw_model.specs.Terms.Object.{Object}
 use Rattle.mw_model.specs.Terms.Term.{Formula, formula_object, ArityTable}
-use Rattle.mw_model.specs.Events.Fate.{is_out_of_range}
 use Rattle.mw_commands.specs.Commands.Tautology.{equations, choice_object, Decision as Expected, Many as ManyExpected, FailsUnder, Holds}
 use Rattle.mw_commands.specs.Commands.TautologyBook.{IsPureProof}
 use Rattle.mw_heap.specs.Objects.{object_at, IsIn}
@@ -10,8 +9,6 @@ use Rattle.mw_taut.specs.declared.table.Table.{Table}
 use Rattle.mw_taut.specs.declared.deciding.Decision.{Decision}
 use Rattle.mw_taut.specs.declared.deciding.Decision.TheVariants.{Proof, Choice, Many, Memory}
 use Rattle.mw_taut.specs.Meaning.{AreNodesOf}
-use Rattle.mw_taut.specs.declared.case.Outcome.{Outcome}
-use Rattle.mw_taut.specs.declared.case.Outcome.TheVariants.{Proof as Proven, Against}
 use Rattle.mw_taut.specs.Cases.{IsTableIn}
 
 -- the table is that of the formula
@@ -35,13 +32,3 @@ IsDecision os A F (FailsUnder c) (Choice r) = IsIn os r × (object_at os r ≡ c
 IsDecision os A F Holds Many = ⊥
 IsDecision os A F Holds (Proof r) = IsIn os r × IsPureProof A (object_at os r) F
 IsDecision os A F Holds (Choice r) = ⊥
-
--- the answer for an outcome
-abbrev pub decision_of : Outcome → Decision
-decision_of (Proven r) = Proof r
-decision_of (Against r) = Choice r
-
--- a proof holds no natural that is out of range
-abbrev pub IsInRange : List Object → Outcome → Type 0
-IsInRange os (Proven r) = is_out_of_range (object_at os r) ≡ false
-IsInRange os (Against r) = Unit {0}

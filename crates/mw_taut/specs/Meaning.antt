@@ -7,8 +7,8 @@ use Rattle.mw_model.specs.Proofs.Proof.{Proves}
 use Rattle.mw_model.specs.Terms.Same.{same_formula}
 use Rattle.mw_model.specs.Values.Truth.{Each}
 use Rattle.mw_commands.specs.Commands.Tautology.{value_by}
-use Rattle.mw_taut.specs.declared.node.Node.{Node}
-use Rattle.mw_taut.specs.declared.node.Node.TheVariants.{Equation, Not, Or}
+use Rattle.mw_taut.specs.declared.table.Node.{Node}
+use Rattle.mw_taut.specs.declared.table.Node.TheVariants.{Equation, Not, Or}
 use Rattle.mw_taut.specs.Reducing.{ValueAndProof, Other, Form, Fixed, Kept, Changed}
 
 -- the node, after these formulas, stands for the formula

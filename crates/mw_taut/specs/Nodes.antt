@@ -1,7 +1,7 @@
 -- Nodes that name earlier ones.
 use Rattle.std.specs.Prelude.{ℕ, suc, ◌<◌, List, [], ◌∷◌}
-use Rattle.mw_taut.specs.declared.node.Node.{Node}
-use Rattle.mw_taut.specs.declared.node.Node.TheVariants.{Equation, Not, Or}
+use Rattle.mw_taut.specs.declared.table.Node.{Node}
+use Rattle.mw_taut.specs.declared.table.Node.TheVariants.{Equation, Not, Or}
 
 -- the node names one of these equations, or earlier parts, by their number
 abbrev pub IsNode : ℕ → ℕ → Node → Type 0

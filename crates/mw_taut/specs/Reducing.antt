@@ -8,8 +8,8 @@ use Rattle.mw_taut.specs.declared.reduced.Settled.{Settled}
 use Rattle.mw_taut.specs.declared.reduced.Change.{Change}
 use Rattle.mw_taut.specs.declared.reduced.Reduced.{Reduced}
 use Rattle.mw_taut.specs.declared.reduced.Reduced.TheVariants.{Fixed as FixedAt, Kept as KeptAt, Changed as ChangedAt}
-use Rattle.mw_taut.specs.declared.node.Node.{Node}
-use Rattle.mw_taut.specs.declared.node.Node.TheVariants.{Equation, Not, Or}
+use Rattle.mw_taut.specs.declared.table.Node.{Node}
+use Rattle.mw_taut.specs.declared.table.Node.TheVariants.{Equation, Not, Or}
 use Rattle.mw_taut.specs.declared.rule.TheConstants.{SCHEMA, DOUBLED, LEFT, RIGHT, NEITHER, NOT, LAW, KEPT, DENIAL, UNDENIED, FIRST, SECOND, BOTH, FIRST_KEPT, SECOND_KEPT}
 use Rattle.mw_taut.specs.Rules.{rule_made}
 
@@ -74,27 +74,22 @@ abbrev pub either_value : Object → Object → Object → ValueAndProof → Val
 either_value d x y s t =
     cond s.0 (true, rule_made LEFT (x ∷ y ∷ d ∷ s.1 ∷ [])) (cond t.0 (true, rule_made RIGHT (x ∷ y ∷ d ∷ t.1 ∷ [])) (false, rule_made NEITHER (x ∷ y ∷ d ∷ s.1 ∷ t.1 ∷ [])))
 
--- where x has the value, and y comes to t
-abbrev pub either_after : Object → Object → Object → ValueAndProof → Other → Form
-either_after d x y s t =
-    cond s.0 (Fixed (true, rule_made LEFT (x ∷ y ∷ d ∷ s.1 ∷ []))) (Changed (change_of SECOND t.denied (d ∷ x ∷ y ∷ t.formula ∷ t.from ∷ t.to ∷ s.1 ∷ [])))
-
--- where x comes to s, and y has the value
-abbrev pub either_before : Object → Object → Object → Other → ValueAndProof → Form
-either_before d x y s t =
-    cond t.0 (Fixed (true, rule_made RIGHT (x ∷ y ∷ d ∷ t.1 ∷ []))) (Changed (change_of FIRST s.denied (d ∷ x ∷ y ∷ s.formula ∷ s.from ∷ s.to ∷ t.1 ∷ [])))
+-- where one of them has the value s, and the other comes to t: by the rule n if the value is true, and else by the rules from m on
+abbrev pub either_other : ℕ → ℕ → Object → Object → Object → ValueAndProof → Other → Form
+either_other n m d x y s t =
+    cond s.0 (Fixed (true, rule_made n (x ∷ y ∷ d ∷ s.1 ∷ []))) (Changed (change_of m t.denied (d ∷ x ∷ y ∷ t.formula ∷ t.from ∷ t.to ∷ s.1 ∷ [])))
 
 abbrev pub either_both : Object → Object → Object → Other → Other → Other
 either_both d x y s t = change_of BOTH None (d ∷ x ∷ y ∷ s.formula ∷ s.from ∷ s.to ∷ t.formula ∷ t.from ∷ t.to ∷ [])
 
 abbrev pub either : Object → Object → Object → Form → Form → Form
 either d x y (Fixed s) (Fixed t) = Fixed (either_value d x y s t)
-either d x y (Fixed s) Kept = either_after d x y s (kept d y)
-either d x y (Fixed s) (Changed t) = either_after d x y s t
-either d x y Kept (Fixed t) = either_before d x y (kept d x) t
+either d x y (Fixed s) Kept = either_other LEFT SECOND d x y s (kept d y)
+either d x y (Fixed s) (Changed t) = either_other LEFT SECOND d x y s t
+either d x y Kept (Fixed t) = either_other RIGHT FIRST d x y t (kept d x)
 either d x y Kept Kept = Kept
 either d x y Kept (Changed t) = Changed (change_of FIRST_KEPT None (d ∷ x ∷ y ∷ t.formula ∷ t.from ∷ t.to ∷ []))
-either d x y (Changed s) (Fixed t) = either_before d x y s t
+either d x y (Changed s) (Fixed t) = either_other RIGHT FIRST d x y t s
 either d x y (Changed s) Kept = Changed (change_of SECOND_KEPT None (d ∷ x ∷ y ∷ s.formula ∷ s.from ∷ s.to ∷ []))
 either d x y (Changed s) (Changed t) = Changed (either_both d x y s t)
 

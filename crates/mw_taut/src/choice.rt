@@ -1,16 +1,15 @@
 //! Choices, as lists in a heap.
 ghost use Rattle.std.specs.Prelude.{◌≡◌, [], ◌∷◌, ◌++◌, All, map, slice_get, IfOk};
 ghost use Rattle.mw_model.specs.Terms.Object.{Pair, truth_of};
-ghost use Rattle.mw_heap.specs.Objects.{object_at, IsIn, Grows};
+ghost use Rattle.mw_heap.specs.Objects.{object_at, IsIn};
+ghost use Rattle.mw_taut.specs.Making.{Makes};
 ghost use Rattle.mw_taut.specs.Cases.{choice_list, is_true};
 
 use mw_heap::{Heap, Memory, Ref, Word};
 
 // T or NIL.
 fn truth(heap: &mut Heap, value: bool) -> Result<Ref, Memory>
-    ensures grows { Grows heap.old.objects heap.new.objects }
-    ensures within { IfOk result (λ r. IsIn heap.new.objects r) }
-    ensures made { IfOk result (λ r. object_at heap.new.objects r ≡ truth_of value) }
+    ensures { Makes IsIn object_at heap.old.objects heap.new.objects result (truth_of value) }
 {
     if value {
         heap.word(Word::T)
@@ -23,9 +22,7 @@ fn truth(heap: &mut Heap, value: bool) -> Result<Ref, Memory>
 fn choice_before(heap: &mut Heap, equation: Ref, value: bool, rest: Ref) -> Result<Ref, Memory>
     requires equation_in { IsIn heap.old.objects equation }
     requires rest_in { IsIn heap.old.objects rest }
-    ensures grows { Grows heap.old.objects heap.new.objects }
-    ensures within { IfOk result (λ r. IsIn heap.new.objects r) }
-    ensures made { IfOk result (λ r. object_at heap.new.objects r ≡ Pair (Pair (object_at heap.old.objects equation) (truth_of value)) (object_at heap.old.objects rest)) }
+    ensures { Makes IsIn object_at heap.old.objects heap.new.objects result (Pair (Pair (object_at heap.old.objects equation) (truth_of value)) (object_at heap.old.objects rest)) }
 {
     let value = truth(heap, value)?;
     let pair = heap.cons(equation, value)?;
@@ -49,9 +46,7 @@ pub(crate) fn choice_list(
     chosen: &[bool],
 ) -> Result<Ref, Memory>
     requires { All (IsIn heap.old.objects) equations.now }
-    ensures grows { Grows heap.old.objects heap.new.objects }
-    ensures within { IfOk result (λ r. IsIn heap.new.objects r) }
-    ensures made { IfOk result (λ r. object_at heap.new.objects r ≡ choice_list (map (object_at heap.old.objects) equations.now) chosen.now) }
+    ensures { Makes IsIn object_at heap.old.objects heap.new.objects result (choice_list (map (object_at heap.old.objects) equations.now) chosen.now) }
 {
     let mut list = heap.nil()?;
     let mut k = equations.len();

@@ -1,13 +1,11 @@
 //! The table of a formula, from the heap.
-ghost use Rattle.std.specs.Prelude.{◌≡◌, ℕ, ◌<◌, ◌+◌, ◌++◌, ◌∷◌, [], true, length, MatchOption, IfOk, OnOk};
+ghost use Rattle.std.specs.Prelude.{◌≡◌, ℕ, ◌<◌, ◌++◌, ◌∷◌, [], true, MatchOption, IfOk, OnOk};
 ghost use Rattle.mw_model.specs.Terms.Term.{Formula, formula_object, ArityTable, is_formula};
 ghost use Rattle.mw_heap.specs.Objects.{object_at, IsIn};
 ghost use Rattle.mw_taut.specs.Building.{IsAt, IsNew, IsProgress, IsBuilt, equations_with, left_over};
 ghost use Rattle.mw_taut.specs.Decided.{IsTableOf};
 
-use crate::node::Node;
-use crate::progress::Progress;
-use crate::table::Table;
+use crate::table::{Node, Progress, Table};
 use indexmap::IndexSet;
 use mw_heap::{Heap, Memory, Ref, Word};
 
@@ -39,15 +37,6 @@ fn look(heap: &Heap, parts: &IndexSet<Ref>, equations: usize, x: Ref) -> Progres
         Some(j) => Progress::Made(Node::Or(i, j)),
         None => Progress::Wants(b),
     }
-}
-
-// Adds a new part to the table.
-fn put_part(parts: &mut IndexSet<Ref>, x: Ref) -> Result<(), Memory>
-    requires { IsNew parts.old.keys x }
-    ensures { OnOk result (parts.new.keys ≡ parts.old.keys ++ x ∷ []) }
-{
-    parts.insert(x)?;
-    Ok(())
 }
 
 // Adds the part to the equations, if it is one.
@@ -85,7 +74,7 @@ fn advance(
         Progress::Made(node) => {
             put_equation(equations, x, node)?;
             nodes.push(node)?;
-            put_part(parts, x)?;
+            parts.insert(x)?;
         }
     }
     Ok(())
@@ -100,43 +89,11 @@ pub(crate) fn table_of(heap: &Heap, f: Ref) -> Result<Table, Memory>
     let mut parts = IndexSet::new(heap.alloc());
     let mut nodes = Vec::new(heap.alloc());
     let mut equations = Vec::new(heap.alloc());
-    put_parts(heap, f, &mut parts, &mut nodes, &mut equations)?;
-    table_with(heap, &parts, nodes, equations)
-}
-
-// Puts the parts of the formula into an empty table.
-fn put_parts(
-    heap: &Heap,
-    f: Ref,
-    parts: &mut IndexSet<Ref>,
-    nodes: &mut Vec<Node>,
-    equations: &mut Vec<Ref>,
-) -> Result<(), Memory>
-    requires within { IsIn heap.now.objects f }
-    requires formula { (A : ArityTable) × (F : Formula) × (object_at heap.now.objects f ≡ formula_object F) × (is_formula A F ≡ true) }
-    requires no_parts { parts.old.keys ≡ [] }
-    requires no_nodes { nodes.old.items ≡ [] }
-    requires no_equations { equations.old.items ≡ [] }
-    ensures { OnOk result ((A : ArityTable) → (F : Formula) → object_at heap.now.objects f ≡ formula_object F → is_formula A F ≡ true → IsBuilt A heap.now.objects F parts.new.keys nodes.new.items equations.new.items []) }
-{
     let mut path = Vec::new(heap.alloc());
     path.push(f)?;
     while let Some(x) = path.pop() {
-        advance(heap, parts, nodes, equations, &mut path, x)?;
+        advance(heap, &mut parts, &mut nodes, &mut equations, &mut path, x)?;
     }
-    Ok(())
-}
-
-// The table of the formula whose parts these are.
-fn table_with(
-    heap: &Heap,
-    parts: &IndexSet<Ref>,
-    nodes: Vec<Node>,
-    equations: Vec<Ref>,
-) -> Result<Table, Memory>
-    requires { (A : ArityTable) × (F : Formula) × IsBuilt A heap.now.objects F parts.now.keys nodes.items equations.items [] }
-    ensures { IfOk result (λ t. (A : ArityTable) → (F : Formula) → IsBuilt A heap.now.objects F parts.now.keys nodes.items equations.items [] → IsTableOf heap.now.objects F t) }
-{
     let root = nodes.len() - 1;
     let formulas = Vec::from_slice(heap.alloc(), parts.as_slice())?;
     Ok(Table {

@@ -1,17 +1,15 @@
 //! Whether a formula is a tautology.
-ghost use Rattle.std.specs.Prelude.{◌≡◌, true, Some, [], IfOk};
+ghost use Rattle.std.specs.Prelude.{◌≡◌, true, Some, IfOk};
 ghost use Rattle.mw_model.specs.Terms.Term.{Formula, formula_object, is_formula};
 ghost use Rattle.mw_model.specs.Terms.Reading.{formula_under};
 ghost use Rattle.mw_model.specs.Laws.Rules.{is_formula_object};
-ghost use Rattle.mw_commands.specs.Commands.Tautology.{decision, equations};
+ghost use Rattle.mw_commands.specs.Commands.Tautology.{decision};
 ghost use Rattle.mw_heap.specs.Objects.{object_at, IsIn, Grows};
-ghost use Rattle.mw_taut.specs.Cases.{Decides, answer_at, IsOutcomeIn};
-ghost use Rattle.mw_taut.specs.Decided.{IsTableOf, IsDecision, decision_of, IsInRange};
+ghost use Rattle.mw_taut.specs.Decided.{IsDecision};
 
 use crate::case::{Outcome, Question};
 use crate::cases::by_cases;
 use crate::compile::table_of;
-use crate::table::Table;
 use indexmap::IndexMap;
 use mw_heap::{Heap, Memory, Ref, looks_for};
 use mw_term::Arity;
@@ -32,38 +30,6 @@ pub enum Decision {
 // A formula with more equations is not decided, as the definition of the command says: twelve have 4,096 choices of values.
 const MOST_EQUATIONS: usize = 12;
 
-// What comes of the proof by cases.
-fn outcome(heap: &mut Heap, f: Ref, table: &Table, arity: &Arity) -> Result<Outcome, Memory>
-    requires within { IsIn heap.old.objects f }
-    requires formula { (F : Formula) × (object_at heap.old.objects f ≡ formula_object F) × (is_formula arity.now F ≡ true) × IsTableOf heap.old.objects F table.now }
-    ensures grows { Grows heap.old.objects heap.new.objects }
-    ensures within { IfOk result (λ o. IsOutcomeIn heap.new.objects o) }
-    ensures decides { IfOk result (λ o. (F : Formula) → object_at heap.old.objects f ≡ formula_object F → is_formula arity.now F ≡ true → IsTableOf heap.old.objects F table.now → Decides arity.now [] (equations F) F (answer_at heap.new.objects o)) }
-{
-    let mut proved = IndexMap::new(heap.alloc());
-    let whole = Question {
-        equations: table.equations.as_slice(),
-        chosen: &[],
-        formula: f,
-    };
-    by_cases(heap, &mut proved, &whole, arity)
-}
-
-// The answer for an outcome. That a proof holds no natural out of range is known of every object of the heap.
-fn answer(heap: &Heap, outcome: Outcome) -> Decision
-    requires { IsOutcomeIn heap.now.objects outcome }
-    ensures answer { result ≡ decision_of outcome }
-    ensures in_range { IsInRange heap.now.objects outcome }
-{
-    match outcome {
-        Outcome::Proof(p) => {
-            heap.in_range(p);
-            Decision::Proof(p)
-        }
-        Outcome::Against(c) => Decision::Choice(c),
-    }
-}
-
 // The decision. How many looks it may take depends on the number of the formula's distinct parts. The error is out of memory.
 fn decided(heap: &mut Heap, f: Ref, arity: &Arity) -> Result<Decision, Memory>
     requires within { IsIn heap.old.objects f }
@@ -76,8 +42,20 @@ fn decided(heap: &mut Heap, f: Ref, arity: &Arity) -> Result<Decision, Memory>
         return Ok(Decision::Many);
     }
     heap.allow_looks(looks_for(table.nodes.len()));
-    let outcome = outcome(heap, f, &table, arity)?;
-    Ok(answer(heap, outcome))
+    let whole = Question {
+        equations: table.equations.as_slice(),
+        chosen: &[],
+        formula: f,
+    };
+    let mut proved = IndexMap::new(heap.alloc());
+    match by_cases(heap, &mut proved, &whole, arity)? {
+        Outcome::Proof(p) => {
+            // That it holds no natural out of range is known of every object of the heap.
+            heap.in_range(p);
+            Ok(Decision::Proof(p))
+        }
+        Outcome::Against(c) => Ok(Decision::Choice(c)),
+    }
 }
 
 /// Decides whether a formula of these arities is a tautology. The answer is `Many` exactly when the formula has more than twelve

@@ -1,52 +1,48 @@
 //! The case in which one more equation has a value.
-ghost use Rattle.std.specs.Prelude.{◌≡◌, ◌<◌, length, map, List, ◌∷◌, IfOk};
+ghost use Rattle.std.specs.Prelude.{◌<◌, length, map, List, ◌∷◌, IfOk};
 ghost use Rattle.mw_model.specs.Terms.Term.{Formula, ArityTable};
 ghost use Rattle.mw_heap.specs.Objects.{object_at, IsIn, Grows};
-ghost use Rattle.mw_taut.specs.Reducing.{settled_at, form_at, IsFormIn};
-ghost use Rattle.mw_taut.specs.Cases.{choice_of, ended, answer_at, entered, step_at, IsTableIn, IsQuestionIn, IsOutcomeIn, IsPosed, IsEntered, IsEnteredIn};
+ghost use Rattle.mw_taut.specs.Making.{Makes};
+ghost use Rattle.mw_taut.specs.Reducing.{literal_object, form_at, IsFormIn};
+ghost use Rattle.mw_taut.specs.Cases.{choice_of, entered, step_at, IsTableIn, IsQuestionIn, IsPosed, IsEntered, IsEnteredIn};
 ghost use Rattle.mw_taut.specs.Decided.{IsTableOf};
 
 use crate::apply::apply;
 use crate::case::{Entered, Follow, Outcome, Question};
 use crate::choice::{choice_list, with_value};
-use crate::literal::literal;
 use crate::reduce::reduce_all;
-use crate::reduced::{Assumption, Reduced, Settled};
-use crate::rule::{COMMUTED, KEPT_FROM};
+use crate::reduced::{Assumption, Reduced};
+use crate::rule::{COMMUTED, KEPT_FROM, NOT};
 use crate::table::Table;
 use mw_heap::{Heap, Memory, Ref};
 
-// Where the value of the formula is fixed, in the context d: a proof of the context or the formula. A formula that is false is false whatever
-// the other equations are, and the first of these choices has them all false.
-fn ended(heap: &mut Heap, d: Ref, at: &Question<'_>, s: Settled) -> Result<Outcome, Memory>
-    requires d_in { IsIn heap.old.objects d }
-    requires at_in { IsQuestionIn heap.old.objects at.now }
-    requires s_in { IsIn heap.old.objects s.proof }
-    ensures grows { Grows heap.old.objects heap.new.objects }
-    ensures within { IfOk result (λ o. IsOutcomeIn heap.new.objects o) }
-    ensures made { IfOk result (λ o. answer_at heap.new.objects o ≡ ended (object_at heap.old.objects d) (object_at heap.old.objects at.now.formula) (map (object_at heap.old.objects) at.now.equations.now) at.now.chosen.now (settled_at heap.old.objects s)) }
+// The equation where it is taken to be true, and else its denial.
+fn literal(heap: &mut Heap, equation: Ref, value: bool) -> Result<Ref, Memory>
+    requires { IsIn heap.old.objects equation }
+    ensures { Makes IsIn object_at heap.old.objects heap.new.objects result (literal_object (object_at heap.old.objects equation) value) }
 {
-    if s.value {
-        let proof = apply(heap, COMMUTED, &[at.formula, d, s.proof])?;
-        return Ok(Outcome::Proof(proof));
+    if value {
+        return Ok(equation);
     }
-    let choice = choice_list(heap, at.equations, at.chosen)?;
-    Ok(Outcome::Against(choice))
+    apply(heap, NOT, &[equation])
 }
 
-// Where the formula comes to r, in the context d.
+// Where the formula comes to r, in the context d. If its value is fixed, the proof is of the context or the formula. A formula that is false
+// is false whatever the other equations are, and the first of these choices has them all false.
 fn entered(heap: &mut Heap, d: Ref, at: &Question<'_>, r: Reduced) -> Result<Entered, Memory>
     requires d_in { IsIn heap.old.objects d }
     requires at_in { IsQuestionIn heap.old.objects at.now }
     requires r_in { IsFormIn heap.old.objects r }
-    ensures grows { Grows heap.old.objects heap.new.objects }
-    ensures within { IfOk result (λ o. IsEnteredIn heap.new.objects o) }
-    ensures made { IfOk result (λ o. step_at heap.new.objects o ≡ entered (object_at heap.old.objects d) (object_at heap.old.objects at.now.formula) (map (object_at heap.old.objects) at.now.equations.now) at.now.chosen.now (form_at heap.old.objects r)) }
+    ensures { Makes IsEnteredIn step_at heap.old.objects heap.new.objects result (entered (object_at heap.old.objects d) (object_at heap.old.objects at.now.formula) (map (object_at heap.old.objects) at.now.equations.now) at.now.chosen.now (form_at heap.old.objects r)) }
 {
     match r {
-        Reduced::Fixed(s) => {
-            let outcome = ended(heap, d, at, s)?;
-            Ok(Entered::Ended(outcome))
+        Reduced::Fixed(s) if s.value => {
+            let proof = apply(heap, COMMUTED, &[at.formula, d, s.proof])?;
+            Ok(Entered::Ended(Outcome::Proof(proof)))
+        }
+        Reduced::Fixed(_) => {
+            let choice = choice_list(heap, at.equations, at.chosen)?;
+            Ok(Entered::Ended(Outcome::Against(choice)))
         }
         Reduced::Kept => {
             let from = apply(heap, KEPT_FROM, &[d, at.formula])?;

@@ -1,15 +1,16 @@
 //! What the parts of a formula come to where an equation has a value.
-ghost use Rattle.std.specs.Prelude.{◌≡◌, ℕ, ◌<◌, ◌≤◌, [], All, length, map, IfOk, OnOk};
-ghost use Rattle.mw_heap.specs.Objects.{object_at, IsIn, Grows};
+ghost use Rattle.std.specs.Prelude.{◌≡◌, ℕ, ◌<◌, ◌≤◌, [], All, length, map, IfOk};
+ghost use Rattle.mw_heap.specs.Objects.{object_at, Grows};
+ghost use Rattle.mw_taut.specs.Making.{Makes};
 ghost use Rattle.mw_taut.specs.Nodes.{IsNode, AreNodes};
-ghost use Rattle.mw_taut.specs.Reducing.{reduce_equation, reduce, reduce_all, form_at, each_at, IsFormIn, IsAssumptionIn};
+ghost use Rattle.mw_taut.specs.Reducing.{reduce, reduce_all, form_at, each_at, IsFormIn, IsAssumptionIn};
 
-use crate::deny::deny;
-use crate::either::either;
-use crate::literal::literal_law;
-use crate::node::Node;
-use crate::reduced::{Assumption, Reduced, Settled};
-use mw_heap::{Heap, Mark, Memory, Ref};
+use crate::apply::fixed;
+use crate::connectives::{deny, either};
+use crate::reduced::{Assumption, Reduced};
+use crate::rule::{LAW, SCHEMA};
+use crate::table::Node;
+use mw_heap::{Heap, Mark, Memory};
 use mw_term::take_searches;
 
 // The looks of a part that is kept: it was looked up when the table was made.
@@ -35,21 +36,6 @@ fn take_looks_at(heap: &mut Heap, had: Mark, reduced: &Reduced) -> Result<(), Me
     take_searches(heap, cells.saturating_add(part))
 }
 
-// An equation, where e has the value.
-fn reduce_equation(heap: &mut Heap, e: Ref, value: bool, x: Ref) -> Result<Reduced, Memory>
-    requires e_in { IsIn heap.old.objects e }
-    requires x_in { IsIn heap.old.objects x }
-    ensures grows { Grows heap.old.objects heap.new.objects }
-    ensures within { IfOk result (λ r. IsFormIn heap.new.objects r) }
-    ensures made { IfOk result (λ r. form_at heap.new.objects r ≡ reduce_equation (object_at heap.old.objects e) value (object_at heap.old.objects x)) }
-{
-    if heap.same(x, e) {
-        let proof = literal_law(heap, e, value)?;
-        return Ok(Reduced::Fixed(Settled { value, proof }));
-    }
-    Ok(Reduced::Kept)
-}
-
 // One node.
 fn reduce(
     heap: &mut Heap,
@@ -60,14 +46,12 @@ fn reduce(
     requires at_in { IsAssumptionIn heap.old.objects at.now }
     requires done_in { All (IsFormIn heap.old.objects) done.now }
     requires node { (m : ℕ) × IsNode m (length done.now) node × (length done.now < length at.now.formulas.now) }
-    ensures grows { Grows heap.old.objects heap.new.objects }
-    ensures within { IfOk result (λ r. IsFormIn heap.new.objects r) }
-    ensures made { IfOk result (λ r. form_at heap.new.objects r ≡ reduce (object_at heap.old.objects at.now.context) (object_at heap.old.objects at.now.equation) at.now.value (map (object_at heap.old.objects) at.now.formulas.now) (each_at heap.old.objects done.now) node) }
+    ensures { Makes IsFormIn form_at heap.old.objects heap.new.objects result (reduce (object_at heap.old.objects at.now.context) (object_at heap.old.objects at.now.equation) at.now.value (map (object_at heap.old.objects) at.now.formulas.now) (each_at heap.old.objects done.now) node) }
 {
     match node {
-        Node::Equation(_) => {
-            reduce_equation(heap, at.equation, at.value, at.formulas[done.len()])
-        }
+        Node::Equation(_) if !heap.same(at.formulas[done.len()], at.equation) => Ok(Reduced::Kept),
+        Node::Equation(_) if at.value => fixed(heap, true, LAW, &[at.equation]),
+        Node::Equation(_) => fixed(heap, false, SCHEMA, &[at.equation]),
         Node::Not(i) => deny(heap, at.context, at.formulas[i], done[i]),
         Node::Or(i, j) => {
             either(
@@ -96,29 +80,11 @@ pub(crate) fn reduce_all(
     ensures made { IfOk result (λ v. each_at heap.new.objects v.items ≡ reduce_all (object_at heap.old.objects at.now.context) (object_at heap.old.objects at.now.equation) at.now.value (map (object_at heap.old.objects) at.now.formulas.now) [] nodes.now) }
 {
     let mut done = Vec::new(heap.alloc());
-    reduce_each(heap, at, nodes, &mut done)?;
-    Ok(done)
-}
-
-// Adds what each node comes to, in order, to an empty list.
-fn reduce_each(
-    heap: &mut Heap,
-    at: &Assumption<'_>,
-    nodes: &[Node],
-    done: &mut Vec<Reduced>,
-) -> Result<(), Memory>
-    requires at_in { IsAssumptionIn heap.old.objects at.now }
-    requires nodes { (m : ℕ) × AreNodes m 0 nodes.now × (length nodes.now ≤ length at.now.formulas.now) }
-    requires none { done.old.items ≡ [] }
-    ensures grows { Grows heap.old.objects heap.new.objects }
-    ensures within { OnOk result (All (IsFormIn heap.new.objects) done.new.items × (length done.new.items ≡ length nodes.now)) }
-    ensures made { OnOk result (each_at heap.new.objects done.new.items ≡ reduce_all (object_at heap.old.objects at.now.context) (object_at heap.old.objects at.now.equation) at.now.value (map (object_at heap.old.objects) at.now.formulas.now) [] nodes.now) }
-{
     for node in nodes {
         let had = heap.mark();
         let reduced = reduce(heap, at, done.as_slice(), *node)?;
         take_looks_at(heap, had, &reduced)?;
         done.push(reduced)?;
     }
-    Ok(())
+    Ok(done)
 }

@@ -1,6 +1,6 @@
 //! What is found of a datum that may give a formula.
 ghost use Rattle.std.specs.Prelude.{◌≡◌, true, None, IfOk, OnOk, MatchOption};
-ghost use Rattle.mw_model.specs.Terms.Object.{Object, list4, symbol};
+ghost use Rattle.mw_model.specs.Terms.Object.{Object};
 ghost use Rattle.mw_model.specs.Laws.Rules.{is_formula_object};
 ghost use Rattle.mw_commands.specs.Commands.TautologyBook.{formula_given, initial_arities};
 ghost use Rattle.mw_heap.specs.Objects.{object_at, IsIn, Grows};
@@ -50,28 +50,6 @@ fn members_of(heap: &Heap, x: Ref) -> Option<(Ref, Ref)>
     }
 }
 
-// Whether it is a formula. The objects that have no marks yet get them.
-fn is_marked_formula(heap: &Heap, arity: &Arity, marks: &mut Marks, x: Ref) -> Result<bool, Memory>
-    requires within { IsIn heap.now.objects x }
-    requires marked { AreMarks arity.now heap.now.objects marks.old }
-    ensures marked { OnOk result (AreMarks arity.now heap.now.objects marks.new) }
-    ensures formula { IfOk result (λ b. b ≡ is_formula_object arity.now (object_at heap.now.objects x)) }
-{
-    marks.extend(heap, arity, heap.mark())?;
-    Ok(is_formula(marks, x))
-}
-
-// The event (VERIFY name formula proof).
-fn theorem_of(heap: &mut Heap, name: Ref, formula: Ref, proof: Ref) -> Result<Ref, Memory>
-    requires name { IsIn heap.old.objects name }
-    requires formula { IsIn heap.old.objects formula }
-    requires proof { IsIn heap.old.objects proof }
-    ensures grows { Grows heap.old.objects heap.new.objects }
-    ensures made { IfOk result (λ r. IsIn heap.new.objects r × (object_at heap.new.objects r ≡ list4 (symbol "VERIFY") (object_at heap.old.objects name) (object_at heap.old.objects formula) (object_at heap.old.objects proof))) }
-{
-    form_of(heap, Word::Verify, &[name, formula, proof])
-}
-
 // What is found of a datum with these members, of which the second is a formula.
 fn decided(heap: &mut Heap, arity: &Arity, name: Ref, formula: Ref) -> Result<Verdict, Memory>
     requires arity { arity.now ≡ initial_arities }
@@ -81,7 +59,10 @@ fn decided(heap: &mut Heap, arity: &Arity, name: Ref, formula: Ref) -> Result<Ve
     ensures verdict { IfOk result (λ v. (x : Object) → IsNamed heap.old.objects x name formula → IsVerdict heap.new.objects x v) }
 {
     match decide(heap, formula, arity) {
-        Decision::Proof(proof) => Ok(Verdict::Theorem(theorem_of(heap, name, formula, proof)?)),
+        Decision::Proof(proof) => {
+            let theorem = form_of(heap, Word::Verify, &[name, formula, proof])?;
+            Ok(Verdict::Theorem(theorem))
+        }
         Decision::Choice(choice) => Ok(Verdict::Fails(choice)),
         Decision::Many => Ok(Verdict::Many),
         Decision::Memory => Err(Memory),
@@ -106,7 +87,8 @@ pub fn verdict_on(
     let Some((name, formula)) = members_of(heap, x) else {
         return Ok(Verdict::Shape);
     };
-    if !is_marked_formula(heap, arity, marks, formula)? {
+    marks.extend(heap, arity, heap.mark())?;
+    if !is_formula(marks, formula) {
         return Ok(Verdict::Shape);
     }
     decided(heap, arity, name, formula)

@@ -7,9 +7,10 @@ use Rattle.mw_taut.proofs.apply.apply.Goals as goal
 pub make-requires : goal.make-requires
 make-requires c = all_given _ _ c.requires
 
-pub returns-clause-within : goal.returns-clause-within
-returns-clause-within c = IfOk-weaker c.make.result _ _ (λ r m. m.0) c.make.ensures.made
-
-pub returns-clause-made : goal.returns-clause-made
+pub returns : goal.returns
 unfolding rule_made
-returns-clause-made c = IfOk-weaker c.make.result _ _ (λ r m. m.1) c.make.ensures.made
+returns c = record {
+  grows = c.make.ensures.grows;
+  within = IfOk-weaker c.make.result _ _ (λ r m. m.0) c.make.ensures.made;
+  made = IfOk-weaker c.make.result _ _ (λ r m. m.1) c.make.ensures.made;
+}

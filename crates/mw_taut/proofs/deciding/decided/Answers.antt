@@ -1,39 +1,38 @@
--- What comes of the proof by cases is the expected decision.
-use Rattle.std.proofs.Common.{◌≡◌, length, sym, ap, ◌∙◌, subst, arith}
-use Rattle.std.proofs.lemmas.Bool.{le-ltb}
-use Rattle.std.proofs.lemmas.List.{length-map}
-use Rattle.mw_model.specs.Terms.Term.{formula_object}
-use Rattle.mw_commands.specs.Commands.Tautology.{equations, decision, most_equations}
-use Rattle.mw_heap.specs.Objects.{object_at, IsIn, Grows}
-use Rattle.mw_taut.specs.Decided.{IsTableOf, IsDecision}
-use Rattle.mw_taut.proofs.DecidedBy.{few_decided}
+-- What comes of the proof by cases, in which at first nothing is chosen and nothing is proved, is the expected decision.
+use Rattle.std.proofs.Common.{◌≤◌, [], length, sym, ap, ◌∙◌, subst, arith}
+use Rattle.std.specs.Prelude.{All}
+use Rattle.mw_commands.specs.Commands.Tautology.{equations, most_equations}
+use Rattle.mw_heap.specs.Objects.{object_at, IsIn}
+use Rattle.mw_taut.specs.declared.case.Outcome.TheVariants.{Proof, Against}
+use Rattle.mw_taut.specs.Decided.{IsTableOf}
+use Rattle.mw_taut.proofs.DecidedBy.{first_posed, whole_decided}
+use Rattle.mw_taut.proofs.Posed.{none_proved}
 use Rattle.mw_taut.proofs.deciding.decided.Goals as goal
+
+pub by_cases-requires : goal.by_cases-requires
+by_cases-requires c =
+    let A = c.args.arity.now in
+    let os = c.allow_looks.new.self.objects in
+    let t = c.in_ok-table.table in
+    let w = c.requires.formula in
+    let table = subst (λ h. IsTableOf h w.0 t) (sym c.allow_looks.ensures) (c.in_ok-table.ensures A w.0 w.1 w.2) in
+    let within = subst (λ h. IsIn h c.args.f) (sym c.allow_looks.ensures) c.requires.within in
+    record {
+      at_in = record { formula = within; equations = subst (All (IsIn os)) (sym c.as_slice.ensures.value) table.inside.equations };
+      proved = none_proved A os c.new-proved.result c.new-proved.ensures.empty;
+      posed = (w.0, [], equations w.0, first_posed A os c.args.f w.0 t _ c.as_slice.ensures.value (ap (λ h. object_at h c.args.f) c.allow_looks.ensures ∙ w.1) w.2 table);
+    }
+
+pub returns-in-Proof-clause-decided : goal.returns-in-Proof-clause-decided
+returns-in-Proof-clause-decided c = λ F e f.
+    let t = c.in_ok-table.table in
+    let few : length t.equations.items ≤ most_equations = omega (arith, c.if-len-gt-MOST_EQUATIONS.false, c.len.ensures, t.equations.ok.0) in
+    let table = c.in_ok-table.ensures c.args.arity.now F e f in
+    whole_decided c.args.arity.now F _ _ c.by_cases.new.heap.objects c.allow_looks.ensures c.args.f t _ c.as_slice.ensures.value few e f table _ (Proof c.in-Proof.p) c.in-Proof.is c.in_ok-p.ensures.decides c.in_ok-p.ensures.within c.in_range.ensures
 
 pub returns-clause-decided : goal.returns-clause-decided
 returns-clause-decided c = λ F e f.
-    let A = c.args.arity.now in
-    let os = c.args.heap.now.objects in
-    let new = c.outcome.new.heap.objects in
     let t = c.in_ok-table.table in
-    let o = c.in_ok-outcome.outcome in
-    let table = c.in_ok-table.ensures A F e f in
-    let same = sym c.allow_looks.ensures in
-    let decides = c.in_ok-outcome.ensures.decides F (subst (λ h. object_at h c.args.f ≡ formula_object F) same e) f (subst (λ h. IsTableOf h F t) same table) in
-    let count = sym (length-map t.equations.items (object_at os)) ∙ (ap length table.equations_are ∙ length-map (equations F) formula_object) in
-    let few = le-ltb most_equations (length (equations F)) (omega (arith, c.if-len-gt-MOST_EQUATIONS.false, c.len.ensures, t.equations.ok.0, count)) in
-    subst (IsDecision new A F (decision F)) (sym c.answer.ensures.answer) (few_decided A F new o decides c.in_ok-outcome.ensures.within c.answer.ensures.in_range few)
-
-pub outcome-requires-clause-within : goal.outcome-requires-clause-within
-outcome-requires-clause-within c = subst (λ os. IsIn os c.args.f) (sym c.allow_looks.ensures) c.requires.within
-
-pub outcome-requires-clause-formula : goal.outcome-requires-clause-formula
-outcome-requires-clause-formula c =
-    let same = sym c.allow_looks.ensures in
-    let w = c.requires.formula in
-    (w.0, subst (λ os. object_at os c.args.f ≡ formula_object w.0) same w.1, w.2, subst (λ os. IsTableOf os w.0 c.in_ok-table.table) same (c.in_ok-table.ensures c.args.arity.now w.0 w.1 w.2))
-
-pub returns-in_err-outcome-clause-grows : goal.returns-in_err-outcome-clause-grows
-returns-in_err-outcome-clause-grows c = subst (λ os. Grows os c.outcome.new.heap.objects) c.allow_looks.ensures c.outcome.ensures.grows
-
-pub returns-clause-grows : goal.returns-clause-grows
-returns-clause-grows c = subst (λ os. Grows os c.outcome.new.heap.objects) c.allow_looks.ensures c.outcome.ensures.grows
+    let few : length t.equations.items ≤ most_equations = omega (arith, c.if-len-gt-MOST_EQUATIONS.false, c.len.ensures, t.equations.ok.0) in
+    let table = c.in_ok-table.ensures c.args.arity.now F e f in
+    whole_decided c.args.arity.now F _ _ c.by_cases.new.heap.objects c.allow_looks.ensures c.args.f t _ c.as_slice.ensures.value few e f table _ (Against c.in-Against.c) c.in-Against.is c.in_ok-p.ensures.decides c.in_ok-p.ensures.within tt

@@ -3,16 +3,16 @@ use Rattle.std.proofs.Common.{ℕ, ◌+◌, ◌<◌, sym, ap, ◌∙◌, subst, 
 use Rattle.std.specs.Prelude.{All}
 use Rattle.mw_heap.specs.Objects.{object_at, Grows}
 use Rattle.mw_heap.proofs.Objects.{IsIn-Grows, Grows-trans}
-use Rattle.mw_taut.specs.declared.node.Node.TheVariants.{Equation}
+use Rattle.mw_taut.specs.declared.table.Node.TheVariants.{Equation}
 use Rattle.mw_taut.specs.Nodes.{IsNode}
 use Rattle.mw_taut.specs.Reducing.{each_at, IsFormIn, reduce}
 use Rattle.mw_taut.proofs.Elements.{default_free}
 use Rattle.mw_taut.proofs.Kept.{in_kept}
 use Rattle.mw_taut.proofs.ReducingAll.{IsReducing, reducing-starts, reducing-node, reducing-more, reducing-ends}
-use Rattle.mw_taut.proofs.reduce.reduce_each.Goals as goal
+use Rattle.mw_taut.proofs.reduce.reduce_all.Goals as goal
 
 pub loop-node-init : goal.loop-node-init
-loop-node-init c = reducing-starts c.args.heap.now.objects c.args.at.now.context c.args.at.now.equation c.args.at.now.value c.args.at.now.formulas.now c.args.nodes.now c.args.done.now.items c.requires.none (c.requires.nodes.0, c.requires.nodes.1)
+loop-node-init c = reducing-starts c.args.heap.now.objects c.args.at.now.context c.args.at.now.equation c.args.at.now.value c.args.at.now.formulas.now c.args.nodes.now c.new-done.result.items c.new-done.ensures.items (c.requires.nodes.0, c.requires.nodes.1)
 
 pub reduce-requires : goal.reduce-requires
 reduce-requires c =
