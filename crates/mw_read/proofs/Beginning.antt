@@ -1,7 +1,6 @@
 -- What a byte makes of a parser where no text has begun.
 use Rattle.std.proofs.Common.{◌≡◌, ℕ, zero, suc, ◌+◌, ◌-◌, ◌<◌, ◌≤◌, Bool, true, false, List, [], ◌∷◌, ◌++◌, length, take, drop, get_or, Some, Result, Ok, Err, IfOk, refl, sym, ap, ◌∙◌, subst, arith, true≢false, if◌then◌else◌}
-use Rattle.std.proofs.lemmas.List.{take_all, length-drop, drop_all}
-use Rattle.std.proofs.lemmas.Grind.{get_or_after_one}
+use Rattle.std.proofs.lemmas.List.{take_all, length-drop}
 use Rattle.mw_model.specs.Terms.Object.{Object}
 use Rattle.mw_model.specs.Texts.Lexemes.{Lexeme, Stray, Fault, fault, DOT, TOKEN, BYTE, Ending, Goes, glued, glued_bar, is_constituent, is_white, Class, class, piece, extent, lexemes_from}
 use Rattle.mw_model.specs.Texts.Lexemes as lex
@@ -9,8 +8,7 @@ use Rattle.mw_model.specs.Texts.Grammar.{book, and_events}
 use Rattle.mw_read.specs.Machine.{State, Idle, Within, Full, Broken, Turn, on, is_full, IsSound}
 use Rattle.mw_read.specs.Resume.{resume, onward, following}
 use Rattle.mw_read.specs.Held.{Holds, Took}
-use Rattle.mw_lex.specs.Runs.{StartsWith}
-use Rattle.mw_read.specs.Parsing.{ahead, meaning_of, Fits, IsText, is_inside, Advances, IsAfter, IsFirst, Begins, EndsAt, Moves, Moved, offset_of, offset_at, weight}
+use Rattle.mw_read.specs.Parsing.{ahead, meaning_of, IsText, is_inside, Advances, IsAfter, IsFirst, Begins, Moves, Moved, offset_of, offset_at, weight}
 use Rattle.mw_read.specs.declared.parser.Begun.{Begun}
 use Rattle.mw_read.specs.declared.parser.Begun.TheVariants.{Nothing, Comment, Token, Bars, Barred, Hash, AfterToken, AfterBar}
 use Rattle.mw_read.specs.declared.parser.Parser.{Parser}
@@ -20,7 +18,6 @@ use Rattle.mw_read.proofs.Resuming.{on_step, IsSolid}
 use Rattle.mw_lex.proofs.Lexemes.{piece_lexemes}
 use Rattle.mw_read.proofs.Bytes.{full_piece}
 use Rattle.mw_read.proofs.Bare.{take_cut}
-use Rattle.mw_lex.proofs.Classes as classes
 use Rattle.mw_read.proofs.Hashes.{free_parser}
 use Rattle.mw_read.proofs.Parsing.{stray_breaks, following_event}
 
@@ -72,7 +69,7 @@ ends_free os t old new rest n l (outcomes.Fault f) i m q = λ e z.
     ∙ m e (drop n rest ++ z)
     ∙ ap (λ (u : Turn). following u (lexemes_from e new.start 0 (drop n rest ++ z))) q
 
-at_nothing : (e : Ending) (t : State) (p : Parser) (x : List ℕ) → p.begun ≡ Nothing → meaning_of e t p x ≡ resume t (lexemes_from e p.start 0 x)
+pub at_nothing : (e : Ending) (t : State) (p : Parser) (x : List ℕ) → p.begun ≡ Nothing → meaning_of e t p x ≡ resume t (lexemes_from e p.start 0 x)
 at_nothing e t p x h = ap (λ m. resume t (ahead e m p.token.items p.start x)) h
 
 -- a lexeme of one byte
@@ -149,65 +146,8 @@ begun_full m e (Within g s ls) o rest z h f = absurd (true≢false (sym f))
 begun_full m e (Broken g) o rest z h f = absurd (true≢false (sym f))
 begun_full m e (Full xs y s ls) o rest z h f = absurd h
 
-take_next : (b : ℕ) (rest : List ℕ) (n : ℕ) → take (n + 1) (b ∷ rest) ≡ b ∷ take n rest
-take_next b rest n = ap (λ k. take k (b ∷ rest)) (let o : n + 1 ≡ suc n = omega arith in o)
-
-drop_next : (rest : List ℕ) (n : ℕ) → drop n (drop 1 rest) ≡ drop (n + 1) rest
-drop_next [] n = drop_all n [] (omega arith) ∙ sym (drop_all (n + 1) [] (omega arith))
-drop_next (b ∷ rest) n = ap (λ k. drop k (b ∷ rest)) (let o : suc n ≡ n + 1 = omega arith in o)
-
--- a name between bars or a label begins
-pub bars_begin : (os : List Object) (t : State) (old mid new : Parser) (rest : List ℕ) (r : Outcome) (n : ℕ) → old.begun ≡ Nothing → mid.begun ≡ Bars → mid.token.items ≡ [] → mid.start ≡ old.start → Begins Bars rest →
-    Advances os t mid (drop 1 rest) r n new → Advances os t old rest r (n + 1) new
-bars_begin os t old mid new [] r n h i j s c q = absurd c
-bars_begin os t old mid new (b ∷ rest) r n h i j s c q =
-    carry os t old mid new rest (b ∷ rest) r n (n + 1) (λ e z. ap (λ u. meaning_of e t old (u ++ z)) (take_next b rest n) ∙ same e (take n rest ++ z)) (λ e z. same e (rest ++ z)) q
-  where
-    same : (e : Ending) (y : List ℕ) → meaning_of e t old (b ∷ y) ≡ meaning_of e t mid y
-    same e y =
-        at_nothing e t old (b ∷ y) h
-        ∙ ap (resume t) (piece_lexemes e old.start b y lex.Bar c)
-        ∙ ap (λ o. resume t (lexemes_from e o 0 (124 ∷ y))) (sym s)
-        ∙ sym (ap (λ m. resume t (ahead e m mid.token.items mid.start y)) i ∙ ap (λ u. resume t (lexemes_from e mid.start 0 (124 ∷ (u ++ y)))) j)
-
-pub hash_begin : (os : List Object) (t : State) (old mid new : Parser) (rest : List ℕ) (r : Outcome) (n : ℕ) → old.begun ≡ Nothing → mid.begun ≡ Hash → mid.token.items ≡ [] → mid.start ≡ old.start → Begins Hash rest →
-    Advances os t mid (drop 1 rest) r n new → Advances os t old rest r (n + 1) new
-hash_begin os t old mid new [] r n h i j s c q = absurd c
-hash_begin os t old mid new (b ∷ rest) r n h i j s c q =
-    carry os t old mid new rest (b ∷ rest) r n (n + 1) (λ e z. ap (λ u. meaning_of e t old (u ++ z)) (take_next b rest n) ∙ same e (take n rest ++ z)) (λ e z. same e (rest ++ z)) q
-  where
-    same : (e : Ending) (y : List ℕ) → meaning_of e t old (b ∷ y) ≡ meaning_of e t mid y
-    same e y =
-        at_nothing e t old (b ∷ y) h
-        ∙ ap (resume t) (piece_lexemes e old.start b y lex.Hash c)
-        ∙ ap (λ o. resume t (lexemes_from e o 0 (35 ∷ y))) (sym s)
-        ∙ sym (ap (λ m. resume t (ahead e m mid.token.items mid.start y)) i ∙ ap (λ u. resume t (lexemes_from e mid.start 0 (35 ∷ (u ++ y)))) j)
-
--- a token begins
-pub token_begin : (os : List Object) (t : State) (old mid new : Parser) (rest : List ℕ) (r : Outcome) (n : ℕ) → old.begun ≡ Nothing → mid.begun ≡ Token → mid.token.items ≡ [] → mid.start ≡ old.start →
-    Advances os t mid rest r n new → Advances os t old rest r n new
-token_begin os t old mid new rest r n h i j s q = carry os t old mid new rest rest r n n (λ e z. same e (take n rest ++ z)) (λ e z. same e (rest ++ z)) q
-  where
-    same : (e : Ending) (y : List ℕ) → meaning_of e t old y ≡ meaning_of e t mid y
-    same e y =
-        at_nothing e t old y h
-        ∙ ap (λ o. resume t (lexemes_from e o 0 y)) (sym s)
-        ∙ sym (ap (λ m. resume t (ahead e m mid.token.items mid.start y)) i ∙ ap (λ u. resume t (lexemes_from e mid.start 0 (u ++ y))) j)
-
 pub offset_is : (p : Parser) (m : Begun) (n o : ℕ) → p.begun ≡ m → length p.token.items ≡ n → p.start ≡ o → offset_of p ≡ offset_at m n o
 offset_is p m n o h i j = ap (λ u. offset_at u (length p.token.items) p.start) h ∙ ap (λ u. offset_at m u p.start) i ∙ ap (offset_at m n) j
-
-module _ (old mid : Parser) (h : old.begun ≡ Nothing) (j : mid.token.items ≡ []) (s : mid.start ≡ old.start) where
-  pub bars_offset : mid.begun ≡ Bars → offset_of mid ≡ offset_of old + 1
-  bars_offset i =
-      offset_is mid Bars 0 old.start i (ap length j) s ∙ (let e : old.start + 0 + 1 ≡ old.start + 1 = omega arith in e) ∙ sym (ap (λ n. n + 1) (offset_is old Nothing (length old.token.items) old.start h refl refl))
-
-  pub hash_offset : mid.begun ≡ Hash → offset_of mid ≡ offset_of old + 1
-  hash_offset i =
-      offset_is mid Hash 0 old.start i (ap length j) s ∙ (let e : old.start + 0 + 1 ≡ old.start + 1 = omega arith in e) ∙ sym (ap (λ n. n + 1) (offset_is old Nothing (length old.token.items) old.start h refl refl))
-
-  pub token_offset : mid.begun ≡ Token → offset_of mid ≡ offset_of old
-  token_offset i = offset_is mid Token 0 old.start i (ap length j) s ∙ (let e : old.start + 0 ≡ old.start = omega arith in e) ∙ sym (offset_is old Nothing (length old.token.items) old.start h refl refl)
 
 pub weight_small : (m : Begun) → weight m ≤ 1
 weight_small Nothing = omega arith
@@ -218,47 +158,6 @@ weight_small Barred = omega arith
 weight_small Hash = omega arith
 weight_small AfterToken = omega arith
 weight_small AfterBar = omega arith
-
-moved_past : (old mid new : Parser) (rest : List ℕ) (n : ℕ) → offset_of mid ≡ offset_of old + 1 → 0 < length rest → Moved mid (drop 1 rest) n new → Moved old rest (n + 1) new
-moved_past old mid new rest n o some m = record {
-  offset = (let k : offset_of new ≡ offset_of old + (n + 1) = omega (arith, o, m.offset) in k);
-  left = subst (λ u. Fits new.begun Goes u) (drop_next rest n) m.left;
-  started = m.started;
-  less = λ l. omega (arith, weight_small new.begun);
-  stops = λ q. omega (arith, m.stops q, length-drop 1 rest, some);
-}
-
-ends_past : (m : Begun) (rest : List ℕ) (n : ℕ) → is_white (get_or rest 0 0) ≡ false → EndsAt m (drop 1 rest) n → EndsAt m rest (n + 1)
-ends_past m rest n w e = record { between = e.between; last = last }
-  where
-    last : (k : ℕ) → n + 1 ≡ suc k → is_white (get_or rest k 0) ≡ false
-    last zero h = w
-    last (suc k) h = ap is_white (ap (λ i. get_or rest i 0) (let j : suc k ≡ 1 + k = omega arith in j) ∙ sym (get_or_after_one rest k 0)) ∙ e.last k (omega (arith, h))
-
-pub moves_past : (r : Outcome) (old mid new : Parser) (rest : List ℕ) (n : ℕ) → offset_of mid ≡ offset_of old + 1 → 0 < length rest → is_white (get_or rest 0 0) ≡ false → Moves r mid (drop 1 rest) n new → Moves r old rest (n + 1) new
-moves_past outcomes.Pending old mid new rest n o some w m = moved_past old mid new rest n o some m
-moves_past (outcomes.Datum x) old mid new rest n o some w m = (moved_past old mid new rest n o some m.0, ends_past new.begun rest n w m.1)
-moves_past (outcomes.Fault f) old mid new rest n o some w m = tt
-
-moved_on : (old mid new : Parser) (rest : List ℕ) (n : ℕ) → offset_of mid ≡ offset_of old → 0 < n → Moved mid rest n new → Moved old rest n new
-moved_on old mid new rest n o s m = record {
-  offset = (let k : offset_of new ≡ offset_of old + n = omega (arith, o, m.offset) in k);
-  left = m.left;
-  started = m.started;
-  less = λ l. omega (arith, weight_small new.begun);
-  stops = m.stops;
-}
-
-pub moves_on : (r : Outcome) (old mid new : Parser) (rest : List ℕ) (n : ℕ) → offset_of mid ≡ offset_of old → 0 < n → Moves r mid rest n new → Moves r old rest n new
-moves_on outcomes.Pending old mid new rest n o s m = moved_on old mid new rest n o s m
-moves_on (outcomes.Datum x) old mid new rest n o s m = (moved_on old mid new rest n o s m.0, m.1)
-moves_on (outcomes.Fault f) old mid new rest n o s m = tt
-
-pub is_token : (m : Begun) (rest : List ℕ) → Begins m rest → (m ≡ Bars → ⊥) → (m ≡ Hash → ⊥) → (m ≡ Token) × StartsWith is_constituent rest
-is_token Token (b ∷ rest) h f g = (refl, classes.constituent_class b h)
-is_token Bars rest h f g = absurd (f refl)
-is_token Hash rest h f g = absurd (g refl)
-is_token m rest h f g = absurd h
 
 -- what stands directly after
 after_is : (m : Begun) (g : Bool) (e : Ending) (t : List ℕ) (o b : ℕ) (y : List ℕ) → IsAfter m g b →

@@ -9,7 +9,7 @@ use Rattle.mw_model.specs.Events.Fate.{is_out_of_range}
 use Rattle.mw_model.specs.Texts.Grammar.{Unused}
 use Rattle.mw_model.specs.Reports.Report.{word_text, label_text, symbol_text, labelled_words, dash}
 use Rattle.mw_heap.specs.Objects.{object_at, IsIn}
-use Rattle.mw_read.specs.Machine.{Members, State, Idle, Within, Full, Broken, end_fault}
+use Rattle.mw_read.specs.Machine.{State, Idle, Within, Full, Broken, end_fault}
 use Rattle.mw_lex.specs.Tokens.{clamp}
 use Rattle.mw_read.specs.Shown.{first_symbol}
 use Rattle.mw_read.specs.Named.{Agree, seen, IsListed}
@@ -17,10 +17,10 @@ use Rattle.mw_read.specs.Piles.{Pile, Frames, Ready, piled, MayLie, pile_on, Lie
 use Rattle.mw_read.specs.Held.{Holds, Completes}
 use Rattle.mw_read.specs.Standing.{Tells, Gives}
 use Rattle.mw_read.specs.declared.stack.Layer.{Layer}
-use Rattle.mw_read.specs.declared.stack.Layer.TheVariants as layers
 use Rattle.mw_read.specs.declared.stack.Stack.{Stack}
 use Rattle.mw_read.specs.declared.step.Step.{Step}
 use Rattle.mw_read.specs.declared.step.Step.TheVariants as steps
+use Rattle.mw_read.proofs.Lying.{each_place}
 
 abbrev IsOpen : Pile → Type 0
 IsOpen (Frames []) = ⊥
@@ -28,13 +28,7 @@ IsOpen (Frames (f ∷ s)) = Unit {0}
 IsOpen (Ready xs x s) = Unit {0}
 
 piled_open : (os : List Object) (t : Pile) (l : Layer) → MayLie t l → IsOpen (piled os t l)
-piled_open os (Frames s) layers.Opening h = tt
-piled_open os (Frames s) layers.Quote h = tt
-piled_open os (Frames s) (layers.Mark n) h = tt
-piled_open os (Frames (Members xs ∷ s)) (layers.Item r) h = tt
-piled_open os (Frames (Members (x ∷ xs) ∷ s)) layers.Dot h = tt
-piled_open os (Frames (Members (x ∷ xs) ∷ s)) (layers.Last r) h = tt
-piled_open os t l h = absurd h
+piled_open os t l h = each_place (λ u k. IsOpen (piled os u k)) (λ s. tt) (λ s. tt) (λ n s. tt) (λ r xs s. tt) (λ x xs s. tt) (λ r x xs s. tt) t l h
 
 pile_open : (os : List Object) (ls : List Layer) (t : Pile) → IsOpen t → LieOn os t ls → IsOpen (pile_on os t ls)
 pile_open os [] t h k = h

@@ -1,8 +1,8 @@
 -- Comments and labels.
-use Rattle.std.proofs.Common.{◌≡◌, ℕ, suc, ◌+◌, ◌<◌, ◌≤◌, Bool, true, false, not, List, [], ◌∷◌, ◌++◌, length, take, get_or, Some, refl, sym, ap, ap₂, ◌∙◌, subst, arith, true≢false, if◌then◌else◌, append_assoc, eqb, eqb-true, ltb, lt-ltb, le-ltb, length-append}
+use Rattle.std.proofs.Common.{◌≡◌, ℕ, Result, Ok, Err, IfOk, suc, ◌+◌, ◌<◌, ◌≤◌, Bool, true, false, not, List, [], ◌∷◌, ◌++◌, length, take, get_or, Some, refl, sym, ap, ap₂, ◌∙◌, subst, arith, true≢false, if◌then◌else◌, append_assoc, eqb, eqb-true, ltb, lt-ltb, le-ltb, length-append}
 use Rattle.std.proofs.lemmas.Bool.{and_parts, eqb-false}
 use Rattle.mw_model.specs.Terms.Object.{Object}
-use Rattle.mw_model.specs.Texts.Lexemes.{Mark, Ref, Wrong, fault, LABEL, Ending, Goes, run_of, after_run, is_digit, is_inside_comment, decimal_value, label, lexemes_from, extent, Hash}
+use Rattle.mw_model.specs.Texts.Lexemes.{Lexeme, Mark, Ref, Wrong, fault, LABEL, Ending, Goes, run_of, after_run, is_digit, is_inside_comment, decimal_value, label, lexemes_from, extent, Hash}
 use Rattle.std.specs.List.{list_all}
 use Rattle.mw_model.specs.Texts.Grammar.{book, and_events}
 use Rattle.mw_read.specs.Machine.{State, Idle, Turn, on, is_full, IsSound}
@@ -112,6 +112,16 @@ label_none o d b h = ap (λ x. label_lexeme o x b) h
 pub label_breaks : (os : List Object) (s : Stack) (t : State) (o : ℕ) (d : List ℕ) (b : ℕ) (r : Outcome) → label_lexeme o d b ≡ Wrong o (Some (fault LABEL o)) → r ≡ outcomes.Fault (record { kind = kinds.Label; offset = o }) → Holds os s t → is_full t ≡ false →
     Took os s r (on t (label_lexeme o d b))
 label_breaks os s t o d b r l e h full = subst (λ u. Took os s u (on t (label_lexeme o d b))) (sym e) (ap (on t) l ∙ wrong_breaks t o (fault LABEL o) full (sound_clamp os s t h.means))
+
+-- a label whose digits are this number is the lexeme of that number
+pub label_ends : (o : ℕ) (x d : List ℕ) (b n : ℕ) (l : ℕ → ℕ → Lexeme) → x ≡ d → n ≡ decimal_value x → 0 < length x → (0 < length d → label_lexeme o d b ≡ l o (decimal_value d)) → l o n ≡ label_lexeme o d b
+label_ends o x d b n l w e some h = ap (l o) (e ∙ ap decimal_value w) ∙ sym (h (subst (λ u. 0 < length u) w some))
+
+-- what that lexeme did, the label did
+pub label_took : {E : Type 0} (os0 os : List Object) (s0 s : Stack) (l k : Lexeme) (r : Result Outcome E) → l ≡ k →
+    IfOk r (λ o. (t : State) → Holds os0 s0 t → Took os s o (on t l)) → IfOk r (λ o. (t : State) → Holds os0 s0 t → is_full t ≡ false → Took os s o (on t k))
+label_took os0 os s0 s l k (Ok o) e f = λ t h full. subst (λ u. Took os s o (on t u)) e (f t h)
+label_took os0 os s0 s l k (Err x) e f = f
 
 pub free_parser : (os : List Object) (p : Parser) → p.begun ≡ Nothing → IsStack os p.stack → IsParser os p
 free_parser os p e k = record {

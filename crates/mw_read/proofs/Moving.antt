@@ -77,6 +77,10 @@ hash_ended (Ok (outcomes.Datum x)) n b old new i s w = (i, s, w)
 hash_ended (Ok (outcomes.Fault f)) n b old new i s w = tt
 hash_ended (Err e) n b old new i s w = tt
 
+-- its bytes are its digits and two more
+pub hash_length : {x d : List ℕ} (o : ℕ) → x ≡ d → o + (length x + 2) ≡ o + 2 + length d
+hash_length {x} {d} o w = omega (arith, ap length w)
+
 module _ (old new : Parser) (rest : List ℕ) (n : ℕ) where
   abbrev whole : List ℕ
   whole = old.token.items ++ take n rest

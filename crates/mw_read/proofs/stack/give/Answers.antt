@@ -24,36 +24,23 @@ loop-layer-preserved c =
     (c.end.ensures.agrees c.loop-layer.heap.objects)
     (c.end.ensures.listed (length c.loop-layer.heap.objects) c.loop-layer.invariant.listed c.loop-layer.invariant.tags)
 
-pub returns-in-Dot-clause-pile : goal.returns-in-Dot-clause-pile
-returns-in-Dot-clause-pile c =
+pub returns-in-Dot : goal.returns-in-Dot
+returns-in-Dot c =
     let ls = c.loop-layer.layers in
-    (give_last c.args.heap.now.objects c.args.layers.now.items c.args.labels.now.entries c.args.x c.loop-layer.heap.objects
+    let gives =
+    give_last c.args.heap.now.objects c.args.layers.now.items c.args.labels.now.entries c.args.x c.loop-layer.heap.objects
     ls.items c.pop-in-Dot.new.self.items c.push.new.self.items c.loop-layer.labels.entries c.loop-layer.x c.loop-layer.invariant
     (popped_layer ls.items c.deref.result.now c.pop-in-Dot.new.self.items c.in-Some.layer layers.Dot (vec_len ls) c.in-Some.ensures c.deref.ensures.value c.in-Dot.is ls.ok.0 c.pop-in-Dot.ensures.rest)
-    c.in_ok-push-in-Dot.ensures.items).0
+    c.in_ok-push-in-Dot.ensures.items in
+    record { grows = c.loop-layer.invariant.kept; datum = tt; pile = gives.0; listed = c.loop-layer.invariant.tags; turn = gives.1 }
 
-pub returns-in-Dot-clause-turn : goal.returns-in-Dot-clause-turn
-returns-in-Dot-clause-turn c =
-    let ls = c.loop-layer.layers in
-    (give_last c.args.heap.now.objects c.args.layers.now.items c.args.labels.now.entries c.args.x c.loop-layer.heap.objects
-    ls.items c.pop-in-Dot.new.self.items c.push.new.self.items c.loop-layer.labels.entries c.loop-layer.x c.loop-layer.invariant
-    (popped_layer ls.items c.deref.result.now c.pop-in-Dot.new.self.items c.in-Some.layer layers.Dot (vec_len ls) c.in-Some.ensures c.deref.ensures.value c.in-Dot.is ls.ok.0 c.pop-in-Dot.ensures.rest)
-    c.in_ok-push-in-Dot.ensures.items).1
-
-pub returns-in_default-layer-clause-pile : goal.returns-in_default-layer-clause-pile
-returns-in_default-layer-clause-pile c =
+pub returns-in_default-layer : goal.returns-in_default-layer
+returns-in_default-layer c =
     let ls = c.loop-layer.layers in
     let e = sym c.deref.ensures.value ∙ c.in-Some.ensures.1 in
-    (give_item c.args.heap.now.objects c.args.layers.now.items c.args.labels.now.entries c.args.x c.loop-layer.heap.objects
+    let gives =
+    give_item c.args.heap.now.objects c.args.layers.now.items c.args.labels.now.entries c.args.x c.loop-layer.heap.objects
     ls.items c.in-Some.ensures.0 c.push-in_default-layer.new.self.items c.loop-layer.labels.entries c.loop-layer.x c.in-Some.layer c.loop-layer.invariant
     e c.in_default-layer.not-Quote c.in_default-layer.not-Dot c.in_default-layer.not-Mark
-    (c.in_ok-push-in_default-layer.ensures.items ∙ ap (λ u. u ++ layers.Item c.loop-layer.x ∷ []) e)).0
-
-pub returns-in_default-layer-clause-turn : goal.returns-in_default-layer-clause-turn
-returns-in_default-layer-clause-turn c =
-    let ls = c.loop-layer.layers in
-    let e = sym c.deref.ensures.value ∙ c.in-Some.ensures.1 in
-    (give_item c.args.heap.now.objects c.args.layers.now.items c.args.labels.now.entries c.args.x c.loop-layer.heap.objects
-    ls.items c.in-Some.ensures.0 c.push-in_default-layer.new.self.items c.loop-layer.labels.entries c.loop-layer.x c.in-Some.layer c.loop-layer.invariant
-    e c.in_default-layer.not-Quote c.in_default-layer.not-Dot c.in_default-layer.not-Mark
-    (c.in_ok-push-in_default-layer.ensures.items ∙ ap (λ u. u ++ layers.Item c.loop-layer.x ∷ []) e)).1
+    (c.in_ok-push-in_default-layer.ensures.items ∙ ap (λ u. u ++ layers.Item c.loop-layer.x ∷ []) e) in
+    record { grows = c.loop-layer.invariant.kept; datum = tt; pile = gives.0; listed = c.loop-layer.invariant.tags; turn = gives.1 }

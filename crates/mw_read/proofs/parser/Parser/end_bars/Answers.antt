@@ -1,4 +1,3 @@
--- The name is what was kept and these bytes.
 use Rattle.std.proofs.Common.{◌≡◌, ℕ, ◌<◌, ◌∙◌, ◌&&◌, List, [], ◌∷◌, ◌++◌, length, ap, sym, subst, true, false, refl, arith, length-append}
 use Rattle.mw_model.specs.Terms.Object.{Symbol, name_of_bytes, is_name, is_name_byte}
 use Rattle.std.specs.List.{list_all}
@@ -6,6 +5,7 @@ use Rattle.mw_heap.proofs.Objects.{Grows-trans}
 use Rattle.mw_read.proofs.Holding.{stack_grows, ready_grows, atom_took, or_small, if_ok_all}
 use Rattle.mw_read.proofs.Bare.{kept_is}
 use Rattle.mw_read.proofs.parser.Parser.end_bars.Goals as goal
+use Rattle.mw_read.proofs.parser.Parser.end_bars.Goals.{After-whole_text}
 
 are_same : (bs : List ℕ) → list_all is_name_byte bs ≡ list_all is_name_byte bs
 are_same [] = refl
@@ -15,14 +15,14 @@ are_name : (bs : List ℕ) → list_all is_name_byte bs ≡ true → 0 < length 
 are_name [] a l = absurd (omega arith)
 are_name (b ∷ bs) a l = ap (λ u. is_name_byte b && u) (are_same bs) ∙ a
 
+-- the name is what was kept and these bytes
+whole : (c : goal.After-whole_text) → c.whole_text.result.now ≡ c.args.self.now.token.items ++ c.args.bytes.now
+whole c =
+    kept_is c.args.self.now.token.items c.keep_after.new.kept.items c.deref.result.now c.args.bytes.now c.whole_text.result.now
+    c.in_ok-keep_after.ensures.some c.in_ok-keep_after.ensures.none c.deref.ensures.value c.whole_text.ensures.kept c.whole_text.ensures.none
+
 pub symbol-requires : goal.symbol-requires
-symbol-requires c =
-    let a = c.args.self.now in
-    let bytes = c.args.bytes.now in
-    let whole : c.whole_text.result.now ≡ a.token.items ++ bytes =
-    kept_is a.token.items c.keep_after.new.kept.items c.deref.result.now bytes c.whole_text.result.now
-    c.in_ok-keep_after.ensures.some c.in_ok-keep_after.ensures.none c.deref.ensures.value c.whole_text.ensures.kept c.whole_text.ensures.none in
-    subst (λ u. is_name u ≡ true) (sym whole) (are_name (a.token.items ++ bytes) c.requires.name c.requires.some)
+symbol-requires c = subst (λ u. is_name u ≡ true) (sym (whole (goal.at.symbol-requires c).After-whole_text)) (are_name (c.args.self.now.token.items ++ c.args.bytes.now) c.requires.name c.requires.some)
 
 pub returns-in_err-keep_after-clause-start : goal.returns-in_err-keep_after-clause-start
 returns-in_err-keep_after-clause-start c = omega (arith, length-append c.args.self.now.token.items c.args.bytes.now, c.len.ensures, c.args.self.now.token.ok.0)
@@ -47,13 +47,9 @@ take-requires-clause-comes c =
 pub returns-clause-took : goal.returns-clause-took
 returns-clause-took c =
     let a = c.args.self.now in
-    let bytes = c.args.bytes.now in
-    let y = Symbol (name_of_bytes (a.token.items ++ bytes)) in
-    let whole : c.whole_text.result.now ≡ a.token.items ++ bytes =
-    kept_is a.token.items c.keep_after.new.kept.items c.deref.result.now bytes c.whole_text.result.now
-    c.in_ok-keep_after.ensures.some c.in_ok-keep_after.ensures.none c.deref.ensures.value c.whole_text.ensures.kept c.whole_text.ensures.none in
+    let y = Symbol (name_of_bytes (a.token.items ++ c.args.bytes.now)) in
     if_ok_all _ _ _ _ c.take.result
     (λ r p d f e t h.
     atom_took c.args.heap.now.objects c.symbol.new.self.objects c.take.new.heap.objects a.stack c.take.new.self r t y c.in_ok-x.x a.start h c.symbol.ensures.grows
-    (c.in_ok-x.ensures.made.1 ∙ ap (λ u. Symbol (name_of_bytes u)) whole) p d f (or_small c.take.new.self.big a.stack.big false refl e))
+    (c.in_ok-x.ensures.made.1 ∙ ap (λ u. Symbol (name_of_bytes u)) (whole (goal.at.returns-clause-took c).After-whole_text)) p d f (or_small c.take.new.self.big a.stack.big false refl e))
     c.take.ensures.stack c.take.ensures.datum c.take.ensures.turn c.take.ensures.big

@@ -1,4 +1,4 @@
-use Rattle.std.proofs.Common.{◌+◌, get_or, sym, refl}
+use Rattle.std.proofs.Common.{◌+◌, sym, refl, arith}
 use Rattle.mw_model.specs.Texts.Lexemes.{Open, Close, Quote}
 use Rattle.mw_model.specs.Texts.Lexemes as lex
 use Rattle.mw_read.specs.declared.parser.Begun.TheVariants.{Comment}
@@ -6,9 +6,9 @@ use Rattle.mw_read.specs.declared.parser.Parser.{Parser}
 use Rattle.mw_read.specs.declared.step.SyntaxKind.TheVariants as kinds
 use Rattle.mw_read.proofs.Holding.{sound_clamp}
 use Rattle.mw_read.proofs.Advancing.{fault_advances}
-use Rattle.mw_read.proofs.Beginning.{lexeme_advances, byte_faults, white_advances, comment_advances, first_is}
-use Rattle.mw_read.proofs.White.{class_shows}
-use Rattle.mw_read.proofs.Moving.{byte_moved, byte_moves, comment_moved}
+use Rattle.mw_read.proofs.Beginning.{byte_faults, white_advances, comment_advances, first_is}
+use Rattle.mw_read.proofs.FirstByte.{byte_taken}
+use Rattle.mw_read.proofs.Moving.{byte_moved, comment_moved}
 use Rattle.mw_read.proofs.parser.Parser.fresh.Goals as goal
 
 pub returns-in-White-clause-moves : goal.returns-in-White-clause-moves
@@ -44,32 +44,29 @@ begin-requires-in-Hash-clause-begins c = first_is lex.Hash c.args.rest.now c.req
 pub begin-requires-in-Constituent-clause-begins : goal.begin-requires-in-Constituent-clause-begins
 begin-requires-in-Constituent-clause-begins c = first_is lex.Constituent c.args.rest.now c.requires.some (sym c.in-Constituent.ensures)
 
-pub returns-in_ok-take-in-Opening-clause-moves : goal.returns-in_ok-take-in-Opening-clause-moves
-returns-in_ok-take-in-Opening-clause-moves c = byte_moves c.in_ok-take-in-Opening.field-0 c.args.self.now c.take.new.self c.args.rest.now c.requires.begun c.take.ensures.begun c.take.ensures.start (class_shows (get_or c.args.rest.now 0 0) lex.Opening (sym c.in-Opening.ensures) (λ e. cc))
-
-pub returns-in_ok-take-in-Opening-clause-advances : goal.returns-in_ok-take-in-Opening-clause-advances
-returns-in_ok-take-in-Opening-clause-advances c t h =
+pub returns-in_ok-take-in-Opening : goal.returns-in_ok-take-in-Opening
+returns-in_ok-take-in-Opening c =
     let a = c.args.self.now in
-    lexeme_advances c.take.new.heap.objects t a c.take.new.self c.args.rest.now c.in_ok-take-in-Opening.field-0 lex.Opening (Open a.start) c.requires.some c.requires.begun c.take.ensures.begun c.take.ensures.start (sym c.in-Opening.ensures) tt (λ e b x. refl)
-    (c.in_ok-take-in-Opening.ensures.took t h)
+    let k =
+    byte_taken c.args.heap.now.objects c.take.new.heap.objects a c.take.new.self c.args.rest.now c.in_ok-take-in-Opening.field-0 lex.Opening (Open a.start) c.requires.some c.requires.begun c.take.ensures.begun c.take.ensures.start
+    (sym c.in-Opening.ensures) (λ e. cc) tt (λ e b x. refl) c.in_ok-take-in-Opening.ensures.took in
+    record { grows = c.in_ok-take-in-Opening.ensures.grows; taken = omega (arith, c.requires.some); moves = k.0; advances = k.1 }
 
-pub returns-in_ok-take-in-Closing-clause-moves : goal.returns-in_ok-take-in-Closing-clause-moves
-returns-in_ok-take-in-Closing-clause-moves c = byte_moves c.in_ok-take-in-Closing.field-0 c.args.self.now c.take-in-Closing.new.self c.args.rest.now c.requires.begun c.take-in-Closing.ensures.begun c.take-in-Closing.ensures.start (class_shows (get_or c.args.rest.now 0 0) lex.Closing (sym c.in-Closing.ensures) (λ e. cc))
-
-pub returns-in_ok-take-in-Closing-clause-advances : goal.returns-in_ok-take-in-Closing-clause-advances
-returns-in_ok-take-in-Closing-clause-advances c t h =
+pub returns-in_ok-take-in-Closing : goal.returns-in_ok-take-in-Closing
+returns-in_ok-take-in-Closing c =
     let a = c.args.self.now in
-    lexeme_advances c.take-in-Closing.new.heap.objects t a c.take-in-Closing.new.self c.args.rest.now c.in_ok-take-in-Closing.field-0 lex.Closing (Close a.start) c.requires.some c.requires.begun c.take-in-Closing.ensures.begun c.take-in-Closing.ensures.start (sym c.in-Closing.ensures) tt (λ e b x. refl)
-    (c.in_ok-take-in-Closing.ensures.took t h)
+    let k =
+    byte_taken c.args.heap.now.objects c.take-in-Closing.new.heap.objects a c.take-in-Closing.new.self c.args.rest.now c.in_ok-take-in-Closing.field-0 lex.Closing (Close a.start) c.requires.some c.requires.begun c.take-in-Closing.ensures.begun c.take-in-Closing.ensures.start
+    (sym c.in-Closing.ensures) (λ e. cc) tt (λ e b x. refl) c.in_ok-take-in-Closing.ensures.took in
+    record { grows = c.in_ok-take-in-Closing.ensures.grows; taken = omega (arith, c.requires.some); moves = k.0; advances = k.1 }
 
-pub returns-in_ok-take-in-Apostrophe-clause-moves : goal.returns-in_ok-take-in-Apostrophe-clause-moves
-returns-in_ok-take-in-Apostrophe-clause-moves c = byte_moves c.in_ok-take-in-Apostrophe.field-0 c.args.self.now c.take-in-Apostrophe.new.self c.args.rest.now c.requires.begun c.take-in-Apostrophe.ensures.begun c.take-in-Apostrophe.ensures.start (class_shows (get_or c.args.rest.now 0 0) lex.Apostrophe (sym c.in-Apostrophe.ensures) (λ e. cc))
-
-pub returns-in_ok-take-in-Apostrophe-clause-advances : goal.returns-in_ok-take-in-Apostrophe-clause-advances
-returns-in_ok-take-in-Apostrophe-clause-advances c t h =
+pub returns-in_ok-take-in-Apostrophe : goal.returns-in_ok-take-in-Apostrophe
+returns-in_ok-take-in-Apostrophe c =
     let a = c.args.self.now in
-    lexeme_advances c.take-in-Apostrophe.new.heap.objects t a c.take-in-Apostrophe.new.self c.args.rest.now c.in_ok-take-in-Apostrophe.field-0 lex.Apostrophe (Quote a.start) c.requires.some c.requires.begun c.take-in-Apostrophe.ensures.begun c.take-in-Apostrophe.ensures.start (sym c.in-Apostrophe.ensures) tt (λ e b x. refl)
-    (c.in_ok-take-in-Apostrophe.ensures.took t h)
+    let k =
+    byte_taken c.args.heap.now.objects c.take-in-Apostrophe.new.heap.objects a c.take-in-Apostrophe.new.self c.args.rest.now c.in_ok-take-in-Apostrophe.field-0 lex.Apostrophe (Quote a.start) c.requires.some c.requires.begun c.take-in-Apostrophe.ensures.begun c.take-in-Apostrophe.ensures.start
+    (sym c.in-Apostrophe.ensures) (λ e. cc) tt (λ e b x. refl) c.in_ok-take-in-Apostrophe.ensures.took in
+    record { grows = c.in_ok-take-in-Apostrophe.ensures.grows; taken = omega (arith, c.requires.some); moves = k.0; advances = k.1 }
 
 pub returns-in-Other-clause-advances : goal.returns-in-Other-clause-advances
 returns-in-Other-clause-advances c t h =

@@ -8,51 +8,51 @@ use Rattle.mw_read.proofs.Beginning.{rest_is}
 use Rattle.mw_read.proofs.Scanning.{Scans, scan_next, scan_reaches, scan_advances}
 use Rattle.mw_read.proofs.Blanks.{blank_scans}
 use Rattle.mw_read.proofs.parser.Parser.scan.Goals as goal
+use Rattle.mw_read.proofs.parser.Parser.scan.Goals.{In_ok-outcome}
 
--- the next part of the piece
-next : (c : goal.After-pass_white-at) → Scans c.args.heap.now.objects c.args.self.now c.args.piece.now c.advance.new.heap.objects c.advance.new.self (c.loop-at.at + c.in_ok-outcome.n)
-next c =
-    let at = c.loop-at.at in
-    let piece = c.args.piece.now in
-    let mid = c.loop-at.self in
-    let os = c.loop-at.heap.objects in
-    let os2 = c.advance.new.heap.objects in
-    let new = c.advance.new.self in
-    let n = c.in_ok-outcome.n in
-    let v = c.in_ok-outcome.ensures in
-    let m = subst (λ u. Moves c.in_ok-outcome.outcome mid u n new) (rest_is at piece) v.moves in
-    let f : (t : State) → Holds os mid.stack t → Advances os2 t mid (drop at piece) c.in_ok-outcome.outcome n new = λ t h. subst (λ u. Advances os2 t mid u c.in_ok-outcome.outcome n new) (rest_is at piece) (v.advances t h) in
-    let l : n ≤ length (drop at piece) = subst (λ u. n ≤ length u) (rest_is at piece) v.taken in
-    scan_next c.args.heap.now.objects c.args.self.now piece os mid at c.loop-at.invariant os2 new v.grows c.loop-at-test.true n l
-    (subst (λ r. Moves r mid (drop at piece) n new) c.in-Pending.is m)
-    (λ t h. subst (λ r. Advances os2 t mid (drop at piece) r n new) c.in-Pending.is (f t h))
+-- what the bytes that are left did
+advanced : (c : goal.In_ok-outcome) →
+    Moves c.in_ok-outcome.outcome c.loop-at.self (drop c.loop-at.at c.args.piece.now) c.in_ok-outcome.n c.advance.new.self
+    × ((t : State) → Holds c.loop-at.heap.objects c.loop-at.self.stack t → Advances c.advance.new.heap.objects t c.loop-at.self (drop c.loop-at.at c.args.piece.now) c.in_ok-outcome.outcome c.in_ok-outcome.n c.advance.new.self)
+    × (c.in_ok-outcome.n ≤ length (drop c.loop-at.at c.args.piece.now))
+advanced c =
+    let left = rest_is c.loop-at.at c.args.piece.now in
+    let v = c.in_ok-outcome.ensures in (
+      subst (λ u. Moves c.in_ok-outcome.outcome c.loop-at.self u c.in_ok-outcome.n c.advance.new.self) left v.moves,
+      λ t h. subst (λ u. Advances c.advance.new.heap.objects t c.loop-at.self u c.in_ok-outcome.outcome c.in_ok-outcome.n c.advance.new.self) left (v.advances t h),
+      subst (λ u. c.in_ok-outcome.n ≤ length u) left v.taken,
+    )
 
 pub loop-at-preserved : goal.loop-at-preserved
 loop-at-preserved c =
-    let at = c.loop-at.at + c.in_ok-outcome.n in
+    let k = advanced (goal.at.loop-at-preserved c).In_ok-outcome in
+    let os = c.args.heap.now.objects in
+    let a = c.args.self.now in
+    let piece = c.args.piece.now in
+    let at = c.loop-at.at in
+    let n = c.in_ok-outcome.n in
+    let new = c.advance.new.heap.objects in
     let p = c.advance.new.self in
-    blank_scans c.args.heap.now.objects c.args.self.now c.args.piece.now c.advance.new.heap.objects p at c.pass_white-at.result c.pass_white-at.new.self (next c)
-    (subst (λ u. PassesWhite p u c.pass_white-at.result c.pass_white-at.new.self) (rest_is at c.args.piece.now) c.pass_white-at.ensures)
+    let scans : Scans os a piece new p (at + n) =
+    scan_next os a piece c.loop-at.heap.objects c.loop-at.self at c.loop-at.invariant new p c.in_ok-outcome.ensures.grows c.loop-at-test.true n k.2
+    (subst (λ r. Moves r c.loop-at.self (drop at piece) n p) c.in-Pending.is k.0)
+    (λ t h. subst (λ r. Advances new t c.loop-at.self (drop at piece) r n p) c.in-Pending.is (k.1 t h)) in
+    blank_scans os a piece new p (at + n) c.pass_white-at.result c.pass_white-at.new.self scans
+    (subst (λ u. PassesWhite p u c.pass_white-at.result c.pass_white-at.new.self) (rest_is (at + n) piece) c.pass_white-at.ensures)
 
 pub returns-in_default : goal.returns-in_default
 returns-in_default c =
-    let at = c.loop-at.at in
+    let k = advanced (goal.at.returns-in_default c).In_ok-outcome in
+    let os = c.args.heap.now.objects in
+    let a = c.args.self.now in
     let piece = c.args.piece.now in
-    let mid = c.loop-at.self in
-    let os = c.loop-at.heap.objects in
-    let os2 = c.advance.new.heap.objects in
-    let new = c.advance.new.self in
-    let n = c.in_ok-outcome.n in
-    let r = c.in_ok-outcome.outcome in
-    let v = c.in_ok-outcome.ensures in
+    let at = c.loop-at.at in
     let s = c.loop-at.invariant in
-    let m = subst (λ u. Moves r mid u n new) (rest_is at piece) v.moves in
-    let f : (t : State) → Holds os mid.stack t → Advances os2 t mid (drop at piece) r n new = λ t h. subst (λ u. Advances os2 t mid u r n new) (rest_is at piece) (v.advances t h) in
-    let l : n ≤ length (drop at piece) = subst (λ u. n ≤ length u) (rest_is at piece) v.taken in
+    let grows = c.in_ok-outcome.ensures.grows in
     record {
-      grows = Grows-trans c.args.heap.now.objects os os2 s.kept v.grows;
-      taken = (let e : at + n ≤ length piece = omega (arith, l, length-drop at piece, s.within, c.loop-at-test.true) in e);
+      grows = Grows-trans os c.loop-at.heap.objects c.advance.new.heap.objects s.kept grows;
+      taken = (let e : at + c.in_ok-outcome.n ≤ length piece = omega (arith, k.2, length-drop at piece, s.within, c.loop-at-test.true) in e);
       whole = λ e. absurd (c.in_default.not-Pending e);
-      reaches = scan_reaches c.args.heap.now.objects c.args.self.now piece os mid at s os2 new v.grows c.loop-at-test.true r n m;
-      advances = scan_advances c.args.heap.now.objects c.args.self.now piece os mid at s os2 new v.grows c.loop-at-test.true r n m f;
+      reaches = scan_reaches os a piece c.loop-at.heap.objects c.loop-at.self at s c.advance.new.heap.objects c.advance.new.self grows c.loop-at-test.true c.in_ok-outcome.outcome c.in_ok-outcome.n k.0;
+      advances = scan_advances os a piece c.loop-at.heap.objects c.loop-at.self at s c.advance.new.heap.objects c.advance.new.self grows c.loop-at-test.true c.in_ok-outcome.outcome c.in_ok-outcome.n k.0 k.1;
     }

@@ -4,7 +4,8 @@ use Rattle.mw_read.specs.Machine.{Turn, on, labels_of}
 use Rattle.mw_read.specs.Piles.{pile_of, Does, IsInList, closed_with}
 use Rattle.mw_heap.proofs.Objects.{length-Grows}
 use Rattle.mw_read.proofs.Piles.{pile_grows, is_pile_grows, agree_grows, listed_grows}
-use Rattle.mw_read.proofs.Turns.{opens_list, ends_dot, ends_waiting, ends_last, under_last, close_list, on_close, shows_agree, if_ok_map}
+use Rattle.mw_read.proofs.Closing.{opens_list, ends_dot, ends_waiting, ends_last, under_last, close_list, on_close}
+use Rattle.mw_read.proofs.Turns.{shows_agree, if_ok_map}
 use Rattle.mw_read.proofs.stack.Stack.close.Goals as goal
 
 pub close_with-requires-clause-stack : goal.close_with-requires-clause-stack
