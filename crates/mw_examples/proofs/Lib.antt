@@ -1,4 +1,5 @@
 mod Reports
+mod Tables
 mod Proofs
 mod Definitions
 mod Obligations

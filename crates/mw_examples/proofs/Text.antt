@@ -2,74 +2,41 @@
 use Rattle.std.proofs.Common.{◌≡◌, [], ◌∷◌, refl}
 use Rattle.mw_model.specs.Events.Refusal.{need, must, unless}
 use Rattle.mw_model.specs.Reports.Report.{Done, SomeRefused}
-use Rattle.mw_examples.proofs.Reports.{check, says}
+use Rattle.mw_examples.proofs.Reports.{AreReported, example, check}
 
-greatest_natural_in_range_is_printed : check "(print 340282366920938463463374607431768211455)" ≡ says ("1 PRINT - accepted 340282366920938463463374607431768211455" ∷ "events 1 accepted 1 refused 0 level 1" ∷ []) Done
+data_are_printed : AreReported
+    (example "greatest natural in range is printed" (check "(print 340282366920938463463374607431768211455)") ("1 PRINT - accepted 340282366920938463463374607431768211455" ∷ "events 1 accepted 1 refused 0 level 1" ∷ []) Done
+    ∷ example "name with a space is printed in bars" (check "(print |a b|)") ("1 PRINT - accepted |a b|" ∷ "events 1 accepted 1 refused 0 level 1" ∷ []) Done
+    ∷ example "bars are left out where the bare name is read alike" (check "(print |AB|)") ("1 PRINT - accepted AB" ∷ "events 1 accepted 1 refused 0 level 1" ∷ []) Done
+    ∷ example "name of digits keeps its bars" (check "(print |12|)") ("1 PRINT - accepted |12|" ∷ "events 1 accepted 1 refused 0 level 1" ∷ []) Done
+    ∷ example "leading zeros are dropped" (check "(print 007)") ("1 PRINT - accepted 7" ∷ "events 1 accepted 1 refused 0 level 1" ∷ []) Done
+    ∷ example "quotes are printed in full" (check "(print 'x)") ("1 PRINT - accepted (QUOTE X)" ∷ "events 1 accepted 1 refused 0 level 1" ∷ []) Done
+    ∷ example "dotted lists are printed as lists" (check "(print (a . (b . c)))") ("1 PRINT - accepted (A B . C)" ∷ "events 1 accepted 1 refused 0 level 1" ∷ []) Done
+    ∷ example "empty list is nil" (check "(print ())") ("1 PRINT - accepted NIL" ∷ "events 1 accepted 1 refused 0 level 1" ∷ []) Done
+    ∷ [])
 unfolding need must unless
-greatest_natural_in_range_is_printed = refl
+data_are_printed = refl
 
-name_with_a_space_is_printed_in_bars : check "(print |a b|)" ≡ says ("1 PRINT - accepted |a b|" ∷ "events 1 accepted 1 refused 0 level 1" ∷ []) Done
+labels_are_read : AreReported
+    (example "label names its datum again" (check "(print (#1=(a b) #1#))") ("1 PRINT - accepted ((A B) (A B))" ∷ "events 1 accepted 1 refused 0 level 1" ∷ []) Done
+    ∷ example "labels are compared as numbers" (check "(print (#1=a #01#))") ("1 PRINT - accepted (A A)" ∷ "events 1 accepted 1 refused 0 level 1" ∷ []) Done
+    ∷ example "any byte may follow a reference" (check "(print (#1=a #1##1#)) (print (#1=a #1#b))") ("1 PRINT - accepted (A A A)" ∷ "2 PRINT - accepted (A A B)" ∷ "events 2 accepted 2 refused 0 level 1" ∷ []) Done
+    ∷ example "quote ends a token" (check "(print (a'b)) (print (|a|'b))") ("1 PRINT - accepted (A (QUOTE B))" ∷ "2 PRINT - accepted (|a| (QUOTE B))" ∷ "events 2 accepted 2 refused 0 level 1" ∷ []) Done
+    ∷ example "labelled atom is one datum" (check "#1=a") ("1 - - refused EVENT" ∷ "events 1 accepted 0 refused 1 level 1" ∷ []) SomeRefused
+    ∷ example "datum may have two labels" (check "#1=#2=a") ("1 - - refused EVENT" ∷ "events 1 accepted 0 refused 1 level 1" ∷ []) SomeRefused
+    ∷ [])
 unfolding need must unless
-name_with_a_space_is_printed_in_bars = refl
-
-bars_are_left_out_where_the_bare_name_is_read_alike : check "(print |AB|)" ≡ says ("1 PRINT - accepted AB" ∷ "events 1 accepted 1 refused 0 level 1" ∷ []) Done
-unfolding need must unless
-bars_are_left_out_where_the_bare_name_is_read_alike = refl
-
-name_of_digits_keeps_its_bars : check "(print |12|)" ≡ says ("1 PRINT - accepted |12|" ∷ "events 1 accepted 1 refused 0 level 1" ∷ []) Done
-unfolding need must unless
-name_of_digits_keeps_its_bars = refl
-
-leading_zeros_are_dropped : check "(print 007)" ≡ says ("1 PRINT - accepted 7" ∷ "events 1 accepted 1 refused 0 level 1" ∷ []) Done
-unfolding need must unless
-leading_zeros_are_dropped = refl
-
-quotes_are_printed_in_full : check "(print 'x)" ≡ says ("1 PRINT - accepted (QUOTE X)" ∷ "events 1 accepted 1 refused 0 level 1" ∷ []) Done
-unfolding need must unless
-quotes_are_printed_in_full = refl
-
-dotted_lists_are_printed_as_lists : check "(print (a . (b . c)))" ≡ says ("1 PRINT - accepted (A B . C)" ∷ "events 1 accepted 1 refused 0 level 1" ∷ []) Done
-unfolding need must unless
-dotted_lists_are_printed_as_lists = refl
-
-empty_list_is_nil : check "(print ())" ≡ says ("1 PRINT - accepted NIL" ∷ "events 1 accepted 1 refused 0 level 1" ∷ []) Done
-unfolding need must unless
-empty_list_is_nil = refl
-
-label_names_its_datum_again : check "(print (#1=(a b) #1#))" ≡ says ("1 PRINT - accepted ((A B) (A B))" ∷ "events 1 accepted 1 refused 0 level 1" ∷ []) Done
-unfolding need must unless
-label_names_its_datum_again = refl
-
-labels_are_compared_as_numbers : check "(print (#1=a #01#))" ≡ says ("1 PRINT - accepted (A A)" ∷ "events 1 accepted 1 refused 0 level 1" ∷ []) Done
-unfolding need must unless
-labels_are_compared_as_numbers = refl
-
-any_byte_may_follow_a_reference : check "(print (#1=a #1##1#)) (print (#1=a #1#b))" ≡ says ("1 PRINT - accepted (A A A)" ∷ "2 PRINT - accepted (A A B)" ∷ "events 2 accepted 2 refused 0 level 1" ∷ []) Done
-unfolding need must unless
-any_byte_may_follow_a_reference = refl
-
-quote_ends_a_token : check "(print (a'b)) (print (|a|'b))" ≡ says ("1 PRINT - accepted (A (QUOTE B))" ∷ "2 PRINT - accepted (|a| (QUOTE B))" ∷ "events 2 accepted 2 refused 0 level 1" ∷ []) Done
-unfolding need must unless
-quote_ends_a_token = refl
-
-labelled_atom_is_one_datum : check "#1=a" ≡ says ("1 - - refused EVENT" ∷ "events 1 accepted 0 refused 1 level 1" ∷ []) SomeRefused
-unfolding need must unless
-labelled_atom_is_one_datum = refl
-
-datum_may_have_two_labels : check "#1=#2=a" ≡ says ("1 - - refused EVENT" ∷ "events 1 accepted 0 refused 1 level 1" ∷ []) SomeRefused
-unfolding need must unless
-datum_may_have_two_labels = refl
+labels_are_read = refl
 
 -- Seven labels, each four times the one within: a text of 87,381 bytes.
-text_past_65536_bytes_is_refused : check "(print (#7=(#6=(#5=(#4=(#3=(#2=(#1=(a a a a) #1# #1# #1#) #2# #2# #2#) #3# #3# #3#) #4# #4# #4#) #5# #5# #5#) #6# #6# #6#) #7#))" ≡ says ("1 PRINT - refused LONG" ∷ "events 1 accepted 0 refused 1 level 1" ∷ []) SomeRefused
+long_texts_are_refused : AreReported
+    (example "text past 65536 bytes is refused" (check "(print (#7=(#6=(#5=(#4=(#3=(#2=(#1=(a a a a) #1# #1# #1#) #2# #2# #2#) #3# #3# #3#) #4# #4# #4#) #5# #5# #5#) #6# #6# #6#) #7#))") ("1 PRINT - refused LONG" ∷ "events 1 accepted 0 refused 1 level 1" ∷ []) SomeRefused
+    ∷ example "text of 65537 bytes is refused" (check "(print (#7=(#6=(#5=(#4=(#3=(#2=(#1=(a a a a) #1# #1# #1#) #2# #2# #2#) #3# #3# #3#) #4# #4# #4#) #5# #5# #5#) #6# #6# #6#) #6# #5# #5# #5# #5# aaa))") ("1 PRINT - refused LONG" ∷ "events 1 accepted 0 refused 1 level 1" ∷ []) SomeRefused
+    ∷ [])
 unfolding need must unless
-text_past_65536_bytes_is_refused = refl
+long_texts_are_refused = refl
 
--- The bound itself: 65,536 bytes are shown, one more is refused.
+-- The bound itself: 65,536 bytes are shown.
 longest_text_is_printed : (check "(print (#7=(#6=(#5=(#4=(#3=(#2=(#1=(a a a a) #1# #1# #1#) #2# #2# #2#) #3# #3# #3#) #4# #4# #4#) #5# #5# #5#) #6# #6# #6#) #6# #5# #5# #5# #5# aa))").status ≡ Done
 unfolding need must unless
 longest_text_is_printed = refl
-
-one_byte_more_is_refused : check "(print (#7=(#6=(#5=(#4=(#3=(#2=(#1=(a a a a) #1# #1# #1#) #2# #2# #2#) #3# #3# #3#) #4# #4# #4#) #5# #5# #5#) #6# #6# #6#) #6# #5# #5# #5# #5# aaa))" ≡ says ("1 PRINT - refused LONG" ∷ "events 1 accepted 0 refused 1 level 1" ∷ []) SomeRefused
-unfolding need must unless
-one_byte_more_is_refused = refl
