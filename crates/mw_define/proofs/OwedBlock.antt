@@ -68,15 +68,16 @@ found-at os names fs i f h l is = subst (λ c. AreFoundCalls os names (c ∷ [])
     go (c ∷ fs) zero h l = (h.0, h.1, tt)
     go (c ∷ fs) (suc i) h l = go fs i h.2 (omega arith)
 
--- what the calls before some one owe was added
+-- the ordinal was added, and what the calls before some one owe
 pub record CallsSoFar (old cur : List Object) (es : List Given) (e : Given) (o more : Obligations) (fs : List FoundCall) (i : ℕ) : Type 0 where
   pub grows : Grows old cur
-  pub adds : Adds old cur o more (owed_at old es e (found_calls (functions_at old es) old (take i fs)))
+  pub adds : Adds old cur o more (ordinal_formula (measure_of (measures_at old es) (name_of (object_at old e.name))) ∷ owed_at old es e (found_calls (functions_at old es) old (take i fs)))
 
 module _ (old cur new : List Object) (es : List Given) (e : Given) (names : List Name) (o more last : Obligations) (fs : List FoundCall) (i : ℕ) (f : FoundCall) (x : AreExpanded old es) (w : IsDraftIn old e) (h : AreFoundCalls old names fs) (l : i < length fs) (is : f ≡ get_or fs i f) where
   pub calls-next : CallsSoFar old cur es e o more fs i → Grows cur new → Adds cur new more last (owed_at cur es e (found_calls (functions_at cur es) cur (f ∷ []))) → CallsSoFar old new es e o last fs (i + 1)
   calls-next s g a =
       let B = functions_at old es in
+      let ordinal = ordinal_formula (measure_of (measures_at old es) (name_of (object_at old e.name))) in
       let first = owed_at old es e (found_calls B old (take i fs)) in
       let one = owed_at old es e (found_calls B old (f ∷ [])) in
       let added : Adds cur new more last one = subst (Adds cur new more last) (owed_found-Grows old cur s.grows es e names (f ∷ []) x w (found-at old names fs i f h l is)) a in
@@ -85,11 +86,13 @@ module _ (old cur new : List Object) (es : List Given) (e : Given) (names : List
       ∙ ap (owed_at old es e) (sym (found-append B old (take i fs) (f ∷ [])) ∙ ap (found_calls B old) (sym (take_more fs i f l ∙ ap (λ c. take i fs ++ c ∷ []) (sym is)))) in
       record {
         grows = Grows-trans old cur new s.grows g;
-        adds = subst (Adds old new o last) both (adds-both old cur new o more last first one s.adds added);
+        adds = subst (λ Gs. Adds old new o last (ordinal ∷ Gs)) both (adds-both old cur new o more last (ordinal ∷ first) one s.adds added);
       }
 
-pub calls-end : (old cur : List Object) (es : List Given) (e : Given) (o more : Obligations) (fs : List FoundCall) (i : ℕ) → length fs ≤ i → CallsSoFar old cur es e o more fs i → Adds old cur o more (owed_at old es e (found_calls (functions_at old es) old fs))
-calls-end old cur es e o more fs i l s = subst (λ cs. Adds old cur o more (owed_at old es e (found_calls (functions_at old es) old cs))) (take_all i fs l) s.adds
+pub calls-end : (old cur : List Object) (es : List Given) (e : Given) (o more : Obligations) (fs : List FoundCall) (i : ℕ) → length fs ≤ i → CallsSoFar old cur es e o more fs i →
+    Adds old cur o more (ordinal_formula (measure_of (measures_at old es) (name_of (object_at old e.name))) ∷ owed_at old es e (found_calls (functions_at old es) old fs))
+calls-end old cur es e o more fs i l s =
+    subst (λ cs. Adds old cur o more (ordinal_formula (measure_of (measures_at old es) (name_of (object_at old e.name))) ∷ owed_at old es e (found_calls (functions_at old es) old cs))) (take_all i fs l) s.adds
 
 -- found calls are calls
 pub found-some : (B : List Function) (os : List Object) (names : List Name) (f : FoundCall) (fs : List FoundCall) → HasNames B names → AreFoundCalls os names (f ∷ fs) → is_empty (found_calls B os (f ∷ fs)) ≡ false

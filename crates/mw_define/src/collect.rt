@@ -79,8 +79,12 @@ fn advance(
 
 // The calls of functions of the block in a term, with the tests that they stand under, in order. Of a lambda call they are those of
 // its actuals and those of its body with the actuals for the formals. Actuals of a call that was found are not looked at, and parts that
-// mention none of the functions are not opened.
-fn collect_calls(heap: &mut Heap, term: Ref, known: &mut Known) -> Result<Vec<FoundCall>, Memory>
+// mention none of the functions are not opened. A term whose code is too large to be laid out is not looked at as a tree at all.
+pub(crate) fn find_calls(
+    heap: &mut Heap,
+    term: Ref,
+    known: &mut Known,
+) -> Result<Vec<FoundCall>, Memory>
     requires within { IsIn heap.old.objects term }
     requires read { (t : Term) × (term_of (object_at heap.old.objects term) ≡ Some t) }
     requires known { AreKnown heap.old.objects known.old.names.keys known.old }
@@ -89,8 +93,14 @@ fn collect_calls(heap: &mut Heap, term: Ref, known: &mut Known) -> Result<Vec<Fo
     ensures found { IfOk result (λ fs. AreFoundCalls heap.new.objects (names_at heap.old.objects known.old.names.keys) fs.items) }
     ensures calls { IfOk result (λ fs. (B : List Function) (t : Term) → HasNames B (names_at heap.old.objects known.old.names.keys) → term_of (object_at heap.old.objects term) ≡ Some t → found_calls B heap.new.objects fs.items ≡ collect B [] t) }
 {
-    let tests = heap.nil()?;
     let mut found = Vec::new(heap.alloc());
+    // What is found of a piece stays known, so that this needs no bound.
+    let mut unbounded = u64::MAX;
+    if !mentions_some(heap, Piece::Term(term), known, &mut unbounded)? {
+        return Ok(found);
+    }
+    check_size(heap, term)?;
+    let tests = heap.nil()?;
     let mut waiting = Vec::new(heap.alloc());
     waiting.push(Item {
         part: Part::Term(term),
@@ -107,27 +117,4 @@ fn collect_calls(heap: &mut Heap, term: Ref, known: &mut Known) -> Result<Vec<Fo
         take_searches_since(heap, had, 1)?;
     }
     Ok(found)
-}
-
-// The same, but a term whose code is too large to be laid out is not looked at as a tree at all.
-pub(crate) fn find_calls(
-    heap: &mut Heap,
-    term: Ref,
-    known: &mut Known,
-) -> Result<Vec<FoundCall>, Memory>
-    requires within { IsIn heap.old.objects term }
-    requires read { (t : Term) × (term_of (object_at heap.old.objects term) ≡ Some t) }
-    requires known { AreKnown heap.old.objects known.old.names.keys known.old }
-    ensures grows { Grows heap.old.objects heap.new.objects }
-    ensures known { OnOk result (AreKnown heap.new.objects known.old.names.keys known.new) }
-    ensures found { IfOk result (λ fs. AreFoundCalls heap.new.objects (names_at heap.old.objects known.old.names.keys) fs.items) }
-    ensures calls { IfOk result (λ fs. (B : List Function) (t : Term) → HasNames B (names_at heap.old.objects known.old.names.keys) → term_of (object_at heap.old.objects term) ≡ Some t → found_calls B heap.new.objects fs.items ≡ collect B [] t) }
-{
-    // unbounded: what is found of a piece stays known
-    let mut looks_left = u64::MAX;
-    if mentions_some(heap, Piece::Term(term), known, &mut looks_left)? {
-        check_size(heap, term)?;
-        return collect_calls(heap, term, known);
-    }
-    Ok(Vec::new(heap.alloc()))
 }

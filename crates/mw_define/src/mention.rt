@@ -1,9 +1,9 @@
 //! Whether a term mentions a function of a block.
-ghost use Rattle.std.specs.Prelude.{◌≡◌, List, All, true, false, Some, IfOk, OnOk};
-ghost use Rattle.mw_model.specs.Terms.Object.{Pair, symbol};
-ghost use Rattle.mw_model.specs.Terms.Term.{Term, Terms, Call};
+ghost use Rattle.std.specs.Prelude.{◌≡◌, ℕ, List, All, true, false, Some, IfOk, OnOk};
+ghost use Rattle.mw_model.specs.Terms.Object.{Name, Pair, symbol};
+ghost use Rattle.mw_model.specs.Terms.Term.{Term, Terms};
 ghost use Rattle.mw_model.specs.Terms.Reading.{term_of, terms_of};
-ghost use Rattle.mw_model.specs.Values.Primitive.{is_symbol, name_of};
+ghost use Rattle.mw_model.specs.Values.Primitive.{is_symbol};
 ghost use Rattle.mw_model.specs.Values.Definition.{Function};
 ghost use Rattle.mw_heap.specs.Objects.{object_at, IsIn};
 ghost use Rattle.mw_term.specs.Parts.{names_at, AreSymbols};
@@ -18,20 +18,19 @@ use indexmap::IndexSet;
 use mw_heap::{Heap, Memory, Ref, View, Word, take_look};
 use mw_term::is_among_symbols;
 
+// The actuals of a lambda call and the function's body wait.
 fn split_lambda(
     heap: &Heap,
-    names: &IndexSet<Ref>,
-    x: Ref,
     function: Ref,
     arguments: Ref,
     waiting: &mut Vec<Piece>,
 ) -> Result<(), Memory>
     requires function_in { IsIn heap.now.objects function }
     requires within { IsIn heap.now.objects arguments }
-    requires read { (t : Term) × (term_of (object_at heap.now.objects x) ≡ Some t) }
-    requires whole { object_at heap.now.objects x ≡ Pair (object_at heap.now.objects function) (object_at heap.now.objects arguments) }
+    requires read { (t : Term) × (term_of (Pair (object_at heap.now.objects function) (object_at heap.now.objects arguments)) ≡ Some t) }
     requires pair { is_symbol (object_at heap.now.objects function) ≡ false }
-    ensures { IfOk result (λ u. Splits (names_at heap.now.objects names.now.keys) heap.now.objects (piece.Term x) waiting.old.items waiting.new.items) }
+    ensures { OnOk result ((names : List Name) (x : ℕ) → object_at heap.now.objects x ≡ Pair (object_at heap.now.objects function) (object_at heap.now.objects arguments) →
+        Splits names heap.now.objects (piece.Term x) waiting.old.items waiting.new.items) }
 {
     waiting.push(Piece::Terms(arguments))?;
     let Some(body) = heap.third_of(function) else {
@@ -45,7 +44,6 @@ fn split_lambda(
 fn look_at_named(
     heap: &Heap,
     names: &IndexSet<Ref>,
-    x: Ref,
     name: Ref,
     arguments: Ref,
     waiting: &mut Vec<Piece>,
@@ -54,9 +52,9 @@ fn look_at_named(
     requires within { IsIn heap.now.objects arguments }
     requires symbol { is_symbol (object_at heap.now.objects name) ≡ true }
     requires symbols { AreSymbols heap.now.objects names.now.keys }
-    requires read { (t : Term) × (term_of (object_at heap.now.objects x) ≡ Some t) }
-    requires whole { object_at heap.now.objects x ≡ Pair (object_at heap.now.objects name) (object_at heap.now.objects arguments) }
-    ensures { IfOk result (IsLook (names_at heap.now.objects names.now.keys) heap.now.objects (piece.Term x) waiting.old.items waiting.new.items) }
+    requires read { (t : Term) × (term_of (Pair (object_at heap.now.objects name) (object_at heap.now.objects arguments)) ≡ Some t) }
+    ensures { IfOk result (λ b. (x : ℕ) → object_at heap.now.objects x ≡ Pair (object_at heap.now.objects name) (object_at heap.now.objects arguments) →
+        IsLook (names_at heap.now.objects names.now.keys) heap.now.objects (piece.Term x) waiting.old.items waiting.new.items b) }
 {
     if heap.is_word(Some(name), Word::Quote) {
         return Ok(false);
@@ -87,21 +85,17 @@ fn look_at_term(
         return Ok(false);
     };
     if let View::Symbol = heap.view(head) {
-        return look_at_named(heap, names, x, head, arguments, waiting);
+        return look_at_named(heap, names, head, arguments, waiting);
     }
-    split_lambda(heap, names, x, head, arguments, waiting)?;
+    split_lambda(heap, head, arguments, waiting)?;
     Ok(false)
 }
 
-fn split_terms(
-    heap: &Heap,
-    names: &IndexSet<Ref>,
-    x: Ref,
-    waiting: &mut Vec<Piece>,
-) -> Result<(), Memory>
+// The first of a list of terms and the others wait.
+fn split_terms(heap: &Heap, x: Ref, waiting: &mut Vec<Piece>) -> Result<(), Memory>
     requires within { IsIn heap.now.objects x }
     requires read { (ts : Terms) × (terms_of (object_at heap.now.objects x) ≡ Some ts) }
-    ensures { IfOk result (λ u. Splits (names_at heap.now.objects names.now.keys) heap.now.objects (piece.Terms x) waiting.old.items waiting.new.items) }
+    ensures { OnOk result ((names : List Name) → Splits names heap.now.objects (piece.Terms x) waiting.old.items waiting.new.items) }
 {
     let View::Pair(first, rest) = heap.view(x) else {
         return Ok(());
@@ -125,7 +119,7 @@ fn look(
     match piece {
         Piece::Term(x) => look_at_term(heap, names, x, waiting),
         Piece::Terms(x) => {
-            split_terms(heap, names, x, waiting)?;
+            split_terms(heap, x, waiting)?;
             Ok(false)
         }
     }

@@ -117,29 +117,6 @@ fn owe_call(
     Ok(take_searches_since(heap, had, u64::MAX.saturating_sub(looks_left))?)
 }
 
-// Adds what a function owes at each of its calls.
-fn owe_calls(
-    heap: &mut Heap,
-    block: &[Draft],
-    function: &Draft,
-    calls: &[FoundCall],
-    owed: &mut Obligations,
-    known: &mut Known,
-) -> Result<(), Memory>
-    requires block { AreBlock heap.old.objects known.old.names.keys block.now }
-    requires named { IsNamed heap.old.objects block.now function.now.name function.now }
-    requires calls { AreFoundCalls heap.old.objects (names_at heap.old.objects known.old.names.keys) calls.now }
-    requires known { AreKnown heap.old.objects known.old.names.keys known.old }
-    ensures grows { Grows heap.old.objects heap.new.objects }
-    ensures known { OnOk result (AreKnown heap.new.objects known.old.names.keys known.new) }
-    ensures owed { OnOk result (Adds heap.old.objects heap.new.objects owed.old owed.new (owed_at heap.old.objects block.now function.now (found_calls (functions_at heap.old.objects block.now) heap.old.objects calls.now))) }
-{
-    for call in calls {
-        owe_call(heap, block, function, call, owed, known)?;
-    }
-    Ok(())
-}
-
 // Adds that the measure of a function is an ordinal.
 fn owe_ordinal(
     heap: &mut Heap,
@@ -155,33 +132,12 @@ fn owe_ordinal(
     add_formula(heap, owed, formula)
 }
 
-// Adds what a function owes at calls that are not nested: the ordinal first. Where the rest would take far too many looks, it is not begun.
-fn owe_flat(
-    heap: &mut Heap,
-    block: &[Draft],
-    function: &Draft,
-    calls: &[FoundCall],
-    owed: &mut Obligations,
-    known: &mut Known,
-) -> Result<(), Memory>
-    requires block { AreBlock heap.old.objects known.old.names.keys block.now }
-    requires named { IsNamed heap.old.objects block.now function.now.name function.now }
-    requires calls { AreFoundCalls heap.old.objects (names_at heap.old.objects known.old.names.keys) calls.now }
-    requires known { AreKnown heap.old.objects known.old.names.keys known.old }
-    ensures grows { Grows heap.old.objects heap.new.objects }
-    ensures known { OnOk result (AreKnown heap.new.objects known.old.names.keys known.new) }
-    ensures owed { OnOk result (Adds heap.old.objects heap.new.objects owed.old owed.new (ordinal_formula (measure_of (measures_at heap.old.objects block.now) (name_of (object_at heap.old.objects function.now.name))) ∷ owed_at heap.old.objects block.now function.now (found_calls (functions_at heap.old.objects block.now) heap.old.objects calls.now))) }
-{
-    owe_ordinal(heap, block, function, owed)?;
-    foresee(heap, block, calls, owed, known)?;
-    owe_calls(heap, block, function, calls, owed, known)
-}
-
 // The most looks at the actuals of one function's calls: where more are needed the answer is out of memory. It is the number of
 // searches at which the event's 2^26 looks are used up, of which they take four each once they are over.
 const MOST_LOOKS: u64 = 1 << 24;
 
-// Adds what a function owes, where none of its calls is in an actual of another. These are all its calls.
+// Adds what a function owes, where none of its calls is in an actual of another: the ordinal first, and then what it owes at each call.
+// Where the calls would take far too many looks, none is begun. These are all its calls.
 fn owe_found(
     heap: &mut Heap,
     block: &[Draft],
@@ -203,7 +159,11 @@ fn owe_found(
     if are_nested(heap, calls, known, looks_left)? {
         return Ok(Recursion::Nested);
     }
-    owe_flat(heap, block, function, calls, owed, known)?;
+    owe_ordinal(heap, block, function, owed)?;
+    foresee(heap, block, calls, owed, known)?;
+    for call in calls {
+        owe_call(heap, block, function, call, owed, known)?;
+    }
     if calls.is_empty() {
         Ok(Recursion::Absent)
     } else {

@@ -1,14 +1,11 @@
 //! Formulas under tests.
-ghost use Rattle.std.specs.Prelude.{◌≡◌, List, IfOk, OnOk};
+ghost use Rattle.std.specs.Prelude.{◌≡◌, IfOk, OnOk};
 ghost use Rattle.mw_model.specs.Terms.Object.{Pair};
-ghost use Rattle.mw_model.specs.Terms.Term.{Formula, formula_object};
-ghost use Rattle.mw_model.specs.Values.Definition.{Function};
-ghost use Rattle.mw_model.specs.Events.Obligation.{under_tests};
 ghost use Rattle.mw_heap.specs.Objects.{object_at, IsIn, Grows};
 ghost use Rattle.mw_term.specs.Parts.{names_at};
-ghost use Rattle.mw_define.specs.Collecting.{HasNames, IsTest, AreTests, test_of, tests_of};
+ghost use Rattle.mw_define.specs.Collecting.{AreTests};
 ghost use Rattle.mw_define.specs.Knowing.{known_of, AreKnown, AreDenials};
-ghost use Rattle.mw_define.specs.Testing.{IsUnderTest, IsUnderTests, test_object};
+ghost use Rattle.mw_define.specs.Testing.{IsUnderTests, test_object};
 
 use crate::axioms::equal_nil;
 use crate::known::Known;
@@ -59,32 +56,6 @@ fn denial(
     Ok(fails)
 }
 
-// The formula under a test, or as it is where the test mentions the block.
-fn under_one(
-    heap: &mut Heap,
-    test: Ref,
-    formula: Ref,
-    known: &mut Known,
-    looks_left: &mut u64,
-) -> Result<Ref, Memory>
-    requires test_in { IsIn heap.old.objects test }
-    requires read { IsTest (object_at heap.old.objects test) }
-    requires formula_in { IsIn heap.old.objects formula }
-    requires known { AreKnown heap.old.objects known.old.names.keys known.old }
-    ensures grows { Grows heap.old.objects heap.new.objects }
-    ensures known { OnOk result (AreKnown heap.new.objects known.old.names.keys known.new) }
-    ensures made { IfOk result (IsUnderTest (names_at heap.old.objects known.old.names.keys) heap.old.objects heap.new.objects test formula) }
-{
-    let View::Pair(kind, term) = heap.view(test) else {
-        unreachable!()
-    };
-    if mentions_some(heap, Piece::Term(term), known, looks_left)? {
-        return Ok(formula);
-    }
-    let fails = denial(heap, test, kind, term, known)?;
-    call_of_two(heap, Word::Por, fails, formula)
-}
-
 // The formula under those tests of a list, the innermost first, that mention no function of the block. Each test takes a look, and so
 // does each of its pieces that was not looked at before.
 pub(crate) fn under_each(
@@ -105,8 +76,15 @@ pub(crate) fn under_each(
     let mut rest = tests;
     let mut made = formula;
     while let View::Pair(test, more) = heap.view(rest) {
-        made = under_one(heap, test, made, known, looks_left)?;
         rest = more;
+        let View::Pair(kind, term) = heap.view(test) else {
+            unreachable!()
+        };
+        if mentions_some(heap, Piece::Term(term), known, looks_left)? {
+            continue;
+        }
+        let fails = denial(heap, test, kind, term, known)?;
+        made = call_of_two(heap, Word::Por, fails, made)?;
     }
     Ok(made)
 }

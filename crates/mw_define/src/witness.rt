@@ -1,11 +1,8 @@
 //! Witnesses.
-ghost use Rattle.std.specs.Prelude.{◌≡◌, true, Some, IfOk};
-ghost use Rattle.mw_model.specs.Terms.Object.{Pair};
-ghost use Rattle.mw_model.specs.Terms.Term.{Term, IsTerm, term_object};
-ghost use Rattle.mw_model.specs.Terms.Reading.{term_of};
-ghost use Rattle.mw_heap.specs.Objects.{object_at, IsIn, Grows};
-ghost use Rattle.mw_term.specs.Parts.{AreSymbols, names_at};
-ghost use Rattle.mw_define.specs.Tests.{IsWitness, IsFormedWitness, IsClosedWitness, OwedWitness};
+ghost use Rattle.std.specs.Prelude.{IfOk};
+ghost use Rattle.mw_heap.specs.Objects.{IsIn, Grows};
+ghost use Rattle.mw_term.specs.Parts.{AreSymbols};
+ghost use Rattle.mw_define.specs.Tests.{IsWitness, IsFormedWitness, OwedWitness};
 
 use crate::admitted::{Admitted, Entry, Owed};
 use crate::axioms::choice_axiom;
@@ -39,30 +36,7 @@ fn owed_by(heap: &mut Heap, name: Ref, list: Ref, free: Ref, term: Ref) -> Resul
     })
 }
 
-// The witness whose tests but the last passed: the free variables of the term have to be formals.
-fn closed_witness(
-    heap: &mut Heap,
-    name: Ref,
-    list: Ref,
-    free: Ref,
-    formals: &Formals,
-    term: Ref,
-) -> Result<Admitted, Memory>
-    requires name_in { IsIn heap.old.objects name }
-    requires list_in { IsIn heap.old.objects list }
-    requires free_in { IsIn heap.old.objects free }
-    requires term_in { IsIn heap.old.objects term }
-    requires formals { AreSymbols heap.old.objects formals.now }
-    ensures grows { Grows heap.old.objects heap.new.objects }
-    ensures admitted { (t : Term) → term_of (object_at heap.old.objects term) ≡ Some t → IfOk result (IsClosedWitness heap.old.objects heap.new.objects name list free formals.now term t) }
-{
-    if !formals.closes(heap, term)? {
-        return Ok(Admitted::Refused(Refusal::Variables));
-    }
-    Ok(Admitted::Obligations(owed_by(heap, name, list, free, term)?))
-}
-
-// The witness whose name and formals passed their tests: its body has to expand to a term, and then comes the last test.
+// The witness whose name and formals passed their tests: its body has to expand to a term, whose free variables have to be formals.
 fn formed_witness(
     heap: &mut Heap,
     name: Ref,
@@ -81,36 +55,16 @@ fn formed_witness(
     ensures admitted { IfOk result (IsFormedWitness arity.now heap.old.objects heap.new.objects name list free body formals.now) }
 {
     match expand(heap, body, arity, &[]) {
-        Expanded::Term(term) => closed_witness(heap, name, list, free, formals, term),
+        Expanded::Term(term) => {
+            if !formals.closes(heap, term)? {
+                return Ok(Admitted::Refused(Refusal::Variables));
+            }
+            let owed = owed_by(heap, name, list, free, term)?;
+            Ok(Admitted::Obligations(owed))
+        }
         Expanded::NotTerm => Ok(Admitted::Refused(Refusal::Term)),
         Expanded::Memory => Err(Memory),
     }
-}
-
-// The tests of a witness, one after another.
-fn tested_witness(
-    heap: &mut Heap,
-    name: Ref,
-    bound: Ref,
-    free: Ref,
-    body: Ref,
-    arity: &Arity,
-) -> Result<Admitted, Memory>
-    requires name_in { IsIn heap.old.objects name }
-    requires bound_in { IsIn heap.old.objects bound }
-    requires free_in { IsIn heap.old.objects free }
-    requires body_in { IsIn heap.old.objects body }
-    ensures grows { Grows heap.old.objects heap.new.objects }
-    ensures admitted { IfOk result (IsWitness arity.now heap.old.objects heap.new.objects name bound free body) }
-{
-    if !is_new_name(heap, name, arity) {
-        return Ok(Admitted::Refused(Refusal::Name));
-    }
-    let list = heap.cons(bound, free)?;
-    let Some(formals) = Formals::of_list(heap, list)? else {
-        return Ok(Admitted::Refused(Refusal::Formals));
-    };
-    formed_witness(heap, name, list, free, body, &formals, arity)
 }
 
 /// Tests the witness of this name, whose value is to be put for the bound variable in the body, which may have the free variables of
@@ -132,7 +86,18 @@ pub fn admit_witness(
     ensures grows { Grows heap.old.objects heap.new.objects }
     ensures admitted { IsWitness arity.now heap.old.objects heap.new.objects name bound free body result }
 {
-    match tested_witness(heap, name, bound, free, body, arity) {
+    if !is_new_name(heap, name, arity) {
+        return Admitted::Refused(Refusal::Name);
+    }
+    let Ok(list) = heap.cons(bound, free) else {
+        return Admitted::Memory;
+    };
+    let formals = match Formals::of_list(heap, list) {
+        Ok(Some(formals)) => formals,
+        Ok(None) => return Admitted::Refused(Refusal::Formals),
+        Err(_) => return Admitted::Memory,
+    };
+    match formed_witness(heap, name, list, free, body, &formals, arity) {
         Ok(admitted) => admitted,
         Err(_) => Admitted::Memory,
     }

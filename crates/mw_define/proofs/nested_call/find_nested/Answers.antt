@@ -10,6 +10,7 @@ use Rattle.mw_define.proofs.OwedCalls.{has-names}
 use Rattle.mw_define.proofs.Expanding.{expanded-at}
 use Rattle.mw_define.proofs.FirstNested.{none-here, some-here, none-left}
 use Rattle.mw_define.proofs.nested_call.find_nested.Goals as goal
+use Rattle.mw_define.proofs.nested_call.find_nested.Goals.{In_ok-nested}
 
 pub nested_in-requires-clause-within : goal.nested_in-requires-clause-within
 nested_in-requires-clause-within c =
@@ -30,36 +31,39 @@ returns-in_err-nested-clause-grows c = Grows-trans _ _ _ c.loop-index.invariant.
 pub returns-in-Some-clause-grows : goal.returns-in-Some-clause-grows
 returns-in-Some-clause-grows c = Grows-trans _ _ _ c.loop-index.invariant.grows c.in_ok-nested.ensures.grows
 
+-- what was found in the function's body is the first of its calls that is nested
+asked : (c : goal.In_ok-nested) → IsFirstFound (functions_at c.args.heap.now.objects c.args.block.now) c.nested_in.new.heap.objects (recursive_calls (functions_at c.args.heap.now.objects c.args.block.now) (function_at c.args.heap.now.objects c.index-block-index.result)) c.in_ok-nested.nested
+asked c =
+    let os = c.args.heap.now.objects in
+    let es = c.args.block.now in
+    let e = c.index-block-index.result in
+    let keys = c.args.known.now.names.keys in
+    let inv = c.loop-index.invariant in
+    let x = expanded-at os es c.loop-index.index e c.requires.block.expanded c.loop-index-test.true c.index-block-index.is in
+    let same = known-names os c.loop-index.heap.objects keys c.loop-index.known inv.grows c.requires.block.symbols inv.known in
+    c.in_ok-nested.ensures.nested (functions_at os es) (function_at os e).body (has-names os es keys c.requires.block.refs ∙ sym same) (ap term_of (object_at-Grows os c.loop-index.heap.objects inv.grows e.body x.within.2) ∙ x.body)
+
 pub returns-in-Some-clause-nested : goal.returns-in-Some-clause-nested
 returns-in-Some-clause-nested c =
     let os = c.args.heap.now.objects in
-    let cur = c.loop-index.heap.objects in
     let es = c.args.block.now in
-    let i = c.loop-index.index in
     let e = c.index-block-index.result in
     let B = functions_at os es in
-    let inv = c.loop-index.invariant in
-    let x = expanded-at os es i e c.requires.block.expanded c.loop-index-test.true c.index-block-index.is in
-    let same = known-names os cur c.args.known.now.names.keys c.loop-index.known inv.grows c.requires.block.symbols inv.known in
-    let found = subst (IsFirstFound B c.nested_in.new.heap.objects (recursive_calls B (function_at os e))) c.in-Some.is (c.in_ok-nested.ensures.nested B (function_at os e).body (has-names os es c.args.known.now.names.keys c.requires.block.refs ∙ sym same) (ap term_of (object_at-Grows os cur inv.grows e.body x.within.2) ∙ x.body)) in
-    (found.0, some-here os es i e c.loop-index-test.true c.index-block-index.is inv.left found.0 found.1, found.2)
+    let found = subst (IsFirstFound B c.nested_in.new.heap.objects (recursive_calls B (function_at os e))) c.in-Some.is (asked (goal.at.returns-in-Some-clause-nested c).In_ok-nested) in
+    (found.0, some-here os es c.loop-index.index e c.loop-index-test.true c.index-block-index.is c.loop-index.invariant.left found.0 found.1, found.2)
 
 pub loop-index-preserved : goal.loop-index-preserved
 loop-index-preserved c =
     let os = c.args.heap.now.objects in
-    let cur = c.loop-index.heap.objects in
     let es = c.args.block.now in
-    let i = c.loop-index.index in
     let e = c.index-block-index.result in
     let B = functions_at os es in
     let inv = c.loop-index.invariant in
-    let x = expanded-at os es i e c.requires.block.expanded c.loop-index-test.true c.index-block-index.is in
-    let same = known-names os cur c.args.known.now.names.keys c.loop-index.known inv.grows c.requires.block.symbols inv.known in
-    let none = subst (IsFirstFound B c.nested_in.new.heap.objects (recursive_calls B (function_at os e))) c.in_default.is (c.in_ok-nested.ensures.nested B (function_at os e).body (has-names os es c.args.known.now.names.keys c.requires.block.refs ∙ sym same) (ap term_of (object_at-Grows os cur inv.grows e.body x.within.2) ∙ x.body)) in
+    let none = subst (IsFirstFound B c.nested_in.new.heap.objects (recursive_calls B (function_at os e))) c.in_default.is (asked (goal.at.loop-index-preserved c).In_ok-nested) in
     record {
       grows = Grows-trans _ _ _ inv.grows c.in_ok-nested.ensures.grows;
-      known = known-before cur c.nested_in.new.heap.objects c.args.known.now.names.keys c.loop-index.known c.nested_in.new.known inv.known c.in_ok-nested.ensures.known;
-      left = none-here os es i e c.loop-index-test.true c.index-block-index.is inv.left none;
+      known = known-before c.loop-index.heap.objects c.nested_in.new.heap.objects c.args.known.now.names.keys c.loop-index.known c.nested_in.new.known inv.known c.in_ok-nested.ensures.known;
+      left = none-here os es c.loop-index.index e c.loop-index-test.true c.index-block-index.is inv.left none;
     }
 
 pub returns-clause-nested : goal.returns-clause-nested

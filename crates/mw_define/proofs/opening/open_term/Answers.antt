@@ -1,5 +1,6 @@
 -- A constant, an IF or another call.
 use Rattle.std.proofs.Common.{◌≡◌, Some, sym, ap, ◌∙◌}
+use Rattle.std.proofs.lemmas.Result.{on_ok_weaker}
 use Rattle.mw_model.specs.Terms.Object.{Pair, symbol}
 use Rattle.mw_model.specs.Terms.Reading.{term_of}
 use Rattle.mw_model.proofs.Names.{same_object-eq}
@@ -22,14 +23,14 @@ open_if-requires-clause-three c =
     let is : object_at os c.in-Pair.head ≡ symbol "IF" = same_object-eq (object_at os c.in-Pair.head) (symbol "IF") (sym c.is_word-2.ensures ∙ c.if-is_word-2.true) in
     named-if (object_at os c.in-Pair.head) (object_at os c.in-Pair.arguments) c.requires.read.0 is (sym (ap term_of c.in-Pair.ensures.shows.2) ∙ c.requires.read.1)
 
-pub open_if-requires-clause-whole : goal.open_if-requires-clause-whole
-open_if-requires-clause-whole c =
+pub returns-then-is_word-2-clause-opens : goal.returns-then-is_word-2-clause-opens
+returns-then-is_word-2-clause-opens c =
     let os = c.args.heap.now.objects in
     let is : object_at os c.in-Pair.head ≡ symbol "IF" = same_object-eq (object_at os c.in-Pair.head) (symbol "IF") (sym c.is_word-2.ensures ∙ c.if-is_word-2.true) in
-    c.in-Pair.ensures.shows.2 ∙ ap (λ f. Pair f (object_at os c.in-Pair.arguments)) is
+    on_ok_weaker c.open_if.result (λ opens. opens (names_at os c.args.names.now.keys) c.args.x (c.in-Pair.ensures.shows.2 ∙ ap (λ f. Pair f (object_at os c.in-Pair.arguments)) is)) c.open_if.ensures.opens
 
 pub open_call-requires-clause-read : goal.open_call-requires-clause-read
 open_call-requires-clause-read c =
     let os = c.args.heap.now.objects in
     let p = named-call (object_at os c.in-Pair.head) (object_at os c.in-Pair.arguments) c.requires.read.0 c.in-Symbol.ensures.shows (sym c.is_word.ensures ∙ c.if-is_word.false) (sym c.is_word-2.ensures ∙ c.if-is_word-2.false) (sym (ap term_of c.in-Pair.ensures.shows.2) ∙ c.requires.read.1) in
-    (p.0, p.1, c.requires.read.1 ∙ ap Some p.2)
+    (p.0, p.1, sym (ap term_of c.in-Pair.ensures.shows.2) ∙ c.requires.read.1 ∙ ap Some p.2)
