@@ -1,25 +1,19 @@
 -- The conditions of a step whose subproofs are proofs, one after another.
-use Rattle.std.proofs.Common.{◌≡◌, ℕ, zero, suc, Bool, true, false, ◌&&◌, not, cond, eqb, List, [], ◌∷◌, length, Option, Some, None, is_some, option_map, refl, sym, ap, ◌∙◌}
+use Rattle.std.proofs.Common.{◌≡◌, ℕ, zero, suc, Bool, true, false, not, cond, eqb, List, [], ◌∷◌, length, Option, Some, None, is_some, option_map, refl, sym, ap, ◌∙◌}
 use Rattle.std.specs.Prelude.{option_to_list}
 use Rattle.std.proofs.Math.Dec.{eqb-suc-zero, eqb-zero-suc, eqb-suc-suc}
-use Rattle.mw_model.specs.Terms.Object.{Object, Natural, Symbol, Pair, symbol, same_name, same_object, nil_name, NIL, Member, first, later, car, second_of, third_of, fourth_of, has_members}
+use Rattle.mw_model.specs.Terms.Object.{Object, Natural, Symbol, Pair, symbol, same_name, nil_name, Member, first, later, car, second_of, third_of, fourth_of, has_members}
 use Rattle.mw_model.specs.Terms.Term.{ArityTable, Formula, formula_object}
 use Rattle.mw_model.specs.Terms.Reading.{and_more, formula_under}
 use Rattle.mw_model.specs.Values.Definition.{arity_table}
-use Rattle.mw_model.specs.Values.Primitive.{is_pair}
-use Rattle.mw_model.specs.Laws.Rules.{is_formula_object, is_substitution_object}
+use Rattle.mw_model.specs.Laws.Rules.{is_formula_object}
 use Rattle.mw_model.specs.Laws.RulesInduction.{is_list_object}
-use Rattle.mw_model.specs.Terms.Substitution.{is_substitution, substitution_of}
-use Rattle.mw_model.specs.Proofs.Proof.{Method, Axiom, Theorem, PropositionalSchema, FunctionalEquality, BetaReduction, BaseEval, Expansion, Contraction, Associativity, Cut, Instantiation, Induction}
+use Rattle.mw_model.specs.Proofs.Proof.{Method, Induction}
 use Rattle.mw_model.specs.Proofs.Judgment.{methods, method_among, judge, judge_each}
 use Rattle.mw_model.specs.Events.Theory.{Theory}
 use Rattle.mw_model.proofs.ReadBack.{and_more-back}
-use Rattle.mw_model.proofs.RulesExact.{is_substitution_object-is, that-present}
 use Rattle.mw_commands.specs.Commands.ExplanationTerms.{bad_formula, part_shown}
 use Rattle.mw_commands.specs.Commands.ExplanationSteps.{are_extras, has_proof_shape, is_proof_at, mended, step_shown, subproof_count, wrong_parts, wrong_row, wrong_step}
-use Rattle.mw_rules.specs.declared.method.Method as code
-use Rattle.mw_rules.specs.declared.method.Method.TheVariants.{Axiom as CodeAxiom, Theorem as CodeTheorem, PropositionalSchema as CodePropositionalSchema, FunctionalEquality as CodeFunctionalEquality, BetaReduction as CodeBetaReduction, BaseEval as CodeBaseEval, Expansion as CodeExpansion, Contraction as CodeContraction, Associativity as CodeAssociativity, Cut as CodeCut, Instantiation as CodeInstantiation, Induction as CodeInduction}
-use Rattle.mw_rules.specs.Methods.{method_of_logic}
 use Rattle.mw_explain.specs.declared.condition.Wrong.{Wrong}
 use Rattle.mw_explain.specs.declared.condition.Wrong.TheVariants.{Shape, Method as WrongMethod, Formula as WrongFormula, Subproofs, Extras, Premises, Induction as WrongInduction, Rule}
 use Rattle.mw_explain.specs.Condition.{IsPartIn, IsWrong, IsWrongRow}
@@ -82,14 +76,8 @@ module _ (t : Theory) where
     abbrev all_parts : List Object
     all_parts = by_parts (method_among methods (car x)) (formula_under A (second_of x)) (conclusions (third_of x))
 
-    pub no_shape : has_proof_shape x ≡ false → wrong_step t x ≡ x ∷ symbol "SHAPE" ∷ []
-    no_shape h = ap (λ b. cond b all_parts (x ∷ symbol "SHAPE" ∷ [])) h
-
     shaped : has_proof_shape x ≡ true → wrong_step t x ≡ all_parts
     shaped h = ap (λ b. cond b all_parts (x ∷ symbol "SHAPE" ∷ [])) h
-
-    pub no_method : has_proof_shape x ≡ true → method_among methods (car x) ≡ None → wrong_step t x ≡ step_shown x ∷ symbol "METHOD" ∷ []
-    no_method s h = shaped s ∙ ap (λ o. by_parts o (formula_under A (second_of x)) (conclusions (third_of x))) h
 
     module _ (m : Method) (s : has_proof_shape x ≡ true) (is_m : method_among methods (car x) ≡ Some m) where
       by_method : wrong_step t x ≡ by_parts (Some m) (formula_under A (second_of x)) (conclusions (third_of x))
@@ -127,18 +115,8 @@ module _ (t : Theory) where
           tests_shown k = cond (not (are_extras A k (fourth_of x))) (symbol "EXTRAS" ∷ []) (count_shown k)
 
           by_tests : (k : Method) → (k ≡ Induction → ⊥) → row k ≡ tests_shown k
-          by_tests Axiom h = refl
-          by_tests Theorem h = refl
-          by_tests PropositionalSchema h = refl
-          by_tests FunctionalEquality h = refl
-          by_tests BetaReduction h = refl
-          by_tests BaseEval h = refl
-          by_tests Expansion h = refl
-          by_tests Contraction h = refl
-          by_tests Associativity h = refl
-          by_tests Cut h = refl
-          by_tests Instantiation h = refl
           by_tests Induction h = absurd (h refl)
+          by_tests _ h = refl
 
           counted : (k : Method) (b : Bool) → has_members (subproof_count k) (third_of x) ≡ b → count_shown k ≡ cond (not b) (symbol "PREMISES" ∷ Natural (subproof_count k) ∷ []) (rule_shown k)
           counted k b h = ap (λ z. cond (not z) (symbol "PREMISES" ∷ Natural (subproof_count k) ∷ []) (rule_shown k)) (as_many (third_of x) Fs (subproof_count k) is_Fs ∙ h)
@@ -167,31 +145,10 @@ module _ (t : Theory) where
             let Fs = some_of (conclusions (third_of x)) (proper (third_of x) f ∙ h) in
             row_wrong F.0 F.1 Fs.0 Fs.1 os w k
 
--- the method of the code that is INDUCTION
-pub of_induction : (m : code.Method) → method_of_logic m ≡ Induction → m ≡ CodeInduction
-of_induction CodeAxiom h = cc
-of_induction CodeTheorem h = cc
-of_induction CodePropositionalSchema h = cc
-of_induction CodeFunctionalEquality h = cc
-of_induction CodeBetaReduction h = cc
-of_induction CodeBaseEval h = cc
-of_induction CodeExpansion h = cc
-of_induction CodeContraction h = cc
-of_induction CodeAssociativity h = cc
-of_induction CodeCut h = cc
-of_induction CodeInstantiation h = cc
-of_induction CodeInduction h = refl
-
 pub formed_at : (t : Theory) (A : ArityTable) (x : Object) → arity_table t.definitions ≡ A → is_formula_object A (second_of x) ≡ true → is_formula_object (arity_table t.definitions) (second_of x) ≡ true
 formed_at t A x e h = ap (λ B. is_formula_object B (second_of x)) e ∙ h
 
 -- the row alone names no part of the conclusion
 pub row_part : (A : ArityTable) (m : Method) (ps x : Object) (os : List Object) (w : Wrong) → IsWrongRow A m ps x w → IsPartIn os w
-row_part A m ps x os Shape h = tt
-row_part A m ps x os WrongMethod h = tt
 row_part A m ps x os (WrongFormula p) h = absurd h
-row_part A m ps x os Subproofs h = tt
-row_part A m ps x os Extras h = tt
-row_part A m ps x os (Premises n) h = tt
-row_part A m ps x os WrongInduction h = tt
-row_part A m ps x os Rule h = tt
+row_part A m ps x os _ h = tt

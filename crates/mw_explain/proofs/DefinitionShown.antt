@@ -1,6 +1,5 @@
 -- What is shown of drafts, by the reason.
 use Rattle.std.proofs.Common.{◌≡◌, List, refl}
-use Rattle.mw_model.specs.Terms.Object.{Object}
 use Rattle.mw_model.specs.Terms.Term.{ArityTable}
 use Rattle.mw_model.specs.Events.Admission.{Draft}
 use Rattle.mw_heap.specs.Variants.{refusal_of}
@@ -9,25 +8,9 @@ use Rattle.mw_heap.specs.declared.vocabulary.refusal.Refusal.TheVariants as reas
 use Rattle.mw_commands.specs.Commands.Explanation.{draft_shown, first_shown, drafts_shown}
 
 pub by-drafts : (r : Reason) (A B : ArityTable) (ds : List Draft) → (r ≡ reason.Name → ⊥) → (r ≡ reason.Nested → ⊥) → first_shown (draft_shown (refusal_of r) A B) 1 ds ≡ drafts_shown (refusal_of r) A B ds
-by-drafts reason.Range A B ds n k = refl
-by-drafts reason.Event A B ds n k = refl
 by-drafts reason.Name A B ds n k = absurd (n refl)
-by-drafts reason.Formals A B ds n k = refl
-by-drafts reason.Term A B ds n k = refl
-by-drafts reason.Formula A B ds n k = refl
-by-drafts reason.Variables A B ds n k = refl
 by-drafts reason.Nested A B ds n k = absurd (k refl)
-by-drafts reason.Count A B ds n k = refl
-by-drafts reason.Conclusion A B ds n k = refl
-by-drafts reason.Proof A B ds n k = refl
-by-drafts reason.Nil A B ds n k = refl
-by-drafts reason.Steps A B ds n k = refl
-by-drafts reason.Overflow A B ds n k = refl
-by-drafts reason.Witness A B ds n k = refl
-by-drafts reason.Claim A B ds n k = refl
-by-drafts reason.Checker A B ds n k = refl
-by-drafts reason.Long A B ds n k = refl
-by-drafts reason.Profile A B ds n k = refl
+by-drafts _ A B ds n k = refl
 
 pub no-name : (r : Reason) → (r ≡ reason.Name → ⊥) → (refusal_of r ≡ refusal_of reason.Name) → ⊥
 no-name reason.Name n e = n refl

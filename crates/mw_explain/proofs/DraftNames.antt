@@ -1,7 +1,6 @@
 -- Looking for the first name that is not new or stands earlier.
-use Rattle.std.proofs.Common.{◌≡◌, ℕ, suc, ◌+◌, ◌<◌, ◌≤◌, Bool, true, false, ◌&&◌, ◌||◌, not, cond, eqb, List, [], ◌∷◌, ◌++◌, length, get_or, take, drop, map, Option, Some, None, is_some, refl, sym, ap, ap₂, ◌∙◌, subst, arith, add-one}
+use Rattle.std.proofs.Common.{◌≡◌, ℕ, suc, ◌+◌, ◌<◌, ◌≤◌, Bool, true, false, ◌&&◌, ◌||◌, not, cond, List, [], ◌∷◌, ◌++◌, length, get_or, take, drop, map, Some, is_some, refl, sym, ap, ap₂, ◌∙◌, add-one}
 use Rattle.std.proofs.lemmas.List.{drop_more, drop_all}
-use Rattle.std.proofs.lemmas.Bool.{and_parts}
 use Rattle.std.specs.List.{list_any}
 use Rattle.mw_model.specs.Terms.Object.{Name, Object, Natural, Symbol, Pair, same_name, same_object}
 use Rattle.mw_model.specs.Terms.Term.{ArityTable, is_among}
@@ -16,7 +15,6 @@ use Rattle.mw_define.specs.Blocks.{draft_at, AreNames, is_next_name}
 use Rattle.mw_define.proofs.NewNames.{names-start, names-next}
 use Rattle.mw_commands.specs.Commands.Explanation.{bad_name}
 use Rattle.mw_commands.specs.Commands.ExplanationTerms.{arity_shown}
-use Rattle.mw_explain.specs.Drafts.{IsBadName}
 
 -- the test of one name, in two spellings
 new-test : (A : ArityTable) (x : Object) → is_some (new_name A x) ≡ (is_symbol x && is_new A (name_of x))

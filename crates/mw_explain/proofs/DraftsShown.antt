@@ -1,5 +1,5 @@
 -- What is shown of drafts, one after another.
-use Rattle.std.proofs.Common.{◌≡◌, ℕ, suc, ◌+◌, ◌<◌, ◌≤◌, Bool, true, false, eqb, List, [], ◌∷◌, ◌++◌, length, get_or, drop, map, Option, Some, None, is_some, option_map, unwrap_or, IfSome, MatchOption, inl, inr, refl, sym, ap, ap₂, ◌∙◌, subst, add-one}
+use Rattle.std.proofs.Common.{◌≡◌, ℕ, suc, ◌+◌, ◌<◌, ◌≤◌, true, false, eqb, List, [], ◌∷◌, ◌++◌, length, get_or, drop, map, Option, Some, None, is_some, option_map, unwrap_or, IfSome, MatchOption, inl, inr, refl, sym, ap, ap₂, ◌∙◌, subst, add-one}
 use Rattle.std.proofs.lemmas.List.{drop_more, drop_all}
 use Rattle.mw_model.specs.Terms.Object.{Name, Object, Natural}
 use Rattle.mw_model.specs.Terms.Term.{Term, ArityTable, are_distinct}
@@ -17,31 +17,15 @@ use Rattle.mw_term.specs.Parts.{names_at}
 use Rattle.mw_define.specs.declared.draft.Draft.{Draft as Given}
 use Rattle.mw_define.specs.Blocks.{draft_at, IsDraftIn, IsExpansion}
 use Rattle.mw_define.specs.Newer.{HasNoArities, AreArities}
-use Rattle.mw_commands.specs.Commands.Explanation.{draft_shown, first_shown, names_in, formals_in}
+use Rattle.mw_commands.specs.Commands.Explanation.{draft_shown, first_shown}
 use Rattle.mw_explain.specs.Drafts.{IsExpandedTo, bodies_under, formals_at}
 use Rattle.mw_bad_steps.specs.Shown.{Shows}
 
 -- any reason but two shows the variables
 pub other-reasons : (r : Reason) (A B : ArityTable) (d : Draft) → (r ≡ reason.Formals → ⊥) → (r ≡ reason.Term → ⊥) → draft_shown (refusal_of r) A B d ≡ draft_shown VARIABLES A B d
-other-reasons reason.Range A B d f t = refl
-other-reasons reason.Event A B d f t = refl
-other-reasons reason.Name A B d f t = refl
 other-reasons reason.Formals A B d f t = absurd (f refl)
 other-reasons reason.Term A B d f t = absurd (t refl)
-other-reasons reason.Formula A B d f t = refl
-other-reasons reason.Variables A B d f t = refl
-other-reasons reason.Nested A B d f t = refl
-other-reasons reason.Count A B d f t = refl
-other-reasons reason.Conclusion A B d f t = refl
-other-reasons reason.Proof A B d f t = refl
-other-reasons reason.Nil A B d f t = refl
-other-reasons reason.Steps A B d f t = refl
-other-reasons reason.Overflow A B d f t = refl
-other-reasons reason.Witness A B d f t = refl
-other-reasons reason.Claim A B d f t = refl
-other-reasons reason.Checker A B d f t = refl
-other-reasons reason.Long A B d f t = refl
-other-reasons reason.Profile A B d f t = refl
+other-reasons _ A B d f t = refl
 
 -- what a raw term expanded to
 pub expanded-to : (A : ArityTable) (os : List Object) (x : Object) (o : Option ℕ) → MatchOption o (expand A x ≡ None) (IsExpansion A os x) → IsExpandedTo os (expand A x) o

@@ -1,6 +1,6 @@
 -- What is shown of the first bad step of a proof.
 use Rattle.std.proofs.Common.{◌≡◌, List, [], ◌∷◌, map, Option, Some, None, sym, ap, ◌∙◌, subst}
-use Rattle.mw_model.specs.Terms.Object.{Object, Natural, NIL}
+use Rattle.mw_model.specs.Terms.Object.{Object, Natural}
 use Rattle.mw_model.specs.Terms.Term.{ArityTable}
 use Rattle.mw_model.specs.Values.Primitive.{Profile}
 use Rattle.mw_model.specs.Values.Definition.{arity_table}

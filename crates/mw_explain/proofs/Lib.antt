@@ -1,3 +1,4 @@
+pub mod Growing
 pub mod LookingDown
 pub mod LookingInFormulas
 pub mod Conditions

@@ -7,7 +7,7 @@ use Rattle.mw_model.specs.Laws.Rules.{is_term_object}
 use Rattle.mw_model.specs.Events.Expansion.{Abbreviation, COND, LET, LETSTAR, QUOTE, Other}
 use Rattle.mw_heap.specs.Objects.{object_at}
 use Rattle.mw_commands.specs.Commands.ExplanationTerms.{or_itself, bad_in_clauses, bad_in_let, bad_term, plain_form}
-use Rattle.mw_explain.specs.TermParts.{bad_terms, IsFirstMember, Leads, is_called, has_third}
+use Rattle.mw_explain.specs.TermParts.{bad_terms, IsFirstMember, Leads, is_called}
 use Rattle.std.specs.Option.{option_or}
 
 module _ (A : ArityTable) where
@@ -100,31 +100,6 @@ module _ (A : ArityTable) where
         shape (Natural n) i = cc
         shape (Pair a b) i = cc
 
-    plain_head : (k r : Object) → is_called A k ≡ false → has_third k ≡ false → bad_term A (Pair k r) ≡ or_itself good (Pair k r) None
-    plain_head (Natural n) r c t = refl
-    plain_head (Symbol f) r c t = go (same_name f (named "QUOTE")) (is_some (arity_of A f)) refl refl c
-      where
-        go : (q k : Bool) → same_name f (named "QUOTE") ≡ q → is_some (arity_of A f) ≡ k → (not q && k) ≡ false → bad_term A (Pair (Symbol f) r) ≡ or_itself good (Pair (Symbol f) r) None
-        go true k d e i = ap (λ q. or_itself good (Pair (Symbol f) r) (inside_form (cond q QUOTE Other) f r)) d
-        go false true d e i = cc
-        go false false d e i = ap (λ q. or_itself good (Pair (Symbol f) r) (inside_form (cond q QUOTE Other) f r)) d ∙ ap (λ k. or_itself good (Pair (Symbol f) r) (cond k (bad_terms A r) None)) e
-    plain_head (Pair l (Natural n)) r c t = refl
-    plain_head (Pair l (Symbol s)) r c t = refl
-    plain_head (Pair l (Pair xs (Natural n))) r c t = refl
-    plain_head (Pair l (Pair xs (Symbol s))) r c t = refl
-    plain_head (Pair l (Pair xs (Pair b z))) r c t = cc
-
-    pub leads_nowhere : (x head r : ℕ) → at x ≡ Pair (at head) (at r) → is_called A (at head) ≡ false → has_third (at head) ≡ false → good (at x) ≡ false → Leads A os x None
-    leads_nowhere x head r e c t h = nothing_inside (at x) None (ap (bad_term A) e ∙ (plain_head (at head) (at r) c t ∙ ap (λ z. or_itself good z None) (sym e))) h refl
-
-    pub leads_atom : (x : ℕ) → is_pair (at x) ≡ false → good (at x) ≡ false → Leads A os x None
-    leads_atom x p h = nothing_inside (at x) None (atom (at x) p) h refl
-      where
-        atom : (y : Object) → is_pair y ≡ false → bad_term A y ≡ or_itself good y None
-        atom (Natural n) i = refl
-        atom (Symbol s) i = refl
-        atom (Pair a b) i = cc
-
     lambda : (x head r b : ℕ) (l xs z : Object) → at x ≡ Pair (at head) (at r) → at head ≡ Pair l (Pair xs (Pair (at b) z)) → bad_term A (at x) ≡ or_itself good (at x) (option_or (bad_term A (at b)) (bad_terms A (at r)))
     lambda x head r b l xs z e d =
         let i = option_or (bad_term A (at b)) (bad_terms A (at r)) in
@@ -138,10 +113,6 @@ module _ (A : ArityTable) where
     pub leads_past_body : (x head r b : ℕ) (l xs z : Object) (o : Option ℕ) → at x ≡ Pair (at head) (at r) → at head ≡ Pair l (Pair xs (Pair (at b) z)) → r < x → good (at b) ≡ true → good (at x) ≡ false → IsFirstMember A os r o → Leads A os x o
     leads_past_body x head r b l xs z o e d m g h f =
         by_members x r o (lambda x head r b l xs z e d ∙ ap (λ y. or_itself good (at x) (option_or y (bad_terms A (at r)))) (passes (at b) g)) m h f
-
-    -- at the end
-    pub shown_at_end : (x y : ℕ) → good (at x) ≡ true → None ≡ bad_term A (at x)
-    shown_at_end x y h = sym (passes (at x) h)
 
 -- a symbol other than QUOTE
 pub called_symbol : (A : ArityTable) (x : Object) → is_symbol x ≡ true → same_object x (symbol "QUOTE") ≡ false → is_some (arity_of A (name_of x)) ≡ is_called A x

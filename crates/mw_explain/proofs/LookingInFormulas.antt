@@ -1,5 +1,5 @@
 -- Looking down to the first part that is no formula.
-use Rattle.std.proofs.Common.{◌≡◌, ℕ, ◌<◌, Bool, true, false, inl, inr, cond, List, Option, Some, None, refl, sym, ap, ◌∙◌, subst}
+use Rattle.std.proofs.Common.{◌≡◌, ℕ, ◌<◌, Bool, true, false, cond, List, Option, Some, None, refl, sym, ap, ◌∙◌, subst}
 use Rattle.mw_model.specs.Terms.Object.{Object, Natural, Symbol, Pair, symbol, same_object}
 use Rattle.mw_model.specs.Terms.Term.{ArityTable}
 use Rattle.mw_model.specs.Values.Primitive.{is_pair}
@@ -8,7 +8,7 @@ use Rattle.mw_heap.specs.Objects.{object_at}
 use Rattle.mw_explain.specs.declared.formula_part.Next.{Next}
 use Rattle.mw_explain.specs.declared.formula_part.Next.TheVariants.{Nothing, InTerm, InFormula}
 use Rattle.mw_commands.specs.Commands.ExplanationTerms.{or_formula, bad_term, bad_formula}
-use Rattle.mw_explain.specs.FormulaParts.{IsNextTerm, IsNextFormula, IsNegated, LeadsOn}
+use Rattle.mw_explain.specs.FormulaParts.{first_bad, IsNegated, LeadsOn}
 use Rattle.std.specs.Option.{option_or}
 use Rattle.mw_explain.proofs.LookingDown.{passes, first_shown}
 
@@ -69,37 +69,51 @@ module _ (A : ArityTable) where
         let rest = cond (same_object (at head) (symbol "POR*")) (option_or (bad_formula A (at a)) (bad_formula A (at b))) None in
         ap (bad_formula A) l.1 ∙ (ap (λ t. or_formula A (Pair (at head) (Pair (at a) (Pair (at b) l.0))) (cond t (option_or (bad_term A (at a)) (bad_term A (at b))) rest)) e ∙ ap (λ y. or_formula A y rest) (sym l.1))
 
-    pub leads_in_equation : (x head a b : ℕ) (o : Next) → IsList x head a b → a < x → b < x → same_object (at head) (symbol "PEQUAL*") ≡ true → formed (at x) ≡ false → IsNextTerm A os a b o → LeadsOn A os x o
-    leads_in_equation x head a b Nothing l m n e h f =
-        nothing_in (at x) (option_or (bad_term A (at a)) (bad_term A (at b))) (equation x head a b l e) h (ap (λ o. option_or o (bad_term A (at b))) (passes A (at a) f.0) ∙ passes A (at b) f.1)
-    leads_in_equation x head a b (InTerm p) l m n e h (inl f) =
-        let p_is = ap at f.0 in
-        let none : is_term_object A (at p) ≡ false = ap (is_term_object A) p_is ∙ f.1 in
-        (found_in (at x) (option_or (bad_term A (at a)) (bad_term A (at b))) (bad_term A (at p)) (equation x head a b l e) h (first_shown A (at a) (bad_term A (at b)) f.1 ∙ ap (bad_term A) (sym p_is)) (first_shown A (at p) (Some (at x)) none), (subst (λ r. r < x) (sym f.0) m, none))
-    leads_in_equation x head a b (InTerm p) l m n e h (inr f) =
-        let p_is = ap at f.0 in
-        let none : is_term_object A (at p) ≡ false = ap (is_term_object A) p_is ∙ f.2 in
-        (found_in (at x) (option_or (bad_term A (at a)) (bad_term A (at b))) (bad_term A (at p)) (equation x head a b l e) h (ap (λ o. option_or o (bad_term A (at b))) (passes A (at a) f.1) ∙ ap (bad_term A) (sym p_is)) (first_shown A (at p) (Some (at x)) none), (subst (λ r. r < x) (sym f.0) n, none))
-    leads_in_equation x head a b (InFormula p) l m n e h f = absurd f
-
     disjunction : (x head a b : ℕ) → IsList x head a b → same_object (at head) (symbol "PEQUAL*") ≡ false → same_object (at head) (symbol "POR*") ≡ true → bad_formula A (at x) ≡ or_formula A (at x) (option_or (bad_formula A (at a)) (bad_formula A (at b)))
     disjunction x head a b l e d = by_choice x head a b l e ∙ ap (λ t. or_formula A (at x) (cond t (option_or (bad_formula A (at a)) (bad_formula A (at b))) None)) d
 
-    pub leads_in_disjunction : (x head a b : ℕ) (o : Next) → IsList x head a b → a < x → b < x → same_object (at head) (symbol "PEQUAL*") ≡ false → same_object (at head) (symbol "POR*") ≡ true → formed (at x) ≡ false → IsNextFormula A os a b o → LeadsOn A os x o
-    leads_in_disjunction x head a b Nothing l m n e d h f =
-        nothing_in (at x) (option_or (bad_formula A (at a)) (bad_formula A (at b))) (disjunction x head a b l e d) h (ap (λ o. option_or o (bad_formula A (at b))) (formula_passes (at a) f.0) ∙ formula_passes (at b) f.1)
-    leads_in_disjunction x head a b (InFormula p) l m n e d h (inl f) =
-        let p_is = ap at f.0 in
-        let none : formed (at p) ≡ false = ap formed p_is ∙ f.1 in
-        (found_in (at x) (option_or (bad_formula A (at a)) (bad_formula A (at b))) (bad_formula A (at p)) (disjunction x head a b l e d) h (formula_shown (at a) (bad_formula A (at b)) f.1 ∙ ap (bad_formula A) (sym p_is)) (formula_shown (at p) (Some (at x)) none), subst (λ r. r < x) (sym f.0) m, none)
-    leads_in_disjunction x head a b (InFormula p) l m n e d h (inr f) =
-        let p_is = ap at f.0 in
-        let none : formed (at p) ≡ false = ap formed p_is ∙ f.2 in
-        (found_in (at x) (option_or (bad_formula A (at a)) (bad_formula A (at b))) (bad_formula A (at p)) (disjunction x head a b l e d) h (ap (λ o. option_or o (bad_formula A (at b))) (formula_passes (at a) f.1) ∙ ap (bad_formula A) (sym p_is)) (formula_shown (at p) (Some (at x)) none), subst (λ r. r < x) (sym f.0) n, none)
-    leads_in_disjunction x head a b (InTerm p) l m n e d h f = absurd f
+    -- Two parts that should be good, as terms or as formulas, in x: the first that is not, or x itself.
+    module _ (good : Object → Bool) (bad : Object → Option Object) (passes_by : (y : Object) → good y ≡ true → bad y ≡ None) (shown_by : (y : Object) (z : Option Object) → good y ≡ false → option_or (bad y) z ≡ bad y) (x a b : ℕ) (whole : bad_formula A (at x) ≡ or_formula A (at x) (option_or (bad (at a)) (bad (at b)))) (h : formed (at x) ≡ false) where
+      none_by : (g k : Bool) → good (at a) ≡ g → good (at b) ≡ k → first_bad g k a b ≡ None → bad_formula A (at x) ≡ Some (at x)
+      none_by true true d e is = nothing_in (at x) (option_or (bad (at a)) (bad (at b))) whole h (ap (λ o. option_or o (bad (at b))) (passes_by (at a) d) ∙ passes_by (at b) e)
+      none_by true false d e is = cc
+      none_by false k d e is = cc
 
-    pub leads_no_word : (x head a b : ℕ) → IsList x head a b → same_object (at head) (symbol "PEQUAL*") ≡ false → same_object (at head) (symbol "POR*") ≡ false → formed (at x) ≡ false → LeadsOn A os x Nothing
-    leads_no_word x head a b l e d h = nothing_in (at x) _ (by_choice x head a b l e) h (ap (λ t. cond t (option_or (bad_formula A (at a)) (bad_formula A (at b))) None) d)
+      abbrev IsInPart : ℕ → Type 0
+      IsInPart p = (bad_formula A (at x) ≡ bad (at p)) × (p < x) × (good (at p) ≡ false)
+
+      found_by : (g k : Bool) → good (at a) ≡ g → good (at b) ≡ k → a < x → b < x → (p : ℕ) → first_bad g k a b ≡ Some p → IsInPart p
+      found_by false k d e m n p is =
+          let same : a ≡ p = cc in
+          subst IsInPart same (found_in (at x) (option_or (bad (at a)) (bad (at b))) (bad (at a)) whole h (shown_by (at a) (bad (at b)) d) (shown_by (at a) (Some (at x)) d), m, d)
+      found_by true false d e m n p is =
+          let same : b ≡ p = cc in
+          subst IsInPart same (found_in (at x) (option_or (bad (at a)) (bad (at b))) (bad (at b)) whole h (ap (λ o. option_or o (bad (at b))) (passes_by (at a) d)) (shown_by (at b) (Some (at x)) e), n, e)
+      found_by true true d e m n p is = cc
+
+      pub leads_nowhere_of_two : first_bad (good (at a)) (good (at b)) a b ≡ None → bad_formula A (at x) ≡ Some (at x)
+      leads_nowhere_of_two = none_by (good (at a)) (good (at b)) refl refl
+
+      pub leads_into_one : a < x → b < x → (p : ℕ) → first_bad (good (at a)) (good (at b)) a b ≡ Some p → IsInPart p
+      leads_into_one = found_by (good (at a)) (good (at b)) refl refl
+
+    -- in an equation and in a disjunction
+    module _ (x head a b : ℕ) (l : IsList x head a b) (h : formed (at x) ≡ false) (a_older : a < x) (b_older : b < x) where
+      module _ (e : same_object (at head) (symbol "PEQUAL*") ≡ true) where
+        pub equation_itself : first_bad (is_term_object A (at a)) (is_term_object A (at b)) a b ≡ None → LeadsOn A os x Nothing
+        equation_itself = leads_nowhere_of_two (is_term_object A) (bad_term A) (passes A) (first_shown A) x a b (equation x head a b l e) h
+
+        pub equation_part : (p : ℕ) → first_bad (is_term_object A (at a)) (is_term_object A (at b)) a b ≡ Some p → LeadsOn A os x (InTerm p)
+        equation_part p is =
+            let found = leads_into_one (is_term_object A) (bad_term A) (passes A) (first_shown A) x a b (equation x head a b l e) h a_older b_older p is in
+            (found.0, (found.1, found.2))
+
+      module _ (e : same_object (at head) (symbol "PEQUAL*") ≡ false) (d : same_object (at head) (symbol "POR*") ≡ true) where
+        pub disjunction_itself : first_bad (formed (at a)) (formed (at b)) a b ≡ None → LeadsOn A os x Nothing
+        disjunction_itself = leads_nowhere_of_two formed (bad_formula A) formula_passes formula_shown x a b (disjunction x head a b l e d) h
+
+        pub disjunction_part : (p : ℕ) → first_bad (formed (at a)) (formed (at b)) a b ≡ Some p → LeadsOn A os x (InFormula p)
+        disjunction_part = leads_into_one formed (bad_formula A) formula_passes formula_shown x a b (disjunction x head a b l e d) h a_older b_older
 
     -- of two members
     short : (h a z : Object) → is_pair z ≡ false → bad_formula A (Pair h (Pair a z)) ≡ or_formula A (Pair h (Pair a z)) (cond (same_object h (symbol "PNOT*")) (bad_formula A a) None)
@@ -116,22 +130,3 @@ module _ (A : ArityTable) where
     leads_in_negation x head a z (InFormula p) e i m d h g =
         let p_is = ap at g.0 in
         (found_in (at x) _ (bad_formula A (at p)) (negation x head a z e i) h (ap (λ t. cond t (bad_formula A (at a)) None) d ∙ ap (bad_formula A) (sym p_is)) (formula_shown (at p) (Some (at x)) (ap formed p_is ∙ g.1)), subst (λ r. r < x) (sym g.0) m, ap formed p_is ∙ g.1)
-
-    pub leads_no_negation : (x head a z : ℕ) → at x ≡ Pair (at head) (Pair (at a) (at z)) → is_pair (at z) ≡ false → same_object (at head) (symbol "PNOT*") ≡ false → formed (at x) ≡ false → LeadsOn A os x Nothing
-    leads_no_negation x head a z e i d h = nothing_in (at x) _ (negation x head a z e i) h (ap (λ t. cond t (bad_formula A (at a)) None) d)
-
-    pub leads_one : (x head z : ℕ) → at x ≡ Pair (at head) (at z) → is_pair (at z) ≡ false → formed (at x) ≡ false → LeadsOn A os x Nothing
-    leads_one x head z e i h = nothing_in (at x) None (ap (bad_formula A) e ∙ (one (at z) i ∙ ap (λ y. or_formula A y None) (sym e))) h refl
-      where
-        one : (y : Object) → is_pair y ≡ false → bad_formula A (Pair (at head) y) ≡ or_formula A (Pair (at head) y) None
-        one (Natural n) j = refl
-        one (Symbol s) j = refl
-        one (Pair b c) j = cc
-
-    pub leads_no_list : (x : ℕ) → is_pair (at x) ≡ false → formed (at x) ≡ false → LeadsOn A os x Nothing
-    leads_no_list x i h = nothing_in (at x) None (atom (at x) i) h refl
-      where
-        atom : (y : Object) → is_pair y ≡ false → bad_formula A y ≡ or_formula A y None
-        atom (Natural n) j = refl
-        atom (Symbol s) j = refl
-        atom (Pair b c) j = cc

@@ -1,10 +1,10 @@
 -- What is looked for in a raw term is looked for in its parts, one after another.
 use Rattle.std.proofs.Common.{◌≡◌, Bool, true, false, cond, List, [], ◌∷◌, ◌++◌, Option, Some, None, is_some, refl, sym, ap, ap₂, ◌∙◌}
 use Rattle.std.specs.Option.{option_or}
-use Rattle.mw_model.specs.Terms.Object.{Name, Object, Natural, Symbol, Pair}
+use Rattle.mw_model.specs.Terms.Object.{Object, Natural, Symbol, Pair}
 use Rattle.mw_model.specs.Terms.Term.{ArityTable, arity_of}
-use Rattle.mw_model.specs.Events.Expansion.{Abbreviation, AND, OR, COND, LIST, LET, LETSTAR, FIRST, SECOND, THIRD, FOURTH, FIFTH, QUOTE, Other, abbreviation_of, expand}
-use Rattle.mw_commands.specs.Commands.ExplanationTerms.{or_itself, bad_part, bad_in_list, bad_in_clauses, bad_in_bindings, bad_in_let, bad_raw}
+use Rattle.mw_model.specs.Events.Expansion.{Abbreviation, COND, LET, LETSTAR, QUOTE, Other, abbreviation_of, expand}
+use Rattle.mw_commands.specs.Commands.ExplanationTerms.{or_itself, bad_in_list, bad_in_clauses, bad_in_bindings, bad_in_let, bad_raw}
 use Rattle.mw_bad_steps.specs.Members.{members_in}
 use Rattle.mw_explain.specs.RawParts.{clause_members, binding_members, let_members, form_members, raw_parts, found_in}
 
@@ -55,19 +55,12 @@ module _ (A : ArityTable) where
   called false r = refl
 
   by_form : (meaning : Abbreviation) (known : Bool) (r : Object) → in_form meaning known r ≡ found (form_members known meaning r)
-  by_form AND known r = in_list r
-  by_form OR known r = in_list r
   by_form COND known r = in_clauses r
-  by_form LIST known r = in_list r
   by_form LET known r = in_let r
   by_form LETSTAR known r = in_let r
-  by_form FIRST known r = in_list r
-  by_form SECOND known r = in_list r
-  by_form THIRD known r = in_list r
-  by_form FOURTH known r = in_list r
-  by_form FIFTH known r = in_list r
   by_form QUOTE known r = refl
   by_form Other known r = called known r
+  by_form _ known r = in_list r
 
   pub by_parts : (x : Object) → bad_raw A x ≡ or_itself good x (found (raw_parts A x))
   by_parts (Natural n) = refl

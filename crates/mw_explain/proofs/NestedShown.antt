@@ -1,17 +1,16 @@
 -- What is shown of nested calls.
-use Rattle.std.proofs.Common.{◌≡◌, ℕ, suc, Bool, true, false, ◌&&◌, ◌||◌, List, [], ◌∷◌, map, Option, Some, None, is_some, option_map, option_to_list, unwrap_or, find, refl, sym, ap, ap₂, ◌∙◌, subst}
-use Rattle.mw_model.specs.Terms.Object.{Name, Object, Natural, Symbol, Pair}
-use Rattle.mw_model.specs.Terms.Term.{Call, ArityTable, term_object, terms_object, are_distinct}
-use Rattle.mw_model.specs.Terms.Reading.{that}
+use Rattle.std.proofs.Common.{◌≡◌, ℕ, suc, true, List, [], ◌∷◌, map, Option, Some, None, is_some, option_map, option_to_list, unwrap_or, find, refl, sym, ap, ap₂, ◌∙◌}
+use Rattle.mw_model.specs.Terms.Object.{Name, Object, Natural, Pair}
+use Rattle.mw_model.specs.Terms.Term.{Call, ArityTable, term_object}
 use Rattle.mw_model.specs.Values.Definition.{Function}
-use Rattle.mw_model.specs.Events.Obligation.{RecursiveCall, any_mentions, recursive_calls}
+use Rattle.mw_model.specs.Events.Obligation.{RecursiveCall, recursive_calls}
 use Rattle.mw_model.specs.Events.Expansion.{expand}
 use Rattle.mw_model.specs.Events.Refusal.{NESTED}
 use Rattle.mw_model.specs.Events.Admission.{Draft, all_of, new_name, new_names, formals_of, add_names, functions}
 use Rattle.mw_heap.specs.Objects.{object_at, IsIn}
 use Rattle.mw_define.specs.declared.nested_call.NestedCall.{NestedCall as Nested}
-use Rattle.mw_define.specs.NestedCall.{nests, numbered, first_nested, the_functions, IsFirstNested, IsNestedFrom}
-use Rattle.mw_commands.specs.Commands.Explanation.{nested_call, block_in, first_shown, drafts_shown, names_in, formals_in}
+use Rattle.mw_define.specs.NestedCall.{nests, numbered, first_nested, the_functions, IsNestedFrom}
+use Rattle.mw_commands.specs.Commands.Explanation.{nested_call, block_in, first_shown, drafts_shown}
 use Rattle.mw_explain.specs.Drafts.{bodies_under}
 use Rattle.mw_explain.proofs.DraftsShown.{that-some}
 

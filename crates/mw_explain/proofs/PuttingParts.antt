@@ -1,13 +1,13 @@
 -- Parts that are put behind others.
 use Rattle.std.proofs.Common.{◌≡◌, ℕ, ◌<◌, ◌≤◌, List, [], ◌∷◌, ◌++◌, map, false, true, is_some, refl, sym, ap, ◌∙◌, subst, arith, append_assoc}
 use Rattle.std.proofs.lemmas.List.{append-nil}
-use Rattle.mw_model.specs.Terms.Object.{Object, Natural, Symbol, Pair}
+use Rattle.mw_model.specs.Terms.Object.{Object, Symbol, Pair}
 use Rattle.mw_model.specs.Terms.Term.{ArityTable, arity_of}
 use Rattle.mw_model.specs.Values.Primitive.{is_pair, is_symbol, name_of}
 use Rattle.mw_model.specs.Events.Expansion.{abbreviation_of}
 use Rattle.mw_heap.specs.declared.store.view.View.{View}
 use Rattle.mw_heap.specs.declared.store.view.View.TheVariants.{Nat, Symbol as Named, Pair as Parts}
-use Rattle.mw_heap.specs.Objects.{object_at, Shows}
+use Rattle.mw_heap.specs.Objects.{object_at, IsIn, Shows}
 use Rattle.mw_bad_steps.specs.Members.{members_in}
 use Rattle.mw_explain.specs.RawParts.{clause_members, binding_members, let_members, form_members, lambda_members, raw_parts, AreBefore, PutsParts}
 
@@ -59,6 +59,35 @@ module _ (os : List Object) (x : ℕ) where
   pub puts-none : (ps : List Object) (old : List ℕ) → ps ≡ [] → PutsParts os x ps old old
   puts-none ps old e = putting-end ps ps old old (putting-start ps old) e
 
+-- A walk over the list at x, of which f says the parts: those of the rest are still to be put.
+module _ (f : Object → List Object) (os : List Object) (x : ℕ) where
+  pub record Walks (rest : ℕ) (old now : List ℕ) : Type 0 where
+    pub within : IsIn os rest
+    pub older : rest ≤ x
+    pub putting : IsPutting os x (f (object_at os x)) (f (object_at os rest)) old now
+
+  pub Walks-start : (old : List ℕ) → IsIn os x → Walks x old old
+  Walks-start old within = record { within = within; older = omega arith; putting = putting-start os x (f (object_at os x)) old }
+
+  module _ (rest : ℕ) (old now : List ℕ) (w : Walks rest old now) where
+    -- a member that is a part itself, and one that has the parts of y
+    pub Walks-one : (r more : ℕ) (new : List ℕ) → f (object_at os rest) ≡ object_at os r ∷ f (object_at os more) → IsIn os more → r < rest → more < rest → new ≡ now ++ r ∷ [] → Walks more old new
+    Walks-one r more new is within before below pushed = record {
+      within = within;
+      older = omega (arith, below, w.older);
+      putting = putting-one os x (f (object_at os x)) (f (object_at os more)) (f (object_at os rest)) r old now new w.putting is (omega (arith, before, w.older)) pushed;
+    }
+
+    pub Walks-more : (ps : List Object) (y more : ℕ) (new : List ℕ) → f (object_at os rest) ≡ ps ++ f (object_at os more) → IsIn os more → y < rest → more < rest → PutsParts os y ps now new → Walks more old new
+    Walks-more ps y more new is within before below puts = record {
+      within = within;
+      older = omega (arith, below, w.older);
+      putting = putting-more os x (f (object_at os x)) (f (object_at os more)) (f (object_at os rest)) ps y old now new w.putting is (omega (arith, before, w.older)) puts;
+    }
+
+    pub Walks-end : f (object_at os rest) ≡ [] → PutsParts os x (f (object_at os x)) old now
+    Walks-end none = putting-end os x (f (object_at os x)) (f (object_at os rest)) old now w.putting none
+
 -- parts of y are parts of x
 pub puts-older : (os : List Object) (x y : ℕ) (all ps : List Object) (old new : List ℕ) → all ≡ ps → y ≤ x → PutsParts os y ps old new → PutsParts os x all old new
 puts-older os x y all ps old new e l p = record { parts = p.parts ∙ ap (λ qs. map (object_at os) old ++ qs) (sym e); before = λ n m b. p.before n (omega (arith, l, m)) b }
@@ -75,29 +104,24 @@ puts-lambda os x head actuals body l xs z old pushed new e b k p h a =
 
 -- what is no pair has no members
 pub no-members : (x : Object) → is_pair x ≡ false → members_in x ≡ []
-no-members (Natural n) h = refl
-no-members (Symbol s) h = refl
 no-members (Pair a b) h = cc
+no-members _ h = refl
 
 pub no-clauses : (x : Object) → is_pair x ≡ false → clause_members x ≡ []
-no-clauses (Natural n) h = refl
-no-clauses (Symbol s) h = refl
 no-clauses (Pair a b) h = cc
+no-clauses _ h = refl
 
 pub no-bindings : (x : Object) → is_pair x ≡ false → binding_members x ≡ []
-no-bindings (Natural n) h = refl
-no-bindings (Symbol s) h = refl
 no-bindings (Pair a b) h = cc
+no-bindings _ h = refl
 
 pub no-binding : (x r : Object) → is_pair x ≡ false → binding_members (Pair x r) ≡ []
-no-binding (Natural n) r h = refl
-no-binding (Symbol s) r h = refl
 no-binding (Pair a b) r h = cc
+no-binding _ r h = refl
 
 pub no-let : (x : Object) → is_pair x ≡ false → let_members x ≡ []
-no-let (Natural n) h = refl
-no-let (Symbol s) h = refl
 no-let (Pair a b) h = cc
+no-let _ h = refl
 
 -- the parts of y, and then those of z
 pub puts-both : (os : List Object) (x y z : ℕ) (all ps qs : List Object) (old now more : List ℕ) → all ≡ ps ++ qs → y ≤ x → z ≤ x → PutsParts os y ps old now → PutsParts os z qs now more → PutsParts os x all old more
@@ -108,14 +132,12 @@ puts-both os x y z all ps qs old now more e l m p q =
 
 -- what begins with a symbol, and with something else
 pub symbol-parts : (A : ArityTable) (h r : Object) → is_symbol h ≡ true → raw_parts A (Pair h r) ≡ form_members (is_some (arity_of A (name_of h))) (abbreviation_of (name_of h)) r
-symbol-parts A (Natural n) r s = cc
 symbol-parts A (Symbol f) r s = refl
-symbol-parts A (Pair a b) r s = cc
+symbol-parts A _ r s = cc
 
 pub other-parts : (A : ArityTable) (h r : Object) → is_symbol h ≡ false → raw_parts A (Pair h r) ≡ lambda_members h r
-other-parts A (Natural n) r s = refl
 other-parts A (Symbol f) r s = cc
-other-parts A (Pair a b) r s = refl
+other-parts A _ r s = refl
 
 pub no_symbol : (os : List Object) (v : View) (x : Object) → Shows os v x → (v ≡ Named → ⊥) → is_symbol x ≡ false
 no_symbol os (Nat n) x h other = ap is_symbol h

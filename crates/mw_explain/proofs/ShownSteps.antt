@@ -2,7 +2,7 @@
 use Rattle.std.proofs.Common.{◌≡◌, ℕ, List, [], ◌∷◌, ◌++◌, refl, sym, ap, ap₂, ◌∙◌, subst}
 use Rattle.std.proofs.lemmas.List.Elements.{All-append}
 use Rattle.std.proofs.lemmas.List.{map-append}
-use Rattle.mw_model.specs.Terms.Object.{Object, Natural, Symbol, Pair, NIL, second_of}
+use Rattle.mw_model.specs.Terms.Object.{Object, Natural, Symbol, Pair, second_of}
 use Rattle.mw_heap.specs.Objects.{object_at, IsIn}
 use Rattle.mw_commands.specs.Commands.ExplanationSteps.{conclusions_shown, listed}
 use Rattle.mw_bad_steps.specs.Shown.{Shows}

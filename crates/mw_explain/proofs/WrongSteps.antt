@@ -1,7 +1,7 @@
 -- What is shown of an induction, and of a step whose row does not hold.
-use Rattle.std.proofs.Common.{◌≡◌, ℕ, true, List, [], ◌∷◌, map, Option, Some, None, option_map, refl, sym, ap, ap₂, ◌∙◌, subst}
+use Rattle.std.proofs.Common.{◌≡◌, ℕ, true, List, [], ◌∷◌, Option, Some, None, option_map, refl, sym, ap, ap₂, ◌∙◌, subst}
 use Rattle.std.specs.Prelude.{option_to_list}
-use Rattle.mw_model.specs.Terms.Object.{Object, Pair, symbol, second_of, third_of, fourth_of}
+use Rattle.mw_model.specs.Terms.Object.{Object, symbol, second_of, third_of, fourth_of}
 use Rattle.mw_model.specs.Terms.Term.{ArityTable, Formula, is_formula, formula_object}
 use Rattle.mw_model.specs.Terms.Reading.{formula_of, formula_under}
 use Rattle.mw_model.specs.Values.Primitive.{Profile}
@@ -12,7 +12,7 @@ use Rattle.mw_model.proofs.ReadBack.{formula_back}
 use Rattle.mw_heap.specs.Objects.{object_at}
 use Rattle.mw_proof.specs.declared.members.Members.{Members}
 use Rattle.mw_proof.specs.Members.{AreMembers}
-use Rattle.mw_commands.specs.Commands.ExplanationSteps.{are_extras, listed, mended, premises_wanted, wrong_induction}
+use Rattle.mw_commands.specs.Commands.ExplanationSteps.{are_extras, mended, premises_wanted, wrong_induction}
 use Rattle.mw_bad_steps.specs.Candidates.{IsMended}
 use Rattle.mw_explain.specs.Extras.{premises_at, IsFound}
 use Rattle.mw_explain.proofs.ExtrasExact.{premises_shown}

@@ -1,7 +1,7 @@
 -- The parts of a raw term that should be raw terms, and where to look on for the first that is none.
 use Rattle.std.specs.Prelude.{◌≡◌, ℕ, ◌<◌, ◌≤◌, Bool, cond, List, [], ◌∷◌, ◌++◌, map, Option, Some, None, is_some}
 use Rattle.std.specs.Option.{option_or}
-use Rattle.mw_model.specs.Terms.Object.{Object, Natural, Symbol, Pair}
+use Rattle.mw_model.specs.Terms.Object.{Object, Symbol, Pair}
 use Rattle.mw_model.specs.Terms.Term.{ArityTable, arity_of}
 use Rattle.mw_model.specs.Events.Expansion.{Abbreviation, COND, LET, LETSTAR, QUOTE, Other, abbreviation_of, expand}
 use Rattle.mw_heap.specs.Objects.{object_at}

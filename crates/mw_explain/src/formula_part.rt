@@ -3,10 +3,10 @@ ghost use Rattle.std.specs.Prelude.{◌≡◌, ◌<◌, false, List, length, IfS
 ghost use Rattle.mw_model.specs.Terms.Object.{Object};
 ghost use Rattle.mw_model.specs.Terms.Term.{ArityTable};
 ghost use Rattle.mw_model.specs.Laws.Rules.{is_formula_object};
-ghost use Rattle.mw_heap.specs.Objects.{object_at, IsIn};
+ghost use Rattle.mw_heap.specs.Objects.{object_at};
 ghost use Rattle.mw_term.specs.Marking.{AreMarks};
 ghost use Rattle.mw_commands.specs.Commands.ExplanationTerms.{bad_formula};
-ghost use Rattle.mw_explain.specs.FormulaParts.{IsNegated, IsNextFormula, IsNextTerm, LeadsOn};
+ghost use Rattle.mw_explain.specs.FormulaParts.{first_bad, IsNegated, LeadsOn};
 
 use crate::term_part::bad_term;
 use mw_heap::{Heap, Ref, View, Word};
@@ -20,33 +20,16 @@ pub enum Next {
     InFormula(Ref),
 }
 
-// The first of the two that is not a term.
-fn in_terms(marks: &Marks, a: Ref, b: Ref) -> Next
-    requires first { a < length marks.now }
-    requires second { b < length marks.now }
-    ensures { (A : ArityTable) (os : List Object) → AreMarks A os marks.now → IsNextTerm A os a b result }
+// The first of two parts that is not good.
+fn first_bad(a: Ref, a_is_good: bool, b: Ref, b_is_good: bool) -> Option<Ref>
+    ensures { result ≡ first_bad a_is_good b_is_good a b }
 {
-    if !is_term(marks, a) {
-        Next::InTerm(a)
-    } else if !is_term(marks, b) {
-        Next::InTerm(b)
+    if !a_is_good {
+        Some(a)
+    } else if !b_is_good {
+        Some(b)
     } else {
-        Next::Nothing
-    }
-}
-
-// The first of the two that is not a formula.
-fn in_formulas(marks: &Marks, a: Ref, b: Ref) -> Next
-    requires first { a < length marks.now }
-    requires second { b < length marks.now }
-    ensures { (A : ArityTable) (os : List Object) → AreMarks A os marks.now → IsNextFormula A os a b result }
-{
-    if !is_formula(marks, a) {
-        Next::InFormula(a)
-    } else if !is_formula(marks, b) {
-        Next::InFormula(b)
-    } else {
-        Next::Nothing
+        None
     }
 }
 
@@ -81,10 +64,16 @@ fn next_part(heap: &Heap, marks: &Marks, x: Ref) -> Next
         return Next::Nothing;
     };
     if heap.is_word(Some(head), Word::Pequal) {
-        return in_terms(marks, a, b);
+        return match first_bad(a, is_term(marks, a), b, is_term(marks, b)) {
+            Some(part) => Next::InTerm(part),
+            None => Next::Nothing,
+        };
     }
     if heap.is_word(Some(head), Word::Por) {
-        return in_formulas(marks, a, b);
+        return match first_bad(a, is_formula(marks, a), b, is_formula(marks, b)) {
+            Some(part) => Next::InFormula(part),
+            None => Next::Nothing,
+        };
     }
     Next::Nothing
 }

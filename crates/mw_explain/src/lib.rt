@@ -1,6 +1,6 @@
 //! What is shown of a refused event: the first bad part of an object that is not a term or not a formula, what definitions lack, and the
 //! condition that fails of the first bad step of a proof.
-#![tactic(auto)]
+#![tactic(auto, using(crate::proofs::Growing::growing))]
 
 mod condition;
 mod definition;

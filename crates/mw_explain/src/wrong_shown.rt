@@ -1,11 +1,12 @@
 //! What is shown of a step that is not a proof though its subproofs are.
-ghost use Rattle.std.specs.Prelude.{◌≡◌, ◌<◌, ◌++◌, true, length, All, IfOk};
+ghost use Rattle.std.specs.Prelude.{◌≡◌, ◌<◌, ◌++◌, length, All, IfOk};
 ghost use Rattle.mw_model.specs.Terms.Term.{ArityTable};
 ghost use Rattle.mw_model.specs.Values.Definition.{arity_table};
 ghost use Rattle.mw_model.specs.Events.Theory.{Theory};
 ghost use Rattle.mw_heap.specs.Objects.{object_at, IsIn, Grows};
 ghost use Rattle.mw_heap.specs.Lists.{list_object};
 ghost use Rattle.mw_heap.specs.Variants.{profile_of};
+ghost use Rattle.mw_rules.specs.Basis.{IsBasisIn};
 ghost use Rattle.mw_term.specs.Marking.{AreMarks};
 ghost use Rattle.mw_commands.specs.Commands.ExplanationSteps.{wrong_step, bad_step_shown};
 ghost use Rattle.mw_bad_steps.specs.Shown.{Shows};
@@ -21,7 +22,7 @@ use mw_bad_steps::{first_bad_step, mended};
 use mw_commands::explaining::bad_steps;
 use mw_heap::{Heap, Memory, Profile, Ref};
 use mw_proof::members_of;
-use mw_rules::Known;
+use mw_rules::{Basis, Known};
 use mw_term::{Arity, Marks, is_formula};
 
 // The first references, and then the others.
@@ -87,45 +88,20 @@ fn induction_shown(heap: &mut Heap, step: Ref, marks: &Marks) -> Result<Vec<Ref>
     }
 }
 
-// A step whose row does not hold, with the conclusion with which it would, where one is meant.
-fn rule_shown(
-    heap: &mut Heap,
-    step: Ref,
-    axioms: &Known,
-    theorems: &Known,
-    arity: &Arity,
-    profile: Profile,
-    marks: &mut Marks,
-) -> Result<Vec<Ref>, Memory>
-    requires within { step < length marks.old }
-    requires axioms { All (IsIn heap.old.objects) axioms.now }
-    requires theorems { All (IsIn heap.old.objects) theorems.now }
-    requires marked { AreMarks arity.now heap.old.objects marks.old }
-    ensures grows { Grows heap.old.objects heap.new.objects }
-    ensures marked { AreMarks arity.now heap.new.objects marks.new }
-    ensures shown { IfOk result (λ v. (t : Theory) → t.axioms ≡ list_object heap.old.objects axioms.now → t.theorems ≡ list_object heap.old.objects theorems.now → arity_table t.definitions ≡ arity.now → t.definitions.profile ≡ profile_of profile → IsWrong t heap.old.objects (object_at heap.old.objects step) Rule → Shows heap.new.objects v.items (wrong_step t (object_at heap.old.objects step))) }
-{
-    let conclusion = mended(heap, step, axioms, theorems, arity, profile, marks)?;
-    condition_shown(heap, step, b"RULE", conclusion)
-}
-
 // What is shown of a step that is not a proof though its subproofs are.
 fn wrong_shown(
     heap: &mut Heap,
     step: Ref,
-    axioms: &Known,
-    theorems: &Known,
+    basis: &Basis,
     arity: &Arity,
-    profile: Profile,
     marks: &mut Marks,
 ) -> Result<Vec<Ref>, Memory>
     requires within { step < length marks.old }
-    requires axioms { All (IsIn heap.old.objects) axioms.now }
-    requires theorems { All (IsIn heap.old.objects) theorems.now }
+    requires basis { IsBasisIn heap.old.objects basis.now }
     requires marked { AreMarks arity.now heap.old.objects marks.old }
     ensures grows { Grows heap.old.objects heap.new.objects }
     ensures marked { AreMarks arity.now heap.new.objects marks.new }
-    ensures shown { IfOk result (λ v. (t : Theory) → t.axioms ≡ list_object heap.old.objects axioms.now → t.theorems ≡ list_object heap.old.objects theorems.now → arity_table t.definitions ≡ arity.now → t.definitions.profile ≡ profile_of profile → HasProofs t (object_at heap.old.objects step) → Shows heap.new.objects v.items (wrong_step t (object_at heap.old.objects step))) }
+    ensures shown { IfOk result (λ v. (t : Theory) → t.axioms ≡ list_object heap.old.objects basis.now.axioms.now → t.theorems ≡ list_object heap.old.objects basis.now.theorems.now → arity_table t.definitions ≡ arity.now → t.definitions.profile ≡ profile_of basis.now.profile → HasProofs t (object_at heap.old.objects step) → Shows heap.new.objects v.items (wrong_step t (object_at heap.old.objects step))) }
 {
     match wrong_step(heap, arity, marks, step) {
         Wrong::Shape => shape_shown(heap, step),
@@ -135,7 +111,19 @@ fn wrong_shown(
         Wrong::Extras => condition_shown(heap, step, b"EXTRAS", None),
         Wrong::Premises(count) => count_shown(heap, step, count),
         Wrong::Induction => induction_shown(heap, step, marks),
-        Wrong::Rule => rule_shown(heap, step, axioms, theorems, arity, profile, marks),
+        // What the row wants is the conclusion with which it would hold, where one is meant.
+        Wrong::Rule => {
+            let conclusion = mended(
+                heap,
+                step,
+                basis.axioms,
+                basis.theorems,
+                arity,
+                basis.profile,
+                marks,
+            )?;
+            condition_shown(heap, step, b"RULE", conclusion)
+        }
     }
 }
 
@@ -166,7 +154,12 @@ pub fn bad_step_shown(
     bad_steps();
     let below = heap.mark();
     marks.extend(heap, arity, below)?;
-    let shown = wrong_shown(heap, bad.step, axioms, theorems, arity, profile, marks)?;
+    let basis = Basis {
+        axioms,
+        theorems,
+        profile,
+    };
+    let shown = wrong_shown(heap, bad.step, &basis, arity, marks)?;
     let place = place_shown(heap, &bad.place)?;
     let mut all = Vec::new(heap.alloc());
     all.push(place)?;

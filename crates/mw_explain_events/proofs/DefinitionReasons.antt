@@ -1,23 +1,18 @@
 -- Why definitions are refused, and what passed before.
-use Rattle.std.proofs.Common.{◌≡◌, ℕ, Bool, true, false, not, List, [], ◌∷◌, length, Option, Some, None, refl, sym, ap, ◌∙◌, subst, true≢false, is_some}
+use Rattle.std.proofs.Common.{◌≡◌, ℕ, Bool, true, false, not, List, length, Option, Some, None, refl, ap, ◌∙◌, subst, is_some}
 use Rattle.mw_model.specs.Terms.Object.{Name, Object, has_members}
 use Rattle.mw_model.specs.Terms.Term.{Term, Formula, ArityTable}
 use Rattle.mw_model.specs.Values.Definition.{Functions, arity_table}
 use Rattle.mw_model.specs.Events.Obligation.{obligations, is_nested}
 use Rattle.mw_model.specs.Events.Theory.{Theory}
-use Rattle.mw_model.specs.Events.Refusal.{Refusal, RANGE, EVENT, NAME, FORMALS, TERM, FORMULA, VARIABLES, NESTED, COUNT, CONCLUSION, PROOF, NILVALUE, STEPS, OVERFLOW, WITNESS, CLAIM, CHECKER, LONG, PROFILE, Fate, Accepted, Refused, accept, need, must, unless}
-use Rattle.mw_model.specs.Events.Admission.{Draft, functions, measures, are_closed_by, add_to_theory, some_drafts}
+use Rattle.mw_model.specs.Events.Refusal.{Refusal, EVENT, NAME, FORMALS, TERM, VARIABLES, NESTED, COUNT, Fate, Accepted, Refused, accept, need, must, unless}
+use Rattle.mw_model.specs.Events.Admission.{Draft, functions, measures, are_closed_by, add_to_theory}
 use Rattle.mw_model.specs.Events.Demand.{Demand, Denied, Wants, wants_some, wants_that, define_demand, each_judged, settled}
-use Rattle.mw_model.specs.Events.Fate.{Define, DefineAll}
 use Rattle.mw_define.specs.BlockTests.{the_names, the_formal_lists, the_terms_under, FailsBlock, no_names, no_formals, no_terms, not_closed, nested}
 use Rattle.mw_theory.specs.Proofs.{by_formula}
 use Rattle.mw_theory.specs.Settling.{defined}
-use Rattle.mw_theory.specs.Words.{define_event, define_all_event}
-use Rattle.mw_commands.specs.Commands.Explanation.{formulas_wanted, shown_by}
 use Rattle.mw_kernel.specs.Proofs.{judged_for}
 use Rattle.mw_explain_events.specs.Reasons.{is_of_definitions, AreRefused}
-use Rattle.mw_explain_events.specs.Defining.{Owe, definitions_shown}
-use Rattle.mw_explain_events.proofs.ProofReasons.{is_of_proofs, proofs-reason, proofs-not-definitions}
 
 module _ (t : Theory) (ds : List Draft) where
   abbrev A : ArityTable
@@ -110,7 +105,7 @@ module _ (N : ℕ) (t : Theory) (given : Option (List Draft)) (ps : Object) wher
     refused-definitions h = by_given given refl h
 
 -- a failed test is of the definitions
-block_fails : (A : ArityTable) (ds : List Draft) (r : Refusal) → FailsBlock A ds r → is_of_definitions r ≡ true
+pub block_fails : (A : ArityTable) (ds : List Draft) (r : Refusal) → FailsBlock A ds r → is_of_definitions r ≡ true
 block_fails A ds r (no_names h) = refl
 block_fails A ds r (no_formals fs h k) = refl
 block_fails A ds r (no_terms fs xss h k l) = refl
@@ -118,9 +113,6 @@ block_fails A ds r (not_closed fs xss bs ms h k l c) = refl
 block_fails A ds r (nested fs xss bs ms h k l c n) = refl
 
 -- the names passed where the reason is another, and the formals where it is neither
-some-names : (A : ArityTable) (ds : List Draft) (fs : List Name) → the_names A ds ≡ Some fs → is_some (the_names A ds) ≡ true
-some-names A ds fs e = ap is_some e
-
 pub names-passed : (A : ArityTable) (ds : List Draft) (r : Refusal) → FailsBlock A ds r → (r ≡ NAME → ⊥) → is_some (the_names A ds) ≡ true
 names-passed A ds r (no_names h) n = absurd (n refl)
 names-passed A ds r (no_formals fs h k) n = ap is_some h
@@ -134,119 +126,3 @@ formals-passed A ds r (no_formals fs h k) n m = absurd (m refl)
 formals-passed A ds r (no_terms fs xss h k l) n m = ap is_some k
 formals-passed A ds r (not_closed fs xss bs ms h k l c) n m = ap is_some k
 formals-passed A ds r (nested fs xss bs ms h k l c d) n m = ap is_some k
-
-module _ (N : ℕ) (t : Theory) (given : Option (List Draft)) (ps : Object) where
-  abbrev B : ArityTable
-  B = arity_table t.definitions
-
-  -- refused by their own tests
-  pub fails-told : (r : Refusal) → Refuses N t given ps r → is_of_definitions r ≡ true → (ds : List Draft) × (given ≡ Some ds) × FailsBlock B ds r
-  fails-told r (no_drafts e) h = cc
-  fails-told r (no_block ds q e f) h = (ds, e, f)
-  fails-told r (not_as_many ds Fs next e d) h = cc
-  fails-told r (not_proved ds Fs next q e d p) h = absurd (true≢false (sym h ∙ proofs-not-definitions r (proofs-reason t N Fs ps r p.1)))
-
-  -- refused though they pass them: formulas are owed
-  abbrev wanted_of : List Formula
-  wanted_of = formulas_wanted (wants_some EVENT given (define_demand t))
-
-  wanted_is : (Fs : List Formula) (ds : List Draft) (next : Theory) → given ≡ Some ds → define_demand t ds ≡ Wants Fs next → Fs ≡ wanted_of
-  wanted_is Fs ds next is demand = sym (ap (λ g. formulas_wanted (wants_some EVENT g (define_demand t))) is ∙ ap formulas_wanted demand)
-
-  pub owed-told : (r : Refusal) → Refuses N t given ps r → is_of_definitions r ≡ false → (r ≡ EVENT → ⊥) → (Fs : List Formula) × Owe B given Fs × (Fs ≡ wanted_of)
-  owed-told r (no_drafts e) h n = absurd (n refl)
-  owed-told r (no_block ds q e f) h n = absurd (true≢false (sym (block_fails B ds r f) ∙ h))
-  owed-told r (not_as_many ds Fs next e d) h n = (Fs, (t, ds, next, refl, e, d), wanted_is Fs ds next e d)
-  owed-told r (not_proved ds Fs next q e d p) h n = (Fs, (t, ds, next, refl, e, d), wanted_is Fs ds next e d)
-
-  -- and where there are as many proofs, the first one that is refused is so for that reason
-  pub proofs-told : (r : Refusal) → Refuses N t given ps r → is_of_definitions r ≡ false → (r ≡ EVENT → ⊥) → (r ≡ COUNT → ⊥) → (Fs : List Formula) × Owe B given Fs × (Fs ≡ wanted_of) × AreRefused r t N Fs ps × (is_of_proofs r ≡ true)
-  proofs-told r (no_drafts e) h n m = absurd (n refl)
-  proofs-told r (no_block ds q e f) h n m = absurd (true≢false (sym (block_fails B ds r f) ∙ h))
-  proofs-told r (not_as_many ds Fs next e d) h n m = absurd (m refl)
-  proofs-told r (not_proved ds Fs next q e d p) h n m = (Fs, (t, ds, next, refl, e, d), wanted_is Fs ds next e d, p, proofs-reason t N Fs ps r p.1)
-
--- which reasons there are
-abbrev pub is_of_defining : Refusal → Bool
-is_of_defining RANGE = false
-is_of_defining FORMULA = false
-is_of_defining CLAIM = false
-is_of_defining CHECKER = false
-is_of_defining _ = true
-
-proofs_of_defining : (r : Refusal) → is_of_proofs r ≡ true → is_of_defining r ≡ true
-proofs_of_defining CONCLUSION h = refl
-proofs_of_defining PROOF h = refl
-proofs_of_defining NILVALUE h = refl
-proofs_of_defining STEPS h = refl
-proofs_of_defining OVERFLOW h = refl
-proofs_of_defining WITNESS h = refl
-proofs_of_defining RANGE h = cc
-proofs_of_defining EVENT h = refl
-proofs_of_defining NAME h = refl
-proofs_of_defining FORMALS h = refl
-proofs_of_defining TERM h = refl
-proofs_of_defining FORMULA h = cc
-proofs_of_defining VARIABLES h = refl
-proofs_of_defining NESTED h = refl
-proofs_of_defining COUNT h = refl
-proofs_of_defining CLAIM h = cc
-proofs_of_defining CHECKER h = cc
-proofs_of_defining LONG h = refl
-proofs_of_defining PROFILE h = refl
-
-tests_of_defining : (A : ArityTable) (ds : List Draft) (r : Refusal) → FailsBlock A ds r → is_of_defining r ≡ true
-tests_of_defining A ds r (no_names h) = refl
-tests_of_defining A ds r (no_formals fs h k) = refl
-tests_of_defining A ds r (no_terms fs xss h k l) = refl
-tests_of_defining A ds r (not_closed fs xss bs ms h k l c) = refl
-tests_of_defining A ds r (nested fs xss bs ms h k l c n) = refl
-
-pub defining-reason : (N : ℕ) (t : Theory) (given : Option (List Draft)) (ps : Object) (r : Refusal) → Refuses N t given ps r → is_of_defining r ≡ true
-defining-reason N t given ps r (no_drafts e) = refl
-defining-reason N t given ps r (no_block ds q e f) = tests_of_defining (arity_table t.definitions) ds r f
-defining-reason N t given ps r (not_as_many ds Fs next e d) = refl
-defining-reason N t given ps r (not_proved ds Fs next q e d p) = proofs_of_defining r (proofs-reason t N Fs ps r p.1)
-
--- what is shown of a DEFINE, and of a DEFINE-ALL
-pub shown-define : (r : Refusal) (t : Theory) (N : ℕ) (n f b m p : Object) → is_of_defining r ≡ true → definitions_shown r t N (Some (record { name = n; formals = f; body = b; measure = m } ∷ [])) p ≡ shown_by r Define t N (define_event n f b m p)
-shown-define RANGE t N n f b m p h = cc
-shown-define EVENT t N n f b m p h = refl
-shown-define NAME t N n f b m p h = refl
-shown-define FORMALS t N n f b m p h = refl
-shown-define TERM t N n f b m p h = refl
-shown-define FORMULA t N n f b m p h = cc
-shown-define VARIABLES t N n f b m p h = refl
-shown-define NESTED t N n f b m p h = refl
-shown-define COUNT t N n f b m p h = refl
-shown-define CONCLUSION t N n f b m p h = refl
-shown-define PROOF t N n f b m p h = refl
-shown-define NILVALUE t N n f b m p h = refl
-shown-define STEPS t N n f b m p h = refl
-shown-define OVERFLOW t N n f b m p h = refl
-shown-define WITNESS t N n f b m p h = refl
-shown-define CLAIM t N n f b m p h = cc
-shown-define CHECKER t N n f b m p h = cc
-shown-define LONG t N n f b m p h = refl
-shown-define PROFILE t N n f b m p h = refl
-
-pub shown-define-all : (r : Refusal) (t : Theory) (N : ℕ) (d p : Object) → is_of_defining r ≡ true → definitions_shown r t N (some_drafts d) p ≡ shown_by r DefineAll t N (define_all_event d p)
-shown-define-all RANGE t N d p h = cc
-shown-define-all EVENT t N d p h = refl
-shown-define-all NAME t N d p h = refl
-shown-define-all FORMALS t N d p h = refl
-shown-define-all TERM t N d p h = refl
-shown-define-all FORMULA t N d p h = cc
-shown-define-all VARIABLES t N d p h = refl
-shown-define-all NESTED t N d p h = refl
-shown-define-all COUNT t N d p h = refl
-shown-define-all CONCLUSION t N d p h = refl
-shown-define-all PROOF t N d p h = refl
-shown-define-all NILVALUE t N d p h = refl
-shown-define-all STEPS t N d p h = refl
-shown-define-all OVERFLOW t N d p h = refl
-shown-define-all WITNESS t N d p h = refl
-shown-define-all CLAIM t N d p h = cc
-shown-define-all CHECKER t N d p h = cc
-shown-define-all LONG t N d p h = refl
-shown-define-all PROFILE t N d p h = refl

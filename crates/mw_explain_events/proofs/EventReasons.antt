@@ -7,7 +7,7 @@ use Rattle.mw_model.specs.Values.Primitive.{is_symbol}
 use Rattle.mw_model.specs.Values.Definition.{Choice, arity_table}
 use Rattle.mw_model.specs.Events.Evaluation.{Outcome, Value, Steps, Overflow, Witness, evaluate}
 use Rattle.mw_model.specs.Events.Theory.{Theory, claim}
-use Rattle.mw_model.specs.Events.Refusal.{Refusal, RANGE, EVENT, NAME, FORMALS, TERM, FORMULA, VARIABLES, NESTED, COUNT, CONCLUSION, PROOF, NILVALUE, STEPS, OVERFLOW, WITNESS, CLAIM, CHECKER, LONG, PROFILE, Fate, Accepted, Refused, accept, refuse, need, must}
+use Rattle.mw_model.specs.Events.Refusal.{Refusal, EVENT, NAME, FORMALS, TERM, FORMULA, VARIABLES, NESTED, CONCLUSION, PROOF, NILVALUE, STEPS, OVERFLOW, WITNESS, CLAIM, CHECKER, LONG, PROFILE, Fate, Accepted, Refused, accept, refuse, need, must}
 use Rattle.mw_model.specs.Events.Admission.{add_to_theory, add_witness, skolem}
 use Rattle.mw_model.specs.Events.Demand.{Demand, Wants, wants_that, wants_some, without_proofs}
 use Rattle.mw_model.specs.Events.Fate.{EventWord, Verify, Skolem, Eval, Print, SetProfile, event_word, event_word_among, event_words, member_count, longest, show, show_outcome, eval, profile, begin_profile, checker_named}
@@ -38,19 +38,7 @@ by-proofs NILVALUE w t N e h = refl
 by-proofs STEPS w t N e h = refl
 by-proofs OVERFLOW w t N e h = refl
 by-proofs WITNESS w t N e h = refl
-by-proofs RANGE w t N e h = cc
-by-proofs EVENT w t N e h = cc
-by-proofs NAME w t N e h = cc
-by-proofs FORMALS w t N e h = cc
-by-proofs TERM w t N e h = cc
-by-proofs FORMULA w t N e h = cc
-by-proofs VARIABLES w t N e h = cc
-by-proofs NESTED w t N e h = cc
-by-proofs COUNT w t N e h = cc
-by-proofs CLAIM w t N e h = cc
-by-proofs CHECKER w t N e h = cc
-by-proofs LONG w t N e h = cc
-by-proofs PROFILE w t N e h = cc
+by-proofs _ w t N e h = cc
 
 module _ (t : Theory) (N : ℕ) (name f p : Object) (r : Refusal) (no_name : r ≡ NAME → ⊥) (no_formula : r ≡ FORMULA → ⊥) where
   -- its name, its formula and its proof

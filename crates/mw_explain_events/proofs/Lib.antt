@@ -1,5 +1,7 @@
+pub mod Growing
 pub mod ProofReasons
 pub mod DefinitionReasons
+pub mod RefusedDefinitions
 pub mod EventReasons
 pub mod Showing
 pub mod RefusedProofs

@@ -1,13 +1,12 @@
--- What is owed for definitions, and what is shown of them by the reason.
-use Rattle.std.proofs.Common.{◌≡◌, ℕ, true, List, [], Option, Some, None, refl, sym, ap, ◌∙◌, subst}
+-- What is owed for definitions that are given.
+use Rattle.std.proofs.Common.{◌≡◌, List, [], Option, Some, None, sym, ap, ◌∙◌, subst}
 use Rattle.mw_model.specs.Terms.Object.{Object}
 use Rattle.mw_model.specs.Terms.Term.{Formula, ArityTable}
 use Rattle.mw_model.specs.Values.Definition.{arity_table}
 use Rattle.mw_model.specs.Laws.RulesInduction.{formulas_object}
-use Rattle.mw_model.specs.Events.Theory.{Theory}
-use Rattle.mw_model.specs.Events.Refusal.{Refusal, RANGE, EVENT, NAME, FORMALS, TERM, FORMULA, VARIABLES, NESTED, COUNT, CONCLUSION, PROOF, NILVALUE, STEPS, OVERFLOW, WITNESS, CLAIM, CHECKER, LONG, PROFILE}
+use Rattle.mw_model.specs.Events.Refusal.{Refusal}
 use Rattle.mw_model.specs.Events.Admission.{Draft}
-use Rattle.mw_model.specs.Events.Demand.{Demand, Denied, Wants, wants_some, define_demand}
+use Rattle.mw_model.specs.Events.Demand.{Demand, Denied, Wants, define_demand}
 use Rattle.mw_heap.specs.declared.vocabulary.refusal.Refusal.{Refusal as Reason}
 use Rattle.mw_heap.specs.Variants.{refusal_of}
 use Rattle.mw_heap.specs.Objects.{object_at, IsIn}
@@ -15,10 +14,7 @@ use Rattle.mw_define.specs.declared.admitted.Admitted.TheVariants as admitted
 use Rattle.mw_define.specs.declared.admitted.Owed.{Owed}
 use Rattle.mw_define.specs.BlockTests.{FailsBlock, PassesBlock, IsBlockOf}
 use Rattle.mw_define.proofs.CallerLemmas.{define-denied, define-wants}
-use Rattle.mw_commands.specs.Commands.Explanation.{formulas_wanted, proof_shown}
-use Rattle.mw_explain_events.specs.Reasons.{is_of_definitions}
-use Rattle.mw_explain_events.specs.Defining.{Owe, block_shown, definitions_shown}
-use Rattle.mw_explain_events.proofs.ProofReasons.{is_of_proofs}
+use Rattle.mw_explain_events.specs.Defining.{Owe}
 
 abbrev the_value : {X : Type 0} → X → Option X → X
 the_value x None = x
@@ -57,50 +53,6 @@ module _ (A : ArityTable) (os : List Object) where
     where
       never : Denied (refusal_of r) ≡ Wants Fs next → ⊥
       never e = cc
-
--- ---- what is shown by the reason
-
-pub shown-of-tests : (r : Refusal) (t : Theory) (N : ℕ) (given : Option (List Draft)) (ps : Object) → is_of_definitions r ≡ true → block_shown r (arity_table t.definitions) given ≡ definitions_shown r t N given ps
-shown-of-tests NAME t N given ps h = refl
-shown-of-tests FORMALS t N given ps h = refl
-shown-of-tests TERM t N given ps h = refl
-shown-of-tests VARIABLES t N given ps h = refl
-shown-of-tests NESTED t N given ps h = refl
-shown-of-tests RANGE t N given ps h = cc
-shown-of-tests EVENT t N given ps h = cc
-shown-of-tests FORMULA t N given ps h = cc
-shown-of-tests COUNT t N given ps h = cc
-shown-of-tests CONCLUSION t N given ps h = cc
-shown-of-tests PROOF t N given ps h = cc
-shown-of-tests NILVALUE t N given ps h = cc
-shown-of-tests STEPS t N given ps h = cc
-shown-of-tests OVERFLOW t N given ps h = cc
-shown-of-tests WITNESS t N given ps h = cc
-shown-of-tests CLAIM t N given ps h = cc
-shown-of-tests CHECKER t N given ps h = cc
-shown-of-tests LONG t N given ps h = cc
-shown-of-tests PROFILE t N given ps h = cc
-
-pub shown-of-proofs : (r : Refusal) (t : Theory) (N : ℕ) (given : Option (List Draft)) (ps : Object) → is_of_proofs r ≡ true → proof_shown t N 1 (formulas_wanted (wants_some EVENT given (define_demand t))) ps ≡ definitions_shown r t N given ps
-shown-of-proofs CONCLUSION t N given ps h = refl
-shown-of-proofs PROOF t N given ps h = refl
-shown-of-proofs NILVALUE t N given ps h = refl
-shown-of-proofs STEPS t N given ps h = refl
-shown-of-proofs OVERFLOW t N given ps h = refl
-shown-of-proofs WITNESS t N given ps h = refl
-shown-of-proofs RANGE t N given ps h = cc
-shown-of-proofs EVENT t N given ps h = cc
-shown-of-proofs NAME t N given ps h = cc
-shown-of-proofs FORMALS t N given ps h = cc
-shown-of-proofs TERM t N given ps h = cc
-shown-of-proofs FORMULA t N given ps h = cc
-shown-of-proofs VARIABLES t N given ps h = cc
-shown-of-proofs NESTED t N given ps h = cc
-shown-of-proofs COUNT t N given ps h = cc
-shown-of-proofs CLAIM t N given ps h = cc
-shown-of-proofs CHECKER t N given ps h = cc
-shown-of-proofs LONG t N given ps h = cc
-shown-of-proofs PROFILE t N given ps h = cc
 
 pub none-not-some : {X : Type 0} (o : Option X) (x : X) → o ≡ None → o ≡ Some x → ⊥
 none-not-some o x none some = cc

@@ -8,7 +8,7 @@ use Rattle.mw_model.specs.Proofs.Proof.{constants}
 use Rattle.mw_model.specs.Proofs.Judgment.{judge}
 use Rattle.mw_model.specs.Events.Evaluation.{Outcome, Value, Steps, Overflow, Witness, evaluate}
 use Rattle.mw_model.specs.Events.Theory.{Theory}
-use Rattle.mw_model.specs.Events.Refusal.{Refusal, RANGE, EVENT, NAME, FORMALS, TERM, FORMULA, VARIABLES, NESTED, COUNT, CONCLUSION, PROOF, NILVALUE, STEPS, OVERFLOW, WITNESS, CLAIM, CHECKER, LONG, PROFILE}
+use Rattle.mw_model.specs.Events.Refusal.{Refusal, CONCLUSION, PROOF, NILVALUE, STEPS, OVERFLOW, WITNESS}
 use Rattle.mw_model.specs.Events.Checking.{no_unless, verdict, judged_by, judged}
 use Rattle.mw_model.specs.Events.Demand.{each_judged}
 use Rattle.mw_theory.specs.Proofs.{by_formula}
@@ -93,9 +93,6 @@ module _ (t : Theory) (N : ℕ) where
     conclusion_built_in true = checker_built_in t.checker
     conclusion_built_in false = λ h. cc
 
-  pub proof-built-in : (f p : Object) → judged_for N t f p ≡ Some PROOF → t.checker ≡ None
-  proof-built-in f p e = holds-some (ByRules t.checker) (judged_for N t f p) PROOF (conclusion_built_in p (same_object (second_of p) f)) e refl
-
   -- the same of the first proof that is refused
   first_holds : (P : Refusal → Type 0) (o rest : Option Refusal) → Holds P o → Holds P rest → Holds P (option_or o rest)
   first_holds P None rest h k = k
@@ -119,16 +116,4 @@ proofs-not-definitions NILVALUE h = refl
 proofs-not-definitions STEPS h = refl
 proofs-not-definitions OVERFLOW h = refl
 proofs-not-definitions WITNESS h = refl
-proofs-not-definitions RANGE h = cc
-proofs-not-definitions EVENT h = cc
-proofs-not-definitions NAME h = cc
-proofs-not-definitions FORMALS h = cc
-proofs-not-definitions TERM h = cc
-proofs-not-definitions FORMULA h = cc
-proofs-not-definitions VARIABLES h = cc
-proofs-not-definitions NESTED h = cc
-proofs-not-definitions COUNT h = cc
-proofs-not-definitions CLAIM h = cc
-proofs-not-definitions CHECKER h = cc
-proofs-not-definitions LONG h = cc
-proofs-not-definitions PROFILE h = cc
+proofs-not-definitions _ h = cc

@@ -10,25 +10,9 @@ use Rattle.mw_commands.specs.Commands.Explanation.{wrong_proof}
 
 -- for another reason than these two nothing is shown
 pub nothing-wrong : (t : Theory) (p : Object) (q : Reason) → (q ≡ reason.Conclusion → ⊥) → (q ≡ reason.Proof → ⊥) → [] ≡ wrong_proof t (refusal_of q) p
-nothing-wrong t p reason.Range n m = refl
-nothing-wrong t p reason.Event n m = refl
-nothing-wrong t p reason.Name n m = refl
-nothing-wrong t p reason.Formals n m = refl
-nothing-wrong t p reason.Term n m = refl
-nothing-wrong t p reason.Formula n m = refl
-nothing-wrong t p reason.Variables n m = refl
-nothing-wrong t p reason.Nested n m = refl
-nothing-wrong t p reason.Count n m = refl
 nothing-wrong t p reason.Conclusion n m = absurd (n refl)
 nothing-wrong t p reason.Proof n m = absurd (m refl)
-nothing-wrong t p reason.Nil n m = refl
-nothing-wrong t p reason.Steps n m = refl
-nothing-wrong t p reason.Overflow n m = refl
-nothing-wrong t p reason.Witness n m = refl
-nothing-wrong t p reason.Claim n m = refl
-nothing-wrong t p reason.Checker n m = refl
-nothing-wrong t p reason.Long n m = refl
-nothing-wrong t p reason.Profile n m = refl
+nothing-wrong t p _ n m = refl
 
 -- a reason by its word
 abbrev reason_meant : Refusal → Reason
@@ -54,24 +38,7 @@ reason_meant PROFILE = reason.Profile
 
 meant_back : (q : Reason) → reason_meant (refusal_of q) ≡ q
 meant_back reason.Range = refl
-meant_back reason.Event = refl
-meant_back reason.Name = refl
-meant_back reason.Formals = refl
-meant_back reason.Term = refl
-meant_back reason.Formula = refl
-meant_back reason.Variables = refl
-meant_back reason.Nested = refl
-meant_back reason.Count = refl
-meant_back reason.Conclusion = refl
-meant_back reason.Proof = refl
-meant_back reason.Nil = refl
-meant_back reason.Steps = refl
-meant_back reason.Overflow = refl
-meant_back reason.Witness = refl
-meant_back reason.Claim = refl
-meant_back reason.Checker = refl
-meant_back reason.Long = refl
-meant_back reason.Profile = refl
+meant_back _ = refl
 
 pub same-meant : (q p : Reason) → refusal_of q ≡ refusal_of p → q ≡ p
 same-meant q p e = sym (meant_back q) ∙ (ap reason_meant e ∙ meant_back p)

@@ -1,5 +1,5 @@
 -- What references show.
-use Rattle.std.proofs.Common.{◌≡◌, ℕ, ◌<◌, ◌≤◌, List, [], ◌∷◌, length, map, Option, Some, None, IfSome, Result, Ok, Err, IfOk, arith, refl, sym, ap, ap₂, ◌∙◌, All}
+use Rattle.std.proofs.Common.{◌≡◌, ℕ, ◌<◌, ◌≤◌, List, [], ◌∷◌, length, map, Option, Some, None, IfSome, Result, Ok, Err, IfOk, arith, refl, sym, ap, ap₂, ◌∙◌, subst, All}
 use Rattle.std.proofs.lemmas.List.Elements.{All-nil, All-cons, All-head, All-tail}
 use Rattle.mw_model.specs.Terms.Object.{Object, Natural, Symbol, Pair}
 use Rattle.mw_model.specs.Terms.Term.{Formula, formula_object}
@@ -11,6 +11,10 @@ use Rattle.mw_bad_steps.specs.Shown.{Shows}
 
 pub Shows-none : (os : List Object) → Shows os [] []
 Shows-none os = (All-nil (IsIn os), refl)
+
+-- where there are none, and nothing is to be shown
+pub Shows-empty : (os : List Object) (xs : List ℕ) (ys : List Object) → xs ≡ [] → [] ≡ ys → Shows os xs ys
+Shows-empty os xs ys none nothing = subst (Shows os xs) nothing (subst (λ zs. Shows os zs []) (sym none) (Shows-none os))
 
 pub Shows-more : (os : List Object) (x : ℕ) (y : Object) (xs : List ℕ) (ys : List Object) → IsIn os x → object_at os x ≡ y → Shows os xs ys → Shows os (x ∷ xs) (y ∷ ys)
 Shows-more os x y xs ys x_in is h = (All-cons (IsIn os) x xs x_in h.0, ap₂ ◌∷◌ is h.1)

@@ -6,14 +6,14 @@ ghost use Rattle.mw_model.specs.Events.Refusal.{Refused};
 ghost use Rattle.mw_model.specs.Events.Admission.{Draft as Given, some_drafts};
 ghost use Rattle.mw_heap.specs.Objects.{object_at, IsIn, Grows};
 ghost use Rattle.mw_heap.specs.Variants.{refusal_of};
-ghost use Rattle.mw_term.specs.Marking.{AreMarks};
 ghost use Rattle.mw_define.specs.Blocks.{draft_at, AreDraftsIn};
 ghost use Rattle.mw_define.specs.BlockTests.{FailsBlock};
 ghost use Rattle.mw_theory.specs.Admitting.{AreWithin, drafts_given};
-ghost use Rattle.mw_theory.specs.Knowledge.{parts_of, meant, IsHeld};
+ghost use Rattle.mw_theory.specs.Knowledge.{parts_of, meant};
 ghost use Rattle.mw_theory.specs.Settling.{defined};
 ghost use Rattle.mw_bad_steps.specs.Shown.{Shows};
 ghost use Rattle.mw_kernel.specs.Proofs.{judged_for};
+ghost use Rattle.mw_kernel.specs.Standing.{Stands, Keeps};
 ghost use Rattle.mw_explain_events.specs.Reasons.{is_of_definitions};
 ghost use Rattle.mw_explain_events.specs.Defining.{Owe, block_shown, definitions_shown};
 
@@ -115,11 +115,9 @@ pub(crate) fn definitions_shown(
 ) -> Result<Vec<Ref>, Memory>
     requires drafts { AreWithin heap.old.objects drafts }
     requires proofs { IsIn heap.old.objects proofs }
-    requires held { IsHeld heap.old.objects theory.now }
-    requires marked { AreMarks theory.now.arity heap.old.objects marks.old }
+    requires stands { Stands heap.old.objects theory.now marks.old }
     requires refused { (defined (judged_for checker.old.steps) (meant heap.old.objects (parts_of theory.now)) (drafts_given heap.old.objects drafts) (object_at heap.old.objects proofs)).0 ≡ Refused (refusal_of reason) }
-    ensures grows { Grows heap.old.objects heap.new.objects }
-    ensures marked { AreMarks theory.now.arity heap.new.objects marks.new }
+    ensures kept { Keeps theory.now.arity heap.old.objects heap.new.objects marks.new }
     ensures steps { checker.new.steps ≡ checker.old.steps }
     ensures shown { IfOk result (λ v. Shows heap.new.objects v.items (definitions_shown (refusal_of reason) (meant heap.old.objects (parts_of theory.now)) checker.old.steps (drafts_given heap.old.objects drafts) (object_at heap.old.objects proofs))) }
 {

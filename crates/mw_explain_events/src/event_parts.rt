@@ -1,5 +1,5 @@
 //! What is shown of the parts of an event that is refused.
-ghost use Rattle.std.specs.Prelude.{◌≡◌, ℕ, None, IfOk};
+ghost use Rattle.std.specs.Prelude.{◌≡◌, ℕ, [], ◌∷◌, None, IfOk};
 ghost use Rattle.mw_model.specs.Values.Definition.{arity_table};
 ghost use Rattle.mw_model.specs.Events.Theory.{Theory as Meant};
 ghost use Rattle.mw_model.specs.Events.Refusal.{EVENT, NESTED, Refused};
@@ -7,13 +7,15 @@ ghost use Rattle.mw_model.specs.Events.Fate.{Verify, Skolem, Switch, Eval, event
 ghost use Rattle.mw_heap.specs.Objects.{object_at, IsIn, Grows};
 ghost use Rattle.mw_heap.specs.Variants.{refusal_of};
 ghost use Rattle.mw_term.specs.Marking.{AreMarks};
-ghost use Rattle.mw_theory.specs.Knowledge.{parts_of, meant, IsHeld};
+ghost use Rattle.mw_define.specs.Blocks.{draft_at, IsDraftIn};
+ghost use Rattle.mw_theory.specs.Knowledge.{parts_of, meant};
 ghost use Rattle.mw_theory.specs.Settling.{skolem_at, verified};
 ghost use Rattle.mw_theory.specs.Words.{verify_event, skolem_event, switch_event, eval_event};
-ghost use Rattle.mw_commands.specs.Commands.Explanation.{shown, shown_by, word_of};
+ghost use Rattle.mw_commands.specs.Commands.Explanation.{drafts_shown, shown, shown_by, word_of};
 ghost use Rattle.mw_commands.specs.Commands.ExplanationTerms.{bad_formula, part_shown};
 ghost use Rattle.mw_bad_steps.specs.Shown.{Shows};
 ghost use Rattle.mw_kernel.specs.Proofs.{judged_for};
+ghost use Rattle.mw_kernel.specs.Standing.{Stands, Keeps};
 ghost use Rattle.mw_kernel.specs.Switching.{switched};
 
 use crate::definitions::is_of_definitions;
@@ -71,10 +73,8 @@ pub(crate) fn verify_shown(
     requires name { IsIn heap.old.objects name }
     requires formula { IsIn heap.old.objects formula }
     requires proof { IsIn heap.old.objects proof }
-    requires held { IsHeld heap.old.objects theory.now }
-    requires marked { AreMarks theory.now.arity heap.old.objects marks.old }
-    ensures grows { Grows heap.old.objects heap.new.objects }
-    ensures marked { AreMarks theory.now.arity heap.new.objects marks.new }
+    requires stands { Stands heap.old.objects theory.now marks.old }
+    ensures kept { Keeps theory.now.arity heap.old.objects heap.new.objects marks.new }
     ensures shown { IfOk result (λ v. (N : ℕ) → (verified (judged_for N) (meant heap.old.objects (parts_of theory.now)) (object_at heap.old.objects name) (object_at heap.old.objects formula) (object_at heap.old.objects proof)).0 ≡ Refused (refusal_of reason) → Shows heap.new.objects v.items (shown_by (refusal_of reason) Verify (meant heap.old.objects (parts_of theory.now)) N (verify_event (object_at heap.old.objects name) (object_at heap.old.objects formula) (object_at heap.old.objects proof)))) }
 {
     match reason {
@@ -85,6 +85,21 @@ pub(crate) fn verify_shown(
             numbered(heap, 1, formula, parts.as_slice())
         }
     }
+}
+
+// What is shown of one definition that is not recursive, as that of a witness and that of a term.
+fn single_shown(
+    heap: &mut Heap,
+    reason: Refusal,
+    draft: Draft,
+    arity: &Arity,
+) -> Result<Vec<Ref>, Memory>
+    requires draft { IsDraftIn heap.old.objects draft }
+    requires other { refusal_of reason ≡ NESTED → ⊥ }
+    ensures grows { Grows heap.old.objects heap.new.objects }
+    ensures shown { IfOk result (λ v. Shows heap.new.objects v.items (drafts_shown (refusal_of reason) arity.now arity.now (draft_at heap.old.objects draft ∷ []))) }
+{
+    definition_shown(heap, reason, &[draft], arity, false)
 }
 
 /// What is shown of a SKOLEM: of its name, its formals or its body what fails the test.
@@ -113,7 +128,7 @@ pub(crate) fn witness_shown(
         body,
         measure,
     };
-    definition_shown(heap, reason, &[draft], arity, false)
+    single_shown(heap, reason, draft, arity)
 }
 
 /// What is shown of a SWITCH: the arity of its name, or the claim that is not a theorem.
@@ -157,5 +172,5 @@ pub(crate) fn term_shown(
         body: term,
         measure: nil,
     };
-    definition_shown(heap, reason, &[draft], arity, false)
+    single_shown(heap, reason, draft, arity)
 }

@@ -6,11 +6,11 @@ ghost use Rattle.mw_model.specs.Laws.RulesInduction.{formulas_object};
 ghost use Rattle.mw_model.specs.Events.Refusal.{PROOF};
 ghost use Rattle.mw_heap.specs.Objects.{object_at, IsIn, Grows};
 ghost use Rattle.mw_heap.specs.Variants.{refusal_of};
-ghost use Rattle.mw_term.specs.Marking.{AreMarks};
-ghost use Rattle.mw_theory.specs.Knowledge.{parts_of, meant, IsHeld};
+ghost use Rattle.mw_theory.specs.Knowledge.{parts_of, meant};
 ghost use Rattle.mw_commands.specs.Commands.Explanation.{wrong_proof, proof_shown};
 ghost use Rattle.mw_bad_steps.specs.Shown.{Shows};
 ghost use Rattle.mw_kernel.specs.Proofs.{judged_for};
+ghost use Rattle.mw_kernel.specs.Standing.{Stands, Keeps};
 ghost use Rattle.mw_commands.specs.Commands.ExplanationSteps.{bad_step_shown};
 ghost use Rattle.mw_explain_events.specs.Reasons.{IsNoneOr, AreRefused};
 
@@ -30,10 +30,8 @@ pub(crate) fn wrong_proof_shown(
     proof: Ref,
 ) -> Result<Vec<Ref>, Memory>
     requires proof { IsIn heap.old.objects proof }
-    requires held { IsHeld heap.old.objects theory.now }
-    requires marked { AreMarks theory.now.arity heap.old.objects marks.old }
-    ensures grows { Grows heap.old.objects heap.new.objects }
-    ensures marked { AreMarks theory.now.arity heap.new.objects marks.new }
+    requires stands { Stands heap.old.objects theory.now marks.old }
+    ensures kept { Keeps theory.now.arity heap.old.objects heap.new.objects marks.new }
     ensures shown { IfOk result (λ v. Shows heap.new.objects v.items (wrong_proof (meant heap.old.objects (parts_of theory.now)) (refusal_of reason) (object_at heap.old.objects proof))) }
 {
     match reason {
@@ -117,45 +115,16 @@ fn bad_step_of(
     proof: Ref,
 ) -> Result<Option<Vec<Ref>>, Memory>
     requires proof { IsIn heap.old.objects proof }
-    requires held { IsHeld heap.old.objects theory.now }
-    requires marked { AreMarks theory.now.arity heap.old.objects marks.old }
-    ensures grows { Grows heap.old.objects heap.new.objects }
-    ensures marked { AreMarks theory.now.arity heap.new.objects marks.new }
+    requires stands { Stands heap.old.objects theory.now marks.old }
+    ensures kept { Keeps theory.now.arity heap.old.objects heap.new.objects marks.new }
     ensures shown { IfOk result (λ o. MatchOption o (bad_step_shown (meant heap.old.objects (parts_of theory.now)) (object_at heap.old.objects proof) ≡ []) (λ v. (bad_step_shown (meant heap.old.objects (parts_of theory.now)) (object_at heap.old.objects proof) ≡ [] → ⊥) × Shows heap.new.objects v.items (bad_step_shown (meant heap.old.objects (parts_of theory.now)) (object_at heap.old.objects proof)))) }
 {
     let parts = wrong_proof_shown(heap, theory, marks, Refusal::Proof, proof)?;
     Ok(where_some(parts))
 }
 
-// What is shown of a proof, where the theory's checker refuses it, which can only be for this reason; nothing where it does not.
-fn judged_shown(
-    heap: &mut Heap,
-    theory: &Theory,
-    marks: &mut Marks,
-    checker: &mut Checker,
-    reason: Refusal,
-    formula: Ref,
-    proof: Ref,
-) -> Result<Option<Vec<Ref>>, Memory>
-    requires formula { IsIn heap.old.objects formula }
-    requires proof { IsIn heap.old.objects proof }
-    requires held { IsHeld heap.old.objects theory.now }
-    requires marked { AreMarks theory.now.arity heap.old.objects marks.old }
-    requires reason { IsNoneOr (refusal_of reason) (judged_for checker.old.steps (meant heap.old.objects (parts_of theory.now)) (object_at heap.old.objects formula) (object_at heap.old.objects proof)) }
-    ensures grows { Grows heap.old.objects heap.new.objects }
-    ensures marked { AreMarks theory.now.arity heap.new.objects marks.new }
-    ensures steps { checker.new.steps ≡ checker.old.steps }
-    ensures shown { IfOk result (λ o. MatchOption o (judged_for checker.old.steps (meant heap.old.objects (parts_of theory.now)) (object_at heap.old.objects formula) (object_at heap.old.objects proof) ≡ None) (λ v. (judged_for checker.old.steps (meant heap.old.objects (parts_of theory.now)) (object_at heap.old.objects formula) (object_at heap.old.objects proof) ≡ Some (refusal_of reason)) × Shows heap.new.objects v.items (wrong_proof (meant heap.old.objects (parts_of theory.now)) (refusal_of reason) (object_at heap.old.objects proof)))) }
-{
-    let refused = checker.refusal(heap, formula, proof, theory, marks)?;
-    if !refused.is_some() {
-        return Ok(None);
-    }
-    let parts = wrong_proof_shown(heap, theory, marks, reason, proof)?;
-    Ok(Some(parts))
-}
-
-// The same. Where the reason is Proof, looking for a bad step is what judges it.
+// What is shown of a proof, where the theory's checker refuses it, which can only be for this reason; nothing where it does not. Where
+// the reason is Proof, looking for a bad step is what judges it.
 fn refused_proof_shown(
     heap: &mut Heap,
     theory: &Theory,
@@ -167,12 +136,10 @@ fn refused_proof_shown(
 ) -> Result<Option<Vec<Ref>>, Memory>
     requires formula { IsIn heap.old.objects formula }
     requires proof { IsIn heap.old.objects proof }
-    requires held { IsHeld heap.old.objects theory.now }
-    requires marked { AreMarks theory.now.arity heap.old.objects marks.old }
+    requires stands { Stands heap.old.objects theory.now marks.old }
     requires reason { IsNoneOr (refusal_of reason) (judged_for checker.old.steps (meant heap.old.objects (parts_of theory.now)) (object_at heap.old.objects formula) (object_at heap.old.objects proof)) }
     requires built_in { refusal_of reason ≡ PROOF → (meant heap.old.objects (parts_of theory.now)).checker ≡ None }
-    ensures grows { Grows heap.old.objects heap.new.objects }
-    ensures marked { AreMarks theory.now.arity heap.new.objects marks.new }
+    ensures kept { Keeps theory.now.arity heap.old.objects heap.new.objects marks.new }
     ensures steps { checker.new.steps ≡ checker.old.steps }
     ensures shown { IfOk result (λ o. MatchOption o (judged_for checker.old.steps (meant heap.old.objects (parts_of theory.now)) (object_at heap.old.objects formula) (object_at heap.old.objects proof) ≡ None) (λ v. (judged_for checker.old.steps (meant heap.old.objects (parts_of theory.now)) (object_at heap.old.objects formula) (object_at heap.old.objects proof) ≡ Some (refusal_of reason)) × Shows heap.new.objects v.items (wrong_proof (meant heap.old.objects (parts_of theory.now)) (refusal_of reason) (object_at heap.old.objects proof)))) }
 {
@@ -180,7 +147,12 @@ fn refused_proof_shown(
     if let Refusal::Proof = reason {
         return bad_step_of(heap, theory, marks, proof);
     }
-    judged_shown(heap, theory, marks, checker, reason, formula, proof)
+    let refused = checker.refusal(heap, formula, proof, theory, marks)?;
+    if !refused.is_some() {
+        return Ok(None);
+    }
+    let parts = wrong_proof_shown(heap, theory, marks, reason, proof)?;
+    Ok(Some(parts))
 }
 
 /// What is shown of the first of these proofs that is refused: its number, the formula that is wanted of it, and what is wrong with it. The
@@ -196,11 +168,9 @@ pub(crate) fn first_refused_shown(
 ) -> Result<Vec<Ref>, Memory>
     requires formulas { IsIn heap.old.objects formulas }
     requires proofs { IsIn heap.old.objects proofs }
-    requires held { IsHeld heap.old.objects theory.now }
-    requires marked { AreMarks theory.now.arity heap.old.objects marks.old }
+    requires stands { Stands heap.old.objects theory.now marks.old }
     requires refused { (Fs : List Formula) × (object_at heap.old.objects formulas ≡ formulas_object Fs) × AreRefused (refusal_of reason) (meant heap.old.objects (parts_of theory.now)) checker.old.steps Fs (object_at heap.old.objects proofs) }
-    ensures grows { Grows heap.old.objects heap.new.objects }
-    ensures marked { AreMarks theory.now.arity heap.new.objects marks.new }
+    ensures kept { Keeps theory.now.arity heap.old.objects heap.new.objects marks.new }
     ensures steps { checker.new.steps ≡ checker.old.steps }
     ensures shown { IfOk result (λ v. (Fs : List Formula) → object_at heap.old.objects formulas ≡ formulas_object Fs → Shows heap.new.objects v.items (proof_shown (meant heap.old.objects (parts_of theory.now)) checker.old.steps 1 Fs (object_at heap.old.objects proofs))) }
 {

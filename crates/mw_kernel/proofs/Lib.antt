@@ -1,3 +1,4 @@
+pub mod Growing
 pub mod Evaluating
 pub mod Happening
 pub mod Judged

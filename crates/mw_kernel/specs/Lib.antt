@@ -6,3 +6,4 @@ pub mod Proofs
 pub mod Switching
 pub mod Evaluating
 pub mod Rewriting
+pub mod Standing

@@ -1,15 +1,16 @@
 //! Events whose proofs are rewritten.
-ghost use Rattle.std.specs.Prelude.{◌≡◌, true, None, All, IfOk};
+#![tactic(auto, using(crate::proofs::Growing::growing))]
+
+ghost use Rattle.std.specs.Prelude.{◌≡◌, true, All, IfOk};
 ghost use Rattle.mw_model.specs.Terms.Object.{Object};
 ghost use Rattle.mw_model.specs.Laws.RulesInduction.{is_list_object};
 ghost use Rattle.mw_model.specs.Laws.Rewriting.{TurnsOrStays, EachTurnsOrStays, IsRewritten};
 ghost use Rattle.mw_heap.specs.Objects.{object_at, IsIn, Grows};
 ghost use Rattle.mw_heap.specs.Lists.{list_object};
-ghost use Rattle.mw_term.specs.Marking.{AreMarks};
 ghost use Rattle.mw_theory.specs.Admitting.{AreWithin};
-ghost use Rattle.mw_theory.specs.Knowledge.{parts_of, meant, IsHeld};
-ghost use Rattle.mw_theory.specs.Words.{verify_event};
+ghost use Rattle.mw_theory.specs.Knowledge.{parts_of, meant};
 ghost use Rattle.mw_kernel.specs.Rewriting.{defining_event};
+ghost use Rattle.mw_kernel.specs.Standing.{Stands, Keeps};
 
 use mw_bad_steps::is_list;
 use mw_define::Draft;
@@ -30,36 +31,14 @@ pub(crate) fn rewritten<R: Rewriter>(
     by: &mut R,
 ) -> Result<Ref, Memory>
     requires within { IsIn heap.old.objects event }
-    requires held { IsHeld heap.old.objects theory.now }
-    requires marked { AreMarks theory.now.arity heap.old.objects marks.old }
-    ensures grows { Grows heap.old.objects heap.new.objects }
-    ensures marked { AreMarks theory.now.arity heap.new.objects marks.new }
+    requires stands { Stands heap.old.objects theory.now marks.old }
+    ensures kept { Keeps theory.now.arity heap.old.objects heap.new.objects marks.new }
     ensures within { IfOk result (λ r. IsIn heap.new.objects r) }
     ensures rewritten { IfOk result (λ r. IsRewritten R.turns (meant heap.old.objects (parts_of theory.now)) (object_at heap.old.objects event) (object_at heap.new.objects r)) }
 {
-    match theory.checker {
-        None => by_members(heap, event, theory, marks, by),
-        Some(_) => Ok(event),
-    }
-}
-
-// The same under the built-in checker.
-fn by_members<R: Rewriter>(
-    heap: &mut Heap,
-    event: Ref,
-    theory: &Theory,
-    marks: &mut Marks,
-    by: &mut R,
-) -> Result<Ref, Memory>
-    requires within { IsIn heap.old.objects event }
-    requires held { IsHeld heap.old.objects theory.now }
-    requires built_in { theory.now.checker ≡ None }
-    requires marked { AreMarks theory.now.arity heap.old.objects marks.old }
-    ensures grows { Grows heap.old.objects heap.new.objects }
-    ensures marked { AreMarks theory.now.arity heap.new.objects marks.new }
-    ensures within { IfOk result (λ r. IsIn heap.new.objects r) }
-    ensures rewritten { IfOk result (λ r. IsRewritten R.turns (meant heap.old.objects (parts_of theory.now)) (object_at heap.old.objects event) (object_at heap.new.objects r)) }
-{
+    let None = theory.checker else {
+        return Ok(event);
+    };
     let Some(members) = event_of(heap, event) else {
         return Ok(event);
     };
@@ -68,7 +47,10 @@ fn by_members<R: Rewriter>(
             name,
             formula,
             proof,
-        } => with_proof(heap, name, formula, proof, theory, marks, by),
+        } => {
+            let turned = rewritten_proof(heap, proof, theory, marks, by)?;
+            form_of(heap, Word::Verify, &[name, formula, turned])
+        }
         Event::Define {
             name,
             formals,
@@ -100,30 +82,6 @@ fn by_members<R: Rewriter>(
     }
 }
 
-// A VERIFY of these members whose proof is rewritten.
-fn with_proof<R: Rewriter>(
-    heap: &mut Heap,
-    name: Ref,
-    formula: Ref,
-    proof: Ref,
-    theory: &Theory,
-    marks: &mut Marks,
-    by: &mut R,
-) -> Result<Ref, Memory>
-    requires name { IsIn heap.old.objects name }
-    requires formula { IsIn heap.old.objects formula }
-    requires proof { IsIn heap.old.objects proof }
-    requires held { IsHeld heap.old.objects theory.now }
-    requires marked { AreMarks theory.now.arity heap.old.objects marks.old }
-    ensures grows { Grows heap.old.objects heap.new.objects }
-    ensures marked { AreMarks theory.now.arity heap.new.objects marks.new }
-    ensures within { IfOk result (λ r. IsIn heap.new.objects r) }
-    ensures rewritten { IfOk result (λ r. (q : Object) × TurnsOrStays R.turns (meant heap.old.objects (parts_of theory.now)) (object_at heap.old.objects proof) q × (object_at heap.new.objects r ≡ verify_event (object_at heap.old.objects name) (object_at heap.old.objects formula) q)) }
-{
-    let turned = rewritten_proof(heap, proof, theory, marks, by)?;
-    form_of(heap, Word::Verify, &[name, formula, turned])
-}
-
 // A DEFINE or a DEFINE-ALL that gives these definitions, whose proofs are rewritten.
 fn with_proofs<R: Rewriter>(
     heap: &mut Heap,
@@ -136,14 +94,13 @@ fn with_proofs<R: Rewriter>(
     requires drafts { AreWithin heap.old.objects drafts }
     requires proofs { IsIn heap.old.objects proofs }
     requires list { is_list_object (object_at heap.old.objects proofs) ≡ true }
-    requires held { IsHeld heap.old.objects theory.now }
-    requires marked { AreMarks theory.now.arity heap.old.objects marks.old }
-    ensures grows { Grows heap.old.objects heap.new.objects }
-    ensures marked { AreMarks theory.now.arity heap.new.objects marks.new }
+    requires stands { Stands heap.old.objects theory.now marks.old }
+    ensures kept { Keeps theory.now.arity heap.old.objects heap.new.objects marks.new }
     ensures within { IfOk result (λ r. IsIn heap.new.objects r) }
     ensures rewritten { IfOk result (λ r. (qs : Object) × EachTurnsOrStays R.turns (meant heap.old.objects (parts_of theory.now)) (object_at heap.old.objects proofs) qs × (object_at heap.new.objects r ≡ defining_event heap.old.objects drafts qs)) }
 {
-    let turned = rewritten_list(heap, proofs, theory, marks, by)?;
+    let members = rewritten_members(heap, proofs, theory, marks, by)?;
+    let turned = list_of(heap, members.as_slice())?;
     defining_event(heap, drafts, turned)
 }
 
@@ -164,28 +121,7 @@ fn defining_event(heap: &mut Heap, drafts: Drafts, proofs: Ref) -> Result<Ref, M
     }
 }
 
-// The list of what the members of a proper list of proofs turn to, or of themselves where they turn to nothing.
-fn rewritten_list<R: Rewriter>(
-    heap: &mut Heap,
-    proofs: Ref,
-    theory: &Theory,
-    marks: &mut Marks,
-    by: &mut R,
-) -> Result<Ref, Memory>
-    requires proofs { IsIn heap.old.objects proofs }
-    requires list { is_list_object (object_at heap.old.objects proofs) ≡ true }
-    requires held { IsHeld heap.old.objects theory.now }
-    requires marked { AreMarks theory.now.arity heap.old.objects marks.old }
-    ensures grows { Grows heap.old.objects heap.new.objects }
-    ensures marked { AreMarks theory.now.arity heap.new.objects marks.new }
-    ensures within { IfOk result (λ r. IsIn heap.new.objects r) }
-    ensures turned { IfOk result (λ r. EachTurnsOrStays R.turns (meant heap.old.objects (parts_of theory.now)) (object_at heap.old.objects proofs) (object_at heap.new.objects r)) }
-{
-    let members = rewritten_members(heap, proofs, theory, marks, by)?;
-    list_of(heap, members.as_slice())
-}
-
-// The same, as a vector.
+// What the members of a proper list of proofs turn to, or the members themselves where they turn to nothing.
 fn rewritten_members<R: Rewriter>(
     heap: &mut Heap,
     proofs: Ref,
@@ -195,10 +131,8 @@ fn rewritten_members<R: Rewriter>(
 ) -> Result<Vec<Ref>, Memory>
     requires proofs { IsIn heap.old.objects proofs }
     requires list { is_list_object (object_at heap.old.objects proofs) ≡ true }
-    requires held { IsHeld heap.old.objects theory.now }
-    requires marked { AreMarks theory.now.arity heap.old.objects marks.old }
-    ensures grows { Grows heap.old.objects heap.new.objects }
-    ensures marked { AreMarks theory.now.arity heap.new.objects marks.new }
+    requires stands { Stands heap.old.objects theory.now marks.old }
+    ensures kept { Keeps theory.now.arity heap.old.objects heap.new.objects marks.new }
     ensures within { IfOk result (λ members. All (IsIn heap.new.objects) members.items) }
     ensures turned { IfOk result (λ members. EachTurnsOrStays R.turns (meant heap.old.objects (parts_of theory.now)) (object_at heap.old.objects proofs) (list_object heap.new.objects members.items)) }
 {
@@ -221,10 +155,8 @@ fn rewritten_proof<R: Rewriter>(
     by: &mut R,
 ) -> Result<Ref, Memory>
     requires proof { IsIn heap.old.objects proof }
-    requires held { IsHeld heap.old.objects theory.now }
-    requires marked { AreMarks theory.now.arity heap.old.objects marks.old }
-    ensures grows { Grows heap.old.objects heap.new.objects }
-    ensures marked { AreMarks theory.now.arity heap.new.objects marks.new }
+    requires stands { Stands heap.old.objects theory.now marks.old }
+    ensures kept { Keeps theory.now.arity heap.old.objects heap.new.objects marks.new }
     ensures within { IfOk result (λ r. IsIn heap.new.objects r) }
     ensures turned { IfOk result (λ r. TurnsOrStays R.turns (meant heap.old.objects (parts_of theory.now)) (object_at heap.old.objects proof) (object_at heap.new.objects r)) }
 {

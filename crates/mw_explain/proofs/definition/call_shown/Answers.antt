@@ -3,12 +3,9 @@ use Rattle.std.proofs.Common.{[], ◌∷◌, ◌++◌, refl, ap, ◌∙◌}
 use Rattle.std.proofs.lemmas.Result.{IfOk-weaker}
 use Rattle.mw_model.specs.Terms.Object.{Pair}
 use Rattle.mw_heap.specs.Objects.{object_at}
-use Rattle.mw_heap.proofs.Objects.{Grows-trans, Grows-refl}
+use Rattle.mw_heap.proofs.Objects.{Grows-refl}
 use Rattle.mw_explain.proofs.ShownParts.{shows-none, shows-first}
 use Rattle.mw_explain.proofs.definition.call_shown.Goals as goal
-
-pub returns-clause-grows : goal.returns-clause-grows
-returns-clause-grows c = Grows-trans _ _ _ c.in_ok-call.ensures.grows c.put_number.ensures.grows
 
 pub returns-clause-shown : goal.returns-clause-shown
 returns-clause-shown c =

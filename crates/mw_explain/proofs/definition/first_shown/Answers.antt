@@ -1,12 +1,12 @@
 -- One draft after another.
-use Rattle.std.proofs.Common.{◌≡◌, ◌++◌, [], length, eqb, map, sym, ap, ◌∙◌, subst}
+use Rattle.std.proofs.Common.{◌++◌, length, eqb, sym, ap, ◌∙◌, subst}
 use Rattle.std.proofs.lemmas.Result.{IfOk-weaker}
 use Rattle.mw_heap.specs.Variants.{refusal_of}
 use Rattle.mw_heap.proofs.Objects.{Grows-trans}
 use Rattle.mw_define.specs.Blocks.{draft_at}
 use Rattle.mw_define.proofs.NewNames.{draft-in}
 use Rattle.mw_define.proofs.Expanding.{draft-Grows}
-use Rattle.mw_commands.specs.Commands.Explanation.{draft_shown, first_shown}
+use Rattle.mw_commands.specs.Commands.Explanation.{draft_shown}
 use Rattle.mw_bad_steps.specs.Shown.{Shows}
 use Rattle.mw_explain.proofs.ShownParts.{shown-empty, shows-none}
 use Rattle.mw_explain.proofs.DraftsShown.{draft_at-Grows, shown-next, shown-here, shown-end, not-empty}
@@ -15,9 +15,6 @@ use Rattle.mw_explain.proofs.definition.first_shown.Goals as goal
 pub draft_shown-requires : goal.draft_shown-requires
 draft_shown-requires c =
     draft-Grows c.args.heap.now.objects c.loop-index.heap.objects c.loop-index.invariant.grows c.index-drafts-index.result (draft-in c.args.heap.now.objects c.args.drafts.now c.loop-index.index c.index-drafts-index.result c.requires c.loop-index-test.true c.index-drafts-index.is)
-
-pub returns-in_err-shown-clause-grows : goal.returns-in_err-shown-clause-grows
-returns-in_err-shown-clause-grows c = Grows-trans _ _ _ c.loop-index.invariant.grows c.draft_shown.ensures.grows
 
 pub loop-index-preserved : goal.loop-index-preserved
 loop-index-preserved c =
@@ -32,9 +29,6 @@ loop-index-preserved c =
       grows = Grows-trans os cur mid c.loop-index.invariant.grows c.in_ok-shown.ensures.grows;
       left = shown-next show os c.args.drafts.now c.loop-index.index d c.loop-index-test.true c.index-drafts-index.is c.loop-index.invariant.left (ap show (sym (draft_at-Grows os cur c.loop-index.invariant.grows d within)) ∙ none);
     }
-
-pub returns-then-not-is_empty-clause-grows : goal.returns-then-not-is_empty-clause-grows
-returns-then-not-is_empty-clause-grows c = Grows-trans _ _ _ (Grows-trans _ _ _ c.loop-index.invariant.grows c.in_ok-shown.ensures.grows) c.put_number.ensures.grows
 
 pub returns-then-not-is_empty-clause-shown : goal.returns-then-not-is_empty-clause-shown
 returns-then-not-is_empty-clause-shown c =

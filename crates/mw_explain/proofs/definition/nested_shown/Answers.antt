@@ -1,7 +1,6 @@
 -- Nothing is nested, or something.
-use Rattle.std.proofs.Common.{None, Some, map, sym, subst}
+use Rattle.std.proofs.Common.{map, sym, subst}
 use Rattle.std.proofs.lemmas.Result.{IfOk-weaker}
-use Rattle.mw_heap.proofs.Objects.{Grows-trans}
 use Rattle.mw_define.specs.Blocks.{draft_at}
 use Rattle.mw_define.specs.NestedCall.{IsNestedFrom}
 use Rattle.mw_bad_steps.specs.Shown.{Shows}
@@ -26,9 +25,6 @@ call_shown-requires-clause-actuals c =
     let ds = map (draft_at c.args.heap.now.objects) c.args.drafts.now in
     let mid = c.first_nested_call.new.heap.objects in
     (call-in c.args.arity.now ds c.requires.named c.requires.formals mid c.in-Some.nested (subst (IsNestedFrom c.args.arity.now ds mid) c.in-Some.is c.in_ok-nested.ensures.nested)).1
-
-pub returns-clause-grows : goal.returns-clause-grows
-returns-clause-grows c = Grows-trans _ _ _ c.in_ok-nested.ensures.grows c.call_shown.ensures.grows
 
 pub returns-clause-shown : goal.returns-clause-shown
 returns-clause-shown c =

@@ -1,5 +1,5 @@
 -- Under the arities of the functions.
-use Rattle.std.proofs.Common.{map, ap, subst, IfOk}
+use Rattle.std.proofs.Common.{map, subst, IfOk}
 use Rattle.mw_heap.specs.Variants.{refusal_of}
 use Rattle.mw_define.specs.Blocks.{draft_at}
 use Rattle.mw_commands.specs.Commands.Explanation.{draft_shown, first_shown}

@@ -2,14 +2,11 @@
 use Rattle.std.proofs.Common.{◌∷◌}
 use Rattle.std.proofs.lemmas.Result.{IfOk-weaker}
 use Rattle.mw_heap.specs.Objects.{object_at}
-use Rattle.mw_heap.proofs.Objects.{Grows-trans, IsIn-Grows, object_at-Grows}
+use Rattle.mw_heap.proofs.Objects.{IsIn-Grows, object_at-Grows}
 use Rattle.mw_commands.specs.Commands.ExplanationTerms.{arity_shown}
 use Rattle.mw_explain.proofs.ShownParts.{shows-first}
 use Rattle.mw_heap.proofs.Objects.{Grows-refl}
 use Rattle.mw_explain.proofs.draft_name.name_shown.Goals as goal
-
-pub returns-clause-grows : goal.returns-clause-grows
-returns-clause-grows c = Grows-trans _ _ _ c.in_ok-shown.ensures.grows c.put_number.ensures.grows
 
 pub returns-clause-shown : goal.returns-clause-shown
 returns-clause-shown c =

@@ -1,5 +1,5 @@
 -- Nothing of formals, or the list.
-use Rattle.std.proofs.Common.{◌≡◌, [], ◌∷◌, ◌++◌, cond, is_some, refl, sym, ap, ◌∙◌, subst}
+use Rattle.std.proofs.Common.{[], ◌∷◌, ◌++◌, cond, is_some, refl, sym, ap, ◌∙◌, subst}
 use Rattle.mw_heap.specs.Objects.{object_at}
 use Rattle.mw_heap.proofs.Objects.{Grows-same}
 use Rattle.mw_bad_steps.specs.Shown.{Shows}

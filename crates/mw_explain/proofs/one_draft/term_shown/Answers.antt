@@ -1,23 +1,14 @@
 -- The bad part after the word, or nothing.
-use Rattle.std.proofs.Common.{◌≡◌, ◌++◌, Some, ap, ◌∙◌, subst}
+use Rattle.std.proofs.Common.{◌++◌, Some, ap, ◌∙◌, subst}
 use Rattle.std.proofs.lemmas.Result.{IfOk-weaker}
 use Rattle.mw_model.specs.Terms.Object.{Symbol, name_of_bytes}
 use Rattle.mw_heap.specs.Objects.{object_at}
-use Rattle.mw_heap.proofs.Objects.{Grows-trans, IsIn-Grows, object_at-Grows}
+use Rattle.mw_heap.proofs.Objects.{object_at-Grows}
 use Rattle.mw_commands.specs.Commands.ExplanationTerms.{part_shown}
 use Rattle.mw_commands.specs.Commands.Explanation.{raw_shown}
 use Rattle.mw_bad_steps.specs.Shown.{Shows}
 use Rattle.mw_explain.proofs.ShownParts.{shows-none}
 use Rattle.mw_explain.proofs.one_draft.term_shown.Goals as goal
-
-pub part_shown_under-requires : goal.part_shown_under-requires
-part_shown_under-requires c = IsIn-Grows c.args.heap.now.objects c.bad_raw.new.heap.objects c.in_ok-part.ensures.grows c.in-Some.part (rw c.in-Some.is at c.in_ok-part.ensures.within)
-
-pub returns-in_err-shown-in-Some-clause-grows : goal.returns-in_err-shown-in-Some-clause-grows
-returns-in_err-shown-in-Some-clause-grows c = Grows-trans _ _ _ c.in_ok-part.ensures.grows c.part_shown_under.ensures.grows
-
-pub returns-in_ok-shown-in-Some-clause-grows : goal.returns-in_ok-shown-in-Some-clause-grows
-returns-in_ok-shown-in-Some-clause-grows c = Grows-trans _ _ _ (Grows-trans _ _ _ c.in_ok-part.ensures.grows c.in_ok-shown-in-Some.ensures.grows) c.put_symbol.ensures.grows
 
 pub returns-in_ok-shown-in-Some-clause-shown : goal.returns-in_ok-shown-in-Some-clause-shown
 returns-in_ok-shown-in-Some-clause-shown c =

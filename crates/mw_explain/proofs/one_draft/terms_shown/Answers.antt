@@ -1,17 +1,14 @@
 -- What is shown of the body, or else of the measure.
-use Rattle.std.proofs.Common.{◌≡◌, ◌++◌, [], length, eqb, true, false, sym, ap, ap₂, ◌∙◌, subst}
+use Rattle.std.proofs.Common.{◌≡◌, ◌++◌, [], length, eqb, sym, ap, ap₂, ◌∙◌, subst}
 use Rattle.std.proofs.lemmas.Result.{IfOk-weaker}
 use Rattle.mw_model.specs.Terms.Object.{symbol}
 use Rattle.mw_heap.specs.Objects.{object_at}
-use Rattle.mw_heap.proofs.Objects.{Grows-trans, IsIn-Grows, object_at-Grows}
+use Rattle.mw_heap.proofs.Objects.{object_at-Grows}
 use Rattle.mw_commands.specs.Commands.ExplanationTerms.{bad_raw}
 use Rattle.mw_commands.specs.Commands.Explanation.{or_else_shown, raw_shown}
 use Rattle.mw_bad_steps.specs.Shown.{Shows}
 use Rattle.mw_explain.proofs.ShownParts.{or_else-first, shown-empty}
 use Rattle.mw_explain.proofs.one_draft.terms_shown.Goals as goal
-
-pub term_shown-requires-2-clause-raw : goal.term_shown-requires-2-clause-raw
-term_shown-requires-2-clause-raw c = IsIn-Grows c.args.heap.now.objects c.term_shown.new.heap.objects c.in_ok-shown.ensures.grows c.args.draft.measure c.requires.3
 
 pub returns-then-not-is_empty-clause-shown : goal.returns-then-not-is_empty-clause-shown
 returns-then-not-is_empty-clause-shown c =
@@ -20,9 +17,6 @@ returns-then-not-is_empty-clause-shown c =
     let os = c.args.heap.now.objects in
     or_else-first c.term_shown.new.heap.objects c.in_ok-shown.shown.items (raw_shown (symbol "BODY") B (bad_raw B (object_at os c.args.draft.body))) (raw_shown (symbol "MEASURE") A (bad_raw A (object_at os c.args.draft.measure)))
     (ap (λ l. eqb (length l) 0) (sym c.as_slice.ensures.value) ∙ (sym c.is_empty.ensures ∙ c.if-not-is_empty.true)) c.in_ok-shown.ensures.shown
-
-pub returns-clause-grows : goal.returns-clause-grows
-returns-clause-grows c = Grows-trans _ _ _ c.in_ok-shown.ensures.grows c.term_shown-2.ensures.grows
 
 pub returns-clause-shown : goal.returns-clause-shown
 returns-clause-shown c =

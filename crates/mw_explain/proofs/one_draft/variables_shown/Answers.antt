@@ -5,16 +5,13 @@ use Rattle.mw_model.specs.Terms.Object.{Symbol, same_name}
 use Rattle.mw_model.specs.Terms.Term.{firsts, occurrences}
 use Rattle.mw_model.specs.Events.Admission.{formals_of}
 use Rattle.mw_model.specs.Events.Expansion.{expand, without}
-use Rattle.mw_heap.specs.Objects.{object_at, Grows}
+use Rattle.mw_heap.specs.Objects.{object_at}
 use Rattle.mw_heap.proofs.Objects.{Grows-trans, IsIn-Grows, object_at-Grows}
 use Rattle.mw_term.specs.Parts.{AreSymbols}
 use Rattle.mw_explain.specs.Drafts.{IsExpandedTo, formals_at}
 use Rattle.mw_bad_steps.specs.Shown.{Shows}
 use Rattle.mw_explain.proofs.DraftsShown.{expanded-to, expanded-in, expanded-Grows, formals-named}
 use Rattle.mw_explain.proofs.one_draft.variables_shown.Goals as goal
-
-pub expanded_body-requires-2 : goal.expanded_body-requires-2
-expanded_body-requires-2 c = IsIn-Grows c.args.heap.now.objects c.expanded_body.new.heap.objects c.in_ok-body.ensures.grows c.args.draft.measure c.requires.3
 
 pub read_formals-requires : goal.read_formals-requires
 read_formals-requires c =
@@ -71,30 +68,3 @@ returns-clause-shown c =
     let all = firsts same_name (option_map_or occurrences body [] ++ option_map_or occurrences measure []) in
     subst (λ h. Shows h c.in_ok-others.others.items (map Symbol (without all (unwrap_or (formals_of (object_at os c.args.draft.formals)) [])))) (sym c.in_ok-take_searches.ensures)
     (subst (λ out. Shows three c.in_ok-others.others.items (map Symbol (without all out))) formals (c.in_ok-others.ensures body measure body_is measure_is))
-
-pub returns-clause-grows : goal.returns-clause-grows
-returns-clause-grows c =
-    let os = c.args.heap.now.objects in
-    let two = c.expanded_body-2.new.heap.objects in
-    subst (Grows os) (sym (c.in_ok-take_searches.ensures ∙ c.in_ok-formals.ensures.same)) (Grows-trans os c.expanded_body.new.heap.objects two c.in_ok-body.ensures.grows c.in_ok-measure.ensures.grows)
-
-pub returns-in_err-measure-clause-grows : goal.returns-in_err-measure-clause-grows
-returns-in_err-measure-clause-grows c = Grows-trans _ _ _ c.in_ok-body.ensures.grows c.expanded_body-2.ensures.grows
-
-pub returns-in_err-formals-clause-grows : goal.returns-in_err-formals-clause-grows
-returns-in_err-formals-clause-grows c =
-    let os = c.args.heap.now.objects in
-    let two = c.expanded_body-2.new.heap.objects in
-    subst (Grows os) (sym c.read_formals.ensures.same) (Grows-trans os c.expanded_body.new.heap.objects two c.in_ok-body.ensures.grows c.in_ok-measure.ensures.grows)
-
-pub returns-in_err-others-clause-grows : goal.returns-in_err-others-clause-grows
-returns-in_err-others-clause-grows c =
-    let os = c.args.heap.now.objects in
-    let two = c.expanded_body-2.new.heap.objects in
-    subst (Grows os) (sym c.in_ok-formals.ensures.same) (Grows-trans os c.expanded_body.new.heap.objects two c.in_ok-body.ensures.grows c.in_ok-measure.ensures.grows)
-
-pub returns-in_err-take_searches-clause-grows : goal.returns-in_err-take_searches-clause-grows
-returns-in_err-take_searches-clause-grows c =
-    let os = c.args.heap.now.objects in
-    let two = c.expanded_body-2.new.heap.objects in
-    subst (Grows os) (sym (c.take_searches.ensures ∙ c.in_ok-formals.ensures.same)) (Grows-trans os c.expanded_body.new.heap.objects two c.in_ok-body.ensures.grows c.in_ok-measure.ensures.grows)

@@ -1,11 +1,10 @@
 -- A formal, one that is there, or one more.
-use Rattle.std.proofs.Common.{◌≡◌, true, false, ◌||◌, cond, [], ◌∷◌, ◌++◌, sym, ap, ap₂, ◌∙◌, subst, if◌then◌else◌}
+use Rattle.std.proofs.Common.{◌||◌, cond, [], ◌∷◌, ◌++◌, sym, ap, ap₂, ◌∙◌, subst, if◌then◌else◌}
 use Rattle.mw_model.specs.Terms.Term.{is_among}
 use Rattle.mw_model.specs.Values.Primitive.{name_of}
 use Rattle.mw_heap.specs.Objects.{object_at}
 use Rattle.mw_term.specs.Parts.{names_at, AreSymbols}
 use Rattle.mw_term.proofs.FormalList.{names_at-push, symbols-push}
-use Rattle.mw_explain.specs.Drafts.{formals_at}
 use Rattle.mw_explain.proofs.other_variables.put_other.Goals as goal
 
 pub returns-then-is_formal-clause-put : goal.returns-then-is_formal-clause-put

@@ -1,6 +1,6 @@
 -- The numbers from the index on are listed.
 use Rattle.std.proofs.Common.{◌≡◌, drop, map}
-use Rattle.mw_model.specs.Terms.Object.{Natural, NIL}
+use Rattle.mw_model.specs.Terms.Object.{Natural}
 use Rattle.mw_heap.specs.Objects.{object_at, IsIn, Grows}
 use Rattle.mw_commands.specs.Commands.ExplanationSteps.{listed}
 use Rattle.mw_explain.proofs.place.place_shown.Given as goal

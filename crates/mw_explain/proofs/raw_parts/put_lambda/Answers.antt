@@ -7,5 +7,5 @@ pub returns : goal.returns
 returns c =
     let third = c.in-Some.ensures in
     on_ok_weaker c.put_members.result
-    (λ p x h a. puts-lambda c.args.heap.now.objects x c.args.head c.args.actuals c.in-Some.body third.0 third.1 third.2 c.args.parts.now.items c.push.new.self.items c.put_members.new.parts.items third.3 third.4 c.in_ok-push.ensures.items p h a)
+    (λ p x h a. puts-lambda c.args.heap.now.objects x c.args.head c.args.actuals c.in-Some.body third.0 third.1 third.2 c.args.parts.now.refs.items c.push.new.self.items c.put_members.new.parts.refs.items third.3 third.4 c.in_ok-push.ensures.items p h a)
     c.put_members.ensures

@@ -13,10 +13,10 @@ returns c =
     let os = c.args.heap.now.objects in
     let below = c.in-Pair.ensures.below in
     on_ok_weaker c.put_members.result
-    (λ p. puts-both os c.args.rest c.in-Pair.bindings c.in-Pair.body (let_members (object_at os c.args.rest)) (binding_members (object_at os c.in-Pair.bindings)) (members_in (object_at os c.in-Pair.body)) c.args.parts.now.items c.put_bindings.new.parts.items c.put_members.new.parts.items (ap let_members c.in-Pair.ensures.shows.2) (omega (arith, below.0)) (omega (arith, below.1)) c.in_ok-put_bindings.ensures p)
+    (λ p. puts-both os c.args.rest c.in-Pair.bindings c.in-Pair.body (let_members (object_at os c.args.rest)) (binding_members (object_at os c.in-Pair.bindings)) (members_in (object_at os c.in-Pair.body)) c.args.parts.now.refs.items c.put_bindings.new.parts.refs.items c.put_members.new.parts.refs.items (ap let_members c.in-Pair.ensures.shows.2) (omega (arith, below.0)) (omega (arith, below.1)) c.in_ok-put_bindings.ensures p)
     c.put_members.ensures
 
 pub returns-in_default : goal.returns-in_default
 returns-in_default c =
     let os = c.args.heap.now.objects in
-    puts-none os c.args.rest (let_members (object_at os c.args.rest)) c.args.parts.now.items (no-let (object_at os c.args.rest) (shown_no_pair os c.view.result (object_at os c.args.rest) c.view.ensures.shows c.in_default.not-Pair))
+    puts-none os c.args.rest (let_members (object_at os c.args.rest)) c.args.parts.now.refs.items (no-let (object_at os c.args.rest) (shown_no_pair os c.view.result (object_at os c.args.rest) c.view.ensures.shows c.in_default.not-Pair))

@@ -11,42 +11,42 @@ use Rattle.mw_bad_steps.specs.Members.{conclusions_in}
 use Rattle.mw_bad_steps.proofs.ShownMore.{list_object-listed}
 use Rattle.mw_explain.proofs.ShownSteps.{conclusions_listed}
 use Rattle.mw_explain.proofs.step_shown.step_shown.Goals as goal
+use Rattle.mw_explain.proofs.step_shown.step_shown.Goals.{After-first_and_rest-method, After-first_and_rest-conclusion, After-first_and_rest-subproofs}
+
+-- the method and the members after it; the conclusion and those after it; the subproofs and those after them
+method_in : (c : After-first_and_rest-method) → IsIn c.nil.new.self.objects c.first_and_rest-method.result.0 × IsIn c.nil.new.self.objects c.first_and_rest-method.result.1
+method_in c = c.first_and_rest-method.ensures.below _ (IsIn-Grows _ _ c.in_ok-nil.ensures.grows _ c.requires) c.in_ok-nil.ensures.made.0
+
+conclusion_in : (c : After-first_and_rest-conclusion) → IsIn c.nil.new.self.objects c.first_and_rest-method.result.1 → IsIn c.nil.new.self.objects c.first_and_rest-conclusion.result.0 × IsIn c.nil.new.self.objects c.first_and_rest-conclusion.result.1
+conclusion_in c rest = c.first_and_rest-conclusion.ensures.below _ rest c.in_ok-nil.ensures.made.0
+
+subproofs_in : (c : After-first_and_rest-subproofs) → IsIn c.nil.new.self.objects c.first_and_rest-conclusion.result.1 → IsIn c.nil.new.self.objects c.first_and_rest-subproofs.result.0 × IsIn c.nil.new.self.objects c.first_and_rest-subproofs.result.1
+subproofs_in c rest = c.first_and_rest-subproofs.ensures.below _ rest c.in_ok-nil.ensures.made.0
 
 pub first_and_rest-subproofs-requires-clause-within : goal.first_and_rest-subproofs-requires-clause-within
 first_and_rest-subproofs-requires-clause-within c =
-    let h0 = c.args.heap.now.objects in
-    let h1 = c.nil.new.self.objects in
-    let nil = c.in_ok-nil.ensures.made.0 in
-    let i1 = c.first_and_rest-method.ensures.below (length h1) (IsIn-Grows h0 h1 c.in_ok-nil.ensures.grows c.args.step c.requires) nil in
-    let i2 = c.first_and_rest-conclusion.ensures.below (length h1) i1.1 nil in
-    i2.1
+    let p = goal.at.first_and_rest-subproofs-requires-clause-within c in
+    (conclusion_in p.After-first_and_rest-conclusion (method_in p.After-first_and_rest-method).1).1
 
 pub first_and_rest-extras-requires-clause-within : goal.first_and_rest-extras-requires-clause-within
 first_and_rest-extras-requires-clause-within c =
-    let h0 = c.args.heap.now.objects in
-    let h1 = c.nil.new.self.objects in
-    let nil = c.in_ok-nil.ensures.made.0 in
-    let i1 = c.first_and_rest-method.ensures.below (length h1) (IsIn-Grows h0 h1 c.in_ok-nil.ensures.grows c.args.step c.requires) nil in
-    let i2 = c.first_and_rest-conclusion.ensures.below (length h1) i1.1 nil in
-    (c.first_and_rest-subproofs.ensures.below (length h1) i2.1 nil).1
+    let p = goal.at.first_and_rest-extras-requires-clause-within c in
+    (subproofs_in p.After-first_and_rest-subproofs (conclusion_in p.After-first_and_rest-conclusion (method_in p.After-first_and_rest-method).1).1).1
 
 pub seconds_of-requires-clause-within : goal.seconds_of-requires-clause-within
 seconds_of-requires-clause-within c =
-    let h0 = c.args.heap.now.objects in
-    let h1 = c.nil.new.self.objects in
-    let nil = c.in_ok-nil.ensures.made.0 in
-    let i1 = c.first_and_rest-method.ensures.below (length h1) (IsIn-Grows h0 h1 c.in_ok-nil.ensures.grows c.args.step c.requires) nil in
-    let i2 = c.first_and_rest-conclusion.ensures.below (length h1) i1.1 nil in
-    (c.first_and_rest-subproofs.ensures.below (length h1) i2.1 nil).0
+    let p = goal.at.seconds_of-requires-clause-within c in
+    (subproofs_in p.After-first_and_rest-subproofs (conclusion_in p.After-first_and_rest-conclusion (method_in p.After-first_and_rest-method).1).1).0
 
 pub list_of-requires-2 : goal.list_of-requires-2
 list_of-requires-2 c =
     let h0 = c.args.heap.now.objects in
     let h1 = c.nil.new.self.objects in
     let nil = c.in_ok-nil.ensures.made.0 in
-    let i1 = c.first_and_rest-method.ensures.below (length h1) (IsIn-Grows h0 h1 c.in_ok-nil.ensures.grows c.args.step c.requires) nil in
-    let i2 = c.first_and_rest-conclusion.ensures.below (length h1) i1.1 nil in
-    let i3 = c.first_and_rest-subproofs.ensures.below (length h1) i2.1 nil in
+    let p = goal.at.list_of-requires-2 c in
+    let i1 = method_in p.After-first_and_rest-method in
+    let i2 = conclusion_in p.After-first_and_rest-conclusion i1.1 in
+    let i3 = subproofs_in p.After-first_and_rest-subproofs i2.1 in
     let i4 = c.first_and_rest-extras.ensures.below (length h1) i3.1 nil in
     let h2 = c.list_of.new.heap.objects in
     let g2 = c.in_ok-conclusions.ensures.grows in
@@ -69,9 +69,10 @@ returns-clause-made c =
     let x = object_at h0 c.args.step in
     let nil = c.in_ok-nil.ensures.made.0 in
     let e0 = object_at-Grows h0 h1 g1 c.args.step c.requires in
-    let i1 = c.first_and_rest-method.ensures.below (length h1) (IsIn-Grows h0 h1 g1 c.args.step c.requires) nil in
-    let i2 = c.first_and_rest-conclusion.ensures.below (length h1) i1.1 nil in
-    let i3 = c.first_and_rest-subproofs.ensures.below (length h1) i2.1 nil in
+    let p = goal.at.returns-clause-made c in
+    let i1 = method_in p.After-first_and_rest-method in
+    let i2 = conclusion_in p.After-first_and_rest-conclusion i1.1 in
+    let i3 = subproofs_in p.After-first_and_rest-subproofs i2.1 in
     let i4 = c.first_and_rest-extras.ensures.below (length h1) i3.1 nil in
     let e1 = c.first_and_rest-method.ensures.rest ∙ ap cdr e0 in
     let e2 = c.first_and_rest-conclusion.ensures.rest ∙ ap cdr e1 in

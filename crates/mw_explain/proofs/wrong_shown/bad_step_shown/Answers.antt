@@ -1,13 +1,12 @@
 -- The place, and then what is shown of the step.
 use Rattle.std.proofs.Common.{◌++◌, ◌∷◌, [], map, IfSome, sym, ap, ◌∙◌, subst}
 use Rattle.std.proofs.lemmas.Result.{IfOk-weaker}
-use Rattle.mw_model.specs.Terms.Object.{Natural, NIL}
+use Rattle.mw_model.specs.Terms.Object.{Natural}
 use Rattle.mw_heap.specs.Objects.{object_at, IsIn}
 use Rattle.mw_heap.specs.Lists.{list_object}
 use Rattle.mw_heap.specs.Variants.{profile_of}
 use Rattle.mw_heap.proofs.Objects.{object_at-Grows}
 use Rattle.mw_proof.proofs.Holding.{list_object-grows}
-use Rattle.mw_term.proofs.CallerLemmas.{AreMarks-grows}
 use Rattle.mw_commands.specs.Commands.ExplanationSteps.{placed, wrong_step}
 use Rattle.mw_explain.specs.Condition.{HasProofs}
 use Rattle.mw_bad_steps.specs.Shown.{Shows}
@@ -23,9 +22,6 @@ returns-in_default-clause-shown c = λ t e f g h.
     shows_same c.first_bad_step.new.heap.objects _ [] _
     (nothing_shown t os (object_at os c.args.proof) _ (list_object os c.args.axioms.now) (list_object os c.args.theorems.now) c.args.arity.now (profile_of c.args.profile) e f g h c.in_ok-bad.ensures.bad c.in_default.is)
     (subst (λ l. Shows c.first_bad_step.new.heap.objects l []) (sym c.new.ensures.items) (Shows-none c.first_bad_step.new.heap.objects))
-
-pub returns-clause-marked : goal.returns-clause-marked
-returns-clause-marked c = AreMarks-grows c.args.arity.now c.wrong_shown.new.heap.objects c.place_shown.new.heap.objects c.wrong_shown.new.marks c.place_shown.ensures.grows c.wrong_shown.ensures.marked
 
 pub returns-clause-shown : goal.returns-clause-shown
 returns-clause-shown c = IfOk-weaker c.joined.result _ _ (λ v is t e f g h.

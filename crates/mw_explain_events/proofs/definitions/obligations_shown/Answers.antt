@@ -1,7 +1,7 @@
 -- The members of their list.
 use Rattle.std.proofs.Common.{List, sym, subst}
 use Rattle.mw_model.specs.Terms.Object.{Object}
-use Rattle.mw_heap.specs.Objects.{object_at, Grows}
+use Rattle.mw_heap.specs.Objects.{object_at}
 use Rattle.mw_theory.specs.Admitting.{AreWithin, drafts_given}
 use Rattle.mw_explain_events.specs.Defining.{Owe}
 use Rattle.mw_explain_events.proofs.Showing.{members-shown-by}
@@ -12,12 +12,6 @@ obligations-requires-clause-drafts c = subst (λ (h : List Object). AreWithin h 
 
 pub obligations-requires-clause-owe : goal.obligations-requires-clause-owe
 obligations-requires-clause-owe c = (c.requires.owe.0, subst (λ (h : List Object). Owe c.args.arity.now (drafts_given h c.args.drafts) c.requires.owe.0) (sym c.take_looks.ensures) c.requires.owe.1)
-
-pub returns-in_err-owed-clause-grows : goal.returns-in_err-owed-clause-grows
-returns-in_err-owed-clause-grows c = subst (λ (h : List Object). Grows h c.obligations.new.heap.objects) c.take_looks.ensures c.obligations.ensures.grows
-
-pub returns-clause-grows : goal.returns-clause-grows
-returns-clause-grows c = subst (λ (h : List Object). Grows h c.obligations.new.heap.objects) c.take_looks.ensures c.obligations.ensures.grows
 
 pub returns-clause-shown : goal.returns-clause-shown
 returns-clause-shown c =

@@ -6,8 +6,7 @@ use Rattle.mw_model.specs.Events.Fate.{Verify}
 use Rattle.mw_heap.specs.Objects.{object_at, IsIn}
 use Rattle.mw_heap.specs.declared.vocabulary.refusal.Refusal.TheVariants as reason
 use Rattle.mw_heap.specs.Variants.{refusal_of}
-use Rattle.mw_heap.proofs.Objects.{Grows-trans, IsIn-Grows, object_at-Grows}
-use Rattle.mw_term.proofs.CallerLemmas.{AreMarks-grows}
+use Rattle.mw_heap.proofs.Objects.{object_at-Grows}
 use Rattle.mw_theory.specs.Knowledge.{parts_of, meant}
 use Rattle.mw_theory.specs.Words.{verify_event}
 use Rattle.mw_theory.proofs.CallerLemmas.{IfOk-map}
@@ -32,19 +31,10 @@ returns-in-Formula-clause-shown c =
     let t = meant os (parts_of c.args.theory.now) in
     let f = object_at os c.args.formula in
     let e = verify_event (object_at os c.args.name) f (object_at os c.args.proof) in
-    IfOk-map c.formula_shown.result _ _ (λ v h N refused. subst (λ q. Shows new v.items (shown_by (refusal_of q) Verify t N e)) (sym c.in-Formula.is) (subst (λ A. Shows new v.items (part_shown A (bad_formula A f))) c.requires.held.arities h)) c.formula_shown.ensures.shown
-
-pub numbered-requires-clause-formula : goal.numbered-requires-clause-formula
-numbered-requires-clause-formula c = IsIn-Grows _ _ c.in_ok-parts-in_default.ensures.grows _ c.requires.formula
+    IfOk-map c.formula_shown.result _ _ (λ v h N refused. subst (λ q. Shows new v.items (shown_by (refusal_of q) Verify t N e)) (sym c.in-Formula.is) (subst (λ A. Shows new v.items (part_shown A (bad_formula A f))) c.requires.stands.held.arities h)) c.formula_shown.ensures.shown
 
 pub numbered-requires-clause-parts : goal.numbered-requires-clause-parts
 numbered-requires-clause-parts c = subst (λ l. All (IsIn c.wrong_proof_shown.new.heap.objects) l) (sym c.as_slice.ensures.value) c.in_ok-parts-in_default.ensures.shown.0
-
-pub returns-in_ok-parts-in_default-clause-grows : goal.returns-in_ok-parts-in_default-clause-grows
-returns-in_ok-parts-in_default-clause-grows c = Grows-trans _ _ _ c.in_ok-parts-in_default.ensures.grows c.numbered.ensures.grows
-
-pub returns-in_ok-parts-in_default-clause-marked : goal.returns-in_ok-parts-in_default-clause-marked
-returns-in_ok-parts-in_default-clause-marked c = AreMarks-grows _ _ _ _ c.numbered.ensures.grows c.in_ok-parts-in_default.ensures.marked
 
 pub returns-in_ok-parts-in_default-clause-shown : goal.returns-in_ok-parts-in_default-clause-shown
 returns-in_ok-parts-in_default-clause-shown c =
@@ -56,7 +46,7 @@ returns-in_ok-parts-in_default-clause-shown c =
     let f = object_at os c.args.formula in
     let p = object_at os c.args.proof in
     let r = refusal_of c.args.reason in
-    let g = c.in_ok-parts-in_default.ensures.grows in
+    let g = c.in_ok-parts-in_default.ensures.kept.grows in
     let not_name : r ≡ NAME → ⊥ = λ e. c.in_default.not-Name (same-meant c.args.reason reason.Name e) in
     let not_formula : r ≡ FORMULA → ⊥ = λ e. c.in_default.not-Formula (same-meant c.args.reason reason.Formula e) in
     IfOk-map c.numbered.result _ _ (λ v h N refused. subst (Shows new v.items)

@@ -10,32 +10,17 @@ use Rattle.mw_bad_steps.specs.Shown.{Shows}
 use Rattle.mw_explain_events.proofs.EventReasons.{skolem-shown}
 use Rattle.mw_explain_events.proofs.event_parts.witness_shown.Goals as goal
 
-pub definition_shown-requires-clause-drafts : goal.definition_shown-requires-clause-drafts
-definition_shown-requires-clause-drafts c =
+pub single_shown-requires-clause-draft : goal.single_shown-requires-clause-draft
+single_shown-requires-clause-draft c =
     let g = Grows-trans _ _ _ c.in_ok-formals.ensures.grows c.in_ok-measure.ensures.grows in
-    ((IsIn-Grows _ _ g _ c.requires.name, IsIn-Grows _ _ c.in_ok-measure.ensures.grows _ c.in_ok-formals.ensures.made.0, IsIn-Grows _ _ g _ c.requires.body, c.in_ok-measure.ensures.made.0), tt)
-
-pub definition_shown-requires-clause-named : goal.definition_shown-requires-clause-named
-definition_shown-requires-clause-named c = λ e. cc
-
-pub definition_shown-requires-clause-formals : goal.definition_shown-requires-clause-formals
-definition_shown-requires-clause-formals c = λ e. cc
-
-pub definition_shown-requires-clause-nested : goal.definition_shown-requires-clause-nested
-definition_shown-requires-clause-nested c = λ e. absurd (c.requires.other e)
-
-pub returns-in_err-measure-clause-grows : goal.returns-in_err-measure-clause-grows
-returns-in_err-measure-clause-grows c = Grows-trans _ _ _ c.in_ok-formals.ensures.grows c.nil.ensures.grows
-
-pub returns-clause-grows : goal.returns-clause-grows
-returns-clause-grows c = Grows-trans _ _ _ c.in_ok-formals.ensures.grows (Grows-trans _ _ _ c.in_ok-measure.ensures.grows c.definition_shown.ensures.grows)
+    (IsIn-Grows _ _ g _ c.requires.name, IsIn-Grows _ _ c.in_ok-measure.ensures.grows _ c.in_ok-formals.ensures.made.0, IsIn-Grows _ _ g _ c.requires.body, c.in_ok-measure.ensures.made.0)
 
 pub returns-clause-shown : goal.returns-clause-shown
 returns-clause-shown c =
     let os = c.args.heap.now.objects in
     let made = c.cons.new.self.objects in
     let between = c.nil.new.self.objects in
-    let new = c.definition_shown.new.heap.objects in
+    let new = c.single_shown.new.heap.objects in
     let r = refusal_of c.args.reason in
     let later = c.in_ok-measure.ensures.grows in
     let g = Grows-trans _ _ _ c.in_ok-formals.ensures.grows later in
@@ -43,7 +28,7 @@ returns-clause-shown c =
     let f = object_at-Grows made between later c.in_ok-formals.formals c.in_ok-formals.ensures.made.0 ∙ c.in_ok-formals.ensures.made.1 in
     let b = object_at-Grows os between g c.args.body c.requires.body in
     let draft = ap₂ (λ x y. record { name = x; formals = y; body = object_at between c.args.body; measure = object_at between c.in_ok-measure.measure }) n f ∙ ap₂ (λ x y. record { name = object_at os c.args.name; formals = Pair (object_at os c.args.bound) (object_at os c.args.free); body = x; measure = y }) b c.in_ok-measure.ensures.made.1 in
-    IfOk-map c.definition_shown.result _ _ (λ v h t N arities refused. subst (Shows new v.items)
+    IfOk-map c.single_shown.result _ _ (λ v h t N arities refused. subst (Shows new v.items)
     (ap (λ d. drafts_shown r c.args.arity.now c.args.arity.now (d ∷ [])) draft
     ∙ (ap (λ A. drafts_shown r A A (record { name = object_at os c.args.name; formals = Pair (object_at os c.args.bound) (object_at os c.args.free); body = object_at os c.args.body; measure = NIL } ∷ [])) (sym arities)
-    ∙ skolem-shown t N r (object_at os c.args.name) (object_at os c.args.bound) (object_at os c.args.free) (object_at os c.args.body) refused)) h) c.definition_shown.ensures.shown
+    ∙ skolem-shown t N r (object_at os c.args.name) (object_at os c.args.bound) (object_at os c.args.free) (object_at os c.args.body) refused)) h) c.single_shown.ensures.shown

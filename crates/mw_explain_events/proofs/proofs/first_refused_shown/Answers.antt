@@ -1,5 +1,5 @@
 -- A formula and its proof at a time.
-use Rattle.std.proofs.Common.{[], ◌∷◌, map, All, arith, refl, sym, ap, ap₂, ◌∙◌, subst}
+use Rattle.std.proofs.Common.{◌∷◌, map, All, arith, refl, sym, ap, ap₂, ◌∙◌, subst}
 use Rattle.mw_model.specs.Terms.Object.{Natural}
 use Rattle.mw_heap.specs.Objects.{object_at, IsIn}
 use Rattle.mw_heap.specs.Variants.{refusal_of}
@@ -9,7 +9,7 @@ use Rattle.mw_term.proofs.CallerLemmas.{AreMarks-grows}
 use Rattle.mw_theory.specs.Knowledge.{parts_of, meant}
 use Rattle.mw_theory.proofs.CallerLemmas.{held-grows, meant-grows, IfOk-map}
 use Rattle.mw_bad_steps.specs.Shown.{Shows}
-use Rattle.mw_explain_events.proofs.Showing.{Shows-none}
+use Rattle.mw_explain_events.proofs.Showing.{Shows-empty}
 use Rattle.mw_kernel.specs.Proofs.{judged_for}
 use Rattle.mw_explain_events.specs.Reasons.{IsNoneOr}
 use Rattle.mw_explain_events.proofs.ProofReasons.{proofs-built-in}
@@ -26,7 +26,7 @@ pub loop-formula-init : goal.loop-formula-init
 loop-formula-init c =
     let os = c.args.heap.now.objects in
     let (Fs, is, refused) = c.requires.refused in
-    (Walks-first os c.args.theory.now c.args.checker.now.steps (refusal_of c.args.reason) c.args.formulas c.args.proofs c.args.marks.now (Grows-refl os) c.requires.marked c.requires.formulas c.requires.proofs Fs is refused, refl)
+    (Walks-first os c.args.theory.now c.args.checker.now.steps (refusal_of c.args.reason) c.args.formulas c.args.proofs c.args.marks.now (Grows-refl os) c.requires.stands.marked c.requires.formulas c.requires.proofs Fs is refused, refl)
 
 pub refused_proof_shown-requires-clause-formula : goal.refused_proof_shown-requires-clause-formula
 refused_proof_shown-requires-clause-formula c =
@@ -38,11 +38,10 @@ refused_proof_shown-requires-clause-proof c =
     let w = c.loop-formula.invariant.0 in
     IsIn-Grows _ _ w.grows _ (omega (arith, c.in-Pair-view.ensures.below.0, w.rest_in))
 
-pub refused_proof_shown-requires-clause-held : goal.refused_proof_shown-requires-clause-held
-refused_proof_shown-requires-clause-held c = held-grows _ _ c.loop-formula.invariant.0.grows _ c.requires.held
-
-pub refused_proof_shown-requires-clause-marked : goal.refused_proof_shown-requires-clause-marked
-refused_proof_shown-requires-clause-marked c = c.loop-formula.invariant.0.marked
+pub refused_proof_shown-requires-clause-stands : goal.refused_proof_shown-requires-clause-stands
+refused_proof_shown-requires-clause-stands c =
+    let w = c.loop-formula.invariant.0 in
+    record { held = held-grows _ _ w.grows _ c.requires.stands.held; marked = w.marked }
 
 pub refused_proof_shown-requires-clause-reason : goal.refused_proof_shown-requires-clause-reason
 refused_proof_shown-requires-clause-reason c =
@@ -50,14 +49,14 @@ refused_proof_shown-requires-clause-reason c =
     let pair = c.in-Pair.ensures in
     let proof = c.in-Pair-view.ensures in
     subst (λ N. IsNoneOr (refusal_of c.args.reason) (judged_for N (meant now (parts_of c.args.theory.now)) (object_at now c.in-Pair.formula) (object_at now c.in-Pair-view.proof))) (sym c.loop-formula.invariant.1)
-    (reason-here _ _ _ _ _ _ c.requires.held _ _ _ _ _ c.loop-formula.invariant.0 _ _ _ _ pair.below.0 pair.below.1 proof.below.0 proof.below.1 pair.shows.2 proof.shows.2)
+    (reason-here _ _ _ _ _ _ c.requires.stands.held _ _ _ _ _ c.loop-formula.invariant.0 _ _ _ _ pair.below.0 pair.below.1 proof.below.0 proof.below.1 pair.shows.2 proof.shows.2)
 
 pub refused_proof_shown-requires-clause-built_in : goal.refused_proof_shown-requires-clause-built_in
 refused_proof_shown-requires-clause-built_in c = λ e.
     let os = c.args.heap.now.objects in
     let now = c.loop-formula.heap.objects in
     let (Fs, is, refused) = c.requires.refused in
-    ap (λ t. t.checker) (meant-grows os now c.loop-formula.invariant.0.grows c.args.theory.now c.requires.held)
+    ap (λ t. t.checker) (meant-grows os now c.loop-formula.invariant.0.grows c.args.theory.now c.requires.stands.held)
     ∙ proofs-built-in (meant os (parts_of c.args.theory.now)) c.args.checker.now.steps Fs (object_at os c.args.proofs) (refusal_of c.args.reason) refused.1 e
 
 pub loop-formula-preserved : goal.loop-formula-preserved
@@ -68,21 +67,24 @@ loop-formula-preserved c =
     let w = c.loop-formula.invariant.0 in
     let same = c.loop-formula.invariant.1 in
     let none = sym (ap (λ N. judged_for N (meant now (parts_of c.args.theory.now)) (object_at now c.in-Pair.formula) (object_at now c.in-Pair-view.proof)) same) ∙ shown-none _ _ c.in_ok-shown.shown c.in_default-shown.is c.in_ok-shown.ensures.shown in (
-      Walks-next _ _ _ _ _ _ c.requires.held _ _ _ _ _ w _ _ _ _ pair.below.0 pair.below.1 proof.below.0 proof.below.1 pair.shows.2 proof.shows.2
-          none _ _ _ c.in_ok-shown.ensures.grows c.in_ok-shown.ensures.marked c.in_ok-number.ensures,
+      Walks-next _ _ _ _ _ _ c.requires.stands.held _ _ _ _ _ w _ _ _ _ pair.below.0 pair.below.1 proof.below.0 proof.below.1 pair.shows.2 proof.shows.2
+          none _ _ _ c.in_ok-shown.ensures.kept.grows c.in_ok-shown.ensures.kept.marked c.in_ok-number.ensures,
       c.in_ok-shown.ensures.steps ∙ same,
     )
 
 pub numbered-requires-clause-formula : goal.numbered-requires-clause-formula
 numbered-requires-clause-formula c =
     let w = c.loop-formula.invariant.0 in
-    IsIn-Grows _ _ (Grows-trans _ _ _ w.grows c.in_ok-shown.ensures.grows) _ (omega (arith, c.in-Pair.ensures.below.0, w.left_in))
+    IsIn-Grows _ _ (Grows-trans _ _ _ w.grows c.in_ok-shown.ensures.kept.grows) _ (omega (arith, c.in-Pair.ensures.below.0, w.left_in))
 
-pub returns-in-Some-clause-grows : goal.returns-in-Some-clause-grows
-returns-in-Some-clause-grows c = Grows-trans _ _ _ c.loop-formula.invariant.0.grows (Grows-trans _ _ _ c.in_ok-shown.ensures.grows c.numbered.ensures.grows)
-
-pub returns-in-Some-clause-marked : goal.returns-in-Some-clause-marked
-returns-in-Some-clause-marked c = AreMarks-grows _ _ _ _ c.numbered.ensures.grows c.in_ok-shown.ensures.marked
+pub returns-in-Some-clause-kept : goal.returns-in-Some-clause-kept
+returns-in-Some-clause-kept c =
+    let shown = c.in_ok-shown.ensures.kept in
+    let g = c.numbered.ensures.grows in
+    record {
+      grows = Grows-trans _ _ _ (Grows-trans _ _ _ c.loop-formula.invariant.0.grows shown.grows) g;
+      marked = AreMarks-grows _ _ _ _ g shown.marked;
+    }
 
 pub returns-in-Some-clause-shown : goal.returns-in-Some-clause-shown
 returns-in-Some-clause-shown c =
@@ -94,13 +96,13 @@ returns-in-Some-clause-shown c =
     let w = c.loop-formula.invariant.0 in
     let same = c.loop-formula.invariant.1 in
     let f = c.in-Pair.formula in
-    let g = c.in_ok-shown.ensures.grows in
+    let g = c.in_ok-shown.ensures.kept.grows in
     let (told, shows) = shown-some _ _ c.in_ok-shown.shown c.in-Some.parts c.in-Some.is c.in_ok-shown.ensures.shown in
     let refused = sym (ap (λ N. judged_for N (meant now (parts_of c.args.theory.now)) (object_at now f) (object_at now c.in-Pair-view.proof)) same) ∙ told in
     let within = IsIn-Grows _ _ w.grows f (omega (arith, pair.below.0, w.left_in)) in
     IfOk-map c.numbered.result _ _ (λ v h Fs is. subst (Shows new v.items)
     (ap₂ (λ x xs. Natural c.loop-formula.number ∷ x ∷ xs) (object_at-Grows now between g f within) (ap (map (object_at between)) c.as_slice.ensures.value ∙ shows.1)
-    ∙ shown-here _ _ _ _ _ _ c.requires.held _ _ _ _ _ w _ _ _ _ pair.below.0 pair.below.1 proof.below.0 proof.below.1 pair.shows.2 proof.shows.2 refused Fs is) h) c.numbered.ensures.shown
+    ∙ shown-here _ _ _ _ _ _ c.requires.stands.held _ _ _ _ _ w _ _ _ _ pair.below.0 pair.below.1 proof.below.0 proof.below.1 pair.shows.2 proof.shows.2 refused Fs is) h) c.numbered.ensures.shown
 
 pub numbered-requires-clause-parts : goal.numbered-requires-clause-parts
 numbered-requires-clause-parts c =
@@ -112,4 +114,4 @@ returns-clause-shown c = λ Fs is.
     let now = c.loop-formula.heap.objects in
     let w = c.loop-formula.invariant.0 in
     let end = shown_no_pair now c.view.result (object_at now c.loop-formula.left) c.view.ensures.shows c.in_default.not-Pair in
-    subst (Shows now c.new.result.items) (none-left _ _ _ _ _ _ _ _ _ _ _ w end Fs is) (subst (λ l. Shows now l []) (sym c.new.ensures.items) (Shows-none now))
+    Shows-empty now _ _ c.new.ensures.items (none-left _ _ _ _ _ _ _ _ _ _ _ w end Fs is)
