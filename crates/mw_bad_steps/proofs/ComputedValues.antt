@@ -1,7 +1,7 @@
 -- The values of calls at constants, and reduced calls.
 use Rattle.std.proofs.Common.{◌≡◌, ℕ, Bool, true, false, ◌&&◌, ◌||◌, cond, List, [], ◌∷◌, Option, Some, None, take, refl, sym, ap, ap₂, ◌∙◌, subst, option_map}
 use Rattle.std.proofs.lemmas.Bool.{and_parts}
-use Rattle.mw_model.specs.Terms.Object.{Name, Object, Natural, Symbol, Pair, named, symbol, same_name, same_object, NIL, car, cdr, second_of, third_of, list2, list3}
+use Rattle.mw_model.specs.Terms.Object.{Name, Object, Natural, Symbol, Pair, named, symbol, same_name, same_object, car, cdr, second_of, third_of, list2, list3}
 use Rattle.mw_model.specs.Terms.Term.{Term, Terms, Variable, Constant, If, Call, Lambda, NoTerms, More, Formula, Equal, Not, Or, ArityTable, IsTerm, IsFormula, term_object, terms_object, formula_object}
 use Rattle.mw_model.specs.Terms.Reading.{map2, and_more}
 use Rattle.mw_model.specs.Terms.Substitution.{Substitution, substitute_formula, substitution_of, actuals_for, is_substitution}
@@ -9,7 +9,7 @@ use Rattle.mw_model.specs.Values.Primitive.{Profile, Primitive, Equality, IsPair
 use Rattle.mw_model.specs.Events.Fate.{is_out_of_range}
 use Rattle.mw_model.specs.Laws.Rules.{equal_object, beta_object, is_constant_object, are_constant_objects, unquoted, is_substitution_object, substitute_object, substitute_formula_object}
 use Rattle.mw_model.specs.Proofs.Judgment.{constant_values}
-use Rattle.mw_model.proofs.Names.{same_object-from, same_object-refl}
+use Rattle.mw_model.proofs.Names.{same_object-from}
 use Rattle.mw_model.proofs.SameObject.{same_object-swap}
 use Rattle.mw_model.proofs.Formed.{formed}
 use Rattle.mw_model.proofs.Readable.{Readable, AreReadable, term_readable, formula_readable, not_if}
@@ -47,17 +47,7 @@ enough word.Times a b c = refl
 pub past : (w : Word) (a b c : Object) → overflows w (take (arity w) (a ∷ b ∷ c ∷ [])) ≡ true → is_out_of_range (value_of w (a ∷ b ∷ c ∷ [])) ≡ true
 past word.Plus a b c h = h
 past word.Times a b c h = h
-past word.If a b c h = cc
-past word.Equal a b c h = cc
-past word.Consp a b c h = cc
-past word.Cons a b c h = cc
-past word.Car a b c h = cc
-past word.Cdr a b c h = cc
-past word.Symbolp a b c h = cc
-past word.SymbolLess a b c h = cc
-past word.Natp a b c h = cc
-past word.Less a b c h = cc
-past word.Minus a b c h = cc
+past _ a b c h = cc
 
 -- ---- constants
 

@@ -1,6 +1,6 @@
 -- The equation of two calls at the end of a formula, and what is made of it.
 use Rattle.std.proofs.Common.{◌≡◌, ℕ, Bool, true, false, List, [], ◌∷◌, ◌++◌, Option, Some, None, refl, sym, ap, ap₂, ◌∙◌, subst}
-use Rattle.mw_model.specs.Terms.Object.{Object, Natural, Symbol, Pair, symbol, same_object, NIL, car, cdr, second_of, third_of, list3}
+use Rattle.mw_model.specs.Terms.Object.{Object, Natural, Symbol, Pair, symbol, same_object, car, cdr, second_of, third_of, list3}
 use Rattle.mw_model.specs.Terms.Term.{Term, Terms, Variable, Constant, If, Call, Lambda, Formula, Equal, Not, Or, ArityTable, is_term, is_formula, IsTerm, IsFormula, term_object, formula_object}
 use Rattle.mw_model.specs.Values.Primitive.{is_pair, is_symbol}
 use Rattle.mw_model.specs.Laws.Rules.{or_object, not_object, equal_object, unless_equal_object}

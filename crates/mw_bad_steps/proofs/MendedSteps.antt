@@ -1,7 +1,7 @@
 -- The conclusion with which a step of a heap follows.
 use Rattle.std.proofs.Common.{◌≡◌, ℕ, Bool, true, false, List, [], ◌∷◌, map, Option, Some, None, refl, sym, ap, ap₂, ◌∙◌, subst}
 use Rattle.std.specs.Bool.{then_some}
-use Rattle.mw_model.specs.Terms.Object.{Object, Natural, Symbol, Pair, NIL, car, cdr, second_of, third_of, fourth_of, list4}
+use Rattle.mw_model.specs.Terms.Object.{Object, Natural, Symbol, Pair, car, cdr, second_of, third_of, fourth_of, list4}
 use Rattle.mw_model.specs.Terms.Term.{Formula, IsFormula, is_formula, formula_object}
 use Rattle.mw_model.specs.Terms.Reading.{formula_of, formula_under, that}
 use Rattle.mw_model.specs.Values.Truth.{Each}

@@ -7,7 +7,7 @@ use Rattle.mw_model.specs.Values.Primitive.{is_pair}
 use Rattle.mw_model.specs.Laws.Rules.{or_object, not_object, substitute_formula_object}
 use Rattle.mw_model.specs.Laws.RulesInduction.{disjunction_object, hypotheses_object, steps_object, ordinal_object, fall_object, falls_object, all_falls_object, premises_object}
 use Rattle.mw_heap.specs.Objects.{object_at, IsIn, Grows}
-use Rattle.mw_heap.proofs.Objects.{object_at-Grows}
+use Rattle.mw_heap.proofs.Objects.{IsIn-Grows, object_at-Grows}
 use Rattle.mw_subst.specs.Pairs.{is_list_of_pairs}
 use Rattle.mw_induct.specs.Pairs.{are_lists_of_pairs, are_cases_of_pairs}
 use Rattle.mw_commands.specs.Commands.ExplanationSteps.{listed}
@@ -114,6 +114,12 @@ premises_listed a m qs ss =
 
 -- ---- parts of what stood in the heap before it grew
 
+-- the conditions and the lists of substitutions that are left
+pub record AreLeft (os : List Object) (conditions cases : ℕ) : Type 0 where
+  pub conditions_in : IsIn os conditions
+  pub cases_in : IsIn os cases
+  pub pairs : are_cases_of_pairs (object_at os cases) ≡ true
+
 module _ (os cur : List Object) (g : Grows os cur) where
   pub next_part : (rest s more : ℕ) → IsIn os rest → s < rest → more < rest → object_at cur rest ≡ Pair (object_at cur s) (object_at cur more) → IsIn os s × IsIn os more × (object_at os rest ≡ Pair (object_at os s) (object_at os more))
   next_part rest s more i l m e =
@@ -121,32 +127,32 @@ module _ (os cur : List Object) (g : Grows os cur) where
       let in_more : IsIn os more = omega (arith, m, i) in
       (in_s, in_more, sym (object_at-Grows os cur g rest i) ∙ (e ∙ ap₂ Pair (object_at-Grows os cur g s in_s) (object_at-Grows os cur g more in_more)))
 
+  -- the substitutions of the first of the cases
+  pub first_in : (cases ss others nil : ℕ) → IsIn os cases → IsIn os nil → ((n : ℕ) → cases < n → nil < n → (ss < n) × (others < n)) → IsIn cur ss
+  first_in cases ss others nil j k below = IsIn-Grows os cur g ss (below (length os) j k).0
+
   -- the next condition q with its substitutions ss, and what is left of both lists
   pub record IsNextCase (conditions cases q more ss others : ℕ) : Type 0 where
     pub condition_in : IsIn os q
-    pub conditions_in : IsIn os more
     pub conditions_are : object_at os conditions ≡ Pair (object_at os q) (object_at os more)
     pub substitutions_in : IsIn os ss
     pub substitutions_are : object_at cur ss ≡ car (object_at os cases)
-    pub cases_in : IsIn os others
     pub cases_are : object_at os others ≡ cdr (object_at os cases)
-    pub pairs : are_cases_of_pairs (object_at os others) ≡ true
+    pub left : AreLeft os more others
 
-  pub next_case : (conditions cases q more ss others nil : ℕ) → IsIn os conditions → q < conditions → more < conditions → object_at cur conditions ≡ Pair (object_at cur q) (object_at cur more) → IsIn os cases → IsIn os nil → ((n : ℕ) → cases < n → nil < n → (ss < n) × (others < n)) → object_at cur ss ≡ car (object_at cur cases) → object_at cur others ≡ cdr (object_at cur cases) → are_cases_of_pairs (object_at os cases) ≡ true → IsNextCase conditions cases q more ss others
-  next_case conditions cases q more ss others nil i l m e j k below f r p =
-      let part = next_part conditions q more i l m e in
-      let here = object_at-Grows os cur g cases j in
-      let in_os = below (length os) j k in
+  pub next_case : (conditions cases q more ss others nil : ℕ) → AreLeft os conditions cases → q < conditions → more < conditions → object_at cur conditions ≡ Pair (object_at cur q) (object_at cur more) → IsIn os nil → ((n : ℕ) → cases < n → nil < n → (ss < n) × (others < n)) → object_at cur ss ≡ car (object_at cur cases) → object_at cur others ≡ cdr (object_at cur cases) → IsNextCase conditions cases q more ss others
+  next_case conditions cases q more ss others nil left l m e k below f r =
+      let part = next_part conditions q more left.conditions_in l m e in
+      let here = object_at-Grows os cur g cases left.cases_in in
+      let in_os = below (length os) left.cases_in k in
       let rest = sym (object_at-Grows os cur g others in_os.1) ∙ (r ∙ ap cdr here) in
       record {
         condition_in = part.0;
-        conditions_in = part.1;
         conditions_are = part.2;
         substitutions_in = in_os.0;
         substitutions_are = f ∙ ap car here;
-        cases_in = in_os.1;
         cases_are = rest;
-        pairs = ap are_cases_of_pairs rest ∙ (case_pairs (object_at os cases) p).1;
+        left = record { conditions_in = part.1; cases_in = in_os.1; pairs = ap are_cases_of_pairs rest ∙ (case_pairs (object_at os cases) left.pairs).1 };
       }
 
   pub same_fall : (m q s : ℕ) → IsIn os m → IsIn os q → IsIn os s → fall_object (object_at cur m) (object_at cur q) (object_at cur s) ≡ fall_object (object_at os m) (object_at os q) (object_at os s)
@@ -169,6 +175,11 @@ pub puts_one : (os mid : List Object) (had has : List ℕ) (r : ℕ) (x : Object
 puts_one os mid had has r x g h i e d =
     let s = Shows-push mid had (map (object_at os) had) r x (Shows-grows os mid had (map (object_at os) had) g (h, refl)) i e in
     (subst (All (IsIn mid)) (sym d) s.0, ap (map (object_at mid)) d ∙ s.1)
+
+-- one is put, and then what another call puts
+pub puts_first : (os mid new : List Object) (had some has : List ℕ) (r : ℕ) (x : Object) (ys zs : List Object) → Grows os mid → All (IsIn os) had → IsIn mid r → object_at mid r ≡ x → some ≡ had ++ r ∷ [] → zs ≡ ys → PutsObjects mid new some has zs → PutsObjects os new had has (x ∷ ys)
+puts_first os mid new had some has r x ys zs g h i e d same p =
+    PutsObjects-then os mid new had some has (x ∷ []) ys (puts_one os mid had some r x g h i e d) (subst (PutsObjects mid new some has) same p)
 
 -- what is put is of the same objects
 module _ (os cur : List Object) (g : Grows os cur) where

@@ -2,7 +2,7 @@
 use Rattle.std.proofs.Common.{◌≡◌, ℕ, List, [], ◌∷◌, ◌++◌, map, All, refl, ap, ap₂, ◌∙◌}
 use Rattle.std.proofs.lemmas.List.{map-append}
 use Rattle.std.proofs.lemmas.List.Elements.{All-weaker, All-push, All-nil, All-head, All-tail}
-use Rattle.mw_model.specs.Terms.Object.{Object, Pair, NIL}
+use Rattle.mw_model.specs.Terms.Object.{Object, Pair}
 use Rattle.mw_heap.specs.Objects.{object_at, IsIn, Grows}
 use Rattle.mw_heap.specs.Lists.{list_object}
 use Rattle.mw_heap.proofs.Objects.{IsIn-Grows, object_at-Grows}

@@ -1,10 +1,14 @@
 -- Looking for the first bad step: the proofs that are open on the way to it.
-use Rattle.std.specs.Prelude.{◌≡◌, ℕ, suc, ◌<◌, nat_eq, Bool, true, false, List, [], ◌∷◌, ◌++◌, map, Option, Some, None, IfSome, ◌⊎◌, option_map}
+use Rattle.std.specs.Prelude.{◌≡◌, ℕ, suc, ◌<◌, nat_eq, Bool, true, false, List, [], ◌∷◌, ◌++◌, length, map, Option, Some, None, IfSome, ◌⊎◌, option_map}
 use Rattle.std.specs.List.{list_any}
 use Rattle.mw_model.specs.Terms.Object.{Object, Pair, third_of}
+use Rattle.mw_model.specs.Terms.Term.{ArityTable}
 use Rattle.mw_model.specs.Values.Primitive.{is_pair}
 use Rattle.mw_heap.specs.Objects.{object_at, IsIn}
 use Rattle.mw_heap.specs.Parts.{part_at, IsPart}
+use Rattle.mw_term.specs.Marking.{ObjectMark, AreMarks}
+use Rattle.mw_rules.specs.Basis.{IsBasisIn}
+use Rattle.mw_rules.specs.declared.basis.Basis.{Basis}
 use Rattle.mw_commands.specs.Commands.ExplanationSteps.{Placed, placed, first_bad}
 use Rattle.mw_bad_steps.specs.declared.bad_step.Open.{Open}
 use Rattle.mw_bad_steps.specs.declared.bad_step.BadStep.{BadStep}
@@ -12,6 +16,13 @@ use Rattle.mw_bad_steps.specs.declared.bad_step.BadStep.{BadStep}
 -- the step that was found, with its place
 abbrev pub placed_in : List Object → Option BadStep → Option Placed
 placed_in os found = option_map (λ b. placed b.place.items (object_at os b.step)) found
+
+-- all objects of the heap have their marks, and the proof and the basis are in it
+pub record MayLook (os : List Object) (proof : ℕ) (b : Basis) (ms : List ObjectMark) : Type 0 where
+  pub marks : (A : ArityTable) × AreMarks A os ms
+  pub all : length ms ≡ length os
+  pub within : IsIn os proof
+  pub basis : IsBasisIn os b
 
 abbrev pub IsOpen : List Object → Open → Type 0
 IsOpen os w = IsIn os w.proof × IsPart os w.left

@@ -1,7 +1,7 @@
 -- Conclusions that may be meant, by method, and whether a reference is one.
-use Rattle.std.specs.Prelude.{◌≡◌, ℕ, Bool, true, false, List, [], ◌∷◌, Option, Some, None, option_map}
+use Rattle.std.specs.Prelude.{◌≡◌, ℕ, ◌<◌, Bool, true, false, List, [], ◌∷◌, length, All, Option, Some, None, option_map}
 use Rattle.mw_model.specs.Terms.Object.{Object, Pair}
-use Rattle.mw_model.specs.Terms.Term.{Term, Terms, Constant, If, Call, Lambda, Formula, Equal, Not, Or, terms_object, formula_object}
+use Rattle.mw_model.specs.Terms.Term.{ArityTable, Term, Terms, Constant, If, Call, Lambda, Formula, Equal, Not, Or, terms_object, formula_object}
 use Rattle.mw_model.specs.Terms.Reading.{map2}
 use Rattle.mw_model.specs.Terms.Substitution.{substitute, substitute_formula, substitution_of, actuals_for}
 use Rattle.mw_model.specs.Values.Primitive.{Profile, primitive_named, apply, choose}
@@ -10,6 +10,7 @@ use Rattle.mw_model.specs.Proofs.Judgment.{last_disjunct, constant_values}
 use Rattle.mw_model.specs.Events.Fate.{is_out_of_range}
 use Rattle.mw_model.specs.Laws.Rules.{not_object, equal_object}
 use Rattle.mw_heap.specs.Objects.{object_at, IsIn}
+use Rattle.mw_term.specs.Marking.{ObjectMark, AreMarks}
 
 -- the reference leads to the formula; there is none where there is no formula, or one that holds a natural past the range
 abbrev pub IsCandidate : List Object → Option Formula → Option ℕ → Type 0
@@ -125,3 +126,11 @@ abbrev pub IsMended : List Object → Option Formula → Option ℕ → Type 0
 IsMended os None None = Unit {0}
 IsMended os (Some G) (Some r) = IsIn os r × (object_at os r ≡ formula_object G)
 IsMended os _ _ = ⊥
+
+-- The conclusion of a step, those of its subproofs and its extras are in the heap, whose objects have their marks, and so have the extras.
+pub record AreStepParts (os : List Object) (x : ℕ) (xs : List ℕ) (e : ℕ) (ms : List ObjectMark) : Type 0 where
+  pub conclusion : IsIn os x
+  pub conclusions : All (IsIn os) xs
+  pub extras : IsIn os e
+  pub marked : e < length ms
+  pub marks : (A : ArityTable) × AreMarks A os ms

@@ -31,6 +31,12 @@ abbrev pub forms_weight : List Object → List Form → ℕ
 forms_weight os [] = 0
 forms_weight os (f ∷ fs) = weight (object_at os (reference f)) + forms_weight os fs
 
+-- the object at x is a list of this head before these actuals
+pub record IsCall (os : List Object) (x head actuals : ℕ) : Type 0 where
+  pub head_in : IsIn os head
+  pub actuals_in : IsIn os actuals
+  pub is : object_at os x ≡ Pair (object_at os head) (object_at os actuals)
+
 -- x has the form where these lighter parts have theirs, which wait; or it has not
 abbrev pub IsEntered : List Object → ℕ → Bool → List Form → List Form → Bool → Type 0
 IsEntered os x form old new true = (more : List Form) × (new ≡ old ++ more) × AreFormsIn os more × (form ≡ have_forms os more) × (forms_weight os more < weight (object_at os x))

@@ -1,15 +1,14 @@
 //! Looking for the first step that does not follow though its subproofs are proofs.
-ghost use Rattle.std.specs.Prelude.{◌≡◌, ℕ, ◌<◌, List, [], ◌∷◌, length, map, All, IfOk, IfSome};
+ghost use Rattle.std.specs.Prelude.{◌≡◌, ℕ, ◌<◌, List, [], ◌∷◌, map, All, IfOk, IfSome};
 ghost use Rattle.mw_model.specs.Terms.Term.{ArityTable};
 ghost use Rattle.mw_heap.specs.Objects.{object_at, IsIn, Grows};
 ghost use Rattle.mw_heap.specs.Lists.{list_object};
 ghost use Rattle.mw_heap.specs.Variants.{profile_of};
 ghost use Rattle.mw_term.specs.Marking.{AreMarks};
 ghost use Rattle.mw_proof.specs.Step.{is_proof};
-ghost use Rattle.mw_rules.specs.Basis.{IsBasisIn};
 ghost use Rattle.mw_proof.specs.Judging.{basis_over, is_proof_on};
 ghost use Rattle.mw_commands.specs.Commands.ExplanationSteps.{first_bad};
-ghost use Rattle.mw_bad_steps.specs.BadStep.{IsOpen, IsUnopened, Advances, number_of, Finds, placed_in};
+ghost use Rattle.mw_bad_steps.specs.BadStep.{MayLook, IsOpen, IsUnopened, Advances, number_of, Finds, placed_in};
 
 use indexmap::IndexSet;
 use mw_heap::{Heap, Memory, Profile, Ref, View};
@@ -95,10 +94,7 @@ fn find(
     found: &mut IndexSet<Ref>,
     path: &mut Vec<Open>,
 ) -> Result<Option<Ref>, Memory>
-    requires marks { (A : ArityTable) × AreMarks A heap.old.objects marks.now }
-    requires all { length marks.now ≡ length heap.old.objects }
-    requires within { IsIn heap.old.objects proof }
-    requires basis { IsBasisIn heap.old.objects basis.now }
+    requires may { MayLook heap.old.objects proof basis.now marks.now }
     requires none_good { good.old.keys ≡ [] }
     requires none_found { found.old.keys ≡ [] }
     requires none_open { path.old.items ≡ [] }
@@ -135,10 +131,7 @@ fn look(
     basis: &Basis,
     marks: &Marks,
 ) -> Result<Option<BadStep>, Memory>
-    requires marks { (A : ArityTable) × AreMarks A heap.old.objects marks.now }
-    requires all { length marks.now ≡ length heap.old.objects }
-    requires within { IsIn heap.old.objects proof }
-    requires basis { IsBasisIn heap.old.objects basis.now }
+    requires { MayLook heap.old.objects proof basis.now marks.now }
     ensures grows { Grows heap.old.objects heap.new.objects }
     ensures within { IfOk result (λ o. IfSome o (λ b. IsIn heap.old.objects b.step)) }
     ensures bad { IfOk result (λ o. (A : ArityTable) → AreMarks A heap.old.objects marks.now → first_bad (is_proof_on (basis_over heap.old.objects A basis.now)) (object_at heap.old.objects proof) ≡ placed_in heap.old.objects o) }

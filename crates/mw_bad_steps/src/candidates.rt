@@ -1,5 +1,5 @@
 //! The conclusion that may be meant by a step, by its method.
-ghost use Rattle.std.specs.Prelude.{◌≡◌, ◌<◌, true, length, map, slice_get, All, IfOk, List, IfSome};
+ghost use Rattle.std.specs.Prelude.{◌≡◌, ◌<◌, true, length, map, slice_get, IfOk, List, IfSome};
 ghost use Rattle.mw_model.specs.Terms.Term.{ArityTable, Formula, IsFormula, formula_object};
 ghost use Rattle.mw_model.specs.Values.Truth.{Each};
 ghost use Rattle.mw_heap.specs.Objects.{object_at, IsIn, Grows};
@@ -7,7 +7,7 @@ ghost use Rattle.mw_heap.specs.Variants.{profile_of};
 ghost use Rattle.mw_term.specs.Marking.{AreMarks};
 ghost use Rattle.mw_rules.specs.Methods.{method_of_logic};
 ghost use Rattle.mw_commands.specs.Commands.ExplanationSteps.{are_extras};
-ghost use Rattle.mw_bad_steps.specs.Candidates.{IsCandidate, one_of, by_premises, meant_of};
+ghost use Rattle.mw_bad_steps.specs.Candidates.{IsCandidate, AreStepParts, one_of, by_premises, meant_of};
 
 use crate::candidate::{associativity, contraction, cut, expansion, schema};
 use crate::computed::{beta, computed, instantiated};
@@ -61,11 +61,7 @@ fn from_premises(
     extras: Ref,
     marks: &Marks,
 ) -> Result<Option<Ref>, Memory>
-    requires conclusion { IsIn heap.old.objects conclusion }
-    requires conclusions { All (IsIn heap.old.objects) conclusions.now }
-    requires extras { IsIn heap.old.objects extras }
-    requires marked { extras < length marks.now }
-    requires marks { (A : ArityTable) × AreMarks A heap.old.objects marks.now }
+    requires { AreStepParts heap.old.objects conclusion conclusions.now extras marks.now }
     ensures grows { Grows heap.old.objects heap.new.objects }
     ensures within { IfOk result (λ o. IfSome o (λ r. IsIn heap.new.objects r)) }
     ensures meant { IfOk result (λ o. (A : ArityTable) (F : Formula) (Fs : List Formula) → AreMarks A heap.old.objects marks.now → Each (IsFormula A) Fs → object_at heap.old.objects conclusion ≡ formula_object F → map (object_at heap.old.objects) conclusions.now ≡ map formula_object Fs → are_extras A (method_of_logic method) (object_at heap.old.objects extras) ≡ true → IsCandidate heap.new.objects (by_premises (method_of_logic method) F Fs (object_at heap.old.objects extras)) o) }
@@ -94,11 +90,7 @@ pub(crate) fn candidate(
     profile: Profile,
     marks: &Marks,
 ) -> Result<Option<Ref>, Memory>
-    requires conclusion { IsIn heap.old.objects conclusion }
-    requires conclusions { All (IsIn heap.old.objects) conclusions.now }
-    requires extras { IsIn heap.old.objects extras }
-    requires marked { extras < length marks.now }
-    requires marks { (A : ArityTable) × AreMarks A heap.old.objects marks.now }
+    requires { AreStepParts heap.old.objects conclusion conclusions.now extras marks.now }
     ensures grows { Grows heap.old.objects heap.new.objects }
     ensures within { IfOk result (λ o. IfSome o (λ r. IsIn heap.new.objects r)) }
     ensures meant { IfOk result (λ o. (A : ArityTable) (F : Formula) (Fs : List Formula) → AreMarks A heap.old.objects marks.now → IsFormula A F → Each (IsFormula A) Fs → object_at heap.old.objects conclusion ≡ formula_object F → map (object_at heap.old.objects) conclusions.now ≡ map formula_object Fs → are_extras A (method_of_logic method) (object_at heap.old.objects extras) ≡ true → IsCandidate heap.new.objects (meant_of (profile_of profile) (method_of_logic method) F Fs (object_at heap.old.objects extras)) o) }

@@ -1,10 +1,10 @@
 //! Whether an object has the form of a term or of a formula, whatever names it calls.
 ghost use Rattle.std.specs.Prelude.{◌≡◌, ◌&&◌, not, true, false, IfOk, IfSome, MatchOption, is_some};
-ghost use Rattle.mw_model.specs.Terms.Object.{Object, Pair, same_object, has_members, symbol, list3};
+ghost use Rattle.mw_model.specs.Terms.Object.{Object, same_object, has_members, symbol, list3};
 ghost use Rattle.mw_model.specs.Terms.Reading.{term_of, terms_of, formula_of};
 ghost use Rattle.mw_model.specs.Values.Primitive.{is_symbol};
 ghost use Rattle.mw_heap.specs.Objects.{object_at, IsIn};
-ghost use Rattle.mw_bad_steps.specs.Forms.{has_form, reference, IsFormIn, IsEntered, are_names};
+ghost use Rattle.mw_bad_steps.specs.Forms.{has_form, reference, IsFormIn, IsCall, IsEntered, are_names};
 
 use crate::lists::has_members;
 use mw_heap::{Heap, Memory, Ref, View, Word};
@@ -49,9 +49,7 @@ fn enter_call(
     actuals: Ref,
     waiting: &mut Vec<Form>,
 ) -> Result<bool, Memory>
-    requires head_in { IsIn heap.now.objects head }
-    requires actuals_in { IsIn heap.now.objects actuals }
-    requires call { object_at heap.now.objects x ≡ Pair (object_at heap.now.objects head) (object_at heap.now.objects actuals) }
+    requires call { IsCall heap.now.objects x head actuals }
     requires symbol { is_symbol (object_at heap.now.objects head) ≡ true }
     ensures { IfOk result (IsEntered heap.now.objects x (is_some (term_of (object_at heap.now.objects x))) waiting.old.items waiting.new.items) }
 {
@@ -82,9 +80,7 @@ fn enter_lambda(
     actuals: Ref,
     waiting: &mut Vec<Form>,
 ) -> Result<bool, Memory>
-    requires head_in { IsIn heap.now.objects head }
-    requires actuals_in { IsIn heap.now.objects actuals }
-    requires call { object_at heap.now.objects x ≡ Pair (object_at heap.now.objects head) (object_at heap.now.objects actuals) }
+    requires call { IsCall heap.now.objects x head actuals }
     requires pair { is_symbol (object_at heap.now.objects head) ≡ false }
     ensures { IfOk result (IsEntered heap.now.objects x (is_some (term_of (object_at heap.now.objects x))) waiting.old.items waiting.new.items) }
 {

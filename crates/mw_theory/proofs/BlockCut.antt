@@ -27,30 +27,20 @@ module _ (os : List Object) (distinct : AreDistinct os) (older : ArePartsOlder o
   before-cut : (x : ℕ) (o : Object) → IsIn os x → object_at os x ≡ o → StandsBefore os m o → x < m
   before-cut x o i e s = subst (λ y. y < m) (distinct s.0 x (omega (arith, s.1, within)) i (s.2 ∙ sym e)) s.1
 
-  in-cut : (x : ℕ) (o : Object) → IsIn os x → object_at os x ≡ o → StandsBefore os m o → IsIn (take m os) x
-  in-cut x o i e s = IsIn-take m os x (before-cut x o i e s) within
-
-  is-cut : (x : ℕ) (o : Object) → IsIn os x → object_at os x ≡ o → StandsBefore os m o → object_at (take m os) x ≡ o
-  is-cut x o i e s = object_at-take m os x (before-cut x o i e s) ∙ e
+  -- the object at x stays in its place
+  stays : (x : ℕ) (o : Object) → IsIn os x → object_at os x ≡ o → StandsBefore os m o → IsIn (take m os) x × (object_at (take m os) x ≡ o)
+  stays x o i e s = let before = before-cut x o i e s in (IsIn-take m os x before within, object_at-take m os x before ∙ e)
 
   functions-cut : (ds : List Definition) (B : List Defined) → AreFunctions os ds B → StandsBefore os m (formulas_object (map function_axiom B)) → AreFunctions (take m os) ds B
   functions-cut [] [] h s = tt
   functions-cut (Function name formals body ∷ ds) (k ∷ B) h s =
       let f = h.0 in
-      let equality = first-of _ _ s in
-      let sides = rest-of _ _ equality in
+      let sides = rest-of _ _ (first-of _ _ s) in
       let call = first-of _ _ sides in
-      let n = first-of _ _ call in
-      let xs = subst (StandsBefore os m) (variables-names k.formals) (rest-of _ _ call) in
-      let b = first-of _ _ (rest-of _ _ sides) in (
-        record {
-          name_in = in-cut name _ f.name_in f.name_is n;
-          formals_in = in-cut formals _ f.formals_in f.formals_are xs;
-          body_in = in-cut body _ f.body_in f.body_is b;
-          name_is = is-cut name _ f.name_in f.name_is n;
-          formals_are = is-cut formals _ f.formals_in f.formals_are xs;
-          body_is = is-cut body _ f.body_in f.body_is b;
-        },
+      let n = stays name _ f.name_in f.name_is (first-of _ _ call) in
+      let xs = stays formals _ f.formals_in f.formals_are (subst (StandsBefore os m) (variables-names k.formals) (rest-of _ _ call)) in
+      let b = stays body _ f.body_in f.body_is (first-of _ _ (rest-of _ _ sides)) in (
+        record { name_in = n.0; formals_in = xs.0; body_in = b.0; name_is = n.1; formals_are = xs.1; body_is = b.1 },
         functions-cut ds B h.1 (rest-of _ _ s),
       )
   functions-cut [] (k ∷ B) h s = absurd h
@@ -62,23 +52,14 @@ module _ (os : List Object) (distinct : AreDistinct os) (older : ArePartsOlder o
   block-cut ds (Functions B) h s = functions-cut ds B h s
   block-cut (Witness name bound free body ∷ []) (Choice g y xs b) h s =
       let sides = rest-of _ _ (first-of _ _ s) in
-      let t = first-of _ _ (rest-of _ _ (first-of _ _ sides)) in
       let equation = first-of _ _ (rest-of _ _ (first-of _ _ (rest-of _ _ sides))) in
       let call = first-of _ _ (rest-of _ _ equation) in
-      let formals = first-of _ _ (rest-of _ _ (first-of _ _ call)) in
-      let y = first-of _ _ formals in
-      let free_are = rest-of _ _ formals in
-      let g = first-of _ _ (first-of _ _ (rest-of _ _ call)) in
-      record {
-        name_in = in-cut name _ h.name_in h.name_is g;
-        bound_in = in-cut bound _ h.bound_in h.bound_is y;
-        free_in = in-cut free _ h.free_in h.free_are free_are;
-        body_in = in-cut body _ h.body_in h.body_is t;
-        name_is = is-cut name _ h.name_in h.name_is g;
-        bound_is = is-cut bound _ h.bound_in h.bound_is y;
-        free_are = is-cut free _ h.free_in h.free_are free_are;
-        body_is = is-cut body _ h.body_in h.body_is t;
-      }
+      let variables = first-of _ _ (rest-of _ _ (first-of _ _ call)) in
+      let n = stays name _ h.name_in h.name_is (first-of _ _ (first-of _ _ (rest-of _ _ call))) in
+      let v = stays bound _ h.bound_in h.bound_is (first-of _ _ variables) in
+      let vs = stays free _ h.free_in h.free_are (rest-of _ _ variables) in
+      let t = stays body _ h.body_in h.body_is (first-of _ _ (rest-of _ _ (first-of _ _ sides))) in
+      record { name_in = n.0; bound_in = v.0; free_in = vs.0; body_in = t.0; name_is = n.1; bound_is = v.1; free_are = vs.1; body_is = t.1 }
   block-cut [] (Choice g y xs b) h s = absurd h
   block-cut (Function name formals body ∷ ds) (Choice g y xs b) h s = absurd h
   block-cut (Witness name bound free body ∷ d ∷ ds) (Choice g y xs b) h s = absurd h

@@ -1,5 +1,5 @@
 -- Which objects are events of which word, and what happens by an event.
-use Rattle.std.proofs.Common.{◌≡◌, ℕ, ◌<◌, false, not, cond, List, Option, Some, None, MatchOption, refl, sym, ap, ◌∙◌, arith}
+use Rattle.std.proofs.Common.{◌≡◌, ℕ, ◌<◌, false, not, cond, List, Option, Some, None, MatchOption, option_map, refl, sym, ap, ◌∙◌, arith}
 use Rattle.mw_model.specs.Terms.Object.{Name, Object, Natural, Symbol, Pair, same_object, has_members}
 use Rattle.mw_model.specs.Terms.Reading.{when, that}
 use Rattle.mw_model.specs.Values.Primitive.{is_pair}
@@ -105,3 +105,7 @@ module _ (t : Theory) (N : ℕ) (e : Object) (in_range : is_out_of_range e ≡ f
   pub word_happens : (w : EventWord) → event_word e ≡ Some w → happens_by w t N e ≡ happens t N e
   unfolding need
   word_happens w is = sym (by_word (Some w) is)
+
+-- how many members a word wants that is known
+pub wanted_by : (n : Option ℕ) (known w : Word) → w ≡ known → n ≡ option_map member_count (word_at (word_object known)) → n ≡ option_map member_count (word_at (word_object w))
+wanted_by n known w is counted = counted ∙ ap (λ v. option_map member_count (word_at (word_object v))) (sym is)

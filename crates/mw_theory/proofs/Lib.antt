@@ -12,6 +12,7 @@ pub mod EventWords
 pub mod Firsts
 pub mod Held
 pub mod Initial
+pub mod Judging
 pub mod ListMembers
 pub mod Listing
 pub mod Mapped

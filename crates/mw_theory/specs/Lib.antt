@@ -9,5 +9,6 @@ pub mod Defining
 pub mod Waking
 pub mod Worlds
 pub mod Proofs
+pub mod Judging
 pub mod Settling
 pub mod Settled

@@ -4,9 +4,10 @@ ghost use Rattle.mw_model.specs.Terms.Object.{Object};
 ghost use Rattle.mw_heap.specs.Objects.{object_at, IsIn, Grows};
 ghost use Rattle.mw_heap.specs.Variants.{refusal_of};
 ghost use Rattle.mw_term.specs.Marking.{AreMarks};
-ghost use Rattle.mw_theory.specs.Knowledge.{parts_of, meant, IsHeld};
+ghost use Rattle.mw_theory.specs.Knowledge.{parts_of, meant};
 ghost use Rattle.mw_theory.specs.Admitting.{AreWithin, drafts_given};
 ghost use Rattle.mw_theory.specs.Settling.{IsDefined};
+ghost use Rattle.mw_theory.specs.Judging.{MayJudge, IsSameJudge};
 
 use crate::admitting::{Drafts, admit_within};
 use crate::judge::Judge;
@@ -28,14 +29,10 @@ pub(crate) fn refusal_of_definitions<J: Judge>(
 ) -> Result<Option<Refusal>, Memory>
     requires drafts { AreWithin heap.old.objects drafts.now }
     requires proofs { IsIn heap.old.objects proofs }
-    requires held { IsHeld heap.old.objects theory.now }
-    requires ready { (os : List Object) × Grows os heap.old.objects × J.ready judge.old os }
-    requires marked { AreMarks theory.now.arity heap.old.objects marks.old }
+    requires may { MayJudge J.ready judge.old heap.old.objects theory.now marks.old }
     ensures grows { Grows heap.old.objects heap.new.objects }
     ensures marked { AreMarks theory.now.arity heap.new.objects marks.new }
-    ensures same { J.judges judge.new ≡ J.judges judge.old }
-    ensures limit { J.limit judge.new ≡ J.limit judge.old }
-    ensures ready { (os : List Object) → J.ready judge.old os → J.ready judge.new os }
+    ensures judge { IsSameJudge J.ready J.judges J.limit judge.old judge.new }
     ensures defined { (os : List Object) → Grows os heap.old.objects → J.ready judge.old os → IfOk result (λ r. IsDefined (J.judges judge.old os) (meant heap.old.objects (parts_of theory.now)) (drafts_given heap.old.objects drafts.now) (object_at heap.old.objects proofs) (option_map refusal_of r)) }
 {
     let most = count_members(heap, proofs);

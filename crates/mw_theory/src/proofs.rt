@@ -6,8 +6,9 @@ ghost use Rattle.mw_model.specs.Laws.RulesInduction.{formulas_object, length_obj
 ghost use Rattle.mw_heap.specs.Objects.{object_at, IsIn, Grows};
 ghost use Rattle.mw_heap.specs.Variants.{refusal_of};
 ghost use Rattle.mw_term.specs.Marking.{AreMarks};
-ghost use Rattle.mw_theory.specs.Knowledge.{parts_of, meant, IsHeld};
+ghost use Rattle.mw_theory.specs.Knowledge.{parts_of, meant};
 ghost use Rattle.mw_theory.specs.Proofs.{judged_each, judged_all};
+ghost use Rattle.mw_theory.specs.Judging.{MayJudge, IsSameJudge};
 
 use crate::judge::Judge;
 use crate::theory::Theory;
@@ -26,14 +27,10 @@ pub(crate) fn refusal_of_proofs<J: Judge>(
 ) -> Result<Option<Refusal>, Memory>
     requires obligations { IsIn heap.old.objects obligations }
     requires proofs { IsIn heap.old.objects proofs }
-    requires held { IsHeld heap.old.objects theory.now }
-    requires ready { (os : List Object) × Grows os heap.old.objects × J.ready judge.old os }
-    requires marked { AreMarks theory.now.arity heap.old.objects marks.old }
+    requires may { MayJudge J.ready judge.old heap.old.objects theory.now marks.old }
     ensures grows { Grows heap.old.objects heap.new.objects }
     ensures marked { AreMarks theory.now.arity heap.new.objects marks.new }
-    ensures same { J.judges judge.new ≡ J.judges judge.old }
-    ensures limit { J.limit judge.new ≡ J.limit judge.old }
-    ensures ready { (os : List Object) → J.ready judge.old os → J.ready judge.new os }
+    ensures judge { IsSameJudge J.ready J.judges J.limit judge.old judge.new }
     ensures refusal { (os : List Object) → Grows os heap.old.objects → J.ready judge.old os → IfOk result (λ r. (Fs : List Formula) → object_at heap.old.objects obligations ≡ formulas_object Fs → option_map refusal_of r ≡ judged_all (J.judges judge.old os) (meant heap.old.objects (parts_of theory.now)) Fs (object_at heap.old.objects proofs)) }
 {
     if !has_as_many(heap, proofs, obligations) {
@@ -86,14 +83,10 @@ fn first_refusal<J: Judge>(
     requires obligations { IsIn heap.old.objects obligations }
     requires proofs { IsIn heap.old.objects proofs }
     requires many { has_members (length_object (object_at heap.old.objects obligations)) (object_at heap.old.objects proofs) ≡ true }
-    requires held { IsHeld heap.old.objects theory.now }
-    requires ready { (os : List Object) × Grows os heap.old.objects × J.ready judge.old os }
-    requires marked { AreMarks theory.now.arity heap.old.objects marks.old }
+    requires may { MayJudge J.ready judge.old heap.old.objects theory.now marks.old }
     ensures grows { Grows heap.old.objects heap.new.objects }
     ensures marked { AreMarks theory.now.arity heap.new.objects marks.new }
-    ensures same { J.judges judge.new ≡ J.judges judge.old }
-    ensures limit { J.limit judge.new ≡ J.limit judge.old }
-    ensures ready { (os : List Object) → J.ready judge.old os → J.ready judge.new os }
+    ensures judge { IsSameJudge J.ready J.judges J.limit judge.old judge.new }
     ensures refusal { (os : List Object) → Grows os heap.old.objects → J.ready judge.old os → IfOk result (λ r. (Fs : List Formula) → object_at heap.old.objects obligations ≡ formulas_object Fs → option_map refusal_of r ≡ judged_each (J.judges judge.old os) (meant heap.old.objects (parts_of theory.now)) Fs (object_at heap.old.objects proofs)) }
 {
     let mut formulas = obligations;

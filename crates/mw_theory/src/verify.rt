@@ -5,8 +5,9 @@ ghost use Rattle.mw_model.specs.Terms.Object.{Object};
 ghost use Rattle.mw_heap.specs.Objects.{object_at, IsIn, Grows};
 ghost use Rattle.mw_heap.specs.Variants.{refusal_of};
 ghost use Rattle.mw_term.specs.Marking.{AreMarks};
-ghost use Rattle.mw_theory.specs.Knowledge.{parts_of, meant, IsHeld};
+ghost use Rattle.mw_theory.specs.Knowledge.{parts_of, meant};
 ghost use Rattle.mw_theory.specs.Settling.{verify_refusal};
+ghost use Rattle.mw_theory.specs.Judging.{MayJudge, IsSameJudge};
 
 use crate::judge::Judge;
 use crate::symbol::is_symbol;
@@ -28,14 +29,10 @@ pub(crate) fn refusal<J: Judge>(
     requires name { IsIn heap.old.objects name }
     requires formula { IsIn heap.old.objects formula }
     requires proof { IsIn heap.old.objects proof }
-    requires held { IsHeld heap.old.objects theory.now }
-    requires ready { (os : List Object) × Grows os heap.old.objects × J.ready judge.old os }
-    requires marked { AreMarks theory.now.arity heap.old.objects marks.old }
+    requires may { MayJudge J.ready judge.old heap.old.objects theory.now marks.old }
     ensures grows { Grows heap.old.objects heap.new.objects }
     ensures marked { AreMarks theory.now.arity heap.new.objects marks.new }
-    ensures same { J.judges judge.new ≡ J.judges judge.old }
-    ensures limit { J.limit judge.new ≡ J.limit judge.old }
-    ensures ready { (os : List Object) → J.ready judge.old os → J.ready judge.new os }
+    ensures judge { IsSameJudge J.ready J.judges J.limit judge.old judge.new }
     ensures refusal { (os : List Object) → Grows os heap.old.objects → J.ready judge.old os → IfOk result (λ r. option_map refusal_of r ≡ verify_refusal (J.judges judge.old os) (meant heap.old.objects (parts_of theory.now)) (object_at heap.old.objects name) (object_at heap.old.objects formula) (object_at heap.old.objects proof)) }
 {
     if !is_symbol(heap, name) {

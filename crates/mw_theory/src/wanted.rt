@@ -8,6 +8,7 @@ ghost use Rattle.mw_theory.specs.EventWords.{word_at, word_begun};
 use mw_heap::{Heap, Ref, View, Word};
 
 // How many members an event of this word has, the word among them; nothing of a word of no event.
+#[tactic(auto, using(crate::proofs::EventWords::wanted_by))]
 fn member_count(word: Word) -> Option<u64>
     ensures { result ≡ option_map member_count (word_at (word_object word)) }
 {

@@ -1,5 +1,5 @@
 //! A theory in its heap, and how it changes.
-ghost use Rattle.std.specs.Prelude.{◌≡◌, ◌≤◌, List, length, take, IfOk, OnOk, OnErr};
+ghost use Rattle.std.specs.Prelude.{◌≡◌, ◌≤◌, ◌+◌, max, List, length, take, IfOk, OnOk, OnErr};
 ghost use Rattle.mw_model.specs.Terms.Object.{Object};
 ghost use Rattle.mw_model.specs.Terms.Term.{ArityTable};
 ghost use Rattle.mw_model.specs.Values.Primitive.{One, Two, name_of};
@@ -84,8 +84,7 @@ impl World {
         ensures theory { OnOk result (theory_in self.new ≡ with_theorem (theory_in self.old) (object_at self.old.heap.objects formula)) }
         ensures err { OnErr result (theory_in self.new ≡ theory_in self.old) }
     {
-        let end = self.heap.mark_after(formula);
-        self.cut_to(later(end, self.needed));
+        self.cut_past(formula);
         self.theory.add_theorem(&mut self.heap, formula)?;
         self.needed = self.heap.mark();
         Ok(())
@@ -102,7 +101,21 @@ impl World {
         ensures needed { self.new.needed ≡ self.old.needed }
     {
         self.heap.order();
-        let end = self.heap.mark_after(axioms);
+        self.cut_past(axioms);
+    }
+
+    // Forgets what stands after an object and all that the theory needs.
+    fn cut_past(&mut self, x: Ref)
+        requires world { IsWorld self.old }
+        requires within { IsIn self.old.heap.objects x }
+        ensures world { IsWorld self.new }
+        ensures objects { self.new.heap.objects ≡ take (max (x + 1) self.old.needed) self.old.heap.objects }
+        ensures within { IsIn self.new.heap.objects x }
+        ensures same { object_at self.new.heap.objects x ≡ object_at self.old.heap.objects x }
+        ensures theory { theory_in self.new ≡ theory_in self.old }
+        ensures needed { self.new.needed ≡ self.old.needed }
+    {
+        let end = self.heap.mark_after(x);
         self.cut_to(later(end, self.needed));
     }
 
@@ -159,8 +172,7 @@ impl World {
         let Some(level) = self.theory.level.checked_add(1) else {
             return Err(Memory);
         };
-        let end = self.heap.mark_after(name);
-        self.cut_to(later(end, self.needed));
+        self.cut_past(name);
         self.theory.checker = Some(name);
         self.theory.level = level;
         self.theory.is_initial = false;

@@ -56,7 +56,7 @@ loop-last-preserved-then-branch c =
 pub decide-requires-clause-within : goal.decide-requires-clause-within
 decide-requires-clause-within c =
     let both = popped c.args.heap.now.objects c.loop-last.path.items c.pop.new.self.items c.in-Some.last c.in-Some.ensures.items c.loop-last.invariant.within in
-    subst (λ n. c.in-Some.last.proof < n) (sym c.requires.all) both.1.0
+    subst (λ n. c.in-Some.last.proof < n) (sym c.requires.may.all) both.1.0
 
 pub returns-then-not-holds-clause-found : goal.returns-then-not-holds-clause-found
 returns-then-not-holds-clause-found c = λ A k.
@@ -70,7 +70,7 @@ returns-then-not-holds-clause-found c = λ A k.
     let both = popped os c.loop-last.path.items ws w c.in-Some.ensures.items inv.within in
     let b = basis_over os A c.args.basis.now in
     let ended = subst (Advances cur w known ws new) c.if-branch.false c.in_ok-advance.ensures in
-    let answer : c.in_ok-holds.holds ≡ is_step_on b (object_at os w.proof) = c.in_ok-holds.ensures.answer A (AreMarks-grows A os cur c.args.marks.now inv.grows k) ∙ is_step-grows os cur inv.grows A c.args.basis.now c.requires.basis w.proof both.1.0 in
+    let answer : c.in_ok-holds.holds ≡ is_step_on b (object_at os w.proof) = c.in_ok-holds.ensures.answer A (AreMarks-grows A os cur c.args.marks.now inv.grows k) ∙ is_step-grows os cur inv.grows A c.args.basis.now c.requires.may.basis w.proof both.1.0 in
     let looks = subst (IsLooking b os c.args.proof known) c.in-Some.ensures.items (inv.looks A k) in
     let none_left = sym (ap is_pair (part_same os cur inv.grows w.left both.1.1)) ∙ ended.0 in
     (both.1.0, looking_ends b os c.args.proof known ws w looks none_left (sym answer ∙ c.if-not-holds.true) ∙ ap (λ l. Some (placed (map number_of l) (object_at os w.proof))) (sym ended.1))
@@ -101,7 +101,7 @@ loop-last-preserved c =
       found = adds.within;
       looks = λ A k.
           let b = basis_over os A c.args.basis.now in
-          let answer : c.in_ok-holds.holds ≡ is_step_on b (object_at os w.proof) = c.in_ok-holds.ensures.answer A (AreMarks-grows A os cur c.args.marks.now inv.grows k) ∙ is_step-grows os cur inv.grows A c.args.basis.now c.requires.basis w.proof both.1.0 in
+          let answer : c.in_ok-holds.holds ≡ is_step_on b (object_at os w.proof) = c.in_ok-holds.ensures.answer A (AreMarks-grows A os cur c.args.marks.now inv.grows k) ∙ is_step-grows os cur inv.grows A c.args.basis.now c.requires.may.basis w.proof both.1.0 in
           let looks = subst (IsLooking b os c.args.proof known) c.in-Some.ensures.items (inv.looks A k) in
           let none_left = sym (ap is_pair (part_same os cur inv.grows w.left both.1.1)) ∙ ended.0 in
           subst (IsLooking b os c.args.proof c.insert.new.self.keys) (sym ended.1)

@@ -5,11 +5,10 @@ use Rattle.mw_model.specs.Terms.Object.{Pair, NIL}
 use Rattle.mw_model.specs.Laws.RulesInduction.{disjunction_object, steps_object, ordinal_object, all_falls_object}
 use Rattle.mw_heap.specs.Objects.{object_at}
 use Rattle.mw_heap.specs.Lists.{list_object}
-use Rattle.mw_heap.proofs.Objects.{Grows-trans, IsIn-Grows, object_at-Grows}
-use Rattle.mw_induct.specs.Pairs.{are_cases_of_pairs}
+use Rattle.mw_heap.proofs.Objects.{Grows-trans}
 use Rattle.mw_commands.specs.Commands.ExplanationSteps.{listed}
 use Rattle.mw_bad_steps.specs.Members.{members_in}
-use Rattle.mw_bad_steps.proofs.CasesKept.{AreCases-Grows}
+use Rattle.mw_bad_steps.proofs.CasesKept.{AreCases-Grows, cases_begun}
 use Rattle.mw_bad_steps.proofs.PremisesPut.{PutsObjects-then, listed_objects, same_three, premises_listed}
 use Rattle.mw_bad_steps.proofs.premises.premises_of_induction.Goals as goal
 
@@ -39,26 +38,10 @@ returns-clause-made c =
 
 pub put_based-requires-clause-cases : goal.put_based-requires-clause-cases
 put_based-requires-clause-cases c =
-    let h0 = c.args.heap.now.objects in
-    let h1 = c.nil.new.self.objects in
-    let g1 = c.in_ok-nil.ensures.grows in
-    record {
-      conditions = IsIn-Grows h0 h1 g1 c.args.conditions c.requires.conditions;
-      substitutions = IsIn-Grows h0 h1 g1 c.args.cases c.requires.cases;
-      nil_in = c.in_ok-nil.ensures.made.0;
-      nil = c.in_ok-nil.ensures.made.1;
-      pairs = ap are_cases_of_pairs (object_at-Grows h0 h1 g1 c.args.cases c.requires.cases) ∙ c.requires.pairs;
-    }
+    let nil = c.in_ok-nil.ensures in
+    cases_begun c.args.heap.now.objects c.nil.new.self.objects _ nil.grows c.requires.conditions c.requires.cases c.requires.pairs nil.made.0 nil.made.1
 
 pub put_measured-requires-clause-cases : goal.put_measured-requires-clause-cases
 put_measured-requires-clause-cases c =
-    let h0 = c.args.heap.now.objects in
-    let h1 = c.nil.new.self.objects in
-    let g1 = c.in_ok-nil.ensures.grows in
-    AreCases-Grows h1 c.put_based.new.heap.objects _ c.put_based.ensures.grows record {
-      conditions = IsIn-Grows h0 h1 g1 c.args.conditions c.requires.conditions;
-      substitutions = IsIn-Grows h0 h1 g1 c.args.cases c.requires.cases;
-      nil_in = c.in_ok-nil.ensures.made.0;
-      nil = c.in_ok-nil.ensures.made.1;
-      pairs = ap are_cases_of_pairs (object_at-Grows h0 h1 g1 c.args.cases c.requires.cases) ∙ c.requires.pairs;
-    }
+    let nil = c.in_ok-nil.ensures in
+    AreCases-Grows c.nil.new.self.objects c.put_based.new.heap.objects _ c.put_based.ensures.grows (cases_begun c.args.heap.now.objects c.nil.new.self.objects _ nil.grows c.requires.conditions c.requires.cases c.requires.pairs nil.made.0 nil.made.1)

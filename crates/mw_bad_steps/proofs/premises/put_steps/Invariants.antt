@@ -1,18 +1,16 @@
 -- The premises so far, and those of the cases that are left.
-use Rattle.std.proofs.Common.{◌≡◌, ◌++◌, map, All, true}
+use Rattle.std.proofs.Common.{◌≡◌, ◌++◌, map, All}
 use Rattle.mw_model.specs.Terms.Object.{NIL}
 use Rattle.mw_model.specs.Laws.RulesInduction.{steps_object}
 use Rattle.mw_heap.specs.Objects.{object_at, IsIn, Grows}
-use Rattle.mw_induct.specs.Pairs.{are_cases_of_pairs}
 use Rattle.mw_bad_steps.specs.Members.{members_in}
+use Rattle.mw_bad_steps.proofs.PremisesPut.{AreLeft}
 use Rattle.mw_bad_steps.proofs.premises.put_steps.Given as goal
 
 abbrev pub invariant-loop-condition : goal.invariant-loop-condition
 invariant-loop-condition l = record {
   grows : Grows l.fn.heap.objects l.heap.objects;
-  conditions_in : IsIn l.fn.heap.objects l.conditions;
-  cases_in : IsIn l.fn.heap.objects l.left;
-  pairs : are_cases_of_pairs (object_at l.fn.heap.objects l.left) ≡ true;
+  left : AreLeft l.fn.heap.objects l.conditions l.left;
   within : All (IsIn l.heap.objects) l.premises.items;
   same : map (object_at l.heap.objects) l.premises.items ++ members_in (steps_object (object_at l.fn.heap.objects l.a) (object_at l.fn.heap.objects l.conditions) (object_at l.fn.heap.objects l.left) NIL) ≡ map (object_at l.fn.heap.objects) l.fn.premises.items ++ members_in (steps_object (object_at l.fn.heap.objects l.a) (object_at l.fn.heap.objects l.fn.cases.conditions) (object_at l.fn.heap.objects l.fn.cases.substitutions) NIL);
 }

@@ -11,9 +11,6 @@ use Rattle.mw_theory.proofs.Initial.{begun_theory, begins, begun_initial}
 use Rattle.mw_heap.proofs.Objects.{Grows-trans}
 use Rattle.mw_theory.proofs.beginning.begin.Goals as goal
 
-pub first_lists-requires-clause-none : goal.first_lists-requires-clause-none
-first_lists-requires-clause-none c = c.new-known.ensures
-
 entered : (c : goal.After-drop-preamble-2) → AreEntries c.first_lists.new.heap.objects c.in_ok-preamble.preamble.definitions (definitions_of (profile_of c.args.profile)).blocks
 entered c =
     AreEntries-grows c.admit_all.new.heap.objects c.first_lists.new.heap.objects c.first_lists.ensures.grows c.in_ok-preamble.preamble.definitions (definitions_of (profile_of c.args.profile)).blocks c.in_ok-preamble.ensures.definitions
@@ -60,12 +57,6 @@ returns-clause-held c =
     c.in_ok-preamble.ensures.arity
     (stands-grows c.admit_all.new.heap.objects q c.first_lists.ensures.grows code.signature code.profile code.functions.items code.code.items code.kept (definitions_of P) c.in_ok-preamble.ensures.table)
     c.is_first.ensures
-
-pub first_lists-requires-clause-within : goal.first_lists-requires-clause-within
-first_lists-requires-clause-within c = c.in_ok-preamble.ensures.within
-
-pub first_lists-requires-clause-definitions : goal.first_lists-requires-clause-definitions
-first_lists-requires-clause-definitions c = c.in_ok-preamble.ensures.axioms
 
 pub returns-in_err-lists-clause-grows : goal.returns-in_err-lists-clause-grows
 returns-in_err-lists-clause-grows c = Grows-trans _ _ _ c.in_ok-preamble.ensures.grows c.first_lists.ensures.grows

@@ -75,12 +75,6 @@ returns-clause-each_axiom_in c = known_begun _ _ _ _ _ _ _ _ _ _ _ _ (start c)
 pub returns-clause-axioms_known : goal.returns-clause-axioms_known
 returns-clause-axioms_known c = known_last _ _ _ _ _ _ _ _ _ _ _ _ (start c)
 
-pub add_axioms-requires-clause-list : goal.add_axioms-requires-clause-list
-add_axioms-requires-clause-list c = c.in_ok-theorems.ensures.made.0
-
-pub add_axioms-requires-2-clause-list : goal.add_axioms-requires-2-clause-list
-add_axioms-requires-2-clause-list c = c.in_ok-axioms.ensures.list.0
-
 pub returns-in_err-arity_list-clause-grows : goal.returns-in_err-arity_list-clause-grows
 returns-in_err-arity_list-clause-grows c = Grows-trans _ _ _ c.build.ensures.grows c.list_arities.ensures.grows
 

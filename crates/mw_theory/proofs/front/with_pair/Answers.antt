@@ -8,12 +8,6 @@ use Rattle.mw_theory.proofs.front.with_pair.Goals as goal
 pub cons-requires-clause-first_in : goal.cons-requires-clause-first_in
 cons-requires-clause-first_in c = IsIn-Grows _ _ c.in_ok-count.ensures.grows _ c.requires.name
 
-pub cons-requires-clause-second_in : goal.cons-requires-clause-second_in
-cons-requires-clause-second_in c = c.in_ok-count.ensures.made.0
-
-pub cons-requires-2-clause-first_in : goal.cons-requires-2-clause-first_in
-cons-requires-2-clause-first_in c = c.in_ok-entry.ensures.made.0
-
 pub cons-requires-2-clause-second_in : goal.cons-requires-2-clause-second_in
 cons-requires-2-clause-second_in c = IsIn-Grows _ _ (Grows-trans _ _ _ c.in_ok-count.ensures.grows c.in_ok-entry.ensures.grows) _ c.requires.list
 

@@ -11,7 +11,7 @@ returns-then-not-is_formula-clause-refusal g c = λ before grows ready.
     let os = c.args.heap.now.objects in
     let A = c.args.theory.now.arity in
     refused_formula _ _ _ (sym c.is_symbol.ensures ∙ c.if-not-is_symbol.false)
-    (ap (λ B. is_formula_object B (object_at os c.args.formula)) (sym c.requires.held.arities) ∙ (sym (c.is_formula.ensures A os c.in_ok-extend.ensures.marked) ∙ c.if-not-is_formula.true))
+    (ap (λ B. is_formula_object B (object_at os c.args.formula)) (sym c.requires.may.held.arities) ∙ (sym (c.is_formula.ensures A os c.in_ok-extend.ensures.marked) ∙ c.if-not-is_formula.true))
 
 pub returns-clause-refusal : goal.returns-clause-refusal
 returns-clause-refusal g c = λ before grows ready.
@@ -19,5 +19,5 @@ returns-clause-refusal g c = λ before grows ready.
     let A = c.args.theory.now.arity in
     IfOk-weaker c.refusal.result _ _ (λ r is. is
     ∙ proof_refused _ _ _ (sym c.is_symbol.ensures ∙ c.if-not-is_symbol.false)
-    (ap (λ B. is_formula_object B (object_at os c.args.formula)) (sym c.requires.held.arities) ∙ (sym (c.is_formula.ensures A os c.in_ok-extend.ensures.marked) ∙ c.if-not-is_formula.false)))
+    (ap (λ B. is_formula_object B (object_at os c.args.formula)) (sym c.requires.may.held.arities) ∙ (sym (c.is_formula.ensures A os c.in_ok-extend.ensures.marked) ∙ c.if-not-is_formula.false)))
     (c.refusal.ensures.refusal before grows ready)

@@ -11,9 +11,6 @@ use Rattle.mw_theory.proofs.Defining.{may_be_added}
 use Rattle.mw_theory.proofs.Results.{OnErr-from}
 use Rattle.mw_theory.proofs.world.World.add_definitions.Goals as goal
 
-pub cut_behind-requires-clause-within : goal.cut_behind-requires-clause-within
-cut_behind-requires-clause-within c = c.requires.block.1.axioms_in
-
 pub add_definitions-requires-clause-held : goal.add_definitions-requires-clause-held
 add_definitions-requires-clause-held c = held _ _ _ _ c.cut_behind.ensures.world
 

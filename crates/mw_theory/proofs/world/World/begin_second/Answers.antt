@@ -10,14 +10,5 @@ returns-in_err-theory-clause-world c = grown _ _ _ _ c.requires.world c.begin.ne
 pub returns-in_err-theory-clause-err : goal.returns-in_err-theory-clause-err
 returns-in_err-theory-clause-err c = OnErr-from _ _ (grown_theory _ _ _ _ c.requires.world c.begin.new.heap.objects c.begin.ensures.grows)
 
-pub go_on_with-requires-clause-held : goal.go_on_with-requires-clause-held
-go_on_with-requires-clause-held c = c.in_ok-theory.ensures.held
-
-pub go_on_with-requires-clause-watched : goal.go_on_with-requires-clause-watched
-go_on_with-requires-clause-watched c = c.in_ok-theory.ensures.watched
-
-pub returns-clause-world : goal.returns-clause-world
-returns-clause-world c = c.go_on_with.ensures.world
-
 pub returns-clause-theory : goal.returns-clause-theory
 returns-clause-theory c = c.go_on_with.ensures.theory ∙ c.in_ok-theory.ensures.theory

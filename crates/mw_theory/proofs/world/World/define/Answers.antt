@@ -30,8 +30,10 @@ returns-then-is_nil-clause-settled g c =
     let none = same_object-eq (object_at old.heap.objects c.args.proofs) NIL (sym c.is_nil.ensures ∙ c.if-is_nil.true) in
     subst (λ P. Settles c.define_alone.result old c.define_alone.new.self (defined J (theory_in old) (drafts_given old.heap.objects c.args.drafts) P)) (sym none) (c.define_alone.ensures J)
 
-pub refusal_of_definitions-requires-clause-held : goal.refusal_of_definitions-requires-clause-held
-refusal_of_definitions-requires-clause-held g c = held _ _ _ _ c.requires.world
+pub refusal_of_definitions-requires-clause-may : goal.refusal_of_definitions-requires-clause-may
+refusal_of_definitions-requires-clause-may g c =
+    let os = c.args.self.now.heap.objects in
+    record { held = held _ _ _ _ c.requires.world; ready = (os, Grows-refl os, c.requires.ready); marked = c.requires.world.marked }
 
 pub returns-in_err-refused-clause-settled : goal.returns-in_err-refused-clause-settled
 returns-in_err-refused-clause-settled g c =
@@ -69,6 +71,3 @@ returns-clause-settled g c =
     let stays = kept-theory _ _ _ _ c.requires.world c.refusal_of_definitions.new.heap.objects c.refusal_of_definitions.ensures.grows c.args.drafts c.cut_after.new.self c.cut_after.ensures.theory c.cut_after.ensures.drafts.1 c.requires.drafts in
     settles-from c.add_functions.result old c.cut_after.new.self c.add_functions.new.self (defined (g.J.Judge.judges c.args.judge.now old.heap.objects) (theory_in old) (drafts_given old.heap.objects c.args.drafts) (object_at old.heap.objects c.args.proofs)) stays (ap (λ r. r.0) told.1)
     (subst (Settles c.add_functions.result c.cut_after.new.self c.add_functions.new.self) same (c.add_functions.ensures J P accepted))
-
-pub refusal_of_definitions-requires-clause-ready : goal.refusal_of_definitions-requires-clause-ready
-refusal_of_definitions-requires-clause-ready g c = let os = c.args.self.now.heap.objects in (os, Grows-refl os, c.requires.ready)

@@ -12,8 +12,10 @@ use Rattle.mw_theory.proofs.Refusing.{fate_refused, none_of}
 use Rattle.mw_theory.proofs.Settlings.{settles-stays, settles-failed, settles-accepted}
 use Rattle.mw_theory.proofs.world.World.verify.Goals as goal
 
-pub refusal-requires-clause-held : goal.refusal-requires-clause-held
-refusal-requires-clause-held g c = held _ _ _ _ c.requires.world
+pub refusal-requires-clause-may : goal.refusal-requires-clause-may
+refusal-requires-clause-may g c =
+    let os = c.args.self.now.heap.objects in
+    record { held = held _ _ _ _ c.requires.world; ready = (os, Grows-refl os, c.requires.ready); marked = c.requires.world.marked }
 
 pub returns-in_err-refused-clause-settled : goal.returns-in_err-refused-clause-settled
 returns-in_err-refused-clause-settled g c =
@@ -54,9 +56,6 @@ returns-clause-settled g c =
     let same = theory-same _ _ _ _ c.requires.world c.refusal.new.heap.objects c.refusal.ensures.grows in
     let formula = object_at-Grows old.heap.objects c.refusal.new.heap.objects c.refusal.ensures.grows c.args.formula c.requires.formula in
     settles-accepted old _ (verified (g.J.Judge.judges c.args.judge.now old.heap.objects) (theory_in old) (object_at old.heap.objects c.args.name) (object_at old.heap.objects c.args.formula) (object_at old.heap.objects c.args.proof)) c.in_ok-add_theorem.ensures.world (ap (λ r. r.0) comes) (c.in_ok-add_theorem.ensures.theory ∙ (ap₂ with_theorem same formula ∙ ap (λ r. r.1) comes))
-
-pub refusal-requires-clause-ready : goal.refusal-requires-clause-ready
-refusal-requires-clause-ready g c = let os = c.args.self.now.heap.objects in (os, Grows-refl os, c.requires.ready)
 
 pub add_theorem-requires-clause-within : goal.add_theorem-requires-clause-within
 add_theorem-requires-clause-within g c = IsIn-Grows _ _ c.refusal.ensures.grows _ c.requires.formula
