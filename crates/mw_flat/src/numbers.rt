@@ -49,26 +49,6 @@ fn write_rest(
     Ok(())
 }
 
-// Writes the numbers of a list of proofs.
-fn write_list(
-    heap: &Heap,
-    complete: &IndexSet<Ref>,
-    list: Ref,
-    left: &mut u64,
-    line: &mut Vec<u8>,
-) -> Result<(), Memory>
-    requires within { IsIn heap.now.objects list }
-    requires all_within { All (IsIn heap.now.objects) complete.now.keys }
-    ensures { OnOk result (line.new.items ≡ line.old.items ++ text_of (numbers_among (map (object_at heap.now.objects) complete.now.keys) (object_at heap.now.objects list))) }
-{
-    let View::Pair(first, rest) = heap.view(list) else {
-        return write_nil(line);
-    };
-    line.push(b'(')?;
-    write_number_of(heap, complete, first, left, line)?;
-    write_rest(heap, complete, rest, left, line)
-}
-
 /// Writes the list of the numbers of a list of proofs, after a space. Each takes one of those that are left: the error is that none is
 /// left, or out of memory.
 pub(crate) fn write_numbers(
@@ -83,8 +63,12 @@ pub(crate) fn write_numbers(
     ensures { OnOk result (line.new.items ≡ line.old.items ++ 32 ∷ text_of (numbers_among (map (object_at heap.now.objects) complete.now.keys) (part_at heap.now.objects list))) }
 {
     line.push(b' ')?;
-    match list {
-        Some(list) => write_list(heap, complete, list, left, line),
-        None => write_nil(line),
+    if let Some(list) = list {
+        if let View::Pair(first, rest) = heap.view(list) {
+            line.push(b'(')?;
+            write_number_of(heap, complete, first, left, line)?;
+            return write_rest(heap, complete, rest, left, line);
+        }
     }
+    write_nil(line)
 }

@@ -1,2 +1,3 @@
 pub mod Conclusions
 pub mod Pairs
+pub mod Scheme

@@ -1,36 +1,32 @@
 //! The premises by which the measure falls.
-ghost use Rattle.std.specs.Prelude.{◌≡◌, true, All, IfOk};
+ghost use Rattle.std.specs.Prelude.{◌≡◌, All, IfOk};
 ghost use Rattle.mw_model.specs.Terms.Object.{same_object};
-ghost use Rattle.mw_model.specs.Laws.RulesInduction.{length_object, fall_object, falls_object, all_falls_object};
+ghost use Rattle.mw_model.specs.Laws.RulesInduction.{fall_object, falls_object};
 ghost use Rattle.mw_heap.specs.Objects.{object_at, IsIn};
-ghost use Rattle.mw_subst.specs.Pairs.{is_list_of_pairs};
 ghost use Rattle.mw_induct.specs.Conclusions.{conclusions_object, Takes};
-ghost use Rattle.mw_induct.specs.Pairs.{are_lists_of_pairs, are_cases_of_pairs};
+ghost use Rattle.mw_induct.specs.Pairs.{IsSubstitutionIn, AreSubstitutionsIn};
+ghost use Rattle.mw_induct.specs.Scheme.{IsScheme, falls_of};
 
 use crate::instance::is_instance_by;
+use crate::scheme::Scheme;
 use crate::shapes::true_term;
 use mw_heap::{Heap, Memory, Ref, View, Word};
 
 // Whether the conclusions are those by which the measure falls, in each case by each of its substitutions.
 pub(crate) fn are_all_falls(
     heap: &mut Heap,
-    measure: Ref,
-    conditions: Ref,
-    cases: Ref,
+    scheme: &Scheme,
     conclusions: &[Ref],
 ) -> Result<bool, Memory>
-    requires within { IsIn heap.old.objects measure }
-    requires conditions_within { IsIn heap.old.objects conditions }
-    requires cases_within { IsIn heap.old.objects cases }
-    requires conclusions_within { All (IsIn heap.old.objects) conclusions.now }
-    requires as_many { length_object (object_at heap.old.objects conditions) ≡ length_object (object_at heap.old.objects cases) }
-    requires pairs { are_cases_of_pairs (object_at heap.old.objects cases) ≡ true }
+    requires scheme { IsScheme heap.old.objects scheme.now }
+    requires conclusions { All (IsIn heap.old.objects) conclusions.now }
     ensures objects { heap.new.objects ≡ heap.old.objects }
-    ensures falls { IfOk result (λ b. b ≡ same_object (conclusions_object heap.old.objects conclusions.now) (all_falls_object (object_at heap.old.objects measure) (object_at heap.old.objects conditions) (object_at heap.old.objects cases))) }
+    ensures falls { IfOk result (λ b. b ≡ same_object (conclusions_object heap.old.objects conclusions.now) (falls_of heap.old.objects scheme.now)) }
 {
     let mut taken = 0;
-    let mut conditions = conditions;
-    let mut cases = cases;
+    let measure = scheme.measure;
+    let mut conditions = scheme.conditions;
+    let mut cases = scheme.cases;
     while let View::Pair(condition, more) = heap.view(conditions) {
         let View::Pair(substitutions, others) = heap.view(cases) else {
             unreachable!()
@@ -59,11 +55,10 @@ fn take_falls(
     substitutions: Ref,
     conclusions: &[Ref],
 ) -> Result<Option<usize>, Memory>
-    requires within { IsIn heap.old.objects measure }
-    requires condition_within { IsIn heap.old.objects condition }
-    requires substitutions_within { IsIn heap.old.objects substitutions }
-    requires conclusions_within { All (IsIn heap.old.objects) conclusions.now }
-    requires pairs { are_lists_of_pairs (object_at heap.old.objects substitutions) ≡ true }
+    requires measure { IsIn heap.old.objects measure }
+    requires condition { IsIn heap.old.objects condition }
+    requires substitutions { AreSubstitutionsIn heap.old.objects substitutions }
+    requires conclusions { All (IsIn heap.old.objects) conclusions.now }
     ensures objects { heap.new.objects ≡ heap.old.objects }
     ensures falls { IfOk result (Takes (falls_object (object_at heap.old.objects measure) (object_at heap.old.objects condition) (object_at heap.old.objects substitutions)) heap.old.objects conclusions.now) }
 {
@@ -85,10 +80,9 @@ fn take_falls(
 // Whether x is: not q or (ord< m/s m) = 't.
 fn is_fall(heap: &mut Heap, x: Ref, measure: Ref, condition: Ref, s: Ref) -> Result<bool, Memory>
     requires within { IsIn heap.old.objects x }
-    requires measure_within { IsIn heap.old.objects measure }
-    requires condition_within { IsIn heap.old.objects condition }
-    requires substitution_within { IsIn heap.old.objects s }
-    requires pairs { is_list_of_pairs (object_at heap.old.objects s) ≡ true }
+    requires measure { IsIn heap.old.objects measure }
+    requires condition { IsIn heap.old.objects condition }
+    requires substitution { IsSubstitutionIn heap.old.objects s }
     ensures objects { heap.new.objects ≡ heap.old.objects }
     ensures fall { IfOk result (λ b. b ≡ same_object (object_at heap.old.objects x) (fall_object (object_at heap.old.objects measure) (object_at heap.old.objects condition) (object_at heap.old.objects s))) }
 {

@@ -6,6 +6,7 @@ mod falls;
 mod instance;
 mod looks;
 mod premises;
+mod scheme;
 mod shapes;
 mod steps;
 

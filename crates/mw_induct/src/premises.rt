@@ -2,16 +2,18 @@
 ghost use Rattle.std.specs.Prelude.{◌≡◌, ◌<◌, true, length, All, IfOk};
 ghost use Rattle.mw_model.specs.Terms.Term.{ArityTable};
 ghost use Rattle.mw_model.specs.Laws.Rules.{is_formula_object};
-ghost use Rattle.mw_model.specs.Terms.Object.{Pair, same_object};
-ghost use Rattle.mw_model.specs.Laws.RulesInduction.{length_object, ordinal_object, all_falls_object, premises_object, object_is_induction};
+ghost use Rattle.mw_model.specs.Terms.Object.{same_object};
+ghost use Rattle.mw_model.specs.Laws.RulesInduction.{object_is_induction};
 ghost use Rattle.mw_heap.specs.Objects.{object_at, IsIn};
 ghost use Rattle.mw_term.specs.Marking.{AreMarks};
 ghost use Rattle.mw_induct.specs.Conclusions.{conclusions_object};
-ghost use Rattle.mw_induct.specs.Pairs.{are_cases_of_pairs, IsLikeFormula};
+ghost use Rattle.mw_induct.specs.Scheme.{IsScheme, measured_of, premises_of};
+ghost use Rattle.mw_induct.specs.Pairs.{IsFormulaIn};
 
 use crate::cases::are_cases;
 use crate::falls::are_all_falls;
 use crate::looks::take_looks_at_cases;
+use crate::scheme::Scheme;
 use crate::shapes::{is_disjunction, is_disjunction_from, is_ordinal_premise};
 use crate::steps::take_steps;
 use mw_heap::{Heap, Memory, Ref};
@@ -47,64 +49,52 @@ pub fn premises_hold(
     if !are_cases(heap, marks, conditions, cases) {
         return Ok(false);
     }
-    are_premises(heap, f, measure, conditions, cases, conclusions)
+    let scheme = Scheme {
+        measure,
+        conditions,
+        cases,
+    };
+    are_premises(heap, f, &scheme, conclusions)
 }
 
 // Whether the conclusions are the premises of an induction.
 fn are_premises(
     heap: &mut Heap,
     a: Ref,
-    measure: Ref,
-    conditions: Ref,
-    cases: Ref,
+    scheme: &Scheme,
     conclusions: &[Ref],
 ) -> Result<bool, Memory>
-    requires within { IsIn heap.old.objects a }
-    requires measure_within { IsIn heap.old.objects measure }
-    requires conditions_within { IsIn heap.old.objects conditions }
-    requires cases_within { IsIn heap.old.objects cases }
-    requires conclusions_within { All (IsIn heap.old.objects) conclusions.now }
-    requires as_many { length_object (object_at heap.old.objects conditions) ≡ length_object (object_at heap.old.objects cases) }
-    requires pairs { are_cases_of_pairs (object_at heap.old.objects cases) ≡ true }
-    requires formula { IsLikeFormula (object_at heap.old.objects a) }
+    requires formula { IsFormulaIn heap.old.objects a }
+    requires scheme { IsScheme heap.old.objects scheme.now }
+    requires conclusions { All (IsIn heap.old.objects) conclusions.now }
     ensures objects { heap.new.objects ≡ heap.old.objects }
-    ensures premises { IfOk result (λ b. b ≡ same_object (conclusions_object heap.old.objects conclusions.now) (premises_object (object_at heap.old.objects a) (object_at heap.old.objects measure) (object_at heap.old.objects conditions) (object_at heap.old.objects cases))) }
+    ensures premises { IfOk result (λ b. b ≡ same_object (conclusions_object heap.old.objects conclusions.now) (premises_of heap.old.objects a scheme.now)) }
 {
     if conclusions.is_empty() {
         return Ok(false);
     }
-    if !is_disjunction(heap, conclusions[0], a, conditions) {
+    if !is_disjunction(heap, conclusions[0], a, scheme.conditions) {
         return Ok(false);
     }
     let others = &conclusions[1..];
-    match take_steps(heap, a, conditions, cases, others)? {
-        Some(count) => are_measured(heap, measure, conditions, cases, &others[count..]),
+    match take_steps(heap, a, scheme, others)? {
+        Some(count) => are_measured(heap, scheme, &others[count..]),
         None => Ok(false),
     }
 }
 
 // Whether the conclusions are the premises on the measure: that it is an ordinal, and that it falls.
-fn are_measured(
-    heap: &mut Heap,
-    measure: Ref,
-    conditions: Ref,
-    cases: Ref,
-    conclusions: &[Ref],
-) -> Result<bool, Memory>
-    requires within { IsIn heap.old.objects measure }
-    requires conditions_within { IsIn heap.old.objects conditions }
-    requires cases_within { IsIn heap.old.objects cases }
-    requires conclusions_within { All (IsIn heap.old.objects) conclusions.now }
-    requires as_many { length_object (object_at heap.old.objects conditions) ≡ length_object (object_at heap.old.objects cases) }
-    requires pairs { are_cases_of_pairs (object_at heap.old.objects cases) ≡ true }
+fn are_measured(heap: &mut Heap, scheme: &Scheme, conclusions: &[Ref]) -> Result<bool, Memory>
+    requires scheme { IsScheme heap.old.objects scheme.now }
+    requires conclusions { All (IsIn heap.old.objects) conclusions.now }
     ensures objects { heap.new.objects ≡ heap.old.objects }
-    ensures premises { IfOk result (λ b. b ≡ same_object (conclusions_object heap.old.objects conclusions.now) (Pair (ordinal_object (object_at heap.old.objects measure)) (all_falls_object (object_at heap.old.objects measure) (object_at heap.old.objects conditions) (object_at heap.old.objects cases)))) }
+    ensures premises { IfOk result (λ b. b ≡ same_object (conclusions_object heap.old.objects conclusions.now) (measured_of heap.old.objects scheme.now)) }
 {
     if conclusions.is_empty() {
         return Ok(false);
     }
-    if !is_ordinal_premise(heap, conclusions[0], measure) {
+    if !is_ordinal_premise(heap, conclusions[0], scheme.measure) {
         return Ok(false);
     }
-    are_all_falls(heap, measure, conditions, cases, &conclusions[1..])
+    are_all_falls(heap, scheme, &conclusions[1..])
 }

@@ -1,37 +1,33 @@
 //! The step premises: A follows from a condition and from what its substitutions make of A.
-ghost use Rattle.std.specs.Prelude.{◌≡◌, true, All, IfOk};
+ghost use Rattle.std.specs.Prelude.{◌≡◌, All, IfOk};
 ghost use Rattle.mw_model.specs.Terms.Object.{Pair, same_object};
 ghost use Rattle.mw_model.specs.Laws.Rules.{not_object};
-ghost use Rattle.mw_model.specs.Laws.RulesInduction.{length_object, disjunction_object, hypotheses_object, steps_object};
+ghost use Rattle.mw_model.specs.Laws.RulesInduction.{disjunction_object, hypotheses_object};
 ghost use Rattle.mw_heap.specs.Objects.{object_at, IsIn};
-ghost use Rattle.mw_subst.specs.Pairs.{is_list_of_pairs};
 ghost use Rattle.mw_induct.specs.Conclusions.{Takes};
-ghost use Rattle.mw_induct.specs.Pairs.{are_lists_of_pairs, are_cases_of_pairs, IsLikeFormula};
+ghost use Rattle.mw_induct.specs.Scheme.{IsScheme, steps_of};
+ghost use Rattle.mw_induct.specs.Pairs.{IsSubstitutionIn, AreSubstitutionsIn, IsFormulaIn};
 
 use crate::instance::is_negated_instance;
+use crate::scheme::Scheme;
 use mw_heap::{Heap, Memory, Ref, View, Word};
 
 // How many conclusions the step premises take, one for each condition, where these fit.
 pub(crate) fn take_steps(
     heap: &mut Heap,
     a: Ref,
-    conditions: Ref,
-    cases: Ref,
+    scheme: &Scheme,
     conclusions: &[Ref],
 ) -> Result<Option<usize>, Memory>
-    requires within { IsIn heap.old.objects a }
-    requires conditions_within { IsIn heap.old.objects conditions }
-    requires cases_within { IsIn heap.old.objects cases }
-    requires conclusions_within { All (IsIn heap.old.objects) conclusions.now }
-    requires as_many { length_object (object_at heap.old.objects conditions) ≡ length_object (object_at heap.old.objects cases) }
-    requires pairs { are_cases_of_pairs (object_at heap.old.objects cases) ≡ true }
-    requires formula { IsLikeFormula (object_at heap.old.objects a) }
+    requires formula { IsFormulaIn heap.old.objects a }
+    requires scheme { IsScheme heap.old.objects scheme.now }
+    requires conclusions { All (IsIn heap.old.objects) conclusions.now }
     ensures objects { heap.new.objects ≡ heap.old.objects }
-    ensures steps { IfOk result (Takes (steps_object (object_at heap.old.objects a) (object_at heap.old.objects conditions) (object_at heap.old.objects cases)) heap.old.objects conclusions.now) }
+    ensures steps { IfOk result (Takes (steps_of heap.old.objects a scheme.now) heap.old.objects conclusions.now) }
 {
     let mut taken = 0;
-    let mut conditions = conditions;
-    let mut cases = cases;
+    let mut conditions = scheme.conditions;
+    let mut cases = scheme.cases;
     while let View::Pair(condition, more) = heap.view(conditions) {
         let View::Pair(substitutions, others) = heap.view(cases) else {
             unreachable!()
@@ -58,11 +54,9 @@ fn is_step(
     substitutions: Ref,
 ) -> Result<bool, Memory>
     requires within { IsIn heap.old.objects x }
-    requires formula_within { IsIn heap.old.objects a }
-    requires condition_within { IsIn heap.old.objects condition }
-    requires substitutions_within { IsIn heap.old.objects substitutions }
-    requires pairs { are_lists_of_pairs (object_at heap.old.objects substitutions) ≡ true }
-    requires formula { IsLikeFormula (object_at heap.old.objects a) }
+    requires formula { IsFormulaIn heap.old.objects a }
+    requires condition { IsIn heap.old.objects condition }
+    requires substitutions { AreSubstitutionsIn heap.old.objects substitutions }
     ensures objects { heap.new.objects ≡ heap.old.objects }
     ensures step { IfOk result (λ b. b ≡ same_object (object_at heap.old.objects x) (disjunction_object (Pair (object_at heap.old.objects a) (Pair (not_object (object_at heap.old.objects condition)) (hypotheses_object (object_at heap.old.objects a) (object_at heap.old.objects substitutions)))))) }
 {
@@ -84,11 +78,9 @@ fn are_hypotheses(
     substitutions: Ref,
 ) -> Result<bool, Memory>
     requires within { IsIn heap.old.objects x }
-    requires first_within { IsIn heap.old.objects b }
-    requires formula_within { IsIn heap.old.objects a }
-    requires substitutions_within { IsIn heap.old.objects substitutions }
-    requires pairs { are_lists_of_pairs (object_at heap.old.objects substitutions) ≡ true }
-    requires formula { IsLikeFormula (object_at heap.old.objects a) }
+    requires first { IsIn heap.old.objects b }
+    requires formula { IsFormulaIn heap.old.objects a }
+    requires substitutions { AreSubstitutionsIn heap.old.objects substitutions }
     ensures objects { heap.new.objects ≡ heap.old.objects }
     ensures hypotheses { IfOk result (λ r. r ≡ same_object (object_at heap.old.objects x) (disjunction_object (Pair (not_object (object_at heap.old.objects b)) (hypotheses_object (object_at heap.old.objects a) (object_at heap.old.objects substitutions))))) }
 {
@@ -107,12 +99,9 @@ fn are_hypotheses(
 // Whether x is: not A/s or .., for the substitution s and then each of the list.
 fn are_negated_instances(heap: &mut Heap, x: Ref, a: Ref, s: Ref, more: Ref) -> Result<bool, Memory>
     requires within { IsIn heap.old.objects x }
-    requires formula_within { IsIn heap.old.objects a }
-    requires first_within { IsIn heap.old.objects s }
-    requires more_within { IsIn heap.old.objects more }
-    requires first_pairs { is_list_of_pairs (object_at heap.old.objects s) ≡ true }
-    requires more_pairs { are_lists_of_pairs (object_at heap.old.objects more) ≡ true }
-    requires formula { IsLikeFormula (object_at heap.old.objects a) }
+    requires formula { IsFormulaIn heap.old.objects a }
+    requires first { IsSubstitutionIn heap.old.objects s }
+    requires more { AreSubstitutionsIn heap.old.objects more }
     ensures objects { heap.new.objects ≡ heap.old.objects }
     ensures hypotheses { IfOk result (λ r. r ≡ same_object (object_at heap.old.objects x) (disjunction_object (hypotheses_object (object_at heap.old.objects a) (Pair (object_at heap.old.objects s) (object_at heap.old.objects more))))) }
 {

@@ -1,6 +1,6 @@
 -- The tests of the further rules on objects of formulas, which stand in the heap, are those on the formulas.
 use Rattle.std.proofs.Common.{◌≡◌, false, List, Option, Some, None, MatchOption, IfSome, ℕ, refl, sym, ap, ap₂, ◌∙◌, subst}
-use Rattle.std.proofs.lemmas.Bool.{true≢false, and_parts}
+use Rattle.std.proofs.lemmas.Bool.{true≢false, and_parts, and_from}
 use Rattle.mw_model.specs.Terms.Object.{Object, symbol, same_object, NIL, car, list3, second_of, third_of}
 use Rattle.mw_model.specs.Terms.Term.{Term, Formula, Equal, Not, Or, term_object, formula_object, is_formula, is_term, IsFormula, IsTerm}
 use Rattle.mw_model.specs.Terms.Same.{same_term, same_formula}
@@ -95,3 +95,17 @@ module _ (b : Basis) where
 
   pub equal_formed : (G : Formula) (t u : Term) → G ≡ Equal t u → IsFormula b.table G → IsTerm b.table t × IsTerm b.table u
   equal_formed G t u e i = and_parts (is_term b.table t) (is_term b.table u) (subst (IsFormula b.table) e i)
+
+  -- what stands turned round in the heap is tested as the formulas are
+  module _ (F G : Formula) (c k x y : Object) (i : IsFormula b.table F) (j : IsFormula b.table G) (e : c ≡ formula_object F) (d : k ≡ formula_object G) where
+    pub commuted_test : k ≡ list3 (symbol "POR*") x y → same_object c (list3 (symbol "POR*") y x) ≡ is_commuted F G
+    commuted_test is =
+        let p = or_parts G k x y d is in
+        let q = or_formed G p.left p.right p.is j in
+        same_by_objects F (Or p.right p.left) c (list3 (symbol "POR*") y x) i (and_from _ _ q.1 q.0) e (ap₂ (list3 (symbol "POR*")) p.right_is p.left_is) ∙ sym (ap (is_commuted F) p.is)
+
+    pub turned_test : k ≡ list3 (symbol "PEQUAL*") x y → same_object c (list3 (symbol "PEQUAL*") y x) ≡ is_turned F G
+    turned_test is =
+        let p = equal_parts G k x y d is in
+        let q = equal_formed G p.left p.right p.is j in
+        same_by_objects F (Equal p.right p.left) c (list3 (symbol "PEQUAL*") y x) i (and_from _ _ q.1 q.0) e (ap₂ (list3 (symbol "PEQUAL*")) p.right_is p.left_is) ∙ sym (ap (is_turned F) p.is)

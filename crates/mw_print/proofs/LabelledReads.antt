@@ -29,37 +29,27 @@ begins_some : (L : List Lexeme) → BeginsDatum L → 0 < length L
 begins_some [] b = absurd b
 begins_some (l ∷ L) b = omega arith
 
+-- what holds of each of the four
+datum_cases : (P : List Lexeme → Type 0) → ((o : ℕ) (x : Object) (L : List Lexeme) → P (Atom o x ∷ L)) → ((o : ℕ) (L : List Lexeme) → P (Open o ∷ L)) → ((o n : ℕ) (L : List Lexeme) → P (Mark o n ∷ L)) → ((o n : ℕ) (L : List Lexeme) → P (Ref o n ∷ L)) → (L : List Lexeme) → BeginsDatum L → P L
+datum_cases P atom opening mark again [] b = absurd b
+datum_cases P atom opening mark again (Atom o x ∷ L) b = atom o x L
+datum_cases P atom opening mark again (Open o ∷ L) b = opening o L
+datum_cases P atom opening mark again (Mark o n ∷ L) b = mark o n L
+datum_cases P atom opening mark again (Ref o n ∷ L) b = again o n L
+datum_cases P atom opening mark again (_ ∷ L) b = absurd b
+
 begins_more : (L M : List Lexeme) → BeginsDatum L → BeginsDatum (L ++ M)
-begins_more [] M b = absurd b
-begins_more (Atom o x ∷ L) M b = tt
-begins_more (Open o ∷ L) M b = tt
-begins_more (Mark o n ∷ L) M b = tt
-begins_more (Ref o n ∷ L) M b = tt
-begins_more (_ ∷ L) M b = absurd b
+begins_more L M b = datum_cases (λ L. BeginsDatum (L ++ M)) (λ o x L. tt) (λ o L. tt) (λ o n L. tt) (λ o n L. tt) L b
 
-read_first : (k : ℕ) (ls : Begun) (L : List Lexeme) → BeginsDatum L → read (suc k) First ls L ≡ then_read (read k Datum ls L) (and_tail (read k Tail))
-read_first k ls [] b = absurd b
-read_first k ls (Atom o x ∷ L) b = refl
-read_first k ls (Open o ∷ L) b = refl
-read_first k ls (Mark o n ∷ L) b = refl
-read_first k ls (Ref o n ∷ L) b = refl
-read_first k ls (_ ∷ L) b = absurd b
+module _ (k : ℕ) (ls : Begun) where
+  read_first : (L : List Lexeme) → BeginsDatum L → read (suc k) First ls L ≡ then_read (read k Datum ls L) (and_tail (read k Tail))
+  read_first L b = datum_cases (λ L. read (suc k) First ls L ≡ then_read (read k Datum ls L) (and_tail (read k Tail))) (λ o x L. refl) (λ o L. refl) (λ o n L. refl) (λ o n L. refl) L b
 
-read_tail : (k : ℕ) (ls : Begun) (L : List Lexeme) → BeginsDatum L → read (suc k) Tail ls L ≡ then_read (read k Datum ls L) (and_tail (read k Tail))
-read_tail k ls [] b = absurd b
-read_tail k ls (Atom o x ∷ L) b = refl
-read_tail k ls (Open o ∷ L) b = refl
-read_tail k ls (Mark o n ∷ L) b = refl
-read_tail k ls (Ref o n ∷ L) b = refl
-read_tail k ls (_ ∷ L) b = absurd b
+  read_tail : (L : List Lexeme) → BeginsDatum L → read (suc k) Tail ls L ≡ then_read (read k Datum ls L) (and_tail (read k Tail))
+  read_tail L b = datum_cases (λ L. read (suc k) Tail ls L ≡ then_read (read k Datum ls L) (and_tail (read k Tail))) (λ o x L. refl) (λ o L. refl) (λ o n L. refl) (λ o n L. refl) L b
 
-read_last : (k : ℕ) (ls : Begun) (L : List Lexeme) → BeginsDatum L → read (suc k) Last ls L ≡ then_read (read k Datum ls L) closing
-read_last k ls [] b = absurd b
-read_last k ls (Atom o x ∷ L) b = refl
-read_last k ls (Open o ∷ L) b = refl
-read_last k ls (Mark o n ∷ L) b = refl
-read_last k ls (Ref o n ∷ L) b = refl
-read_last k ls (_ ∷ L) b = absurd b
+  read_last : (L : List Lexeme) → BeginsDatum L → read (suc k) Last ls L ≡ then_read (read k Datum ls L) closing
+  read_last L b = datum_cases (λ L. read (suc k) Last ls L ≡ then_read (read k Datum ls L) closing) (λ o x L. refl) (λ o L. refl) (λ o n L. refl) (λ o n L. refl) L b
 
 -- ---- the labels that lexemes begin
 

@@ -6,32 +6,38 @@ use Rattle.mw_model.specs.Events.Fate.{event_word}
 use Rattle.mw_commands.specs.Commands.Slice.{proofs_by_word}
 use Rattle.mw_commands.specs.Commands.Flattening.{is_logged_word, flat_event, StepsWritten, OwesFlat}
 use Rattle.mw_heap.specs.Objects.{object_at}
+use Rattle.mw_theory.specs.declared.event.Event.{Event}
 use Rattle.mw_theory.specs.Words.{IsEvent, skolem_event, profile_event}
 use Rattle.mw_flat.proofs.flat_event.write_event.Goals as goal
 
+-- the members of an event say what the event is
+module _ (os : List Object) (event : ℕ) (given members : Event) (is : given ≡ members) (of : IsEvent os event given) (x : Object) (said : IsEvent os event members → object_at os event ≡ x) where
+  event_is : object_at os event ≡ x
+  event_is = said (subst (IsEvent os event) is of)
+
+  logged : is_logged_word (event_word x) ≡ is_logged_word (event_word (object_at os event))
+  logged = sym (ap (λ e. is_logged_word (event_word e)) event_is)
+
+  owed : (text : List ℕ) → OwesFlat x text → OwesFlat (object_at os event) text
+  owed text owes = subst (λ e. OwesFlat e text) (sym event_is) owes
+
 pub returns-in_ok-write_theorem-in-Verify-clause-word : goal.returns-in_ok-write_theorem-in-Verify-clause-word
-returns-in_ok-write_theorem-in-Verify-clause-word c = let is = subst (IsEvent c.args.heap.now.objects c.args.event) c.in-Verify.is c.requires.event in sym (ap (λ e. is_logged_word (event_word e)) is.0)
+returns-in_ok-write_theorem-in-Verify-clause-word c = logged c.args.heap.now.objects c.args.event _ _ c.in-Verify.is c.requires.event _ (λ e. e.0)
 
 pub returns-in_ok-write_theorem-in-Verify-clause-written : goal.returns-in_ok-write_theorem-in-Verify-clause-written
-returns-in_ok-write_theorem-in-Verify-clause-written c = λ b.
-    let is = subst (IsEvent c.args.heap.now.objects c.args.event) c.in-Verify.is c.requires.event in
-    subst (λ e. OwesFlat e c.write_theorem.new.piece.items) (sym is.0) c.in_ok-write_theorem-in-Verify.ensures
+returns-in_ok-write_theorem-in-Verify-clause-written c = λ b. owed c.args.heap.now.objects c.args.event _ _ c.in-Verify.is c.requires.event _ (λ e. e.0) c.write_theorem.new.piece.items c.in_ok-write_theorem-in-Verify.ensures
 
 pub returns-in_ok-write_definitions-in-Define-clause-word : goal.returns-in_ok-write_definitions-in-Define-clause-word
-returns-in_ok-write_definitions-in-Define-clause-word c = let is = subst (IsEvent c.args.heap.now.objects c.args.event) c.in-Define.is c.requires.event in sym (ap (λ e. is_logged_word (event_word e)) is.0)
+returns-in_ok-write_definitions-in-Define-clause-word c = logged c.args.heap.now.objects c.args.event _ _ c.in-Define.is c.requires.event _ (λ e. e.0)
 
 pub returns-in_ok-write_definitions-in-Define-clause-written : goal.returns-in_ok-write_definitions-in-Define-clause-written
-returns-in_ok-write_definitions-in-Define-clause-written c = λ b.
-    let is = subst (IsEvent c.args.heap.now.objects c.args.event) c.in-Define.is c.requires.event in
-    subst (λ e. OwesFlat e c.write_definitions.new.piece.items) (sym is.0) c.in_ok-write_definitions-in-Define.ensures
+returns-in_ok-write_definitions-in-Define-clause-written c = λ b. owed c.args.heap.now.objects c.args.event _ _ c.in-Define.is c.requires.event _ (λ e. e.0) c.write_definitions.new.piece.items c.in_ok-write_definitions-in-Define.ensures
 
 pub returns-in_ok-write_definitions-in-DefineAll-clause-word : goal.returns-in_ok-write_definitions-in-DefineAll-clause-word
-returns-in_ok-write_definitions-in-DefineAll-clause-word c = let is = subst (IsEvent c.args.heap.now.objects c.args.event) c.in-DefineAll.is c.requires.event in sym (ap (λ e. is_logged_word (event_word e)) is.0)
+returns-in_ok-write_definitions-in-DefineAll-clause-word c = logged c.args.heap.now.objects c.args.event _ _ c.in-DefineAll.is c.requires.event _ (λ e. e.0)
 
 pub returns-in_ok-write_definitions-in-DefineAll-clause-written : goal.returns-in_ok-write_definitions-in-DefineAll-clause-written
-returns-in_ok-write_definitions-in-DefineAll-clause-written c = λ b.
-    let is = subst (IsEvent c.args.heap.now.objects c.args.event) c.in-DefineAll.is c.requires.event in
-    subst (λ e. OwesFlat e c.write_definitions-in-DefineAll.new.piece.items) (sym is.0) c.in_ok-write_definitions-in-DefineAll.ensures
+returns-in_ok-write_definitions-in-DefineAll-clause-written c = λ b. owed c.args.heap.now.objects c.args.event _ _ c.in-DefineAll.is c.requires.event _ (λ e. e.0) c.write_definitions-in-DefineAll.new.piece.items c.in_ok-write_definitions-in-DefineAll.ensures
 
 line_owed : (e x : Object) (text : List ℕ) (next : ℕ) (old new : List ℕ) → e ≡ x → flat_event x ≡ x → StepsWritten (proofs_by_word (event_word x) x) [] → IsWritten e 1 text next → old ≡ [] → new ≡ old ++ (text ++ 10 ∷ []) → OwesFlat e new
 line_owed e x text next old new is same none w empty put =

@@ -12,7 +12,7 @@ returns-in-Some-clause-negation c =
     let o = object_at c.args.heap.now.objects in
     let instance = substitute_formula_object (o c.args.s) (o c.args.a) in
     let is = ap (λ y. same_object y (not_object instance)) c.in-Some.ensures.member ∙ same_list2 (symbol "PNOT*") (o c.in-Some.instance) instance in
-    IfOk-weaker c.is_instance_by.result _ _ (λ b e. e ∙ (ap (same_object (o c.in-Some.instance)) (c.requires.formula (o c.args.s)) ∙ sym is)) c.is_instance_by.ensures.instance
+    IfOk-weaker c.is_instance_by.result _ _ (λ b e. e ∙ (ap (same_object (o c.in-Some.instance)) (c.requires.formula.1 (o c.args.s)) ∙ sym is)) c.is_instance_by.ensures.instance
 
 pub returns-in-None-clause-negation : goal.returns-in-None-clause-negation
 returns-in-None-clause-negation c = sym (c.in-None.ensures.member _)

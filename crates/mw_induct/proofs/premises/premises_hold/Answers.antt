@@ -1,5 +1,5 @@
 -- The tests of the data and of the premises make the rule. The looks change no object.
-use Rattle.std.proofs.Common.{◌≡◌, ◌&&◌, true, All, IfOk, sym, subst, ◌∙◌, eqb, eqb-true}
+use Rattle.std.proofs.Common.{rules, ◌≡◌, ◌&&◌, true, All, IfOk, sym, subst, ◌∙◌, eqb, eqb-true}
 use Rattle.std.proofs.lemmas.Result.{IfOk-weaker}
 use Rattle.std.proofs.lemmas.Bool.{and_parts}
 use Rattle.mw_model.specs.Terms.Object.{same_object}
@@ -35,23 +35,22 @@ returns-then-not-are_cases-clause-answer c = λ A k.
     no_induction-data A (object_at os c.args.f) (conclusions_object os c.args.conclusions.now) (object_at os c.args.extras) _ _ _ c.in-Some.ensures.0 (sym (tested A k) ∙ c.if-not-are_cases.true)
 
 -- the tests of the data under the table of the marks
-pub are_premises-requires-clause-as_many : goal.are_premises-requires-clause-as_many
-are_premises-requires-clause-as_many c =
+pub are_premises-requires-clause-scheme : goal.are_premises-requires-clause-scheme
+are_premises-requires-clause-scheme c =
     let marks = c.requires.marks in
     let looked = subst (λ os. AreMarks marks.0 os c.args.marks.now) (sym c.in_ok-take_looks_at_cases.ensures) marks.1 in
-    eqb-true _ _ (and_parts _ _ (and_parts _ _ (sym (c.are_cases.ensures marks.0 looked) ∙ c.if-not-are_cases.false)).1).0
-
-pub are_premises-requires-clause-pairs : goal.are_premises-requires-clause-pairs
-are_premises-requires-clause-pairs c =
-    let marks = c.requires.marks in
-    let looked = subst (λ os. AreMarks marks.0 os c.args.marks.now) (sym c.in_ok-take_looks_at_cases.ensures) marks.1 in
-    search (data_pairs, sym c.if-not-are_cases.false ∙ c.are_cases.ensures marks.0 looked)
+    let tested = sym c.if-not-are_cases.false ∙ c.are_cases.ensures marks.0 looked in
+    record {
+      measure = search rules;
+      cases = record { conditions_within = search rules; cases_within = search rules; as_many = eqb-true _ _ (and_parts _ _ (and_parts _ _ (sym tested)).1).0; pairs = search (data_pairs, tested) };
+    }
 
 pub are_premises-requires-clause-formula : goal.are_premises-requires-clause-formula
 are_premises-requires-clause-formula c =
     let formula = c.requires.formula in
-    let same = subst (λ os. is_formula_object formula.0 (object_at os c.args.f) ≡ true) (sym c.in_ok-take_looks_at_cases.ensures) formula.1 in
-    λ s. substitute_object-formula formula.0 s (object_at c.take_looks_at_cases.new.heap.objects c.args.f) same
+    let e = sym c.in_ok-take_looks_at_cases.ensures in
+    let same = subst (λ os. is_formula_object formula.0 (object_at os c.args.f) ≡ true) e formula.1 in
+    (subst (λ os. IsIn os c.args.f) e c.requires.conclusion, λ s. substitute_object-formula formula.0 s (object_at c.take_looks_at_cases.new.heap.objects c.args.f) same)
 
 pub returns-clause-answer : goal.returns-clause-answer
 returns-clause-answer c =
@@ -67,11 +66,5 @@ returns-clause-answer c =
     h ∙ object_is_induction-from A (object_at os c.args.f) (conclusions_object os c.args.conclusions.now) (object_at os c.args.extras) _ _ _ c.in-Some.ensures.0 (sym (tested A marks) ∙ c.if-not-are_cases.false))
     made
 
-pub are_premises-requires-clause-within : goal.are_premises-requires-clause-within
-are_premises-requires-clause-within c = subst (λ os. IsIn os c.args.f) (sym c.in_ok-take_looks_at_cases.ensures) c.requires.conclusion
-
-pub are_premises-requires-clause-conclusions_within : goal.are_premises-requires-clause-conclusions_within
-are_premises-requires-clause-conclusions_within c = subst (λ os. All (IsIn os) c.args.conclusions.now) (sym c.in_ok-take_looks_at_cases.ensures) c.requires.premises
-
-pub returns-clause-objects : goal.returns-clause-objects
-returns-clause-objects c = c.are_premises.ensures.objects ∙ c.in_ok-take_looks_at_cases.ensures
+pub are_premises-requires-clause-conclusions : goal.are_premises-requires-clause-conclusions
+are_premises-requires-clause-conclusions c = subst (λ os. All (IsIn os) c.args.conclusions.now) (sym c.in_ok-take_looks_at_cases.ensures) c.requires.premises

@@ -1,6 +1,5 @@
 -- One negated instance after another, while the heap stays.
-use Rattle.std.proofs.Common.{◌≡◌, Bool, false, ℕ, List, sym, ap, ◌∙◌, subst}
-use Rattle.std.proofs.lemmas.Bool.{and_parts}
+use Rattle.std.proofs.Common.{◌≡◌, Bool, false, ℕ, List, sym, ◌∙◌, subst}
 use Rattle.std.proofs.lemmas.Result.{IfOk-weaker}
 use Rattle.std.specs.Prelude.{IfOk}
 use Rattle.mw_model.specs.Terms.Object.{Object, Pair, same_object}
@@ -9,16 +8,12 @@ use Rattle.mw_model.specs.Laws.Rules.{or_object, not_object, substitute_formula_
 use Rattle.mw_model.specs.Laws.RulesInduction.{disjunction_object, hypotheses_object}
 use Rattle.mw_heap.specs.Objects.{object_at, IsIn}
 use Rattle.mw_heap.proofs.NoPair.{shown_no_pair}
-use Rattle.mw_subst.specs.Pairs.{is_list_of_pairs}
-use Rattle.mw_induct.specs.Pairs.{are_lists_of_pairs}
 use Rattle.mw_induct.proofs.Forms.{instances_next, instances_other, instances_none, instances_end}
+use Rattle.mw_induct.proofs.Rests.{same_pair, next_substitution}
 use Rattle.mw_induct.proofs.steps.are_negated_instances.Goals as goal
 
 abbrev Within : ℕ → List Object → Type 0
 Within x os = IsIn os x
-
-abbrev Shown : ℕ → ℕ → ℕ → List Object → Type 0
-Shown x a b os = IsIn os a × IsIn os b × (object_at os x ≡ Pair (object_at os a) (object_at os b))
 
 pub returns-in_default-members_after-clause-hypotheses :
     goal.returns-in_default-members_after-clause-hypotheses
@@ -26,9 +21,9 @@ returns-in_default-members_after-clause-hypotheses c =
     let o = object_at c.args.heap.now.objects in
     let i = c.loop-next.invariant in
     let rest = c.loop-next.rest in
-    let shows = subst (Shown c.loop-next.more c.in-Pair.next c.in-Pair.others) i.0 c.in-Pair.ensures.shows in
+    let shows = same_pair _ c.loop-next.heap.objects c.loop-next.more c.in-Pair.next c.in-Pair.others i.0 c.in-Pair.ensures.shows in
     let none = subst (λ h. (d e : Object) → same_object (object_at h rest) (or_object d e) ≡ false) i.0 c.in_default-members_after.ensures.members in
-    sym (instances_none (o rest) (o c.args.a) (o c.loop-next.s) (o c.in-Pair.next) (o c.in-Pair.others) (o c.loop-next.more) shows.2 none) ∙ i.6
+    sym (instances_none (o rest) (o c.args.a) (o c.loop-next.s) (o c.in-Pair.next) (o c.in-Pair.others) (o c.loop-next.more) shows.2 none) ∙ i.4
 
 -- what is left of the disjunction, compared with what is left of the substitutions, decides
 abbrev Decides : ℕ → ℕ → ℕ → ℕ → Bool → List Object → Type 0
@@ -42,7 +37,7 @@ returns-then-not-branch-clause-hypotheses c =
     let a = c.args.a in
     let s = c.loop-next.s in
     let more = c.loop-next.more in
-    let so = subst (Decides rest a s more _) (sym i.0) i.6 in
+    let so = subst (Decides rest a s more _) (sym i.0) i.4 in
     sym (instances_other (o rest) (o a) (o s) (o c.in-Pair.next) (o c.in-Pair.others) (o more) c.in-Pair.ensures.shows.2 _ _ c.in-Some.ensures.members (sym c.in_ok-is_negated_instance.ensures.negation ∙ c.if-not-branch.true)) ∙ so
 
 pub loop-next-preserved : goal.loop-next-preserved
@@ -56,11 +51,10 @@ loop-next-preserved c =
     let more = c.loop-next.more in
     let next = c.in-Pair.next in
     let others = c.in-Pair.others in
-    let shows = subst (Shown more next others) i.0 c.in-Pair.ensures.shows in
-    let pairs = and_parts (is_list_of_pairs (object_at os next)) (are_lists_of_pairs (object_at os others)) (ap are_lists_of_pairs (sym shows.2) ∙ i.5) in
-    let so = subst (Decides rest a s more _) (sym i.0) i.6 in
+    let after = next_substitution os c.loop-next.heap.objects more next others i.0 i.3 c.in-Pair.ensures.shows in
+    let so = subst (Decides rest a s more _) (sym i.0) i.4 in
     let later = sym (instances_next (o rest) (o a) (o s) (o next) (o others) (o more) c.in-Pair.ensures.shows.2 _ _ c.in-Some.ensures.members (sym c.in_ok-is_negated_instance.ensures.negation ∙ c.if-not-branch.false)) ∙ so in
-    (c.is_negated_instance.ensures.objects ∙ i.0, subst (Within _) i.0 c.in-Some.ensures.within.1, shows.0, shows.1, pairs.0, pairs.1, subst (Decides _ a next others _) i.0 later)
+    (c.is_negated_instance.ensures.objects ∙ i.0, subst (Within _) i.0 c.in-Some.ensures.within.1, after.0, after.1, subst (Decides _ a next others _) i.0 later)
 
 pub returns : goal.returns
 returns c =
@@ -73,5 +67,5 @@ returns c =
     let negation = subst (λ h. IfOk result (λ b. b ≡ same_object (object_at h rest) (not_object (substitute_formula_object (object_at h c.loop-next.s) (object_at h c.args.a))))) i.0 c.is_negated_instance-2.ensures.negation in
     record {
       objects = c.is_negated_instance-2.ensures.objects ∙ i.0;
-      hypotheses = IfOk-weaker result _ _ (λ b e. e ∙ (sym (instances_end (o rest) (o c.args.a) (o c.loop-next.s) (o c.loop-next.more) plain) ∙ i.6)) negation;
+      hypotheses = IfOk-weaker result _ _ (λ b e. e ∙ (sym (instances_end (o rest) (o c.args.a) (o c.loop-next.s) (o c.loop-next.more) plain) ∙ i.4)) negation;
     }

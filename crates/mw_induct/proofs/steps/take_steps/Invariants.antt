@@ -1,18 +1,18 @@
 -- The conclusions, the conditions and the cases that are left decide. All is said over the heap at the start.
-use Rattle.std.proofs.Common.{◌≡◌, ◌≤◌, true, length, drop}
+use Rattle.std.proofs.Common.{◌≡◌, ◌≤◌, length, drop}
 use Rattle.mw_model.specs.Terms.Object.{Object, same_object}
-use Rattle.mw_model.specs.Laws.RulesInduction.{length_object, steps_object}
-use Rattle.mw_heap.specs.Objects.{object_at, IsIn}
+use Rattle.mw_model.specs.Laws.RulesInduction.{steps_object}
+use Rattle.mw_heap.specs.Objects.{object_at}
 use Rattle.mw_induct.specs.Conclusions.{conclusions_object}
-use Rattle.mw_induct.specs.Pairs.{are_cases_of_pairs}
+use Rattle.mw_induct.specs.Scheme.{AreCases, steps_of}
 use Rattle.mw_induct.proofs.steps.take_steps.Given as goal
 
 abbrev pub invariant-loop-condition : goal.invariant-loop-condition
 invariant-loop-condition l =
     let os = l.fn.heap.objects in
     let o = object_at os in
-    (l.heap.objects ≡ os) × IsIn os l.conditions × IsIn os l.cases × (length_object (o l.conditions) ≡ length_object (o l.cases)) × (are_cases_of_pairs (o l.cases) ≡ true) × (l.taken ≤ length l.conclusions)
-    × ((rest : Object) → same_object (conclusions_object os l.conclusions) (steps_object (o l.a) (o l.fn.conditions) (o l.fn.cases) rest) ≡ same_object (conclusions_object os (drop l.taken l.conclusions)) (steps_object (o l.a) (o l.conditions) (o l.cases) rest))
+    (l.heap.objects ≡ os) × AreCases os l.conditions l.cases × (l.taken ≤ length l.conclusions)
+    × ((rest : Object) → same_object (conclusions_object os l.conclusions) (steps_of os l.a l.scheme rest) ≡ same_object (conclusions_object os (drop l.taken l.conclusions)) (steps_object (o l.a) (o l.conditions) (o l.cases) rest))
 
 abbrev pub decreases-loop-condition : goal.decreases-loop-condition
 decreases-loop-condition l = l.conditions

@@ -12,21 +12,14 @@ loop-piece-init c =
     writing_starts (is_one_of os c.args.again.now.keys) os c.args.x c.args.numbers.now.next c.push.new.self.items c.args.numbers.now.given.entries c.args.out.now.items c.requires.within
     (c.in_ok-push.ensures.items ∙ ap (λ ps. ps ++ Text c.args.x ∷ []) c.new-pieces.ensures.items) c.requires.none_given c.requires.empty
 
-pub write_piece-requires-clause-piece : goal.write_piece-requires-clause-piece
-write_piece-requires-clause-piece c =
+pub write_piece-requires : goal.write_piece-requires
+write_piece-requires c =
     let os = c.args.heap.now.objects in
     let s = is_one_of os c.args.again.now.keys in
     let p = c.loop-piece in
-    (writing_rest s os c.args.x c.args.numbers.now.next c.pop.new.self.items c.in-Some.piece p.numbers.given.entries p.numbers.next p.out.items
-    (subst (λ ps. IsUnderWay s os c.args.x c.args.numbers.now.next ps p.numbers.given.entries p.numbers.next p.out.items) c.in-Some.ensures.items p.invariant)).1
-
-pub write_piece-requires-clause-pieces : goal.write_piece-requires-clause-pieces
-write_piece-requires-clause-pieces c =
-    let os = c.args.heap.now.objects in
-    let s = is_one_of os c.args.again.now.keys in
-    let p = c.loop-piece in
-    (writing_rest s os c.args.x c.args.numbers.now.next c.pop.new.self.items c.in-Some.piece p.numbers.given.entries p.numbers.next p.out.items
-    (subst (λ ps. IsUnderWay s os c.args.x c.args.numbers.now.next ps p.numbers.given.entries p.numbers.next p.out.items) c.in-Some.ensures.items p.invariant)).0
+    let rest = writing_rest s os c.args.x c.args.numbers.now.next c.pop.new.self.items c.in-Some.piece p.numbers.given.entries p.numbers.next p.out.items
+    (subst (λ ps. IsUnderWay s os c.args.x c.args.numbers.now.next ps p.numbers.given.entries p.numbers.next p.out.items) c.in-Some.ensures.items p.invariant) in
+    record { piece = rest.1; pieces = rest.0 }
 
 pub loop-piece-smaller : goal.loop-piece-smaller
 loop-piece-smaller c =
@@ -42,22 +35,13 @@ loop-piece-preserved c =
     (subst (λ ps. IsUnderWay s os c.args.x c.args.numbers.now.next ps p.numbers.given.entries p.numbers.next p.out.items) c.in-Some.ensures.items p.invariant)
     w.pieces.items w.numbers.given.entries w.numbers.next w.out.items c.in_ok-write_piece.ensures
 
-pub returns-clause-text : goal.returns-clause-text
-returns-clause-text c =
+pub returns : goal.returns
+returns c =
     let os = c.args.heap.now.objects in
     let s = is_one_of os c.args.again.now.keys in
     let p = c.loop-piece in
     let rest = c.pop.new.self.items in
     let gone : length rest ≡ 0 = omega (arith, c.in_default.ensures.cases.1, c.pop.new.self.ok.0) in
     let none : p.pieces.items ≡ [] = c.in_default.ensures.items ∙ (append-nil rest ∙ empty_list rest gone) in
-    (writing_ends s os c.args.x c.args.numbers.now.next p.pieces.items p.numbers.given.entries p.numbers.next p.out.items none p.invariant).0
-
-pub returns-clause-next : goal.returns-clause-next
-returns-clause-next c =
-    let os = c.args.heap.now.objects in
-    let s = is_one_of os c.args.again.now.keys in
-    let p = c.loop-piece in
-    let rest = c.pop.new.self.items in
-    let gone : length rest ≡ 0 = omega (arith, c.in_default.ensures.cases.1, c.pop.new.self.ok.0) in
-    let none : p.pieces.items ≡ [] = c.in_default.ensures.items ∙ (append-nil rest ∙ empty_list rest gone) in
-    (writing_ends s os c.args.x c.args.numbers.now.next p.pieces.items p.numbers.given.entries p.numbers.next p.out.items none p.invariant).1
+    let ends = writing_ends s os c.args.x c.args.numbers.now.next p.pieces.items p.numbers.given.entries p.numbers.next p.out.items none p.invariant in
+    record { text = ends.0; next = ends.1 }
